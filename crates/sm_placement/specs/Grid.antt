@@ -1,0 +1,45 @@
+-- The cells of a configuration as lists, with who is down.
+use Rattle.std.specs.Prelude.{◌≡◌, ◌<◌, ℕ, ◌*◌, Bool, false, List, length}
+use Rattle.sm_server.specs.declared.call.Cell.{Cell}
+use Rattle.sm_server.specs.declared.call.Cell.TheVariants.{Absent}
+use Rattle.sm_placement.specs.Setup.{Setup, sizes_of}
+use Rattle.sm_placement.specs.Rows.{live_in, serving_in, IsKnownCell}
+use Rattle.sm_placement.specs.Sums.{count_below}
+use Rattle.sm_placement.specs.Place.{load_of}
+use Rattle.sm_placement.specs.Layout.{grid_of, entries_of}
+
+pub record Grid : Type 0 where
+  pub setup : Setup
+  pub cells : List Cell
+  pub lasts : List ℕ
+  pub down : List Bool
+
+abbrev pub cells_of : Grid → ℕ → ℕ → Cell
+cells_of g = grid_of (length g.setup.servers) Absent g.cells
+
+abbrev pub lasts_of : Grid → ℕ → ℕ → ℕ
+lasts_of g = grid_of (length g.setup.servers) 0 g.lasts
+
+abbrev pub down_of : Grid → ℕ → Bool
+down_of g = entries_of false g.down
+
+-- the totals that are kept beside the cells
+pub record Totals : Type 0 where
+  pub loads : List ℕ
+  pub lives : List ℕ
+  pub servings : List ℕ
+  pub down : ℕ
+
+-- each list has an entry for each shard, server or pair, and each total is the sum that it stands for
+pub record IsCounted (g : Grid) (t : Totals) : Type 0 where
+  pub cells_length : length g.cells ≡ length g.setup.shards * length g.setup.servers
+  pub lasts_length : length g.lasts ≡ length g.setup.shards * length g.setup.servers
+  pub down_length : length g.down ≡ length g.setup.servers
+  pub loads_length : length t.loads ≡ length g.setup.servers
+  pub lives_length : length t.lives ≡ length g.setup.shards
+  pub servings_length : length t.servings ≡ length g.setup.shards
+  pub known : (s v : ℕ) → IsKnownCell (length g.setup.servers) (cells_of g s v)
+  pub loads : (v : ℕ) → v < length g.setup.servers → entries_of 0 t.loads v ≡ load_of (sizes_of g.setup) (cells_of g) v
+  pub lives : (s : ℕ) → s < length g.setup.shards → entries_of 0 t.lives s ≡ live_in (length g.setup.servers) (cells_of g s) (down_of g)
+  pub servings : (s : ℕ) → s < length g.setup.shards → entries_of 0 t.servings s ≡ serving_in (length g.setup.servers) (cells_of g s)
+  pub down : t.down ≡ count_below (length g.setup.servers) (down_of g)

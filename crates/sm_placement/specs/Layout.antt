@@ -1,0 +1,44 @@
+-- A placement as lists: the cells shard after shard, with one cell for each server.
+use Rattle.std.specs.Prelude.{◌≡◌, ◌≤◌, ◌<◌, ℕ, ◌+◌, ◌*◌, Bool, false, List, length, Option, Some, None, nat_lt, if◌then◌else◌, slice_index_or}
+use Rattle.sm_server.specs.declared.call.Cell.{Cell}
+use Rattle.sm_server.specs.declared.call.Cell.TheVariants.{Absent}
+use Rattle.sm_placement.specs.Setup.{Setup, Sizes}
+use Rattle.sm_placement.specs.Rows.{IsKnownCell}
+use Rattle.sm_placement.specs.Place.{Place, load_at}
+
+pub record Layout : Type 0 where
+  pub setup : Setup
+  pub cells : List Cell
+  pub lasts : List ℕ
+  pub down : List Bool
+  pub listed : List (Option ℕ)
+  pub versions : List ℕ
+  pub limit : ℕ
+
+-- a list of rows of `width` places each, read by row and place
+unfoldable pub grid_of : {A : Type 0} → ℕ → A → List A → ℕ → ℕ → A
+grid_of width none xs s v = if nat_lt v width then slice_index_or xs (s * width + v) none else none
+
+-- a list, read by place
+unfoldable pub entries_of : {A : Type 0} → A → List A → ℕ → A
+entries_of none xs k = slice_index_or xs k none
+
+-- the placement that the lists stand for
+abbrev pub place_of : Layout → Place
+place_of l = record {
+  cells = grid_of (length l.setup.servers) Absent l.cells;
+  last = grid_of (length l.setup.servers) 0 l.lasts;
+  down = entries_of false l.down;
+  listed = entries_of None l.listed;
+  version = entries_of 0 l.versions;
+  limit = l.limit;
+}
+
+-- What every placement keeps: beyond its servers and shards there is nothing, each server that a cell or the map
+-- names is known, and no load is above its room.
+pub record IsPlacement (c : Sizes) (p : Place) : Type 0 where
+  pub no_server : (s v : ℕ) → c.servers ≤ v → p.cells s v ≡ Absent
+  pub no_shard : (s v : ℕ) → c.shards ≤ s → p.cells s v ≡ Absent
+  pub known : (s v : ℕ) → IsKnownCell c.servers (p.cells s v)
+  pub listed : (s u : ℕ) → p.listed s ≡ Some u → u < c.servers
+  pub rooms : (v : ℕ) → v < c.servers → load_at c p v ≤ c.room v

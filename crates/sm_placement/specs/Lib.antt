@@ -1,0 +1,10 @@
+pub mod Sums
+pub mod Names
+pub mod Setup
+pub mod Config
+pub mod Rows
+pub mod Place
+pub mod Lead
+pub mod Layout
+pub mod Grid
+pub mod Opening

@@ -1,0 +1,114 @@
+-- Opening a placement: the placement that is named, and why one is refused.
+use Rattle.std.specs.Prelude.{ℕ, ◌&&◌, ◌||◌, ◌==◌, Bool, true, false, not, List, [], ◌∷◌, length, Option, Some, None, nat_lt, if◌then◌else◌, option_map, find, count_by}
+use Rattle.std.specs.List.{list_any, range_with_len}
+use Rattle.sm_server.specs.declared.call.Cell.{Cell}
+use Rattle.sm_server.specs.declared.call.Cell.TheVariants.{Absent}
+use Rattle.sm_server.specs.Cell.{is_primary, is_prepared, is_forwarding}
+use Rattle.sm_placement.specs.declared.opening.OpenFault.{OpenFault}
+use Rattle.sm_placement.specs.declared.opening.OpenFault.TheVariants.{TooMany, UnknownName, DoubleCell, BadLead, BadListing, OverRoom, Short, TooManyDown}
+use Rattle.sm_placement.specs.Setup.{Sizes}
+use Rattle.sm_placement.specs.Sums.{count_below, any_below, first_from}
+use Rattle.sm_placement.specs.Place.{Place, load_at, live_at, down_count}
+use Rattle.sm_placement.specs.Layout.{entries_of}
+
+-- a cell, with the shard and the server that it is of
+abbrev pub NamedCell : Type 0
+NamedCell = ℕ × ℕ × Cell
+
+-- what a placement is opened with
+pub record Opening : Type 0 where
+  pub cells : List NamedCell
+  pub listed : List (Option ℕ)
+  pub down : List ℕ
+  pub limit : ℕ
+
+abbrev pub is_of : ℕ → ℕ → NamedCell → Bool
+is_of s v named = (named.0 == s) && (named.1 == v)
+
+-- the cell that the list names for a pair, and Absent where it names none
+abbrev pub cell_named : List NamedCell → ℕ → ℕ → Cell
+cell_named [] s v = Absent
+cell_named (named ∷ rest) s v = if is_of s v named then named.2 else cell_named rest s v
+
+-- the placement that is named: no call has been made, and nothing was published
+abbrev pub opened : Opening → Place
+opened o = record {
+  cells = cell_named o.cells;
+  last = λ s v. 0;
+  down = λ v. list_any (λ x. x == v) o.down;
+  listed = entries_of None o.listed;
+  version = λ s. 0;
+  limit = o.limit;
+}
+
+-- the lists are longer than a placement has, or don't list each shard
+abbrev pub is_wrong_size : Sizes → Opening → Bool
+is_wrong_size c o = nat_lt 1048576 (length o.cells) || not (length o.listed == c.shards)
+
+abbrev is_unknown : ℕ → Option ℕ → Bool
+is_unknown n None = false
+is_unknown n (Some k) = not (nat_lt k n)
+
+-- an id is not below its count. The other party of a handover isn't looked at
+abbrev pub has_unknown : Sizes → Opening → Bool
+has_unknown c o =
+    list_any (λ named. not (nat_lt named.0 c.shards) || not (nat_lt named.1 c.servers)) o.cells
+    || (list_any (is_unknown c.servers) o.listed || list_any (λ v. not (nat_lt v c.servers)) o.down)
+
+-- the list names a pair more than once
+abbrev pub is_double : List NamedCell → ℕ → ℕ → Bool
+is_double cells s v = nat_lt 1 (count_by (is_of s v) cells)
+
+-- the first number below n that passes
+abbrev pub first_below : ℕ → (ℕ → Bool) → Option ℕ
+first_below n test = find test (range_with_len 0 n)
+
+abbrev double_of : Sizes → Opening → ℕ → Option OpenFault
+double_of c o s = option_map (λ v. DoubleCell s v) (first_below c.servers (is_double o.cells s))
+
+-- the shard has two primaries, or a handover is under way
+abbrev pub has_bad_lead : Sizes → Place → ℕ → Bool
+has_bad_lead c p s =
+    nat_lt 1 (count_below c.servers (λ v. is_primary (p.cells s v)))
+    || any_below c.servers (λ v. is_prepared (p.cells s v) || is_forwarding (p.cells s v))
+
+abbrev is_other : (ℕ → Cell) → Option ℕ → Bool
+is_other row None = false
+is_other row (Some u) = not (is_primary (row u))
+
+-- the listed server isn't the shard's primary
+abbrev pub has_bad_listing : Place → ℕ → Bool
+has_bad_listing p s = is_other (p.cells s) (p.listed s)
+
+abbrev pub is_over_room : Sizes → Place → ℕ → Bool
+is_over_room c p v = nat_lt (c.room v) (load_at c p v)
+
+abbrev pub is_short : Sizes → Place → ℕ → Bool
+is_short c p s = nat_lt (live_at c p s) (c.floor s)
+
+-- the first fault that is there
+abbrev pub first_fault : List (Option OpenFault) → Option OpenFault
+first_fault [] = None
+first_fault (None ∷ rest) = first_fault rest
+first_fault (Some fault ∷ rest) = Some fault
+
+abbrev fault_if : Bool → OpenFault → Option OpenFault
+fault_if true fault = Some fault
+fault_if false fault = None
+
+-- what is wrong with the placement itself
+abbrev pub place_faults : Sizes → Place → List (Option OpenFault)
+place_faults c p =
+    option_map (λ s. BadLead s) (first_below c.shards (has_bad_lead c p)) ∷
+    option_map (λ s. BadListing s) (first_below c.shards (has_bad_listing p)) ∷
+    option_map (λ v. OverRoom v) (first_below c.servers (is_over_room c p)) ∷
+    option_map (λ s. Short s) (first_below c.shards (is_short c p)) ∷
+    fault_if (nat_lt p.limit (down_count c p)) TooManyDown ∷ []
+
+-- why a placement is not opened: the first fault in the order of these lines, each with its lowest shard and server
+abbrev pub open_fault : Sizes → Opening → Option OpenFault
+open_fault c o = first_fault (
+    fault_if (is_wrong_size c o) TooMany ∷
+    fault_if (has_unknown c o) UnknownName ∷
+    first_from 0 c.shards (double_of c o) ∷
+    place_faults c (opened o))

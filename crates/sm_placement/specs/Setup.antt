@@ -1,0 +1,94 @@
+-- What a configuration says: its servers and its shards, each at its number.
+use Rattle.std.specs.Prelude.{◌≤◌, ◌<◌, ◌^◌, ◌-◌, ◌&&◌, ◌||◌, ℕ, Bool, List, [], length, Option, nat_lt, nat_le, map, position, slice_index_or, All}
+use Rattle.std.specs.List.{list_all}
+use Rattle.std.specs.Str.{bytes_eq}
+use Rattle.sm_placement.specs.Names.{is_name, has_double}
+
+-- a server: its name, the region that it stands in, and the load that it has room for
+pub record ServerRow : Type 0 where
+  pub name : List ℕ
+  pub region : List ℕ
+  pub room : ℕ
+
+-- a shard: its name, the load of each replica, how many replicas it wants, how many of them may be away at once,
+-- and in how many regions its replicas are to stand
+pub record ShardRow : Type 0 where
+  pub name : List ℕ
+  pub load : ℕ
+  pub want : ℕ
+  pub cap : ℕ
+  pub spread : ℕ
+
+pub record Setup : Type 0 where
+  pub servers : List ServerRow
+  pub shards : List ShardRow
+
+abbrev pub names_of_servers : Setup → List (List ℕ)
+names_of_servers setup = map (λ r. r.name) setup.servers
+
+abbrev pub names_of_shards : Setup → List (List ℕ)
+names_of_shards setup = map (λ r. r.name) setup.shards
+
+-- the number of the server with this name
+abbrev pub server_named : Setup → List ℕ → Option ℕ
+server_named setup name = position (λ n. bytes_eq name n) (names_of_servers setup)
+
+-- the number of the shard with this name
+abbrev pub shard_named : Setup → List ℕ → Option ℕ
+shard_named setup name = position (λ n. bytes_eq name n) (names_of_shards setup)
+
+-- more servers or shards than a configuration has
+abbrev pub is_too_large : Setup → Bool
+is_too_large setup = nat_lt 1024 (length setup.servers) || nat_lt 4096 (length setup.shards)
+
+-- a server's name and region, and a shard's name, are names
+abbrev pub has_good_names : Setup → Bool
+has_good_names setup = list_all (λ r. is_name r.name && is_name r.region) setup.servers && list_all (λ r. is_name r.name) setup.shards
+
+-- two servers, or two shards, have one name
+abbrev pub has_doubled_name : Setup → Bool
+has_doubled_name setup = has_double (names_of_servers setup) || has_double (names_of_shards setup)
+
+-- a server's room is within its limit
+abbrev pub is_good_server : ServerRow → Bool
+is_good_server r = nat_lt r.room (2 ^ 32)
+
+-- a shard's numbers are within their limits, and no more replicas may be away than are wanted
+abbrev pub is_good_shard : ShardRow → Bool
+is_good_shard r = nat_lt r.load (2 ^ 32) && (nat_le r.want 1024 && (nat_le r.cap 1024 && (nat_le r.spread 1024 && nat_le r.cap r.want)))
+
+abbrev pub has_good_numbers : Setup → Bool
+has_good_numbers setup = list_all is_good_server setup.servers && list_all is_good_shard setup.shards
+
+-- what every configuration keeps
+pub record IsSetup (setup : Setup) : Type 0 where
+  pub servers : length setup.servers ≤ 1024
+  pub shards : length setup.shards ≤ 4096
+  pub good_servers : All (λ r. r.room < 2 ^ 32) setup.servers
+  pub good_loads : All (λ r. r.load < 2 ^ 32) setup.shards
+  pub good_wants : All (λ r. r.want ≤ 1024) setup.shards
+  pub good_caps : All (λ r. r.cap ≤ r.want) setup.shards
+
+abbrev pub no_server : ServerRow
+no_server = record { name = []; region = []; room = 0 }
+
+abbrev pub no_shard : ShardRow
+no_shard = record { name = []; load = 0; want = 0; cap = 0; spread = 0 }
+
+-- the numbers of a configuration, by the numbers of its servers and shards
+pub record Sizes : Type 0 where
+  pub servers : ℕ
+  pub shards : ℕ
+  pub room : ℕ → ℕ
+  pub load : ℕ → ℕ
+  pub floor : ℕ → ℕ
+
+-- the floor of a shard is the number of live replicas that it never falls below
+abbrev pub sizes_of : Setup → Sizes
+sizes_of setup = record {
+  servers = length setup.servers;
+  shards = length setup.shards;
+  room = λ v. (slice_index_or setup.servers v no_server).room;
+  load = λ s. (slice_index_or setup.shards s no_shard).load;
+  floor = λ s. (slice_index_or setup.shards s no_shard).want - (slice_index_or setup.shards s no_shard).cap;
+}
