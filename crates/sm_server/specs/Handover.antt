@@ -25,7 +25,8 @@ ready_cells t = record { owner = Primary; new_server = Prepared t.owner t.number
 
 -- the two cells once the owner forwards
 abbrev pub handing_cells : Transfer → HandoverCells
-handing_cells t = record { owner = Forwarding t.new_server t.number; new_server = Prepared t.owner t.number }
+handing_cells t =
+    record { owner = Forwarding t.new_server t.number; new_server = Prepared t.owner t.number }
 
 -- the two cells once the new server is the primary
 abbrev pub handed_cells : Transfer → HandoverCells
@@ -33,4 +34,5 @@ handed_cells t = record { owner = Forwarding t.new_server t.number; new_server =
 
 -- a server that is up and has room answers the call by this change of its cell
 abbrev pub Serves : Cell → Call → Cell → Type 0
-Serves before call after = (free_room load : ℕ) → load ≤ free_room → served before free_room load true call ≡ Ok after
+Serves before call after =
+    (free_room load : ℕ) → load ≤ free_room → served before free_room load true call ≡ Ok after

@@ -1,8 +1,9 @@
 //! What a server has of a shard, and the five calls that change it.
-ghost use Rattle.std.specs.Prelude.{◌≡◌, ◌≤◌, ◌↔◌, Some};
-ghost use Rattle.sm_server.specs.Call.{Leads, led_to, refusal_of, served, served_numbered};
+ghost use Rattle.std.specs.Prelude.{◌≡◌, ◌≤◌};
+ghost use Rattle.sm_server.specs.Call.{led_to, refusal_of, served, served_numbered};
+ghost use Rattle.sm_server.specs.Call.{LeadsWhereLed, ServedWhereAllowed, ServedOnce};
 
-use crate::ids::ServerId;
+use crate::server_id::ServerId;
 use thiserror::Error;
 
 /// What one server has of one shard.
@@ -53,7 +54,7 @@ pub enum Call {
     PrepareDrop { new_owner: ServerId, number: u64 },
 }
 
-/// Why a server refuses a call.
+/// Why a server refuses a call: of the reasons that apply, the first in this order.
 #[derive(Clone, Copy, Debug, PartialEq, Eq, Error)]
 pub enum Refusal {
     #[error("the server is down")]
@@ -142,8 +143,8 @@ fn refusal_for(call: &Call, cell: &Cell) -> Refusal
     }
 }
 
-/// What a server answers to a call: the next cell, or the refusal of the lowest number.
-/// `free_room` and `load` are in the same unit; a server that is not `up` refuses every call.
+/// What a server answers to a call for a shard: the cell after it, or why it is refused.
+/// `free_room` is what the server has left, and `load` what the shard needs where the server has nothing of it yet.
 pub fn serve(cell: Cell, free_room: u64, load: u64, up: bool, call: Call) -> Result<Cell, Refusal>
     ensures { result ≡ served cell free_room load up call }
 {
@@ -174,27 +175,32 @@ pub fn serve_numbered(
     requires { 1 ≤ number }
     ensures { result ≡ served_numbered cell last number free_room load up call }
 {
-    if !up {
-        return Err(Refusal::Down);
-    }
-    if number == last {
+    if up && number == last {
         return Ok(Served {
             cell,
             last,
             fresh: false,
         });
     }
-    match serve(cell, free_room, load, up, call) {
-        Ok(next) => Ok(Served {
-            cell: next,
-            last: number,
-            fresh: true,
-        }),
-        Err(why) => Err(why),
-    }
+    let cell = serve(cell, free_room, load, up, call)?;
+    Ok(Served {
+        cell,
+        last: number,
+        fresh: true,
+    })
 }
 
 /// The function by which calls are answered has the triples of the calls' relation, and no others.
 pub fn leads_where_led()
-    ensures { (call : Call) (cell next : Cell) → (led_to call cell ≡ Some next) ↔ Leads call cell next }
+    ensures { LeadsWhereLed }
+{}
+
+/// A call is served exactly where it is allowed.
+pub fn served_where_allowed()
+    ensures { ServedWhereAllowed }
+{}
+
+/// A numbered call that had its effect has none when it is tried again.
+pub fn served_once()
+    ensures { ServedOnce }
 {}

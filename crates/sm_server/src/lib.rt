@@ -3,8 +3,15 @@
 
 mod call;
 mod handover;
-mod ids;
+mod server_id;
+mod shard_id;
+#[cfg(test)]
+mod tests;
 
-pub use call::{Call, Cell, Refusal, Role, Served, leads_where_led, serve, serve_numbered};
+pub use call::{
+    Call, Cell, Refusal, Role, Served, leads_where_led, serve, serve_numbered, served_once,
+    served_where_allowed,
+};
 pub use handover::{Handed, Handing, HandoverCells, Ready, Steady};
-pub use ids::{ServerId, ShardId};
+pub use server_id::ServerId;
+pub use shard_id::ShardId;

@@ -1,39 +1,6 @@
-//! Servers and shards by their numbers.
 ghost use Rattle.std.specs.Prelude.{◌≡◌};
 
 use std::marker::Model;
-
-/// A server, by its position in the configuration.
-#[derive(Clone, Copy, Debug, PartialEq, Eq, PartialOrd, Ord, Hash)]
-pub struct ServerId {
-    number: u32,
-}
-
-impl Model for ServerId {
-    ghost use Rattle.std.specs.Prelude.{ℕ};
-
-    ghost Value = { ℕ };
-
-    ghost view = { λ id. id.number };
-
-    ghost inverse = { λ n. record { number = n } };
-}
-
-impl ServerId {
-    /// The server at a position.
-    pub const fn new(number: u32) -> Self
-        ensures { result ≡ number }
-    {
-        ServerId { number }
-    }
-
-    /// The server's position.
-    pub const fn number(self) -> u32
-        ensures { result ≡ self }
-    {
-        self.number
-    }
-}
 
 /// A shard, by its position in the configuration.
 #[derive(Clone, Copy, Debug, PartialEq, Eq, PartialOrd, Ord, Hash)]

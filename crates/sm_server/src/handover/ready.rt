@@ -1,0 +1,104 @@
+use super::{Handing, HandoverCells, Steady};
+use crate::call::{Call, Cell};
+use crate::server_id::ServerId;
+use crate::shard_id::ShardId;
+use std::marker::Model;
+
+/// The new server is prepared; the owner still serves.
+#[derive(Debug, Drop)]
+pub struct Ready {
+    pub(super) shard: ShardId,
+    pub(super) owner: ServerId,
+    pub(super) new_server: ServerId,
+    pub(super) number: u64,
+}
+
+impl Model for Ready {
+    ghost use Rattle.sm_server.specs.Handover.{Transfer};
+
+    ghost Value = { Transfer };
+
+    ghost view = { λ t. record { shard = t.shard; owner = t.owner; new_server = t.new_server; number = t.number } };
+}
+
+impl Ready {
+    ghost use Rattle.std.specs.Prelude.{◌≡◌};
+    ghost use Rattle.sm_server.specs.declared.call.Cell.TheVariants.{Absent, Primary};
+    ghost use Rattle.sm_server.specs.Handover.{ready_cells, handing_cells, Serves};
+
+    pub const fn shard(&self) -> ShardId
+        ensures { result ≡ self.now.shard }
+    {
+        self.shard
+    }
+
+    /// The server that hands the primary over.
+    pub const fn owner(&self) -> ServerId
+        ensures { result ≡ self.now.owner }
+    {
+        self.owner
+    }
+
+    /// The server that takes it.
+    pub const fn new_server(&self) -> ServerId
+        ensures { result ≡ self.now.new_server }
+    {
+        self.new_server
+    }
+
+    /// The number that tells this handover from the shard's other handovers.
+    pub const fn number(&self) -> u64
+        ensures { result ≡ self.now.number }
+    {
+        self.number
+    }
+
+    /// The cells of the two servers.
+    pub const fn cells(&self) -> HandoverCells
+        ensures { result ≡ ready_cells self.now }
+    {
+        HandoverCells {
+            owner: Cell::Primary,
+            new_server: Cell::Prepared {
+                from: self.owner,
+                number: self.number,
+            },
+        }
+    }
+
+    /// Gives the handover up: `drop_shard` at the new server. The owner stays the primary.
+    pub fn cancel(self) -> Steady
+        ensures state { result ≡ record { shard = self.shard; server = self.owner } }
+        ensures at_owner { (ready_cells self).owner ≡ Primary }
+        ensures at_new_server { Serves (ready_cells self).new_server Call.Drop Absent }
+    {
+        let Ready { shard, owner, .. } = self;
+        Steady {
+            shard,
+            server: owner,
+        }
+    }
+
+    /// Lets the owner forward: `prepare_drop_shard` at the owner.
+    pub fn hand(self) -> Handing
+        ensures state { result ≡ self }
+        ensures at_owner { Serves
+            (ready_cells self).owner
+            (Call.PrepareDrop self.new_server self.number)
+            (handing_cells result).owner }
+        ensures at_new_server { (handing_cells result).new_server ≡ (ready_cells self).new_server }
+    {
+        let Ready {
+            shard,
+            owner,
+            new_server,
+            number,
+        } = self;
+        Handing {
+            shard,
+            owner,
+            new_server,
+            number,
+        }
+    }
+}
