@@ -1,3 +1,5 @@
 pub mod Sums
 pub mod GridLemmas
 pub mod TableLemmas
+pub mod ConfigLemmas
+pub mod CopyLemmas
