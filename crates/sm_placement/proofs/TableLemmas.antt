@@ -32,7 +32,7 @@ pub load-small : (setup : Setup) (cells : ℕ → ℕ → Cell) (v : ℕ) → Is
 load-small setup cells v h =
     let c = sizes_of setup in
     let a : load_of c cells v ≤ length setup.shards * 2 ^ 32 = sum-le (length setup.shards) (2 ^ 32) (λ s. weight (cells s v) (c.load s))
-        (λ s l. let p : c.load s < 2 ^ 32 = shard_load-small setup s h l in let q : weight (cells s v) (c.load s) ≤ c.load s = weight-le (cells s v) (c.load s) in omega arith) in
+    (λ s l. let p : c.load s < 2 ^ 32 = shard_load-small setup s h l in let q : weight (cells s v) (c.load s) ≤ c.load s = weight-le (cells s v) (c.load s) in omega arith) in
     let b : length setup.shards ≤ 4096 = h.shards in
     omega arith
 
@@ -99,9 +99,9 @@ IsCounted-empty setup h = record {
   lives_length = length-replicate (length setup.shards) 0;
   servings_length = length-replicate (length setup.shards) 0;
   known = λ s v. rw (cells_of-empty setup) tt;
-  loads = λ v l. rw (cells_of-empty setup, entries_of-empty 0 (length setup.servers)) (sym (sum_zero (length setup.shards) (λ s. 0) (λ s. refl)));
-  lives = λ s l. rw (cells_of-empty setup, down_of-empty setup, entries_of-empty 0 (length setup.shards)) (sym (sum_zero (length setup.servers) (λ v. 0) (λ v. refl)));
-  servings = λ s l. rw (cells_of-empty setup, entries_of-empty 0 (length setup.shards)) (sym (sum_zero (length setup.servers) (λ v. 0) (λ v. refl)));
+  loads = λ v l. rw (cells_of-empty setup, entries_of-empty {A = ℕ} 0 (length setup.servers)) (sym (sum_zero (length setup.shards) (λ s. 0) (λ s. refl)));
+  lives = λ s l. rw (cells_of-empty setup, down_of-empty setup, entries_of-empty {A = ℕ} 0 (length setup.shards)) (sym (sum_zero (length setup.servers) (λ v. 0) (λ v. refl)));
+  servings = λ s l. rw (cells_of-empty setup, entries_of-empty {A = ℕ} 0 (length setup.shards)) (sym (sum_zero (length setup.servers) (λ v. 0) (λ v. refl)));
   down = rw (down_of-empty setup) (sym (sum_zero (length setup.servers) (λ v. 0) (λ v. refl)));
 }
 
