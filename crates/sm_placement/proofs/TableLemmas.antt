@@ -14,7 +14,7 @@ use Rattle.sm_placement.specs.Place.{weight, load_of}
 use Rattle.sm_placement.specs.Layout.{grid_of, entries_of}
 use Rattle.sm_placement.specs.Grid.{Grid, Totals, IsCounted, IsGrid, cells_of, lasts_of, down_of}
 use Rattle.sm_placement.proofs.Sums.{count-le, sum-le, sum_zero}
-use Rattle.sm_placement.proofs.GridLemmas.{grid_of-beside, grid_of-below, grid_of-empty, grid_of-read, entries_of-past, entries_of-empty, entries_of-read}
+use Rattle.sm_placement.proofs.GridLemmas.{grid_of-beside, grid_of-below, grid_of-empty, grid_of-read, grid_of-set, place_within, entries_of-past, entries_of-empty, entries_of-read}
 
 -- no shard has a load of 2 ^ 32
 pub shard_load-small : (setup : Setup) (s : ℕ) → IsSetup setup → s < length setup.shards → (sizes_of setup).load s < 2 ^ 32
@@ -137,3 +137,26 @@ IsGrid-read {g} {now} {t} h e = subst (λ (n : Grid). IsGrid n) e (IsGrid-from_c
 
 pub IsSetup-read : {g now : Grid} {t : Totals} → IsCounted g t → g ≡ now → IsSetup now.setup
 IsSetup-read {g} {now} {t} h e = subst (λ (n : Grid). IsSetup n.setup) e h.setup
+
+-- other last numbers leave the totals as they are
+pub IsCounted-with_lasts : {g : Grid} {t : Totals} (lasts : List ℕ) → IsCounted g t → length lasts ≡ length g.lasts → IsCounted (record g { lasts = lasts }) t
+IsCounted-with_lasts {g} {t} lasts h e = record {
+  setup = h.setup;
+  cells_length = h.cells_length;
+  lasts_length = e ∙ h.lasts_length;
+  down_length = h.down_length;
+  loads_length = h.loads_length;
+  lives_length = h.lives_length;
+  servings_length = h.servings_length;
+  known = h.known;
+  loads = h.loads;
+  lives = h.lives;
+  servings = h.servings;
+  down = h.down;
+}
+
+-- a write to a list is the write to the table. `old` is the table as its callers saw it
+pub lasts_of-set : {g old : Grid} {t : Totals} (s v x : ℕ) → IsCounted g t → g ≡ old → s < length old.setup.shards → v < length old.setup.servers →
+    lasts_of (record g { lasts = set g.lasts (s * length old.setup.servers + v) x }) ≡ put2 (lasts_of old) s v x
+lasts_of-set {g} {old} {t} s v x h e = subst (λ (n : Grid). s < length n.setup.shards → v < length n.setup.servers → lasts_of (record g { lasts = set g.lasts (s * length n.setup.servers + v) x }) ≡ put2 (lasts_of n) s v x) e
+    (λ l m. grid_of-set (length g.setup.servers) 0 g.lasts s v x m (place_within g.lasts (length g.setup.servers) (length g.setup.shards) s v h.lasts_length l m))
