@@ -108,7 +108,14 @@ serving_in-put n row down v next l h k o =
 same_counts : (a b c d : ℕ) → a ≡ b → c ≡ d → ◌≡◌ {A = Counts} (record { live = a; serving = c }) (record { live = b; serving = d })
 same_counts a b c d e f = cc
 
--- a row that is kept as a list, with a cell changed: the parts of the cell's server and of the other party are exchanged
+-- a row that is kept as a list, with a cell changed
+pub counts_of-set : (row : List Cell) (down : List Bool) (n : ℕ) (f : ℕ → Cell) (v : ℕ) (next : Cell) → length row ≡ n → entries_of Absent row ≡ f → v < n →
+    counts_of (set row v next) down ≡ counts_in n (put f v next) (entries_of false down)
+counts_of-set row down n f v next e s l =
+    ap (λ (m : ℕ). counts_in m (entries_of Absent (set row v next)) (entries_of false down)) (length-set row v next ∙ e)
+    ∙ ap (λ (g : ℕ → Cell). counts_in n g (entries_of false down)) (entries_of-set Absent row v next (omega arith) ∙ ap (λ (g : ℕ → Cell). put g v next) s)
+
+-- the counts of such a row are exchanged with the parts: the parts of the cell's server and of the other party are exchanged
 pub CanCorrect-set : (row : List Cell) (down : List Bool) (v : ℕ) (next : Cell) (counts before after : Counts) → length row ≤ 1024 → v < length row →
     IsKnownCell (length row) (entries_of Absent row v) → IsKnownCell (length row) next → (is_forwarding (entries_of Absent row v) && is_forwarding next) ≡ false →
     counts ≡ counts_of row down →
@@ -123,7 +130,7 @@ CanCorrect-set row down v next counts before after b l h k o e d a =
     let p : ℕ = party_of (r v) next v in
     let s : entries_of Absent (set row v next) ≡ now = entries_of-set Absent row v next l in
     let a' : after ≡ counts_at now dn v p = a ∙ ap (λ (f : ℕ → Cell). counts_at f dn v p) s in
-    let z : counts_of (set row v next) down ≡ counts_in n now dn = ap (λ (m : ℕ). counts_in m (entries_of Absent (set row v next)) dn) (length-set row v next) ∙ ap (λ (f : ℕ → Cell). counts_in n f dn) s in
+    let z : counts_of (set row v next) down ≡ counts_in n now dn = counts_of-set row down n r v next refl refl l in
     let al : after.live ≡ (counts_at now dn v p).live = ap (λ (q : Counts). q.live) a' in
     let ase : after.serving ≡ (counts_at now dn v p).serving = ap (λ (q : Counts). q.serving) a' in
     let bl : before.live ≡ (counts_at r dn v p).live = ap (λ (q : Counts). q.live) d in

@@ -7,14 +7,16 @@ use Rattle.std.proofs.lemmas.List.Elements.{All-get_or}
 use Rattle.std.proofs.lemmas.Nat.{mul-le}
 use Rattle.sm_server.specs.declared.call.Cell.{Cell}
 use Rattle.sm_server.specs.declared.call.Cell.TheVariants.{Absent, Prepared, Secondary, Primary, Forwarding}
+use Rattle.sm_placement.specs.declared.row.Counts.{Counts}
+use Rattle.sm_placement.specs.Counts.{counts_in, counts_of}
 use Rattle.sm_placement.specs.Sums.{put, put2, sum_below, bit, count_below}
-use Rattle.sm_placement.specs.Setup.{Setup, ShardRow, IsSetup, sizes_of, no_shard}
+use Rattle.sm_placement.specs.Setup.{Setup, Sizes, ShardRow, IsSetup, sizes_of, no_shard}
 use Rattle.sm_placement.specs.Rows.{live_in, serving_in, serves, is_live, IsKnownCell}
 use Rattle.sm_placement.specs.Place.{weight, load_of}
 use Rattle.sm_placement.specs.Layout.{grid_of, entries_of}
 use Rattle.sm_placement.specs.Grid.{Grid, Totals, IsCounted, IsGrid, cells_of, lasts_of, down_of}
-use Rattle.sm_placement.proofs.Sums.{count-le, sum-le, sum_zero}
-use Rattle.sm_placement.proofs.GridLemmas.{grid_of-beside, grid_of-below, grid_of-empty, grid_of-read, grid_of-set, place_within, entries_of-past, entries_of-empty, entries_of-read}
+use Rattle.sm_placement.proofs.Sums.{put-here, put-apart, put2-here, put2-row, put2-apart, same_sum, sum_apart, count-le, sum-le, sum_zero}
+use Rattle.sm_placement.proofs.GridLemmas.{grid_of-beside, grid_of-below, grid_of-empty, grid_of-read, grid_of-set, place_within, entries_of-past, entries_of-set, entries_of-empty, entries_of-read}
 
 -- no shard has a load of 2 ^ 32
 pub shard_load-small : (setup : Setup) (s : ℕ) → IsSetup setup → s < length setup.shards → (sizes_of setup).load s < 2 ^ 32
@@ -160,3 +162,78 @@ pub lasts_of-set : {g old : Grid} {t : Totals} (s v x : ℕ) → IsCounted g t �
     lasts_of (record g { lasts = set g.lasts (s * length old.setup.servers + v) x }) ≡ put2 (lasts_of old) s v x
 lasts_of-set {g} {old} {t} s v x h e = subst (λ (n : Grid). s < length n.setup.shards → v < length n.setup.servers → lasts_of (record g { lasts = set g.lasts (s * length n.setup.servers + v) x }) ≡ put2 (lasts_of n) s v x) e
     (λ l m. grid_of-set (length g.setup.servers) 0 g.lasts s v x m (place_within g.lasts (length g.setup.servers) (length g.setup.shards) s v h.lasts_length l m))
+
+-- ---- one cell changed ----
+
+-- the load of the cell's server changes by the weights of the old and the new cell
+pub load_of-put : (c : Sizes) (cells : ℕ → ℕ → Cell) (s v : ℕ) (next : Cell) → s < c.shards →
+    load_of c (put2 cells s v next) v + weight (cells s v) (c.load s) ≡ load_of c cells v + weight next (c.load s)
+load_of-put c cells s v next l =
+    sum_apart c.shards (λ r. weight (put2 cells s v next r v) (c.load r)) (λ r. weight (cells r v) (c.load r)) s (weight (cells s v) (c.load s)) (weight next (c.load s)) l
+      (λ r d. ap (λ (x : Cell). weight x (c.load r)) (put2-apart cells s v next r v d))
+      (let e : weight (put2 cells s v next s v) (c.load s) ≡ weight next (c.load s) = ap (λ (x : Cell). weight x (c.load s)) (put2-here cells s v next) in omega arith)
+
+-- and the load of no other server does
+pub load_of-beside : (c : Sizes) (cells : ℕ → ℕ → Cell) (s v u : ℕ) (next : Cell) → u ≢ v → load_of c (put2 cells s v next) u ≡ load_of c cells u
+load_of-beside c cells s v u next d = same_sum c.shards (λ r. weight (put2 cells s v next r u) (c.load r)) (λ r. weight (cells r u) (c.load r)) (λ r l. ap (λ (x : Cell). weight x (c.load r)) (at r))
+  where
+    at : (r : ℕ) → put2 cells s v next r u ≡ cells r u
+    at r = elim (cases_eq r s) [
+          | inl e ↦ rw e (put2-row cells s v next u d)
+          | inr e ↦ put2-apart cells s v next r u e
+        ]
+
+-- a property of each cell
+known-put : (n : ℕ) (cells : ℕ → ℕ → Cell) (s v : ℕ) (next : Cell) → ((r u : ℕ) → IsKnownCell n (cells r u)) → IsKnownCell n next → (r u : ℕ) → IsKnownCell n (put2 cells s v next r u)
+known-put n cells s v next h k r u = elim (cases_eq r s) [
+      | inl e ↦ elim (cases_eq u v) [
+          | inl d ↦ rw (e, d, put2-here cells s v next) k
+          | inr d ↦ rw (e, put2-row cells s v next u d) (h s u)
+        ]
+      | inr e ↦ rw (put2-apart cells s v next r u e) (h r u)
+    ]
+
+-- a list of totals, where one total and what it stands for change
+total-set : (xs : List ℕ) (f g : ℕ → ℕ) (n k x : ℕ) → length xs ≡ n → k < n → ((j : ℕ) → j < n → entries_of 0 xs j ≡ f j) → ((j : ℕ) → j ≢ k → g j ≡ f j) → x ≡ g k →
+    (j : ℕ) → j < n → entries_of 0 (set xs k x) j ≡ g j
+total-set xs f g n k x e l h others here j m = ap (λ (q : ℕ → ℕ). q j) (entries_of-set 0 xs k x (omega arith)) ∙ elim (cases_eq j k) [
+      | inl d ↦ put-here (entries_of 0 xs) k x j d ∙ here ∙ ap g (sym d)
+      | inr d ↦ put-apart (entries_of 0 xs) k x j d ∙ h j m ∙ sym (others j d)
+    ]
+
+-- a table whose totals are corrected with the cell
+pub IsCounted-set : {g : Grid} {t : Totals} (s v : ℕ) (next : Cell) (load : ℕ) (counts : Counts) → IsCounted g t → s < length g.setup.shards → v < length g.setup.servers →
+    IsKnownCell (length g.setup.servers) next →
+    load ≡ load_of (sizes_of g.setup) (put2 (cells_of g) s v next) v →
+    counts ≡ counts_in (length g.setup.servers) (put (cells_of g s) v next) (down_of g) →
+    IsCounted (record g { cells = set g.cells (s * length g.setup.servers + v) next })
+      (record { loads = set t.loads v load; lives = set t.lives s counts.live; servings = set t.servings s counts.serving; down = t.down })
+IsCounted-set {g} {t} s v next load counts h l m known by_load by_counts = record {
+  setup = h.setup;
+  cells_length = length-set g.cells (s * n + v) next ∙ h.cells_length;
+  lasts_length = h.lasts_length;
+  down_length = h.down_length;
+  loads_length = length-set t.loads v load ∙ h.loads_length;
+  lives_length = length-set t.lives s counts.live ∙ h.lives_length;
+  servings_length = length-set t.servings s counts.serving ∙ h.servings_length;
+  known = λ r u. rw written (known-put n (cells_of g) s v next h.known known r u);
+  loads = λ u k. rw written (total-set t.loads (λ j. load_of c (cells_of g) j) (λ j. load_of c cells j) n v load h.loads_length m h.loads (λ j d. load_of-beside c (cells_of g) s v j next d) by_load u k);
+  lives = λ r k. rw written (total-set t.lives (λ j. live_in n (cells_of g j) (down_of g)) (λ j. live_in n (cells j) (down_of g)) (length g.setup.shards) s counts.live h.lives_length l h.lives
+      (λ j d. ap (λ (f : ℕ → Cell). live_in n f (down_of g)) (other j d)) (ap (λ (q : Counts). q.live) by_counts ∙ ap (λ (f : ℕ → Cell). live_in n f (down_of g)) (sym own)) r k);
+  servings = λ r k. rw written (total-set t.servings (λ j. serving_in n (cells_of g j)) (λ j. serving_in n (cells j)) (length g.setup.shards) s counts.serving h.servings_length l h.servings
+      (λ j d. ap (λ (f : ℕ → Cell). serving_in n f) (other j d)) (ap (λ (q : Counts). q.serving) by_counts ∙ ap (λ (f : ℕ → Cell). serving_in n f) (sym own)) r k);
+  down = h.down;
+}
+  where
+    n : ℕ
+    n = length g.setup.servers
+    c : Sizes
+    c = sizes_of g.setup
+    cells : ℕ → ℕ → Cell
+    cells = put2 (cells_of g) s v next
+    written : grid_of (length g.setup.servers) Absent (set g.cells (s * length g.setup.servers + v) next) ≡ put2 (cells_of g) s v next
+    written = grid_of-set (length g.setup.servers) Absent g.cells s v next m (place_within g.cells (length g.setup.servers) (length g.setup.shards) s v h.cells_length l m)
+    own : put2 (cells_of g) s v next s ≡ put (cells_of g s) v next
+    own = put-here (cells_of g) s (put (cells_of g s) v next) s refl
+    other : (j : ℕ) → j ≢ s → put2 (cells_of g) s v next j ≡ cells_of g j
+    other j d = put-apart (cells_of g) s (put (cells_of g s) v next) j d
