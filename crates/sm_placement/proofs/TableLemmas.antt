@@ -170,8 +170,8 @@ pub load_of-put : (c : Sizes) (cells : ℕ → ℕ → Cell) (s v : ℕ) (next :
     load_of c (put2 cells s v next) v + weight (cells s v) (c.load s) ≡ load_of c cells v + weight next (c.load s)
 load_of-put c cells s v next l =
     sum_apart c.shards (λ r. weight (put2 cells s v next r v) (c.load r)) (λ r. weight (cells r v) (c.load r)) s (weight (cells s v) (c.load s)) (weight next (c.load s)) l
-      (λ r d. ap (λ (x : Cell). weight x (c.load r)) (put2-apart cells s v next r v d))
-      (let e : weight (put2 cells s v next s v) (c.load s) ≡ weight next (c.load s) = ap (λ (x : Cell). weight x (c.load s)) (put2-here cells s v next) in omega arith)
+    (λ r d. ap (λ (x : Cell). weight x (c.load r)) (put2-apart cells s v next r v d))
+    (let e : weight (put2 cells s v next s v) (c.load s) ≡ weight next (c.load s) = ap (λ (x : Cell). weight x (c.load s)) (put2-here cells s v next) in omega arith)
 
 -- and the load of no other server does
 pub load_of-beside : (c : Sizes) (cells : ℕ → ℕ → Cell) (s v u : ℕ) (next : Cell) → u ≢ v → load_of c (put2 cells s v next) u ≡ load_of c cells u
@@ -179,27 +179,27 @@ load_of-beside c cells s v u next d = same_sum c.shards (λ r. weight (put2 cell
   where
     at : (r : ℕ) → put2 cells s v next r u ≡ cells r u
     at r = elim (cases_eq r s) [
-          | inl e ↦ rw e (put2-row cells s v next u d)
-          | inr e ↦ put2-apart cells s v next r u e
-        ]
+      | inl e ↦ rw e (put2-row cells s v next u d)
+      | inr e ↦ put2-apart cells s v next r u e
+    ]
 
 -- a property of each cell
 known-put : (n : ℕ) (cells : ℕ → ℕ → Cell) (s v : ℕ) (next : Cell) → ((r u : ℕ) → IsKnownCell n (cells r u)) → IsKnownCell n next → (r u : ℕ) → IsKnownCell n (put2 cells s v next r u)
 known-put n cells s v next h k r u = elim (cases_eq r s) [
-      | inl e ↦ elim (cases_eq u v) [
-          | inl d ↦ rw (e, d, put2-here cells s v next) k
-          | inr d ↦ rw (e, put2-row cells s v next u d) (h s u)
-        ]
-      | inr e ↦ rw (put2-apart cells s v next r u e) (h r u)
-    ]
+  | inl e ↦ elim (cases_eq u v) [
+    | inl d ↦ rw (e, d, put2-here cells s v next) k
+    | inr d ↦ rw (e, put2-row cells s v next u d) (h s u)
+  ]
+  | inr e ↦ rw (put2-apart cells s v next r u e) (h r u)
+]
 
 -- a list of totals, where one total and what it stands for change
 total-set : (xs : List ℕ) (f g : ℕ → ℕ) (n k x : ℕ) → length xs ≡ n → k < n → ((j : ℕ) → j < n → entries_of 0 xs j ≡ f j) → ((j : ℕ) → j ≢ k → g j ≡ f j) → x ≡ g k →
     (j : ℕ) → j < n → entries_of 0 (set xs k x) j ≡ g j
 total-set xs f g n k x e l h others here j m = ap (λ (q : ℕ → ℕ). q j) (entries_of-set 0 xs k x (omega arith)) ∙ elim (cases_eq j k) [
-      | inl d ↦ put-here (entries_of 0 xs) k x j d ∙ here ∙ ap g (sym d)
-      | inr d ↦ put-apart (entries_of 0 xs) k x j d ∙ h j m ∙ sym (others j d)
-    ]
+  | inl d ↦ put-here (entries_of 0 xs) k x j d ∙ here ∙ ap g (sym d)
+  | inr d ↦ put-apart (entries_of 0 xs) k x j d ∙ h j m ∙ sym (others j d)
+]
 
 -- a table whose totals are corrected with the cell
 pub IsCounted-set : {g : Grid} {t : Totals} (s v : ℕ) (next : Cell) (load : ℕ) (counts : Counts) → IsCounted g t → s < length g.setup.shards → v < length g.setup.servers →
@@ -207,7 +207,7 @@ pub IsCounted-set : {g : Grid} {t : Totals} (s v : ℕ) (next : Cell) (load : �
     load ≡ load_of (sizes_of g.setup) (put2 (cells_of g) s v next) v →
     counts ≡ counts_in (length g.setup.servers) (put (cells_of g s) v next) (down_of g) →
     IsCounted (record g { cells = set g.cells (s * length g.setup.servers + v) next })
-      (record { loads = set t.loads v load; lives = set t.lives s counts.live; servings = set t.servings s counts.serving; down = t.down })
+    (record { loads = set t.loads v load; lives = set t.lives s counts.live; servings = set t.servings s counts.serving; down = t.down })
 IsCounted-set {g} {t} s v next load counts h l m known by_load by_counts = record {
   setup = h.setup;
   cells_length = length-set g.cells (s * n + v) next ∙ h.cells_length;
@@ -227,13 +227,62 @@ IsCounted-set {g} {t} s v next load counts h l m known by_load by_counts = recor
   where
     n : ℕ
     n = length g.setup.servers
+
     c : Sizes
     c = sizes_of g.setup
+
     cells : ℕ → ℕ → Cell
     cells = put2 (cells_of g) s v next
+
     written : grid_of (length g.setup.servers) Absent (set g.cells (s * length g.setup.servers + v) next) ≡ put2 (cells_of g) s v next
     written = grid_of-set (length g.setup.servers) Absent g.cells s v next m (place_within g.cells (length g.setup.servers) (length g.setup.shards) s v h.cells_length l m)
+
     own : put2 (cells_of g) s v next s ≡ put (cells_of g s) v next
     own = put-here (cells_of g) s (put (cells_of g s) v next) s refl
+
     other : (j : ℕ) → j ≢ s → put2 (cells_of g) s v next j ≡ cells_of g j
     other j d = put-apart (cells_of g) s (put (cells_of g s) v next) j d
+
+-- ---- what the code reads and writes for it, over the lists of the table ----
+
+-- the totals of a shard are the counts of its row
+pub counts_in-read : {g : Grid} {t : Totals} (s live serving : ℕ) (cells : List Cell) (down : List Bool) → IsCounted g t → s < length g.setup.shards → cells ≡ g.cells → down ≡ g.down →
+    live ≡ get_or t.lives s live → serving ≡ get_or t.servings s serving →
+    ◌≡◌ {A = Counts} (record { live = live; serving = serving }) (counts_in (length down) (grid_of (length down) Absent cells s) (entries_of false down))
+counts_in-read {g} {t} s live serving cells down h l ce de a b =
+    let n : ℕ = length g.setup.servers in
+    let x : live ≡ live_in n (cells_of g s) (down_of g) = entries_of-read 0 t.lives s (length g.setup.shards) live h.lives_length l a ∙ h.lives s l in
+    let y : serving ≡ serving_in n (cells_of g s) = entries_of-read 0 t.servings s (length g.setup.shards) serving h.servings_length l b ∙ h.servings s l in
+    rw (x, y, ce, de, h.down_length) refl
+
+-- the list and the counts after a cell is set in its row
+pub set_in_row-is : {g : Grid} {t : Totals} (s v : ℕ) (next : Cell) (counts : Counts) (cells now : List Cell) (down : List Bool) → IsCounted g t → cells ≡ g.cells → down ≡ g.down →
+    now ≡ set cells (s * length down + v) next → counts ≡ counts_in (length down) (put (grid_of (length down) Absent cells s) v next) (entries_of false down) →
+    (now ≡ set g.cells (s * length g.setup.servers + v) next) × (counts ≡ counts_in (length g.setup.servers) (put (cells_of g s) v next) (down_of g))
+set_in_row-is {g} {t} s v next counts cells now down h ce de a b =
+    let l : length down ≡ length g.setup.servers = ap length de ∙ h.down_length in
+    let P : ℕ → List Cell → List Bool → Type 0 = λ (n : ℕ) (xs : List Cell) (ds : List Bool). (now ≡ set xs (s * n + v) next) × (counts ≡ counts_in n (put (grid_of n Absent xs s) v next) (entries_of false ds)) in
+    subst (λ (ds : List Bool). P (length g.setup.servers) g.cells ds) de (subst (λ (xs : List Cell). P (length g.setup.servers) xs down) ce (subst (λ (n : ℕ). P n cells down) l (a, b)))
+
+-- the load of the cell's server, corrected
+pub record IsCorrected (load added removed after : ℕ) : Type 0 where
+  pub fits : load + added < 2 ^ 64
+  pub enough : removed ≤ load + added
+  pub is : load + added - removed ≡ after
+
+pub load_of-corrected : {g : Grid} {t : Totals} (s v : ℕ) (next : Cell) (load added removed : ℕ) → IsCounted g t → s < length g.setup.shards → v < length g.setup.servers →
+    load ≡ get_or t.loads v load → added ≡ weight next ((sizes_of g.setup).load s) → removed ≡ weight (cells_of g s v) ((sizes_of g.setup).load s) →
+    IsCorrected load added removed (load_of (sizes_of g.setup) (put2 (cells_of g) s v next) v)
+load_of-corrected {g} {t} s v next load added removed h l m a b d =
+    let c : Sizes = sizes_of g.setup in
+    let x : load ≡ load_of c (cells_of g) v = entries_of-read 0 t.loads v (length g.setup.servers) load h.loads_length m a ∙ h.loads v m in
+    let e : load_of c (put2 (cells_of g) s v next) v + weight (cells_of g s v) (c.load s) ≡ load_of c (cells_of g) v + weight next (c.load s) = load_of-put c (cells_of g) s v next l in
+    let p : load_of c (cells_of g) v < 2 ^ 45 = load-small g.setup (cells_of g) v h.setup in
+    let q : weight next (c.load s) ≤ c.load s = weight-le next (c.load s) in
+    let r : c.load s < 2 ^ 32 = shard_load-small g.setup s h.setup l in
+    record { fits = omega arith; enough = omega arith; is = omega arith }
+
+pub cells_of-set : {g old : Grid} {t : Totals} (s v : ℕ) (next : Cell) → IsCounted g t → g ≡ old → s < length old.setup.shards → v < length old.setup.servers →
+    grid_of (length g.setup.servers) Absent (set g.cells (s * length g.setup.servers + v) next) ≡ put2 (cells_of old) s v next
+cells_of-set {g} {old} {t} s v next h e = subst (λ (n : Grid). s < length n.setup.shards → v < length n.setup.servers → grid_of (length g.setup.servers) Absent (set g.cells (s * length g.setup.servers + v) next) ≡ put2 (cells_of n) s v next) e
+    (λ l m. grid_of-set (length g.setup.servers) Absent g.cells s v next m (place_within g.cells (length g.setup.servers) (length g.setup.shards) s v h.cells_length l m))
