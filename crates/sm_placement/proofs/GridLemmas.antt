@@ -135,3 +135,14 @@ put_mid-row {A} width start xs i y l m =
     let right : set (front ++ back) (start + i) y ≡ front ++ set back (start + i - start) y = set-append_right front back start (start + i) y (length-take-le start xs (omega arith)) (omega arith) in
     let part : set back i y ≡ set (take w back) i y ++ drop w back = ap (λ (zs : List A). set zs i y) (sym (take-append-drop w back)) ∙ set-append_left (take w back) (drop w back) i y inside in
     sym (whole ∙ right ∙ ap (λ (k : ℕ). front ++ set back k y) at ∙ ap (λ (zs : List A). front ++ zs) part)
+
+-- a loop over a list of numbers, which writes one of them
+pub entries_of-done : (xs : List ℕ) (s x : ℕ) (f : ℕ → ℕ) → s < length xs → ((r : ℕ) → r < s → entries_of 0 xs r ≡ f r) → x ≡ f s → (r : ℕ) → r < s + 1 → entries_of 0 (set xs s x) r ≡ f r
+entries_of-done xs s x f l done here r m = ap (λ (q : ℕ → ℕ). q r) (entries_of-set 0 xs s x l) ∙ elim (cases_eq r s) [
+      | inl e ↦ put-here (entries_of 0 xs) s x r e ∙ here ∙ ap f (sym e)
+      | inr e ↦ let k : r < s = omega arith in put-apart (entries_of 0 xs) s x r e ∙ done r k
+    ]
+
+pub entries_of-rest : (xs : List ℕ) (s x : ℕ) (g : ℕ → ℕ) → s < length xs → ((r : ℕ) → s ≤ r → r < length xs → entries_of 0 xs r ≡ g r) → (r : ℕ) → s + 1 ≤ r → r < length (set xs s x) → entries_of 0 (set xs s x) r ≡ g r
+entries_of-rest xs s x g l rest r m k =
+    ap (λ (q : ℕ → ℕ). q r) (entries_of-set 0 xs s x l) ∙ put-apart (entries_of 0 xs) s x r (λ e. absurd (omega arith)) ∙ rest r (omega arith) (omega (arith, length-set xs s x))

@@ -160,3 +160,20 @@ CanCorrect-steps row down v place u old next counts before after b l h k o e oe 
     let Goal : ℕ → ℕ → Type 0 = λ (q w : ℕ). before ≡ counts_at (entries_of Absent row) (entries_of false down) v w → after ≡ counts_at (entries_of Absent (set row q next)) (entries_of false down) v w →
     CanCorrect counts before after × (corrected counts before after ≡ counts_of (set row q next) down) in
     subst (λ (q : ℕ). Goal q u) (sym pe) (subst (λ (w : ℕ). Goal v w) (sym f) (CanCorrect-set row down v next counts before after b l h k o e))
+
+-- a server that comes up or goes down: only its own replica counts or stops to count
+pub live_in-toggle : (n : ℕ) (row : ℕ → Cell) (down : ℕ → Bool) (v : ℕ) → v < n →
+    live_in n row (put down v (not (down v))) + bit (not (down v) && has_replica row v) ≡ live_in n row down + bit (down v && has_replica row v)
+live_in-toggle n row down v l =
+    sum_apart n (λ q. bit (is_live row (put down v (not (down v))) q)) (λ q. bit (is_live row down q)) v (bit (not (down v) && has_replica row v)) (bit (down v && has_replica row v)) l
+      (λ q d. ap (λ b. bit (not b && has_replica row q)) (put-apart down v (not (down v)) q d))
+      (ap (λ b. bit (not b && has_replica row v) + bit (not (down v) && has_replica row v)) (put-here down v (not (down v)) v refl) ∙ both (down v) (has_replica row v))
+  where
+    both : (b r : Bool) → bit (not (not b) && r) + bit (not b && r) ≡ bit (not b && r) + bit (b && r)
+    both true r = omega arith
+    both false r = omega arith
+
+-- the same by cases, as code tests them, for a row that is kept as a list
+pub live_in-toggled : (row : List Cell) (down : List Bool) (n v : ℕ) (b r : Bool) → v < n → b ≡ entries_of false down v → r ≡ has_replica (entries_of Absent row) v →
+    live_in n (entries_of Absent row) (put (entries_of false down) v (not (entries_of false down v))) + bit (not b && r) ≡ live_in n (entries_of Absent row) (entries_of false down) + bit (b && r)
+live_in-toggled row down n v b r l e d = rw (e, d) (live_in-toggle n (entries_of Absent row) (entries_of false down) v l)

@@ -1,11 +1,11 @@
 //! The cells of a configuration, one after another, with running totals.
-ghost use Rattle.std.specs.Prelude.{◌≡◌, ◌<◌, ◌≤◌, ◌+◌, ◌*◌, ◌^◌, ◌&&◌, false, length, slice_set, IfOk};
+ghost use Rattle.std.specs.Prelude.{◌≡◌, ◌<◌, ◌≤◌, ◌+◌, ◌*◌, ◌^◌, ◌&&◌, false, not, length, slice_set, IfOk};
 ghost use Rattle.sm_server.specs.Cell.{is_forwarding};
 ghost use Rattle.sm_placement.specs.Sums.{put};
 ghost use Rattle.sm_placement.specs.Rows.{IsKnownCell};
 ghost use Rattle.sm_placement.specs.Place.{weight};
 ghost use Rattle.sm_placement.specs.Layout.{grid_of, entries_of};
-ghost use Rattle.sm_placement.specs.Counts.{counts_in};
+ghost use Rattle.sm_placement.specs.Counts.{counts_in, AreLives};
 
 use crate::config::Config;
 use crate::row::{self, Counts};
@@ -69,12 +69,28 @@ fn set_in_row(
     row::set_cell(row, down, server, cell, counts)
 }
 
+/// Corrects the counts of live replicas, once a server that is down comes up, or one that is up goes down.
+fn toggle_lives(lives: &mut [u32], cells: &[Cell], down: &[bool], server: ServerId)
+    requires bound { length down.now ≤ 1024 }
+    requires cells { length cells.now ≡ length lives.old * length down.now }
+    requires server { server < length down.now }
+    requires lives { AreLives lives.old (length down.now) (grid_of (length down.now) Cell.Absent cells.now) (entries_of false down.now) }
+    ensures { AreLives lives.new (length down.now) (grid_of (length down.now) Cell.Absent cells.now) (put (entries_of false down.now) server (not (entries_of false down.now server))) }
+{
+    let servers = down.len();
+    for shard in 0..lives.len() {
+        let start = shard * servers;
+        let row = &cells[start..start + servers];
+        lives[shard] = row::live_toggled(row, down, server, lives[shard]);
+    }
+}
+
 impl Table {
     ghost use Rattle.std.specs.Prelude.{◌≡◌, ◌<◌, ◌≤◌, ◌+◌, ◌*◌, ◌^◌, ◌&&◌, false, length, IfOk};
     ghost use Rattle.sm_placement.specs.Setup.{sizes_of};
     ghost use Rattle.sm_placement.specs.Rows.{live_in, serving_in, IsKnownCell};
     ghost use Rattle.sm_server.specs.Cell.{is_forwarding};
-    ghost use Rattle.sm_placement.specs.Sums.{put2, count_below};
+    ghost use Rattle.sm_placement.specs.Sums.{put, put2, count_below};
     ghost use Rattle.sm_placement.specs.Place.{load_of};
     ghost use Rattle.sm_placement.specs.Grid.{cells_of, lasts_of, down_of, IsGrid};
 
@@ -214,6 +230,26 @@ impl Table {
         self.servings[row] = counts.serving;
         let column = server.number() as usize;
         self.loads[column] = self.loads[column] + weight(&cell, load) - removed;
+    }
+
+    /// Sets whether a server is down, and corrects the totals of the shards with a replica there. Takes no memory.
+    pub fn set_down(&mut self, server: ServerId, down: bool)
+        requires { server < length self.old.setup.servers }
+        ensures down { down_of self.new ≡ put (down_of self.old) server down }
+        ensures cells { self.new.cells ≡ self.old.cells }
+        ensures lasts { self.new.lasts ≡ self.old.lasts }
+        ensures setup { self.new.setup ≡ self.old.setup }
+    {
+        if self.is_down(server) == down {
+            return;
+        }
+        toggle_lives(self.lives.as_mut_slice(), &self.cells, &self.down, server);
+        self.down[server.number() as usize] = down;
+        if down {
+            self.down_count += 1;
+        } else {
+            self.down_count -= 1;
+        }
     }
 
     /// Sets the number of the last call that had an effect on a cell.
