@@ -139,9 +139,9 @@ put_mid-row {A} width start xs i y l m =
 -- a loop over a list of numbers, which writes one of them
 pub entries_of-done : (xs : List ℕ) (s x : ℕ) (f : ℕ → ℕ) → s < length xs → ((r : ℕ) → r < s → entries_of 0 xs r ≡ f r) → x ≡ f s → (r : ℕ) → r < s + 1 → entries_of 0 (set xs s x) r ≡ f r
 entries_of-done xs s x f l done here r m = ap (λ (q : ℕ → ℕ). q r) (entries_of-set 0 xs s x l) ∙ elim (cases_eq r s) [
-      | inl e ↦ put-here (entries_of 0 xs) s x r e ∙ here ∙ ap f (sym e)
-      | inr e ↦ let k : r < s = omega arith in put-apart (entries_of 0 xs) s x r e ∙ done r k
-    ]
+  | inl e ↦ put-here (entries_of 0 xs) s x r e ∙ here ∙ ap f (sym e)
+  | inr e ↦ let k : r < s = omega arith in put-apart (entries_of 0 xs) s x r e ∙ done r k
+]
 
 pub entries_of-rest : (xs : List ℕ) (s x : ℕ) (g : ℕ → ℕ) → s < length xs → ((r : ℕ) → s ≤ r → r < length xs → entries_of 0 xs r ≡ g r) → (r : ℕ) → s + 1 ≤ r → r < length (set xs s x) → entries_of 0 (set xs s x) r ≡ g r
 entries_of-rest xs s x g l rest r m k =

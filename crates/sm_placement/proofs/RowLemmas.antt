@@ -166,8 +166,8 @@ pub live_in-toggle : (n : ℕ) (row : ℕ → Cell) (down : ℕ → Bool) (v : �
     live_in n row (put down v (not (down v))) + bit (not (down v) && has_replica row v) ≡ live_in n row down + bit (down v && has_replica row v)
 live_in-toggle n row down v l =
     sum_apart n (λ q. bit (is_live row (put down v (not (down v))) q)) (λ q. bit (is_live row down q)) v (bit (not (down v) && has_replica row v)) (bit (down v && has_replica row v)) l
-      (λ q d. ap (λ b. bit (not b && has_replica row q)) (put-apart down v (not (down v)) q d))
-      (ap (λ b. bit (not b && has_replica row v) + bit (not (down v) && has_replica row v)) (put-here down v (not (down v)) v refl) ∙ both (down v) (has_replica row v))
+    (λ q d. ap (λ b. bit (not b && has_replica row q)) (put-apart down v (not (down v)) q d))
+    (ap (λ b. bit (not b && has_replica row v) + bit (not (down v) && has_replica row v)) (put-here down v (not (down v)) v refl) ∙ both (down v) (has_replica row v))
   where
     both : (b r : Bool) → bit (not (not b) && r) + bit (not b && r) ≡ bit (not b && r) + bit (b && r)
     both true r = omega arith

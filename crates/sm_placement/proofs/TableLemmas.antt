@@ -1,14 +1,15 @@
 -- A table's totals: that they fit, where nothing stands anywhere, and after a write.
-use Rattle.std.proofs.Common.{◌≡◌, ◌≢◌, ℕ, zero, suc, ◌+◌, ◌-◌, ◌*◌, ◌^◌, ◌<◌, ◌≤◌, Bool, true, false, not, ◌&&◌, cond, List, length, set, get_or, replicate, refl, sym, ap, subst, ◌∙◌, arith, inl, inr}
+use Rattle.std.proofs.Common.{◌≡◌, ◌≢◌, ℕ, zero, suc, ◌+◌, ◌-◌, ◌*◌, ◌^◌, ◌<◌, ◌≤◌, Bool, true, false, not, List, length, set, get_or, replicate, refl, sym, ap, subst, ◌∙◌, arith, inl, inr}
+use Rattle.std.specs.Bool.{beq}
 use Rattle.std.proofs.Math.Path.{fun_ext}
-use Rattle.std.proofs.lemmas.Bool.{cases_eq, cases_lt}
+use Rattle.std.proofs.lemmas.Bool.{cases_eq, true≢false}
 use Rattle.std.proofs.lemmas.List.{length-replicate, length-set, get_or_past}
 use Rattle.std.proofs.lemmas.List.Elements.{All-get_or}
 use Rattle.std.proofs.lemmas.Nat.{mul-le}
 use Rattle.sm_server.specs.declared.call.Cell.{Cell}
 use Rattle.sm_server.specs.declared.call.Cell.TheVariants.{Absent, Prepared, Secondary, Primary, Forwarding}
 use Rattle.sm_placement.specs.declared.row.Counts.{Counts}
-use Rattle.sm_placement.specs.Counts.{counts_in, counts_of}
+use Rattle.sm_placement.specs.Counts.{counts_in, AreLives}
 use Rattle.sm_placement.specs.Sums.{put, put2, sum_below, bit, count_below}
 use Rattle.sm_placement.specs.Setup.{Setup, Sizes, ShardRow, IsSetup, sizes_of, no_shard}
 use Rattle.sm_placement.specs.Rows.{live_in, serving_in, serves, is_live, IsKnownCell}
@@ -286,3 +287,74 @@ pub cells_of-set : {g old : Grid} {t : Totals} (s v : ℕ) (next : Cell) → IsC
     grid_of (length g.setup.servers) Absent (set g.cells (s * length g.setup.servers + v) next) ≡ put2 (cells_of old) s v next
 cells_of-set {g} {old} {t} s v next h e = subst (λ (n : Grid). s < length n.setup.shards → v < length n.setup.servers → grid_of (length g.setup.servers) Absent (set g.cells (s * length g.setup.servers + v) next) ≡ put2 (cells_of n) s v next) e
     (λ l m. grid_of-set (length g.setup.servers) Absent g.cells s v next m (place_within g.cells (length g.setup.servers) (length g.setup.shards) s v h.cells_length l m))
+
+-- ---- a server comes up or goes down ----
+
+not-not : (b : Bool) → not (not b) ≡ b
+not-not true = refl
+not-not false = refl
+
+count_below-toggle : (n : ℕ) (down : ℕ → Bool) (v : ℕ) (b : Bool) → v < n → down v ≡ not b → count_below n (put down v b) + bit (not b) ≡ count_below n down + bit b
+count_below-toggle n down v b l e =
+    sum_apart n (λ q. bit (put down v b q)) (λ q. bit (down q)) v (bit (not b)) (bit b) l (λ q d. ap bit (put-apart down v b q d))
+    (let x : bit (put down v b v) ≡ bit b = ap bit (put-here down v b v refl) in let y : bit (down v) ≡ bit (not b) = ap bit e in omega arith)
+
+pub down_of-set : {g old : Grid} {t : Totals} (v : ℕ) (b : Bool) → IsCounted g t → g ≡ old → v < length old.setup.servers → down_of (record g { down = set g.down v b }) ≡ put (down_of old) v b
+down_of-set {g} {old} {t} v b h e = subst (λ (n : Grid). v < length n.setup.servers → down_of (record g { down = set g.down v b }) ≡ put (down_of n) v b) e
+    (λ l. entries_of-set false g.down v b (omega (arith, h.down_length)))
+
+pub not-from_beq : (was b : Bool) → beq was b ≡ false → was ≡ not b
+not-from_beq true true e = absurd (true≢false e)
+not-from_beq true false e = refl
+not-from_beq false true e = refl
+not-from_beq false false e = absurd (true≢false e)
+
+-- the count of the servers that are down, where a server's state turns
+pub down-toggled : {g old : Grid} {t : Totals} (v : ℕ) (b was : Bool) → IsCounted g t → g ≡ old → v < length old.setup.servers → was ≡ down_of old v → was ≡ not b →
+    count_below (length g.setup.servers) (put (down_of g) v b) + bit (not b) ≡ t.down + bit b
+down-toggled {g} {old} {t} v b was h e l r w =
+    let m : v < length g.setup.servers = omega (arith, ap (λ (n : Grid). length n.setup.servers) e) in
+    let d : down_of g v ≡ not b = ap (λ (n : Grid). down_of n v) e ∙ sym r ∙ w in
+    let k : count_below (length g.setup.servers) (put (down_of g) v b) + bit (not b) ≡ count_below (length g.setup.servers) (down_of g) + bit b = count_below-toggle (length g.setup.servers) (down_of g) v b m d in
+    k ∙ ap (λ (n : ℕ). n + bit b) (sym h.down)
+
+pub down_count-small : {g : Grid} {t : Totals} → IsCounted g t → t.down ≤ 1024
+down_count-small {g} {t} h = rw h.down (down-small g.setup (down_of g) h.setup)
+
+-- the table with corrected counts
+pub IsCounted-toggle : {g old : Grid} {t : Totals} (v : ℕ) (b was : Bool) (cells : List Cell) (down : List Bool) (lives : List ℕ) (count : ℕ) → IsCounted g t → g ≡ old → v < length old.setup.servers →
+    was ≡ down_of old v → was ≡ not b → cells ≡ g.cells → down ≡ g.down → length lives ≡ length t.lives →
+    AreLives lives (length down) (grid_of (length down) Absent cells) (put (entries_of false down) v (not (entries_of false down v))) →
+    count + bit (not b) ≡ t.down + bit b →
+    IsCounted (record g { down = set g.down v b }) (record t { lives = lives; down = count })
+IsCounted-toggle {g} {old} {t} v b was cells down lives count h e l r w ce de le are counted = record {
+  setup = h.setup;
+  cells_length = h.cells_length;
+  lasts_length = h.lasts_length;
+  down_length = length-set g.down v b ∙ h.down_length;
+  loads_length = h.loads_length;
+  lives_length = le ∙ h.lives_length;
+  servings_length = h.servings_length;
+  known = h.known;
+  loads = h.loads;
+  lives = λ s k. rw written (turned s (omega (arith, h.lives_length)));
+  servings = h.servings;
+  down = rw written (let k : count_below (length g.setup.servers) (put (down_of g) v b) + bit (not b) ≡ t.down + bit b = down-toggled v b was h e l r w in omega arith);
+}
+  where
+    m : v < length g.setup.servers
+    m = omega (arith, ap (λ (n : Grid). length n.setup.servers) e)
+
+    d : not (down_of g v) ≡ b
+    d = ap not (ap (λ (n : Grid). down_of n v) e ∙ sym r ∙ w) ∙ not-not b
+
+    written : entries_of false (set g.down v b) ≡ put (down_of g) v b
+    written = entries_of-set false g.down v b (omega (arith, h.down_length, m))
+
+    listed : AreLives lives (length g.setup.servers) (cells_of g) (put (down_of g) v (not (down_of g v)))
+    listed = subst (λ (ds : List Bool). AreLives lives (length g.setup.servers) (grid_of (length g.setup.servers) Absent g.cells) (put (entries_of false ds) v (not (entries_of false ds v)))) de
+        (subst (λ (xs : List Cell). AreLives lives (length g.setup.servers) (grid_of (length g.setup.servers) Absent xs) (put (entries_of false down) v (not (entries_of false down v)))) ce
+        (subst (λ (n : ℕ). AreLives lives n (grid_of n Absent cells) (put (entries_of false down) v (not (entries_of false down v)))) (ap length de ∙ h.down_length) are))
+
+    turned : AreLives lives (length g.setup.servers) (cells_of g) (put (down_of g) v b)
+    turned = subst (λ (x : Bool). AreLives lives (length g.setup.servers) (cells_of g) (put (down_of g) v x)) d listed

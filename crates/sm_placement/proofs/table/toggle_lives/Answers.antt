@@ -30,7 +30,7 @@ loop-shard-preserved c =
     let len : length (take (s * n + n - s * n) (drop (s * n) c.args.cells.now)) ≡ n = length-row n (s * n) c.args.cells.now f in
     let same : entries_of Absent (take (s * n + n - s * n) (drop (s * n) c.args.cells.now)) ≡ grid_of n Absent c.args.cells.now s = entries_of-row n (s * n) Absent c.args.cells.now s refl f in
     let x : c.live_toggled.result ≡ live_in n (grid_of n Absent c.args.cells.now s) new =
-        c.live_toggled.ensures ∙ ap (λ (m : ℕ). live_in m (entries_of Absent (take (s * n + n - s * n) (drop (s * n) c.args.cells.now))) new) len ∙ ap (λ (g : ℕ → Cell). live_in n g new) same in
+    c.live_toggled.ensures ∙ ap (λ (m : ℕ). live_in m (entries_of Absent (take (s * n + n - s * n) (drop (s * n) c.args.cells.now))) new) len ∙ ap (λ (g : ℕ → Cell). live_in n g new) same in
     record {
       done = entries_of-done c.loop-shard.lives s c.live_toggled.result (λ r. live_in n (grid_of n Absent c.args.cells.now r) new) (omega arith) c.loop-shard.invariant.done x;
       rest = entries_of-rest c.loop-shard.lives s c.live_toggled.result (λ r. live_in n (grid_of n Absent c.args.cells.now r) (entries_of false c.args.down.now)) (omega arith) c.loop-shard.invariant.rest;
