@@ -1,2 +1,4 @@
 pub mod ConfigLemmas
 pub mod CopyLemmas
+pub mod DoubleLemmas
+pub mod SetupLemmas

@@ -41,9 +41,17 @@ shard_named setup name = position (λ n. bytes_eq name n) (names_of_shards setup
 abbrev pub is_too_large : Setup → Bool
 is_too_large setup = nat_lt 1024 (length setup.servers) || nat_lt 4096 (length setup.shards)
 
--- a server's name and region, and a shard's name, are names
+-- a server's name and region are names
+abbrev pub is_well_named_server : ServerRow → Bool
+is_well_named_server r = is_name r.name && is_name r.region
+
+-- a shard's name is a name
+abbrev pub is_well_named_shard : ShardRow → Bool
+is_well_named_shard r = is_name r.name
+
+-- every server and every shard is well named
 abbrev pub has_good_names : Setup → Bool
-has_good_names setup = list_all (λ r. is_name r.name && is_name r.region) setup.servers && list_all (λ r. is_name r.name) setup.shards
+has_good_names setup = list_all is_well_named_server setup.servers && list_all is_well_named_shard setup.shards
 
 -- two servers, or two shards, have one name
 abbrev pub has_doubled_name : Setup → Bool
