@@ -62,9 +62,9 @@ module _ (servers : List Server) (i : ℕ) (d : Server) (h : i < length servers)
     server_double_here single old =
         let here : has_double (server_names (take (i + 1) servers)) ≡ true = server_double_more ∙ ap (λ b. b || list_any (bytes_eq (string_bytes (get_or servers i d).name)) seen) single ∙ old in
         let whole : server_names servers ≡ server_names (take (i + 1) servers) ++ server_names (drop (i + 1) servers) =
-            ap server_names (sym (take-append-drop (i + 1) servers)) ∙
-            ap (map (λ r. r.name)) (map-append server_row (take (i + 1) servers) (drop (i + 1) servers)) ∙
-            map-append (λ r. r.name) (map server_row (take (i + 1) servers)) (map server_row (drop (i + 1) servers)) in
+        ap server_names (sym (take-append-drop (i + 1) servers)) ∙
+        ap (map (λ r. r.name)) (map-append server_row (take (i + 1) servers) (drop (i + 1) servers)) ∙
+        map-append (λ r. r.name) (map server_row (take (i + 1) servers)) (map server_row (drop (i + 1) servers)) in
         ap has_double whole ∙ has_double_append (server_names (take (i + 1) servers)) (server_names (drop (i + 1) servers)) here
 
 module _ (shards : List Shard) (i : ℕ) (d : Shard) (h : i < length shards) where
@@ -91,7 +91,7 @@ module _ (shards : List Shard) (i : ℕ) (d : Shard) (h : i < length shards) whe
     shard_double_here single old =
         let here : has_double (shard_names (take (i + 1) shards)) ≡ true = shard_double_more ∙ ap (λ b. b || list_any (bytes_eq (string_bytes (get_or shards i d).name)) seen) single ∙ old in
         let whole : shard_names shards ≡ shard_names (take (i + 1) shards) ++ shard_names (drop (i + 1) shards) =
-            ap shard_names (sym (take-append-drop (i + 1) shards)) ∙
-            ap (map (λ r. r.name)) (map-append shard_row (take (i + 1) shards) (drop (i + 1) shards)) ∙
-            map-append (λ r. r.name) (map shard_row (take (i + 1) shards)) (map shard_row (drop (i + 1) shards)) in
+        ap shard_names (sym (take-append-drop (i + 1) shards)) ∙
+        ap (map (λ r. r.name)) (map-append shard_row (take (i + 1) shards) (drop (i + 1) shards)) ∙
+        map-append (λ r. r.name) (map shard_row (take (i + 1) shards)) (map shard_row (drop (i + 1) shards)) in
         ap has_double whole ∙ has_double_append (shard_names (take (i + 1) shards)) (shard_names (drop (i + 1) shards)) here

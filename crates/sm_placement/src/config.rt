@@ -1,10 +1,11 @@
 //! The servers and shards that placements are of.
 ghost use Rattle.std.specs.Prelude.{◌≡◌, ◌≢◌, ◌≤◌, ◌<◌, ◌^◌, ◌-◌, ◌++◌, ◌∷◌, ◌&&◌, [], not, map, Some, None, length, position, string_bytes, is_none, IsTrue, IfOk, OnOk, IfErr, IfSome};
 ghost use Rattle.std.specs.List.{list_any, list_all};
+ghost use Rattle.std.specs.Cmp.Lexicographic.{pointwise};
 ghost use Rattle.std.specs.Str.{bytes_eq};
 ghost use Rattle.sm_placement.specs.declared.config.ConfigFault.TheVariants.{NoMemory};
 ghost use Rattle.sm_placement.specs.Names.{is_name_byte, is_name, has_double};
-ghost use Rattle.sm_placement.specs.Setup.{is_too_large, is_well_named_server, is_well_named_shard, has_good_names, is_good_server, is_good_shard, has_good_numbers};
+ghost use Rattle.sm_placement.specs.Setup.{is_too_large, is_well_named_server, is_well_named_shard, has_good_names, is_good_server, is_good_shard, has_good_numbers, same_server, same_shard};
 ghost use Rattle.sm_placement.specs.Config.{server_row, shard_row, setup_of, server_names, shard_names};
 
 use indexmap::IndexSet;
@@ -244,6 +245,22 @@ fn shard_table(alloc: Global, shards: &[Shard]) -> Result<Option<IndexSet<String
     Ok(Some(names))
 }
 
+/// Whether two lists of servers agree.
+#[tactic(auto, using(crate::proofs::SameLemmas::same_server_rows))]
+fn same_servers(some: &[Server], others: &[Server]) -> bool
+    ensures { result ≡ pointwise same_server (map server_row some.now) (map server_row others.now) }
+{
+    some == others
+}
+
+/// Whether two lists of shards agree.
+#[tactic(auto, using(crate::proofs::SameLemmas::same_shard_rows))]
+fn same_shards(some: &[Shard], others: &[Shard]) -> bool
+    ensures { result ≡ pointwise same_shard (map shard_row some.now) (map shard_row others.now) }
+{
+    some == others
+}
+
 /// A copy of servers.
 #[tactic(auto, using(crate::proofs::CopyLemmas::server_copies))]
 fn copied_servers(alloc: Global, servers: &[Server]) -> Result<Vec<Server>, AllocError>
@@ -426,4 +443,27 @@ impl Config {
     {
         number_of(&self.shard_names, name).map(ShardId::new)
     }
+}
+
+impl PartialEq for Config {
+    ghost use Rattle.std.specs.Prelude.{◌↔◌};
+    ghost use Rattle.std.specs.Cmp.{partial_equiv_from_equiv};
+    ghost use Rattle.sm_placement.specs.Setup.{same_setup, same_setup_laws};
+
+    ghost eq = { same_setup };
+
+    ghost laws = { partial_equiv_from_equiv same_setup_laws };
+
+    fn eq(&self, other: &Config) -> bool
+        ensures same { result ≡ same_setup self.now other.now }
+        ensures equal { IsTrue result ↔ (self.now ≡ other.now) }
+    {
+        same_servers(self.servers(), other.servers()) && same_shards(self.shards(), other.shards())
+    }
+}
+
+impl Eq for Config {
+    ghost use Rattle.sm_placement.specs.Setup.{same_setup_laws};
+
+    ghost laws = { same_setup_laws };
 }
