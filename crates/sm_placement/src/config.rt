@@ -73,7 +73,7 @@ pub enum ConfigFault {
 }
 
 /// Servers and shards, each with the number of its position.
-#[derive(Drop)]
+#[derive(Debug, Drop)]
 pub struct Config {
     servers: Vec<Server>,
     shards: Vec<Shard>,
