@@ -4,3 +4,6 @@ pub mod RowLemmas
 pub mod TableLemmas
 pub mod ConfigLemmas
 pub mod CopyLemmas
+pub mod DoubleLemmas
+pub mod SetupLemmas
+pub mod SameLemmas
