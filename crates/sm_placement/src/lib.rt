@@ -5,6 +5,7 @@ mod config;
 mod lead;
 mod opening;
 mod placement;
+mod row;
 mod table;
 
 pub use config::{Config, ConfigFault, Server, Shard};

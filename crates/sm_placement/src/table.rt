@@ -1,7 +1,14 @@
 //! The cells of a configuration, one after another, with running totals.
-ghost use Rattle.std.specs.Prelude.{◌≡◌, ◌<◌, false, length, IfOk};
+ghost use Rattle.std.specs.Prelude.{◌≡◌, ◌<◌, ◌≤◌, ◌+◌, ◌*◌, ◌^◌, ◌&&◌, false, not, length, slice_set, IfOk};
+ghost use Rattle.sm_server.specs.Cell.{is_forwarding};
+ghost use Rattle.sm_placement.specs.Sums.{put};
+ghost use Rattle.sm_placement.specs.Rows.{IsKnownCell};
+ghost use Rattle.sm_placement.specs.Place.{weight};
+ghost use Rattle.sm_placement.specs.Layout.{grid_of, entries_of};
+ghost use Rattle.sm_placement.specs.Counts.{counts_in, AreLives};
 
 use crate::config::Config;
+use crate::row::{self, Counts};
 use sm_server::{Cell, ServerId, ShardId};
 use std::alloc::{AllocError, Global};
 use std::marker::Model;
@@ -28,4 +35,243 @@ impl Model for Table {
     ghost view = { λ t. record { setup = t.config; cells = t.cells.items; lasts = t.lasts.items; down = t.down.items } };
 
     ghost invariant = { λ t. IsCounted (record { setup = t.config; cells = t.cells.items; lasts = t.lasts.items; down = t.down.items }) (record { loads = t.loads.items; lives = t.lives.items; servings = t.servings.items; down = t.down_count }) };
+}
+
+/// What a cell weighs on its server.
+const fn weight(cell: &Cell, load: u64) -> u64
+    ensures { result ≡ weight cell.now load }
+{
+    if cell.is_absent() { 0 } else { load }
+}
+
+/// Sets a cell of a shard whose row has these counts, and says what the counts are then.
+fn set_in_row(
+    cells: &mut [Cell],
+    down: &[bool],
+    shard: ShardId,
+    server: ServerId,
+    cell: Cell,
+    counts: Counts,
+) -> Counts
+    requires bound { length down.now ≤ 1024 }
+    requires shard { shard * length down.now + length down.now ≤ length cells.old }
+    requires server { server < length down.now }
+    requires known { IsKnownCell (length down.now) (grid_of (length down.now) Cell.Absent cells.old shard server) }
+    requires next { IsKnownCell (length down.now) cell }
+    requires one_forwards { (is_forwarding (grid_of (length down.now) Cell.Absent cells.old shard server) && is_forwarding cell) ≡ false }
+    requires counts { counts ≡ counts_in (length down.now) (grid_of (length down.now) Cell.Absent cells.old shard) (entries_of false down.now) }
+    ensures cells { cells.new ≡ slice_set cells.old (shard * length down.now + server) cell }
+    ensures counts { result ≡ counts_in (length down.now) (put (grid_of (length down.now) Cell.Absent cells.old shard) server cell) (entries_of false down.now) }
+{
+    let servers = down.len();
+    let start = shard.number() as usize * servers;
+    let row = &mut cells[start..start + servers];
+    row::set_cell(row, down, server, cell, counts)
+}
+
+/// Corrects the counts of live replicas, once a server that is down comes up, or one that is up goes down.
+fn toggle_lives(lives: &mut [u32], cells: &[Cell], down: &[bool], server: ServerId)
+    requires bound { length down.now ≤ 1024 }
+    requires cells { length cells.now ≡ length lives.old * length down.now }
+    requires server { server < length down.now }
+    requires lives { AreLives lives.old (length down.now) (grid_of (length down.now) Cell.Absent cells.now) (entries_of false down.now) }
+    ensures { AreLives lives.new (length down.now) (grid_of (length down.now) Cell.Absent cells.now) (put (entries_of false down.now) server (not (entries_of false down.now server))) }
+{
+    let servers = down.len();
+    for shard in 0..lives.len() {
+        let start = shard * servers;
+        let row = &cells[start..start + servers];
+        lives[shard] = row::live_toggled(row, down, server, lives[shard]);
+    }
+}
+
+impl Table {
+    ghost use Rattle.std.specs.Prelude.{◌≡◌, ◌<◌, ◌≤◌, ◌+◌, ◌*◌, ◌^◌, ◌&&◌, false, length, IfOk};
+    ghost use Rattle.sm_placement.specs.Setup.{sizes_of};
+    ghost use Rattle.sm_placement.specs.Rows.{live_in, serving_in, IsKnownCell};
+    ghost use Rattle.sm_server.specs.Cell.{is_forwarding};
+    ghost use Rattle.sm_placement.specs.Sums.{put, put2, count_below};
+    ghost use Rattle.sm_placement.specs.Place.{load_of};
+    ghost use Rattle.sm_placement.specs.Grid.{cells_of, lasts_of, down_of, IsGrid};
+
+    /// A table with nothing in each cell.
+    pub fn new(alloc: Global, config: &Config) -> Result<Table, AllocError>
+        ensures setup { IfOk result (λ t. t.setup ≡ config.now) }
+        ensures cells { IfOk result (λ t. cells_of t ≡ (λ s v. Cell.Absent)) }
+        ensures lasts { IfOk result (λ t. lasts_of t ≡ (λ s v. 0)) }
+        ensures down { IfOk result (λ t. down_of t ≡ (λ v. false)) }
+    {
+        let servers = config.server_count() as usize;
+        let shards = config.shard_count() as usize;
+        let config = config.copy(alloc)?;
+        Ok(Table {
+            config,
+            cells: vec![in alloc; Cell::Absent; shards * servers]?,
+            lasts: vec![in alloc; 0; shards * servers]?,
+            down: vec![in alloc; false; servers]?,
+            down_count: 0,
+            loads: vec![in alloc; 0; servers]?,
+            lives: vec![in alloc; 0; shards]?,
+            servings: vec![in alloc; 0; shards]?,
+        })
+    }
+
+    /// The table, once more.
+    pub fn copy(&self, alloc: Global) -> Result<Table, AllocError>
+        ensures { IfOk result (λ t. t ≡ self.now) }
+    {
+        Ok(Table {
+            config: self.config.copy(alloc)?,
+            cells: Vec::from_slice(alloc, &self.cells)?,
+            lasts: Vec::from_slice(alloc, &self.lasts)?,
+            down: Vec::from_slice(alloc, &self.down)?,
+            down_count: self.down_count,
+            loads: Vec::from_slice(alloc, &self.loads)?,
+            lives: Vec::from_slice(alloc, &self.lives)?,
+            servings: Vec::from_slice(alloc, &self.servings)?,
+        })
+    }
+
+    /// The configuration whose cells these are.
+    pub fn config(&self) -> &Config
+        ensures setup { result.now ≡ self.now.setup }
+        ensures layout { IsGrid self.now }
+    {
+        &self.config
+    }
+
+    /// The place of a pair in the lists of cells and of last numbers.
+    fn place(&self, shard: ShardId, server: ServerId) -> usize
+        requires shard { shard < length self.now.setup.shards }
+        requires server { server < length self.now.setup.servers }
+        ensures { result ≡ shard * length self.now.setup.servers + server }
+    {
+        shard.number() as usize * self.down.len() + server.number() as usize
+    }
+
+    pub fn cell(&self, shard: ShardId, server: ServerId) -> Cell
+        requires shard { shard < length self.now.setup.shards }
+        requires server { server < length self.now.setup.servers }
+        ensures { result ≡ cells_of self.now shard server }
+    {
+        self.cells[self.place(shard, server)]
+    }
+
+    /// The number of the last call that had an effect on the cell, and 0 for none.
+    pub fn last(&self, shard: ShardId, server: ServerId) -> u64
+        requires shard { shard < length self.now.setup.shards }
+        requires server { server < length self.now.setup.servers }
+        ensures { result ≡ lasts_of self.now shard server }
+    {
+        self.lasts[self.place(shard, server)]
+    }
+
+    pub fn is_down(&self, server: ServerId) -> bool
+        requires { server < length self.now.setup.servers }
+        ensures { result ≡ down_of self.now server }
+    {
+        self.down[server.number() as usize]
+    }
+
+    /// How many servers are down.
+    pub fn down_count(&self) -> u32
+        ensures { result ≡ count_below (length self.now.setup.servers) (down_of self.now) }
+    {
+        self.down_count
+    }
+
+    /// The load of a server.
+    pub fn load(&self, server: ServerId) -> u64
+        requires { server < length self.now.setup.servers }
+        ensures load { result ≡ load_of (sizes_of self.now.setup) (cells_of self.now) server }
+        ensures fits { result < 2 ^ 45 }
+    {
+        self.loads[server.number() as usize]
+    }
+
+    /// How many replicas of a shard are live.
+    pub fn live(&self, shard: ShardId) -> u32
+        requires { shard < length self.now.setup.shards }
+        ensures live { result ≡ live_in (length self.now.setup.servers) (cells_of self.now shard) (down_of self.now) }
+        ensures bound { result ≤ 1024 }
+    {
+        self.lives[shard.number() as usize]
+    }
+
+    /// How many servers serve a shard, up or down.
+    pub fn serving_count(&self, shard: ShardId) -> u32
+        requires { shard < length self.now.setup.shards }
+        ensures { result ≡ serving_in (length self.now.setup.servers) (cells_of self.now shard) }
+    {
+        self.servings[shard.number() as usize]
+    }
+
+    /// Sets a cell, and corrects the totals of its server and its shard.
+    pub fn set_cell(&mut self, shard: ShardId, server: ServerId, cell: Cell)
+        requires shard { shard < length self.old.setup.shards }
+        requires server { server < length self.old.setup.servers }
+        requires known { IsKnownCell (length self.old.setup.servers) cell }
+        requires one_forwards { (is_forwarding (cells_of self.old shard server) && is_forwarding cell) ≡ false }
+        ensures cells { cells_of self.new ≡ put2 (cells_of self.old) shard server cell }
+        ensures lasts { lasts_of self.new ≡ lasts_of self.old }
+        ensures down { self.new.down ≡ self.old.down }
+        ensures setup { self.new.setup ≡ self.old.setup }
+    {
+        let load = self.config.load(shard);
+        let removed = weight(&self.cell(shard, server), load);
+        let row = shard.number() as usize;
+        let counts = Counts {
+            live: self.lives[row],
+            serving: self.servings[row],
+        };
+        let cells = self.cells.as_mut_slice();
+        let counts = set_in_row(cells, &self.down, shard, server, cell, counts);
+        self.lives[row] = counts.live;
+        self.servings[row] = counts.serving;
+        let column = server.number() as usize;
+        self.loads[column] = self.loads[column] + weight(&cell, load) - removed;
+    }
+
+    /// Sets whether a server is down, and corrects the totals of the shards with a replica there. Takes no memory.
+    pub fn set_down(&mut self, server: ServerId, down: bool)
+        requires { server < length self.old.setup.servers }
+        ensures down { down_of self.new ≡ put (down_of self.old) server down }
+        ensures cells { self.new.cells ≡ self.old.cells }
+        ensures lasts { self.new.lasts ≡ self.old.lasts }
+        ensures setup { self.new.setup ≡ self.old.setup }
+    {
+        if self.is_down(server) == down {
+            return;
+        }
+        toggle_lives(self.lives.as_mut_slice(), &self.cells, &self.down, server);
+        self.down[server.number() as usize] = down;
+        if down {
+            self.down_count += 1;
+        } else {
+            self.down_count -= 1;
+        }
+    }
+
+    /// Sets the number of the last call that had an effect on a cell.
+    pub fn set_last(&mut self, shard: ShardId, server: ServerId, number: u64)
+        requires shard { shard < length self.old.setup.shards }
+        requires server { server < length self.old.setup.servers }
+        ensures lasts { lasts_of self.new ≡ put2 (lasts_of self.old) shard server number }
+        ensures cells { self.new.cells ≡ self.old.cells }
+        ensures down { self.new.down ≡ self.old.down }
+        ensures setup { self.new.setup ≡ self.old.setup }
+    {
+        let place = self.place(shard, server);
+        self.lasts[place] = number;
+    }
+
+    /// Forgets the numbers of all calls. Takes no memory.
+    pub fn forget_lasts(&mut self)
+        ensures lasts { lasts_of self.new ≡ (λ s v. 0) }
+        ensures cells { self.new.cells ≡ self.old.cells }
+        ensures down { self.new.down ≡ self.old.down }
+        ensures setup { self.new.setup ≡ self.old.setup }
+    {
+        self.lasts.as_mut_slice().fill(0);
+    }
 }

@@ -1,0 +1,9 @@
+pub mod Sums
+pub mod GridLemmas
+pub mod RowLemmas
+pub mod TableLemmas
+pub mod ConfigLemmas
+pub mod CopyLemmas
+pub mod DoubleLemmas
+pub mod SetupLemmas
+pub mod SameLemmas
