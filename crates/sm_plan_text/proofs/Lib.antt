@@ -1,0 +1,3 @@
+pub mod Lowest
+pub mod NameLemmas
+pub mod ObjectLemmas

@@ -1,0 +1,4 @@
+pub mod Members
+pub mod Faults
+pub mod Values
+pub mod Tables
