@@ -3,3 +3,4 @@ pub mod NameLemmas
 pub mod ObjectLemmas
 pub mod WalkLemmas
 pub mod ServerLemmas
+pub mod ShardLemmas

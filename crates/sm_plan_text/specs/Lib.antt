@@ -3,3 +3,4 @@ pub mod Faults
 pub mod Values
 pub mod Tables
 pub mod Servers
+pub mod Shards

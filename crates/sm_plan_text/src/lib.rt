@@ -6,6 +6,7 @@ mod member;
 mod names;
 mod object;
 mod server;
+mod shard;
 
 pub use fault::{TextFault, first_is_answered};
 pub use member::Member;
