@@ -4,3 +4,4 @@ pub mod ObjectLemmas
 pub mod WalkLemmas
 pub mod ServerLemmas
 pub mod ShardLemmas
+pub mod CallLemmas

@@ -4,3 +4,4 @@ pub mod Values
 pub mod Tables
 pub mod Servers
 pub mod Shards
+pub mod Calls

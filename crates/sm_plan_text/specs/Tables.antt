@@ -120,17 +120,17 @@ object_faults place names d = unknown_fault place names (as_object d)
 abbrev pub own_faults : Member → List Row → Data → List TextFault
 own_faults place table d = object_faults place (map (λ row. text_of row.member) table) d ++ flat_map (row_faults d) table
 
-abbrev by_word : {W : Type 0} → Member → Member → (W → List Row) → Data → Option W → List TextFault
-by_word place word table d None = Shape word ∷ []
-by_word place word table d (Some w) = object_faults place (text_of word ∷ map (λ row. text_of row.member) (table w)) d ++ flat_map (row_faults d) (table w)
+-- what stands in this place is no object, or a word of it isn't listed
+abbrev pub unlisted_faults : Member → Member → Data → List TextFault
+unlisted_faults place word d = (if is_some (as_object d) then [] else Shape place ∷ []) ++ Shape word ∷ []
 
--- what stands in this place is no object
-abbrev no_object_faults : Member → Data → List TextFault
-no_object_faults place d = if is_some (as_object d) then [] else Shape place ∷ []
+abbrev pub by_word : {W : Type 0} → Member → Member → (W → List Row) → Data → Option W → List TextFault
+by_word place word table d None = unlisted_faults place word d
+by_word place word table d (Some w) = object_faults place (text_of word ∷ map (λ row. text_of row.member) (table w)) d ++ flat_map (row_faults d) (table w)
 
 -- the faults of the object itself, where a word of it says which table it has
 abbrev pub worded_faults : {W : Type 0} → Member → Member → (List ℕ → Option W) → (W → List Row) → Data → List TextFault
-worded_faults place word named table d = no_object_faults place d ++ by_word place word table d (option_and_then named (text_found word d))
+worded_faults place word named table d = by_word place word table d (option_and_then named (text_found word d))
 
 -- The faults of the entries of a list, front to back. Those of an entry may depend on the entries before it.
 abbrev pub walked : (List Data → Data → List TextFault) → List Data → List Data → List TextFault

@@ -1,6 +1,7 @@
 //! Placements and calls as JSON documents.
 #![tactic(auto)]
 
+mod call;
 mod fault;
 mod member;
 mod names;
