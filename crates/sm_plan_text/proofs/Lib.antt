@@ -5,3 +5,5 @@ pub mod WalkLemmas
 pub mod ServerLemmas
 pub mod ShardLemmas
 pub mod CallLemmas
+pub mod Texts
+pub mod Faultless

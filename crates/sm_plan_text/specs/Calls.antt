@@ -45,9 +45,9 @@ call_of servers d word.PrepareDrop = call.PrepareDrop (id_in servers Other d) (n
 abbrev pub NamedCall : Type 0
 NamedCall = ℕ × ℕ × Call
 
-abbrev by_word : List (List ℕ) → List (List ℕ) → Data → Option CallWord → NamedCall
-by_word shards servers d None = (0, 0, call.Drop)
-by_word shards servers d (Some w) = (id_in shards Shard d, id_in servers Server d, call_of servers d w)
+abbrev pub call_by : List (List ℕ) → List (List ℕ) → Data → Option CallWord → NamedCall
+call_by shards servers d None = (0, 0, call.Drop)
+call_by shards servers d (Some w) = (id_in shards Shard d, id_in servers Server d, call_of servers d w)
 
 abbrev pub call_in : List (List ℕ) → List (List ℕ) → Data → NamedCall
-call_in shards servers d = by_word shards servers d (option_and_then call_word (text_found CallMember d))
+call_in shards servers d = call_by shards servers d (option_and_then call_word (text_found CallMember d))

@@ -5,3 +5,5 @@ pub mod Tables
 pub mod Servers
 pub mod Shards
 pub mod Calls
+pub mod Documents
+pub mod Reading

@@ -56,30 +56,30 @@ one m want = record { member = m; optional = false; want = want }
 abbrev pub maybe : Member → Want → Row
 maybe m want = record { member = m; optional = true; want = want }
 
-abbrev limit_fault : Member → ℕ → Option ℕ → List TextFault
+abbrev pub limit_fault : Member → ℕ → Option ℕ → List TextFault
 limit_fault m limit None = Number m ∷ []
 limit_fault m limit (Some n) = if nat_le n limit then [] else Number m ∷ []
 
-abbrev number_fault : Member → ℕ → Option Num → List TextFault
+abbrev pub number_fault : Member → ℕ → Option Num → List TextFault
 number_fault m limit None = Shape m ∷ []
 number_fault m limit (Some n) = limit_fault m limit (as_u64 n)
 
-abbrev flag_fault : Member → Option Bool → List TextFault
+abbrev pub flag_fault : Member → Option Bool → List TextFault
 flag_fault m None = Shape m ∷ []
 flag_fault m (Some b) = []
 
-abbrev text_fault : Member → (List ℕ → Bool) → Option (List ℕ) → List TextFault
+abbrev pub text_fault : Member → (List ℕ → Bool) → Option (List ℕ) → List TextFault
 text_fault m passes None = Shape m ∷ []
 text_fault m passes (Some s) = if passes s then [] else Shape m ∷ []
 
-abbrev name_fault : Member → List (List ℕ) → Option (List ℕ) → List TextFault
+abbrev pub name_fault : Member → List (List ℕ) → Option (List ℕ) → List TextFault
 name_fault m names None = Shape m ∷ []
 name_fault m names (Some s) = if is_some (number_named names s) then [] else UnknownName m ∷ []
 
 abbrev pub count_faults : Member → ℕ → ℕ → List TextFault
 count_faults m limit count = if nat_le count limit then [] else TooMany m ∷ []
 
-abbrev list_fault : Member → ℕ → Option Items → List TextFault
+abbrev pub list_fault : Member → ℕ → Option Items → List TextFault
 list_fault m limit None = Shape m ∷ []
 list_fault m limit (Some ds) = count_faults m limit (length (entries ds))
 
@@ -92,7 +92,7 @@ value_faults m (known names) d = name_fault m names (as_str d)
 value_faults m (known_or_null names) d = if is_some (as_null d) then [] else name_fault m names (as_str d)
 value_faults m (list limit) d = list_fault m limit (as_array d)
 
-abbrev found_faults : Row → Option Data → List TextFault
+abbrev pub found_faults : Row → Option Data → List TextFault
 found_faults row None = if row.optional then [] else Shape row.member ∷ []
 found_faults row (Some d) = value_faults row.member row.want d
 

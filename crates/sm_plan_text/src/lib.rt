@@ -2,6 +2,7 @@
 #![tactic(auto)]
 
 mod call;
+mod document;
 mod fault;
 mod member;
 mod names;
@@ -9,5 +10,6 @@ mod object;
 mod server;
 mod shard;
 
+pub use document::{Document, read_document};
 pub use fault::{TextFault, first_is_answered};
 pub use member::Member;
