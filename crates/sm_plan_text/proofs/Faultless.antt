@@ -1,6 +1,5 @@
 -- What a JSON object without faults says.
-use Rattle.std.proofs.Common.{◌≡◌, ◌++◌, ◌+◌, ◌<◌, ◌≤◌, ℕ, Bool, true, false, cond, ◌&&◌, not, List, [], ◌∷◌, length, map, min, Option, Some, None, is_some, option_and_then, option_map, unwrap_or, nat_le, refl, ap, sym, ◌∙◌, subst, append_assoc, append-nil, arith, true≢false, All, IfSome}
-use Rattle.std.specs.List.{flat_map}
+use Rattle.std.proofs.Common.{◌≡◌, ◌++◌, ◌<◌, ◌≤◌, ℕ, Bool, true, false, cond, List, [], ◌∷◌, length, min, Option, Some, None, is_some, option_and_then, option_map, unwrap_or, nat_le, refl, sym, subst, append_assoc, append-nil, arith, true≢false, All, IfSome}
 use Rattle.std.specs.Str.{bytes_eq}
 use Rattle.std.proofs.lemmas.List.Elements.{All-nil, All-cons}
 use Rattle.std.proofs.lemmas.List.Quantifiers.{position-Some}
@@ -8,11 +7,10 @@ use Rattle.std.proofs.lemmas.Bool.Decides.{nat_tests}
 use Rattle.serde_json.specs.Data.{Data, Num, Items}
 use Rattle.serde_json.specs.Find.{as_str, as_array, as_number, as_u64}
 use Rattle.sm_plan_text.specs.declared.fault.TextFault.{TextFault}
-use Rattle.sm_plan_text.specs.declared.fault.TextFault.TheVariants.{Shape}
 use Rattle.sm_plan_text.specs.declared.member.Member.{Member}
 use Rattle.sm_plan_text.specs.Faults.{noted, lower}
 use Rattle.sm_plan_text.specs.Values.{found, text_in, up_to, whole_of, limited, number_in, number_or, entries, entries_of, entries_in, number_named, id_of, id_named, id_in}
-use Rattle.sm_plan_text.specs.Tables.{Row, one, maybe, whole, text, known, list, limit_fault, number_fault, text_fault, name_fault, list_fault, found_faults, row_faults, walked}
+use Rattle.sm_plan_text.specs.Tables.{one, whole, text, known, list, limit_fault, number_fault, text_fault, name_fault, list_fault, found_faults, row_faults, walked}
 
 -- ---- no fault in all, no fault in each part
 
@@ -38,16 +36,16 @@ pub walked_entries : (faults : List Data → Data → List TextFault) (P : Data 
 walked_entries faults P from before [] h = All-nil P
 walked_entries faults P from before (d ∷ ds) h =
     All-cons P d ds
-      (from before d (nil_left (faults before d) (walked faults (before ++ d ∷ []) ds) h))
-      (walked_entries faults P from (before ++ d ∷ []) ds (nil_right (faults before d) (walked faults (before ++ d ∷ []) ds) h))
+    (from before d (nil_left (faults before d) (walked faults (before ++ d ∷ []) ds) h))
+    (walked_entries faults P from (before ++ d ∷ []) ds (nil_right (faults before d) (walked faults (before ++ d ∷ []) ds) h))
 
 -- what an entry without faults keeps, the walk keeps
 pub walked_front : (faults : List Data → Data → List TextFault) (Q : List Data → Type 0) → ((before : List Data) (d : Data) → faults before d ≡ [] → Q before → Q (before ++ d ∷ [])) → (before ds : List Data) → walked faults before ds ≡ [] → Q before → Q (before ++ ds)
 walked_front faults Q from before [] h q = subst Q (sym (append-nil before)) q
 walked_front faults Q from before (d ∷ ds) h q =
     subst Q (append_assoc before (d ∷ []) ds)
-      (walked_front faults Q from (before ++ d ∷ []) ds (nil_right (faults before d) (walked faults (before ++ d ∷ []) ds) h)
-        (from before d (nil_left (faults before d) (walked faults (before ++ d ∷ []) ds) h) q))
+    (walked_front faults Q from (before ++ d ∷ []) ds (nil_right (faults before d) (walked faults (before ++ d ∷ []) ds) h)
+    (from before d (nil_left (faults before d) (walked faults (before ++ d ∷ []) ds) h) q))
 
 -- ---- numbers
 

@@ -1,17 +1,16 @@
 -- The servers, shards and calls of a document without faults: they are a configuration, and each id is below its count.
-use Rattle.std.proofs.Common.{◌≡◌, ◌++◌, ◌+◌, ◌-◌, ◌<◌, ◌≤◌, ◌^◌, ℕ, Bool, true, false, cond, ◌&&◌, ◌||◌, not, List, [], ◌∷◌, length, map, min, Option, Some, None, is_some, option_and_then, option_map, unwrap_or, nat_lt, nat_le, refl, ap, sym, ◌∙◌, subst, arith, true≢false, lt-ltb, le-leb, length-append, add-zero, All, IfSome}
+use Rattle.std.proofs.Common.{◌≡◌, ◌++◌, ◌+◌, ◌-◌, ◌<◌, ◌≤◌, ◌^◌, ℕ, Bool, true, false, cond, ◌&&◌, ◌||◌, not, List, [], ◌∷◌, length, map, Option, Some, None, is_some, option_and_then, nat_lt, nat_le, refl, ap, sym, ◌∙◌, arith, true≢false, lt-ltb, le-leb, length-append, add-zero, All}
 use Rattle.std.specs.List.{flat_map, enumerate_from, filter_map, cons_option, list_any, list_all}
 use Rattle.std.specs.Str.{bytes_eq}
-use Rattle.std.proofs.lemmas.List.{map_push, length-map}
+use Rattle.std.proofs.lemmas.List.{map_push}
 use Rattle.std.proofs.lemmas.List.Concat.{flat_map-append}
 use Rattle.std.proofs.lemmas.List.Elements.{All-nil, All-cons, All-append, All-map, All-weaker, All-head, All-tail}
 use Rattle.std.proofs.lemmas.List.Folds.{list_all-map}
 use Rattle.std.proofs.lemmas.List.Sums.{list_all-from_AllPass}
 use Rattle.serde_json.specs.Data.{Data}
 use Rattle.serde_json.specs.Find.{as_object}
-use Rattle.indexmap.specs.IndexSet.{insert_key}
 use Rattle.sm_placement.specs.Names.{is_name, has_double}
-use Rattle.sm_placement.specs.Setup.{ServerRow, ShardRow, is_well_named_server, is_well_named_shard, is_good_server, is_good_shard}
+use Rattle.sm_placement.specs.Setup.{is_well_named_server, is_well_named_shard, is_good_server, is_good_shard}
 use Rattle.sm_placement.specs.Opening.{NamedCell}
 use Rattle.sm_placement.specs.Rows.{IsKnownCall}
 use Rattle.sm_placement.proofs.DoubleLemmas.{has_double_push}
@@ -21,10 +20,10 @@ use Rattle.sm_plan_text.specs.declared.call.CallWord.{CallWord}
 use Rattle.sm_plan_text.specs.declared.call.CallWord.TheVariants as word
 use Rattle.sm_plan_text.specs.declared.member.Member.TheVariants as members
 use Rattle.sm_plan_text.specs.Members.{text_of}
-use Rattle.sm_plan_text.specs.Values.{found, text_found, text_in, flag_in, number_in, entries_in, names_in, id_of, id_in}
-use Rattle.sm_plan_text.specs.Tables.{Row, one, maybe, whole, flag, text, name, new_name, known, known_or_null, role, list, is_among, row_faults, object_faults, own_faults, by_word, walked}
+use Rattle.sm_plan_text.specs.Values.{text_found, text_in, flag_in, number_in, entries_in, names_in, id_of, id_in}
+use Rattle.sm_plan_text.specs.Tables.{one, maybe, whole, name, new_name, known, known_or_null, list, is_among, row_faults, object_faults, own_faults, by_word, walked}
 use Rattle.sm_plan_text.specs.Servers.{server_table, server_faults, server_in, id_if_down, down_in}
-use Rattle.sm_plan_text.specs.Shards.{cap_limit, cell_count, shard_table, cell_table, cell_faults, faults_of_shard, shard_faults, shard_in, named_cell, cells_of, cells_in}
+use Rattle.sm_plan_text.specs.Shards.{cap_limit, cell_count, shard_table, cell_table, cell_faults, shard_faults, shard_in, named_cell, cells_of, cells_in}
 use Rattle.sm_plan_text.specs.Calls.{NamedCall, call_word, word_table, call_table, call_faults, call_of, call_by, call_in}
 use Rattle.sm_plan_text.proofs.ServerLemmas.{names_in_push}
 use Rattle.sm_plan_text.proofs.Faultless.{nil_left, nil_right, walked_entries, walked_front, up_to_below, number_in-le, number_is_read, text_passes, id_known, entries_within}
@@ -66,7 +65,7 @@ distinct_push ds d new distinct =
 distinct_all : (faults : List Data → Data → List TextFault) → ((before : List Data) (d : Data) → faults before d ≡ [] → is_among (names_in before) (text_in members.Name d) ≡ false) → (ds : List Data) → walked faults [] ds ≡ [] → IsDistinct ds
 distinct_all faults new ds h =
     walked_front faults IsDistinct (λ before d none distinct. distinct_push before d (new before d none) distinct) [] ds h
-      (record { names = refl; single = refl })
+    (record { names = refl; single = refl })
 
 -- a new name without a fault is a name, and isn't taken
 new_name_is : (taken : List (List ℕ)) (d : Data) → row_faults d (one members.Name (new_name taken)) ≡ [] → (is_name (text_in members.Name d) ≡ true) × (is_among taken (text_in members.Name d) ≡ false)
@@ -144,8 +143,8 @@ record IsShard (servers : List (List ℕ)) (before : List Data) (d : Data) : Typ
 cell_known : (servers : List (List ℕ)) (before : List Data) (d : Data) → cell_faults servers before d ≡ [] → id_in servers members.Server d < length servers
 cell_known servers before d h =
     id_known members.Server servers d
-      (nil_left (row_faults d (one members.Server (known servers))) _
-        (nil_right (object_faults members.Cells (map (λ row. text_of row.member) (cell_table servers)) d) _ h))
+    (nil_left (row_faults d (one members.Server (known servers))) _
+    (nil_right (object_faults members.Cells (map (λ row. text_of row.member) (cell_table servers)) d) _ h))
 
 shard_own : (servers : List (List ℕ)) (before : List Data) (d : Data) → own_faults members.Shards (shard_table servers (names_in before) (1048576 - cell_count before) d) d ≡ [] → All (λ e. id_in servers members.Server e < length servers) (entries_in members.Cells d) → IsShard servers before d
 shard_own servers before d h cells =
@@ -168,9 +167,9 @@ shard_own servers before d h cells =
 shard_good : (servers : List (List ℕ)) (before : List Data) (d : Data) → shard_faults servers before d ≡ [] → IsShard servers before d
 shard_good servers before d h =
     shard_own servers before d
-      (nil_left (own_faults members.Shards (shard_table servers (names_in before) (1048576 - cell_count before) d) d) (walked (cell_faults servers) [] (entries_in members.Cells d)) h)
-      (walked_entries (cell_faults servers) (λ e. id_in servers members.Server e < length servers) (cell_known servers) [] (entries_in members.Cells d)
-        (nil_right (own_faults members.Shards (shard_table servers (names_in before) (1048576 - cell_count before) d) d) (walked (cell_faults servers) [] (entries_in members.Cells d)) h))
+    (nil_left (own_faults members.Shards (shard_table servers (names_in before) (1048576 - cell_count before) d) d) (walked (cell_faults servers) [] (entries_in members.Cells d)) h)
+    (walked_entries (cell_faults servers) (λ e. id_in servers members.Server e < length servers) (cell_known servers) [] (entries_in members.Cells d)
+    (nil_right (own_faults members.Shards (shard_table servers (names_in before) (1048576 - cell_count before) d) d) (walked (cell_faults servers) [] (entries_in members.Cells d)) h))
 
 pub shards_named : (servers : List (List ℕ)) (ds : List Data) → walked (shard_faults servers) [] ds ≡ [] → list_all is_well_named_shard (map shard_in ds) ≡ true
 shards_named servers ds h = all_rows is_well_named_shard shard_in ds (walked_entries (shard_faults servers) (λ d. is_well_named_shard (shard_in d) ≡ true) (λ before d none. (shard_good servers before d none).named) [] ds h)
@@ -184,10 +183,10 @@ numbers_good d cap =
     let want = number_in-le members.Want 1024 d in
     let spread = number_in-le members.Spread 1024 d in
     and_both (nat_lt (number_in members.Load 4294967295 d) (2 ^ 32)) _ (lt-ltb (number_in members.Load 4294967295 d) (2 ^ 32) (omega arith))
-      (and_both (nat_le (number_in members.Want 1024 d) 1024) _ (le-leb (number_in members.Want 1024 d) 1024 want)
-        (and_both (nat_le (number_in members.Cap (cap_limit d) d) 1024) _ (le-leb (number_in members.Cap (cap_limit d) d) 1024 (omega arith))
-          (and_both (nat_le (number_in members.Spread 1024 d) 1024) _ (le-leb (number_in members.Spread 1024 d) 1024 spread)
-            (le-leb (number_in members.Cap (cap_limit d) d) (number_in members.Want 1024 d) cap))))
+    (and_both (nat_le (number_in members.Want 1024 d) 1024) _ (le-leb (number_in members.Want 1024 d) 1024 want)
+    (and_both (nat_le (number_in members.Cap (cap_limit d) d) 1024) _ (le-leb (number_in members.Cap (cap_limit d) d) 1024 (omega arith))
+    (and_both (nat_le (number_in members.Spread 1024 d) 1024) _ (le-leb (number_in members.Spread 1024 d) 1024 spread)
+    (le-leb (number_in members.Cap (cap_limit d) d) (number_in members.Want 1024 d) cap))))
 
 pub shards_good : (servers : List (List ℕ)) (ds : List Data) → walked (shard_faults servers) [] ds ≡ [] → list_all is_good_shard (map shard_in ds) ≡ true
 shards_good servers ds h = all_rows is_good_shard shard_in ds (walked_entries (shard_faults servers) (λ d. is_good_shard (shard_in d) ≡ true) (λ before d none. numbers_good d (shard_good servers before d none).cap) [] ds h)
@@ -204,11 +203,11 @@ cell_count_push before d =
 pub cell_count_within : (servers : List (List ℕ)) (ds : List Data) → walked (shard_faults servers) [] ds ≡ [] → cell_count ds ≤ 1048576
 cell_count_within servers ds h =
     walked_front (shard_faults servers) (λ before. cell_count before ≤ 1048576)
-      (λ before d none within.
-        let count = (shard_good servers before d none).count in
-        let push = cell_count_push before d in
-        omega arith)
-      [] ds h (omega arith)
+    (λ before d none within.
+    let count = (shard_good servers before d none).count in
+    let push = cell_count_push before d in
+    omega arith)
+    [] ds h (omega arith)
 
 cells_from : (servers : List (List ℕ)) (n total : ℕ) (ds : List Data) → n + length ds ≤ total → All (λ d. All (λ e. id_in servers members.Server e < length servers) (entries_in members.Cells d)) ds → All (λ cell. (cell.0 < total) × (cell.1 < length servers)) (flat_map (cells_of servers) (enumerate_from n ds))
 cells_from servers n total [] h good = All-nil (λ cell. (cell.0 < total) × (cell.1 < length servers))
@@ -216,15 +215,15 @@ cells_from servers n total (d ∷ ds) h good =
     let IsWithin : NamedCell → Type 0 = λ cell. (cell.0 < total) × (cell.1 < length servers) in
     let entries : List Data = entries_in members.Cells d in
     All-append IsWithin (cells_of servers (n, d)) (flat_map (cells_of servers) (enumerate_from (n + 1) ds))
-      (All-map IsWithin (named_cell servers (id_of n)) entries
-        (All-weaker (λ e. id_in servers members.Server e < length servers) (λ e. IsWithin (named_cell servers (id_of n) e)) (λ e is. (up_to_below 4294967295 n total (omega arith), is)) entries
-          (All-head (λ x. All (λ e. id_in servers members.Server e < length servers) (entries_in members.Cells x)) d ds good)))
-      (cells_from servers (n + 1) total ds (omega arith) (All-tail (λ x. All (λ e. id_in servers members.Server e < length servers) (entries_in members.Cells x)) d ds good))
+    (All-map IsWithin (named_cell servers (id_of n)) entries
+    (All-weaker (λ e. id_in servers members.Server e < length servers) (λ e. IsWithin (named_cell servers (id_of n) e)) (λ e is. (up_to_below 4294967295 n total (omega arith), is)) entries
+    (All-head (λ x. All (λ e. id_in servers members.Server e < length servers) (entries_in members.Cells x)) d ds good)))
+    (cells_from servers (n + 1) total ds (omega arith) (All-tail (λ x. All (λ e. id_in servers members.Server e < length servers) (entries_in members.Cells x)) d ds good))
 
 pub cells_within : (servers : List (List ℕ)) (ds : List Data) → walked (shard_faults servers) [] ds ≡ [] → All (λ cell. (cell.0 < length ds) × (cell.1 < length servers)) (cells_in servers ds)
 cells_within servers ds h =
     cells_from servers 0 (length ds) ds (omega arith)
-      (walked_entries (shard_faults servers) (λ d. All (λ e. id_in servers members.Server e < length servers) (entries_in members.Cells d)) (λ before d none. (shard_good servers before d none).cells) [] ds h)
+    (walked_entries (shard_faults servers) (λ d. All (λ e. id_in servers members.Server e < length servers) (entries_in members.Cells d)) (λ before d none. (shard_good servers before d none).cells) [] ds h)
 
 -- ---- calls
 
@@ -244,12 +243,13 @@ call_by_word shards servers d None h =
     absurd (cc)
 call_by_word shards servers d (Some w) h =
     let rows = nil_right (object_faults members.Calls (text_of members.Call ∷ map (λ row. text_of row.member) (call_table shards servers w)) d) _ h in
-    let after_shard = nil_right (row_faults d (one members.Shard (known shards))) _ rows in
-    (id_known members.Shard shards d (nil_left (row_faults d (one members.Shard (known shards))) _ rows),
-     id_known members.Server servers d (nil_left (row_faults d (one members.Server (known servers))) _ after_shard),
-     word_known servers d w (nil_right (row_faults d (one members.Server (known servers))) _ after_shard))
+    let after_shard = nil_right (row_faults d (one members.Shard (known shards))) _ rows in (
+      id_known members.Shard shards d (nil_left (row_faults d (one members.Shard (known shards))) _ rows),
+      id_known members.Server servers d (nil_left (row_faults d (one members.Server (known servers))) _ after_shard),
+      word_known servers d w (nil_right (row_faults d (one members.Server (known servers))) _ after_shard),
+    )
 
 pub calls_within : (shards servers : List (List ℕ)) (ds : List Data) → walked (call_faults shards servers) [] ds ≡ [] → All (λ call. (call.0 < length shards) × (call.1 < length servers) × IsKnownCall (length servers) call.2) (map (call_in shards servers) ds)
 calls_within shards servers ds h =
     All-map (IsWithin (length shards) (length servers)) (call_in shards servers) ds
-      (walked_entries (call_faults shards servers) (λ d. IsWithin (length shards) (length servers) (call_in shards servers d)) (λ before d none. call_by_word shards servers d (option_and_then call_word (text_found members.Call d)) none) [] ds h)
+    (walked_entries (call_faults shards servers) (λ d. IsWithin (length shards) (length servers) (call_in shards servers d)) (λ before d none. call_by_word shards servers d (option_and_then call_word (text_found members.Call d)) none) [] ds h)

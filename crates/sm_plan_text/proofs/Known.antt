@@ -1,11 +1,10 @@
 -- A document without faults: its servers and shards are a configuration, and each id is below its count.
-use Rattle.std.proofs.Common.{◌≡◌, ◌++◌, ◌<◌, ◌≤◌, ℕ, Bool, true, false, cond, ◌&&◌, ◌||◌, not, List, [], ◌∷◌, length, get_or, map, Option, Some, None, option_map, unwrap_or, nat_lt, refl, ap, sym, ◌∙◌, subst, arith, All, IfSome}
-use Rattle.std.specs.List.{flat_map, list_all}
+use Rattle.std.proofs.Common.{◌≡◌, ◌++◌, ◌<◌, ◌≤◌, ℕ, Bool, true, false, cond, ◌&&◌, ◌||◌, not, List, [], length, get_or, map, Option, Some, None, option_map, unwrap_or, nat_lt, refl, ap, sym, ◌∙◌, subst, arith, All, IfSome}
+use Rattle.std.specs.List.{flat_map}
 use Rattle.std.proofs.lemmas.List.{length-map}
 use Rattle.std.proofs.lemmas.List.Elements.{All-map}
 use Rattle.std.proofs.lemmas.Bool.Decides.{nat_tests}
 use Rattle.serde_json.specs.Data.{Data}
-use Rattle.sm_placement.specs.declared.config.ConfigFault.{ConfigFault}
 use Rattle.sm_placement.specs.declared.config.ConfigFault.TheVariants.{TooMany, BadName, DoubleName, BadNumber}
 use Rattle.sm_placement.specs.Names.{has_double}
 use Rattle.sm_placement.specs.Setup.{Setup, is_too_large, has_good_names, has_doubled_name, has_good_numbers}
@@ -14,10 +13,10 @@ use Rattle.sm_placement.specs.Rows.{IsKnownCall}
 use Rattle.sm_plan_text.specs.declared.fault.TextFault.{TextFault}
 use Rattle.sm_plan_text.specs.declared.member.Member.TheVariants as members
 use Rattle.sm_plan_text.specs.Members.{text_of}
-use Rattle.sm_plan_text.specs.Values.{text_in, number_in, number_or, entries_in, list_in, names_in}
+use Rattle.sm_plan_text.specs.Values.{text_in, entries_in, list_in, names_in}
 use Rattle.sm_plan_text.specs.Tables.{one, whole, list, row_faults, object_faults, own_faults, walked}
 use Rattle.sm_plan_text.specs.Servers.{server_faults, server_in}
-use Rattle.sm_plan_text.specs.Shards.{shard_faults, shard_in, listed_in, cells_in, cell_count}
+use Rattle.sm_plan_text.specs.Shards.{shard_faults, shard_in, listed_in, cells_in}
 use Rattle.sm_plan_text.specs.Calls.{NamedCall, call_faults, call_in}
 use Rattle.sm_plan_text.specs.Documents.{document_table, document_faults, servers_in, shards_in, server_names, shard_names, setup_in, rows_in, IsDocument}
 use Rattle.sm_plan_text.proofs.Faultless.{nil_left, nil_right, entries_within, id_within, number_in-le, number_or-le}
@@ -76,14 +75,14 @@ setup_is_good d h =
     let parts : IsFaultless d = faultless_parts d h in
     let setup : Setup = setup_in d in
     no_fault (is_too_large setup) (has_good_names setup) (has_doubled_name setup) (has_good_numbers setup)
-      (not_large (length (map server_in (servers_in d))) (length (map shard_in (shards_in d)))
-        (subst (λ n. n ≤ 1024) (sym (length-map (servers_in d) server_in)) parts.server_count)
-        (subst (λ n. n ≤ 4096) (sym (length-map (shards_in d) shard_in)) parts.shard_count))
-      (both_true _ _ (servers_named (servers_in d) parts.servers) (shards_named (server_names d) (shards_in d) parts.shards))
-      (both_false _ _
-        (ap has_double (names_of_rows (servers_in d)) ∙ (servers_distinct (servers_in d) parts.servers).single)
-        (ap has_double (names_of_shard_rows (shards_in d)) ∙ (shards_distinct (server_names d) (shards_in d) parts.shards).single))
-      (both_true _ _ (servers_good (servers_in d)) (shards_good (server_names d) (shards_in d) parts.shards))
+    (not_large (length (map server_in (servers_in d))) (length (map shard_in (shards_in d)))
+    (subst (λ n. n ≤ 1024) (sym (length-map (servers_in d) server_in)) parts.server_count)
+    (subst (λ n. n ≤ 4096) (sym (length-map (shards_in d) shard_in)) parts.shard_count))
+    (both_true _ _ (servers_named (servers_in d) parts.servers) (shards_named (server_names d) (shards_in d) parts.shards))
+    (both_false _ _
+    (ap has_double (names_of_rows (servers_in d)) ∙ (servers_distinct (servers_in d) parts.servers).single)
+    (ap has_double (names_of_shard_rows (shards_in d)) ∙ (shards_distinct (server_names d) (shards_in d) parts.shards).single))
+    (both_true _ _ (servers_good (servers_in d)) (shards_good (server_names d) (shards_in d) parts.shards))
 
 -- ---- ids
 
@@ -104,12 +103,12 @@ document_is_known d h =
     let shards : length (shard_names d) ≡ length (map shard_in (shards_in d)) = names_counted (shards_in d) (shards_distinct (server_names d) (shards_in d) parts.shards) ∙ sym (length-map (shards_in d) shard_in) in
     record {
       cells = subst (λ n. All (λ cell. (cell.0 < n) × (cell.1 < length (map server_in (servers_in d)))) (cells_in (server_names d) (shards_in d))) (sym (length-map (shards_in d) shard_in))
-        (subst (λ n. All (λ cell. (cell.0 < length (shards_in d)) × (cell.1 < n)) (cells_in (server_names d) (shards_in d))) servers (cells_within (server_names d) (shards_in d) parts.shards));
+          (subst (λ n. All (λ cell. (cell.0 < length (shards_in d)) × (cell.1 < n)) (cells_in (server_names d) (shards_in d))) servers (cells_within (server_names d) (shards_in d) parts.shards));
       listed = subst (λ n. All (λ entry. IfSome entry (λ server. server < n)) (map (listed_in (server_names d)) (shards_in d))) servers
-        (All-map (λ entry. IfSome entry (λ server. server < length (server_names d))) (listed_in (server_names d)) (shards_in d) (λ k e below. id_within (server_names d) members.Listed (get_or (shards_in d) k e)));
+          (All-map (λ entry. IfSome entry (λ server. server < length (server_names d))) (listed_in (server_names d)) (shards_in d) (λ k e below. id_within (server_names d) members.Listed (get_or (shards_in d) k e)));
       down = subst (λ n. All (λ server. server < n) (rows_in d).down) (sym (length-map (servers_in d) server_in)) (down_within (servers_in d));
       calls = calls_where (λ call. (call.0 < length (map shard_in (shards_in d))) × (call.1 < length (map server_in (servers_in d))) × IsKnownCall (length (map server_in (servers_in d))) call.2) (call_in (shard_names d) (server_names d)) (list_in members.Calls d)
-        (subst (λ n. AreWithin (length (map shard_in (shards_in d))) n (map (call_in (shard_names d) (server_names d)) (entries_in members.Calls d))) servers
+          (subst (λ n. AreWithin (length (map shard_in (shards_in d))) n (map (call_in (shard_names d) (server_names d)) (entries_in members.Calls d))) servers
           (subst (λ n. AreWithin n (length (server_names d)) (map (call_in (shard_names d) (server_names d)) (entries_in members.Calls d))) shards (calls_within (shard_names d) (server_names d) (entries_in members.Calls d) parts.calls)));
       listed_length = length-map (shards_in d) (listed_in (server_names d)) ∙ sym (length-map (shards_in d) shard_in);
       cell_count = subst (λ n. n ≤ 1048576) (sym (cell_count_is (server_names d) (shards_in d))) (cell_count_within (server_names d) (shards_in d) parts.shards);

@@ -1,9 +1,8 @@
 -- One shard more.
-use Rattle.std.proofs.Common.{◌≡◌, ◌++◌, ◌+◌, ℕ, List, [], ◌∷◌, length, map, refl, ap, sym, ◌∙◌, zero-add, length-append}
+use Rattle.std.proofs.Common.{◌≡◌, ◌++◌, ◌+◌, ℕ, List, [], ◌∷◌, length, refl, ap, sym, ◌∙◌, zero-add, length-append}
 use Rattle.std.specs.List.{enumerate_from, flat_map}
 use Rattle.std.proofs.lemmas.List.{flat_map_more, length-map}
 use Rattle.serde_json.specs.Data.{Data}
-use Rattle.sm_placement.specs.Opening.{NamedCell}
 use Rattle.sm_plan_text.specs.declared.member.Member.TheVariants as members
 use Rattle.sm_plan_text.specs.Values.{entries_in, id_of}
 use Rattle.sm_plan_text.specs.Shards.{named_cell, cells_of, cells_in, cell_count}

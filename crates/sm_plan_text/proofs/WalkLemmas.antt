@@ -1,5 +1,5 @@
 -- A walk over the entries of a list, one entry after another.
-use Rattle.std.proofs.Common.{◌≡◌, ◌++◌, ◌+◌, ◌<◌, ◌≤◌, ℕ, List, [], ◌∷◌, length, take, drop, get_or, map, Option, Some, None, refl, ap, sym, ◌∙◌, subst, append_assoc, add-zero, arith}
+use Rattle.std.proofs.Common.{◌≡◌, ◌++◌, ◌+◌, ◌<◌, ◌≤◌, ℕ, List, [], ◌∷◌, length, take, drop, get_or, map, Option, Some, refl, ap, sym, ◌∙◌, subst, append_assoc, add-zero, arith}
 use Rattle.std.specs.List.{enumerate_from}
 use Rattle.std.proofs.lemmas.List.{drop_more, take_more, drop_all, get_or-map, length-map, map_push}
 use Rattle.serde_json.specs.Data.{Data}
@@ -57,4 +57,4 @@ pub mapped_step : {A : Type 0} (f : Data → A) (items : List Value) (i : ℕ) (
 mapped_step f items i item start old new h is e inv =
     let front : List Data = take i (map view items) in
     step_on (λ ds. start ++ map f ds) items i item new h is
-      (e ∙ ap (λ xs. xs ++ f (view item) ∷ []) inv ∙ append_assoc start (map f front) (f (view item) ∷ []) ∙ ap (λ xs. start ++ xs) (sym (map_push f front (view item))))
+    (e ∙ ap (λ xs. xs ++ f (view item) ∷ []) inv ∙ append_assoc start (map f front) (f (view item) ∷ []) ∙ ap (λ xs. start ++ xs) (sym (map_push f front (view item))))

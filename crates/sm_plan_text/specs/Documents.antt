@@ -1,5 +1,5 @@
 -- A document.
-use Rattle.std.specs.Prelude.{◌≡◌, ◌≤◌, ◌<◌, ℕ, List, [], ◌∷◌, ◌++◌, length, map, Option, Some, None, option_map, All, IfSome}
+use Rattle.std.specs.Prelude.{◌≡◌, ◌≤◌, ◌<◌, ℕ, List, [], ◌∷◌, ◌++◌, length, map, Option, option_map, All, IfSome}
 use Rattle.serde_json.specs.Data.{Data}
 use Rattle.sm_placement.specs.Setup.{Setup}
 use Rattle.sm_placement.specs.Opening.{NamedCell}

@@ -1,5 +1,5 @@
 -- The shards of a document, with their cells.
-use Rattle.std.specs.Prelude.{ℕ, ◌-◌, List, [], ◌∷◌, ◌++◌, length, map, min, Option, Some, None, option_and_then, unwrap_or}
+use Rattle.std.specs.Prelude.{ℕ, ◌-◌, List, [], ◌∷◌, ◌++◌, length, map, min, Option, option_and_then, unwrap_or}
 use Rattle.std.specs.List.{enumerate_from, flat_map}
 use Rattle.serde_json.specs.Data.{Data}
 use Rattle.sm_server.specs.Cell.{cell_in}

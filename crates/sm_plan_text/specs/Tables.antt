@@ -3,7 +3,7 @@
 use Rattle.std.specs.Prelude.{ℕ, Bool, true, false, ◌&&◌, not, List, [], ◌∷◌, ◌++◌, length, map, Option, Some, None, is_some, nat_le, option_and_then, if◌then◌else◌}
 use Rattle.std.specs.List.{list_any, flat_map}
 use Rattle.std.specs.Str.{bytes_eq}
-use Rattle.serde_json.specs.Data.{Data, null, boolean, number, string, array, object, Num, Items, Members, no_members, member}
+use Rattle.serde_json.specs.Data.{Data, Num, Items, Members, no_members, member}
 use Rattle.serde_json.specs.Find.{as_bool, as_str, as_array, as_object, as_number, as_u64, as_null}
 use Rattle.sm_placement.specs.Names.{is_name}
 use Rattle.sm_plan_text.specs.declared.fault.TextFault.{TextFault}

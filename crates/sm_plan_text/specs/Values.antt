@@ -1,6 +1,6 @@
 -- What the members of a JSON object say. A member that is missing or not in its form says nothing, and stands for 0,
 -- false, or what is empty: a document with such a member is refused.
-use Rattle.std.specs.Prelude.{ℕ, Bool, false, List, [], ◌∷◌, codes, length, fold, map, Option, Some, None, nat_le, option_and_then, option_map, unwrap_or, position, if◌then◌else◌}
+use Rattle.std.specs.Prelude.{ℕ, Bool, false, List, [], ◌∷◌, codes, fold, map, Option, Some, None, nat_le, option_and_then, option_map, unwrap_or, position, if◌then◌else◌}
 use Rattle.std.specs.Str.{bytes_eq}
 use Rattle.indexmap.specs.IndexSet.{insert_key}
 use Rattle.serde_json.specs.Data.{Data, Items, no_items, item}

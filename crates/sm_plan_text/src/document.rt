@@ -131,11 +131,7 @@ fn read_parts(alloc: Global, value: &Value, faults: &mut Faults) -> Result<Parts
 }
 
 /// The configuration of servers and shards that are one.
-fn configuration(
-    alloc: Global,
-    servers: &[Server],
-    shards: &[Shard],
-) -> Result<Config, AllocError>
+fn configuration(alloc: Global, servers: &[Server], shards: &[Shard]) -> Result<Config, AllocError>
     requires { config_fault (setup_of servers.now shards.now) ≡ None }
     ensures { IfOk result (λ config. config ≡ setup_of servers.now shards.now) }
 {

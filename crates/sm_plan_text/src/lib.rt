@@ -13,3 +13,6 @@ mod shard;
 pub use document::{Document, read_document};
 pub use fault::{TextFault, first_is_answered};
 pub use member::Member;
+
+#[cfg(test)]
+mod tests;

@@ -92,7 +92,11 @@ fn add_server(
 }
 
 /// The servers of a list.
-pub fn read_servers(alloc: Global, items: &[Value], faults: &mut Faults) -> Result<Servers, AllocError>
+pub fn read_servers(
+    alloc: Global,
+    items: &[Value],
+    faults: &mut Faults,
+) -> Result<Servers, AllocError>
     ensures rows { IfOk result (λ servers. map server_row servers.rows.items ≡ map server_in (map view items.now)) }
     ensures names { IfOk result (λ servers. servers.names ≡ names_in (map view items.now)) }
     ensures down { IfOk result (λ servers. servers.down.items ≡ down_in (map view items.now)) }

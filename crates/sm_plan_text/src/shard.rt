@@ -164,8 +164,14 @@ fn add_shard(
         ≡ noted faults.old.lowest (faults_of_shard servers.now shards.old.names (length shards.old.cells.items) (view object.now))) }
 {
     let most_cells = MOST_CELLS.saturating_sub(shards.cells.len());
-    let (row, listed, cells) =
-        read_shard(alloc, object, servers, &shards.names, most_cells, faults)?;
+    let (row, listed, cells) = read_shard(
+        alloc,
+        object,
+        servers,
+        &shards.names,
+        most_cells,
+        faults,
+    )?;
     let shard = ShardId::new(id(shards.rows.len()));
     add_cells(cells, shard, servers, &mut shards.cells, faults)?;
     let name = row.name.clone()?;

@@ -1,6 +1,6 @@
-use Rattle.std.proofs.Common.{◌≡◌, ◌++◌, ◌∷◌, [], ℕ, cond, ◌∙◌, sym, ap, length, map, take, List}
+use Rattle.std.proofs.Common.{◌≡◌, ◌++◌, ◌∷◌, [], cond, ◌∙◌, sym, ap, length, map, take, List}
 use Rattle.std.specs.Str.{bytes_eq}
-use Rattle.std.proofs.lemmas.List.{map_push, length-map}
+use Rattle.std.proofs.lemmas.List.{length-map}
 use Rattle.indexmap.specs.IndexSet.{insert_key}
 use Rattle.serde_json.specs.Data.{Data}
 use Rattle.serde_json.specs.View.{view}
@@ -21,17 +21,17 @@ loop-item-preserved c =
     let item = c.item-item.result in
     let front : List Data = take i (map view items) in
     let count : length c.loop-item.servers.rows.items ≡ length front =
-      sym (length-map c.loop-item.servers.rows.items server_row) ∙ ap length c.loop-item.invariant.rows ∙ length-map front server_in in
+    sym (length-map c.loop-item.servers.rows.items server_row) ∙ ap length c.loop-item.invariant.rows ∙ length-map front server_in in
     record {
       rows = mapped_step server_in items i item [] _ _ c.loop-item-test.true c.item-item.is c.in_ok-add_server.ensures.rows c.loop-item.invariant.rows;
       names = step_on names_in items i item _ c.loop-item-test.true c.item-item.is
-        (c.in_ok-add_server.ensures.names ∙ ap (λ names. insert_key bytes_eq names (text_in members.Name (view item))) c.loop-item.invariant.names ∙ sym (names_in_push front (view item)));
+          (c.in_ok-add_server.ensures.names ∙ ap (λ names. insert_key bytes_eq names (text_in members.Name (view item))) c.loop-item.invariant.names ∙ sym (names_in_push front (view item)));
       down = step_on down_in items i item _ c.loop-item-test.true c.item-item.is
-        (c.in_ok-add_server.ensures.down
-        ∙ ap (λ n. cond (flag_in members.Down (view item)) (c.loop-item.servers.down.items ++ id_of n ∷ []) c.loop-item.servers.down.items) count
-        ∙ ap (λ ids. cond (flag_in members.Down (view item)) (ids ++ id_of (length front) ∷ []) ids) c.loop-item.invariant.down
-        ∙ sym (down_in_push front (view item)));
+          (c.in_ok-add_server.ensures.down
+          ∙ ap (λ n. cond (flag_in members.Down (view item)) (c.loop-item.servers.down.items ++ id_of n ∷ []) c.loop-item.servers.down.items) count
+          ∙ ap (λ ids. cond (flag_in members.Down (view item)) (ids ++ id_of (length front) ∷ []) ids) c.loop-item.invariant.down
+          ∙ sym (down_in_push front (view item)));
       faults = walked_step server_faults items i item _ _ c.loop-item-test.true c.item-item.is
-        (c.in_ok-add_server.ensures.faults ∙ ap (λ names. noted c.loop-item.faults.lowest (own_faults members.Servers (server_table names) (view item))) c.loop-item.invariant.names)
-        ∙ c.loop-item.invariant.faults;
+          (c.in_ok-add_server.ensures.faults ∙ ap (λ names. noted c.loop-item.faults.lowest (own_faults members.Servers (server_table names) (view item))) c.loop-item.invariant.names)
+          ∙ c.loop-item.invariant.faults;
     }

@@ -1,4 +1,4 @@
-use Rattle.std.proofs.Common.{◌≡◌, take, drop, map, [], vec_len}
+use Rattle.std.proofs.Common.{◌≡◌, take, drop, map, []}
 use Rattle.serde_json.specs.View.{view}
 use Rattle.sm_placement.specs.Config.{server_row}
 use Rattle.sm_plan_text.specs.Faults.{noted}

@@ -1,6 +1,6 @@
-use Rattle.std.proofs.Common.{◌≡◌, ◌++◌, ◌∷◌, [], ℕ, ◌∙◌, sym, ap, length, map, take, List}
+use Rattle.std.proofs.Common.{◌≡◌, ◌++◌, [], ℕ, ◌∙◌, sym, ap, length, map, take, List}
 use Rattle.std.specs.Str.{bytes_eq}
-use Rattle.std.proofs.lemmas.List.{map_push, length-map}
+use Rattle.std.proofs.lemmas.List.{length-map}
 use Rattle.indexmap.specs.IndexSet.{insert_key}
 use Rattle.serde_json.specs.Data.{Data}
 use Rattle.serde_json.specs.View.{view}
@@ -22,20 +22,20 @@ loop-item-preserved c =
     let servers : List (List ℕ) = c.args.servers.now in
     let front : List Data = take i (map view items) in
     let count : length c.loop-item.shards.rows.items ≡ length front =
-      sym (length-map c.loop-item.shards.rows.items shard_row) ∙ ap length c.loop-item.invariant.rows ∙ length-map front shard_in in
+    sym (length-map c.loop-item.shards.rows.items shard_row) ∙ ap length c.loop-item.invariant.rows ∙ length-map front shard_in in
     record {
       rows = mapped_step shard_in items i item [] _ _ c.loop-item-test.true c.item-item.is c.in_ok-add_shard.ensures.rows c.loop-item.invariant.rows;
       names = step_on names_in items i item _ c.loop-item-test.true c.item-item.is
-        (c.in_ok-add_shard.ensures.names ∙ ap (λ names. insert_key bytes_eq names (text_in members.Name (view item))) c.loop-item.invariant.names ∙ sym (names_in_push front (view item)));
+          (c.in_ok-add_shard.ensures.names ∙ ap (λ names. insert_key bytes_eq names (text_in members.Name (view item))) c.loop-item.invariant.names ∙ sym (names_in_push front (view item)));
       listed = mapped_step (listed_in servers) items i item [] _ _ c.loop-item-test.true c.item-item.is c.in_ok-add_shard.ensures.listed c.loop-item.invariant.listed;
       cells = step_on (cells_in servers) items i item _ c.loop-item-test.true c.item-item.is
-        (c.in_ok-add_shard.ensures.cells
-        ∙ ap (λ n. c.loop-item.shards.cells.items ++ cells_of servers (n, view item)) count
-        ∙ ap (λ cells. cells ++ cells_of servers (length front, view item)) c.loop-item.invariant.cells
-        ∙ sym (cells_in_push servers front (view item)));
+          (c.in_ok-add_shard.ensures.cells
+          ∙ ap (λ n. c.loop-item.shards.cells.items ++ cells_of servers (n, view item)) count
+          ∙ ap (λ cells. cells ++ cells_of servers (length front, view item)) c.loop-item.invariant.cells
+          ∙ sym (cells_in_push servers front (view item)));
       faults = walked_step (shard_faults servers) items i item _ _ c.loop-item-test.true c.item-item.is
-        (c.in_ok-add_shard.ensures.faults
-        ∙ ap (λ names. noted c.loop-item.faults.lowest (faults_of_shard servers names (length c.loop-item.shards.cells.items) (view item))) c.loop-item.invariant.names
-        ∙ ap (λ n. noted c.loop-item.faults.lowest (faults_of_shard servers (names_in front) n (view item))) (ap length c.loop-item.invariant.cells ∙ cell_count_is servers front))
-        ∙ c.loop-item.invariant.faults;
+          (c.in_ok-add_shard.ensures.faults
+          ∙ ap (λ names. noted c.loop-item.faults.lowest (faults_of_shard servers names (length c.loop-item.shards.cells.items) (view item))) c.loop-item.invariant.names
+          ∙ ap (λ n. noted c.loop-item.faults.lowest (faults_of_shard servers (names_in front) n (view item))) (ap length c.loop-item.invariant.cells ∙ cell_count_is servers front))
+          ∙ c.loop-item.invariant.faults;
     }
