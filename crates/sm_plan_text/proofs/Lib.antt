@@ -1,0 +1,11 @@
+pub mod Lowest
+pub mod NameLemmas
+pub mod ObjectLemmas
+pub mod WalkLemmas
+pub mod ServerLemmas
+pub mod ShardLemmas
+pub mod CallLemmas
+pub mod Texts
+pub mod Faultless
+pub mod FaultlessDocument
+pub mod Known
