@@ -4,6 +4,8 @@
 #[cfg(test)]
 mod fixture;
 #[cfg(test)]
+mod memory;
+#[cfg(test)]
 mod placement_calls;
 #[cfg(test)]
 mod placement_opening;
