@@ -1,6 +1,9 @@
 pub mod Sums
+pub mod ConfigLemmas
+pub mod CopyLemmas
 pub mod Leads
 pub mod LeadOf
 pub mod Calls
 pub mod Searches
 pub mod Settling
+pub mod Openings
