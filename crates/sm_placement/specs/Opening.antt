@@ -99,10 +99,9 @@ abbrev pub fault_if : Bool → OpenFault → Option OpenFault
 fault_if true fault = Some fault
 fault_if false fault = None
 
--- what is wrong with the placement itself
-abbrev pub place_faults : Sizes → Place → List (Option OpenFault)
-place_faults c p =
-    option_map (λ s. BadLead s) (first_below c.shards (λ s. has_bad_lead c.servers (p.cells s))) ∷
+-- what is wrong with listings, loads, live replicas and the servers down
+abbrev pub standing_faults : Sizes → Place → List (Option OpenFault)
+standing_faults c p =
     option_map (λ s. BadListing s) (first_below c.shards (λ s. has_bad_listing (p.cells s) (p.listed s))) ∷
     option_map (λ v. OverRoom v) (first_below c.servers (is_over_room c p.cells)) ∷
     option_map (λ s. Short s) (first_below c.shards (is_short c p.cells p.down)) ∷
@@ -114,4 +113,5 @@ open_fault c o = first_fault (
     fault_if (is_wrong_size c o) TooMany ∷
     fault_if (has_unknown c o) UnknownName ∷
     first_from 0 c.shards (double_of c o) ∷
-    place_faults c (opened o))
+    option_map (λ s. BadLead s) (first_below c.shards (λ s. has_bad_lead c.servers (cell_named o.cells s))) ∷
+    standing_faults c (opened o))
