@@ -193,3 +193,121 @@ tally-is t m n s (x ∷ xs) z k once =
                 same_sum n (λ v. bit (t (cell_named (x ∷ xs) s v))) (λ v. bit (t (cell_named xs s v))) (λ v l. rw q refl) in
           omega arith
     ]
+
+option_none : {A B : Type 0} (f : A → B) (o : Option A) → option_map f o ≡ None → o ≡ None
+option_none f None e = refl
+option_none f (Some x) e = cc
+
+-- where no pair is found doubled, each is named once at most
+pub once_from : (c : Sizes) (o : Opening) → AreKnown c.shards c.servers o.cells → first_from 0 c.shards (double_of c o) ≡ None → IsNamedOnce o.cells
+once_from c o k e s v = elim (cases_lt s c.shards) [
+      | inl l ↦ elim (cases_lt v c.servers) [
+          | inl m ↦
+              let none : first_below c.servers (is_double o.cells s) ≡ None = option_none (λ w. DoubleCell s w) (first_below c.servers (is_double o.cells s)) (first_from_none (double_of c o) 0 c.shards e s (omega arith) (omega arith)) in
+              ltb-false 1 (count_by (is_of s v) o.cells) (first_none c.servers (is_double o.cells s) none v m)
+          | inr m ↦ let z : count_by (is_of s v) o.cells ≡ 0 = none_unknown c.shards c.servers o.cells s v k (λ a b. absurd (omega arith)) in omega arith
+        ]
+      | inr l ↦ let z : count_by (is_of s v) o.cells ≡ 0 = none_unknown c.shards c.servers o.cells s v k (λ a b. absurd (omega arith)) in omega arith
+    ]
+
+-- a row that has no bad lead has no part of a handover
+pub row_rests : (n : ℕ) (row : ℕ → Cell) (v : ℕ) → has_bad_lead n row ≡ false → v < n → is_handing (row v) ≡ false
+row_rests n row v e l = any_none n (λ w. is_handing (row w)) (or_parts (ltb 1 (count_below n (λ w. is_primary (row w)))) (any_below n (λ w. is_handing (row w))) e).1 v l
+
+-- where no lead is bad, no named cell has a part in a handover
+pub named_rests : (m n : ℕ) (xs : List NamedCell) → AreKnown m n xs → IsNamedOnce xs → first_below m (λ s. has_bad_lead n (cell_named xs s)) ≡ None →
+    (i : ℕ) (d : NamedCell) → i < length xs → is_handing (get_or xs i d).2 ≡ false
+named_rests m n xs k once e i d l =
+    let y : NamedCell = get_or xs i d in
+    let rests : is_handing (cell_named xs y.0 y.1) ≡ false =
+          row_rests n (cell_named xs y.0) y.1 (first_none m (λ s. has_bad_lead n (cell_named xs s)) e y.0 (known_shard m n xs i d k l)) (known_server m n xs i d k l) in
+    rw (cell_named-at xs i d once l) at rests
+
+resting_known : (n : ℕ) (x : Cell) → is_handing x ≡ false → IsKnownCell n x
+resting_known n Absent e = tt
+resting_known n Secondary e = tt
+resting_known n Primary e = tt
+resting_known n (Prepared a b) e = cc
+resting_known n (Forwarding a b) e = cc
+
+-- a list of known servers lists no other
+listed_known : (n : ℕ) (xs : List (Option ℕ)) (s u : ℕ) → list_any (is_unknown n) xs ≡ false → get_or xs s None ≡ Some u → u < n
+listed_known n [] s u k e = cc
+listed_known n (x ∷ xs) zero u k e = let z = (or_parts (is_unknown n x) (list_any (is_unknown n) xs) k).0 in at x z e
+  where
+    at : (x : Option ℕ) → is_unknown n x ≡ false → x ≡ Some u → u < n
+    at None z e = cc
+    at (Some w) z e = let same : w ≡ u = cc in let l : w < n = ltb-true w n (not-false (ltb w n) z) in omega arith
+listed_known n (x ∷ xs) (suc s) u k e = listed_known n xs s u (or_parts (is_unknown n x) (list_any (is_unknown n) xs) k).1 e
+
+entries_of-get : {A : Type 0} (none : A) (xs : List A) (k : ℕ) → entries_of none xs k ≡ get_or xs k none
+unfolding entries_of
+entries_of-get none xs k = refl
+
+-- the parts of what is unknown
+pub cells_known : (c : Sizes) (o : Opening) → has_unknown c o ≡ false → AreKnown c.shards c.servers o.cells
+cells_known c o e = (or_parts (list_any (is_unknown_cell c.shards c.servers) o.cells) (list_any (is_unknown c.servers) o.listed || list_any (λ v. not (ltb v c.servers)) o.down) e).0
+
+-- what is named, where no fault is found, is a placement
+pub opened_placement : (c : Sizes) (o : Opening) → has_unknown c o ≡ false → first_from 0 c.shards (double_of c o) ≡ None →
+    first_below c.shards (λ s. has_bad_lead c.servers (cell_named o.cells s)) ≡ None →
+    first_below c.servers (is_over_room c (cell_named o.cells)) ≡ None → IsPlacement c (opened o)
+opened_placement c o unknown doubles leads rooms = record {
+  no_server = λ s v l. nothing s v (λ a b. absurd (omega arith));
+  no_shard = λ s v l. nothing s v (λ a b. absurd (omega arith));
+  known = λ s v. elim (cases_lt s c.shards) [
+      | inl l ↦ elim (cases_lt v c.servers) [
+          | inl m ↦ resting_known c.servers (cell_named o.cells s v) (row_rests c.servers (cell_named o.cells s) v (first_none c.shards (λ r. has_bad_lead c.servers (cell_named o.cells r)) leads s l) m)
+          | inr m ↦ rw (nothing s v (λ a b. absurd (omega arith))) tt
+        ]
+      | inr l ↦ rw (nothing s v (λ a b. absurd (omega arith))) tt
+    ];
+  listed = λ s u e. listed_known c.servers o.listed s u listings (sym (entries_of-get None o.listed s) ∙ e);
+  rooms = λ v l. ltb-false (c.room v) _ (first_none c.servers (is_over_room c (cell_named o.cells)) rooms v l);
+}
+  where
+    known : AreKnown c.shards c.servers o.cells
+    known = cells_known c o unknown
+    nothing : (s v : ℕ) → (s < c.shards → v < c.servers → ⊥) → cell_named o.cells s v ≡ Absent
+    nothing s v out = cell_named-apart o.cells s v (none_unknown c.shards c.servers o.cells s v known out)
+    listings : list_any (is_unknown c.servers) o.listed ≡ false
+    listings = (or_parts (list_any (is_unknown c.servers) o.listed) (list_any (λ v. not (ltb v c.servers)) o.down) (or_parts (list_any (is_unknown_cell c.shards c.servers) o.cells) (list_any (is_unknown c.servers) o.listed || list_any (λ v. not (ltb v c.servers)) o.down) unknown).1).0
+
+-- the faults in their order
+pub fault_of_size : (c : Sizes) (o : Opening) → is_wrong_size c o ≡ true → open_fault c o ≡ Some TooMany
+fault_of_size c o e = rw e refl
+
+pub fault_of_ids : (c : Sizes) (o : Opening) → is_wrong_size c o ≡ false → has_unknown c o ≡ true → open_fault c o ≡ Some UnknownName
+fault_of_ids c o e f = rw (e, f) refl
+
+pub fault_of_pairs : (c : Sizes) (o : Opening) (why : OpenFault) → is_wrong_size c o ≡ false → has_unknown c o ≡ false → first_from 0 c.shards (double_of c o) ≡ Some why →
+    open_fault c o ≡ Some why
+fault_of_pairs c o why e f g = rw (e, f, g) refl
+
+pub fault_of_leads : (c : Sizes) (o : Opening) (s : ℕ) → is_wrong_size c o ≡ false → has_unknown c o ≡ false → first_from 0 c.shards (double_of c o) ≡ None →
+    first_below c.shards (λ r. has_bad_lead c.servers (cell_named o.cells r)) ≡ Some s → open_fault c o ≡ Some (BadLead s)
+fault_of_leads c o s e f g h = rw (e, f, g, h) refl
+
+pub fault_of_rest : (c : Sizes) (o : Opening) → is_wrong_size c o ≡ false → has_unknown c o ≡ false → first_from 0 c.shards (double_of c o) ≡ None →
+    first_below c.shards (λ r. has_bad_lead c.servers (cell_named o.cells r)) ≡ None → open_fault c o ≡ first_fault (standing_faults c (opened o))
+fault_of_rest c o e f g h = rw (e, f, g, h) refl
+
+-- what is opened is settled
+pub opened_settled : (c : Sizes) (o : Opening) → IsPlacement c (opened o) → first_below c.shards (λ s. has_bad_lead c.servers (cell_named o.cells s)) ≡ None →
+    first_fault (standing_faults c (opened o)) ≡ None → IsSettled c (opened o)
+opened_settled c o is leads e =
+    let p : Place = opened o in
+    let listings : first_below c.shards (λ s. has_bad_listing (p.cells s) (p.listed s)) ≡ None = first_part (first_below c.shards (λ s. has_bad_listing (p.cells s) (p.listed s))) (λ s. BadListing s) _ e in
+    let e1 = (rw listings at e) in
+    let rooms : first_below c.servers (is_over_room c p.cells) ≡ None = first_part (first_below c.servers (is_over_room c p.cells)) (λ v. OverRoom v) _ e1 in
+    let e2 = (rw rooms at e1) in
+    let floors : first_below c.shards (is_short c p.cells p.down) ≡ None = first_part (first_below c.shards (is_short c p.cells p.down)) (λ s. Short s) _ e2 in
+    let e3 = (rw floors at e2) in
+    settled_from c p is.no_server leads listings rooms floors (few (ltb p.limit (down_count c p)) refl e3) (λ s l. omega arith)
+  where
+    first_part : (f : Option ℕ) (g : ℕ → OpenFault) (rest : List (Option OpenFault)) → first_fault (option_map g f ∷ rest) ≡ None → f ≡ None
+    first_part None g rest e = refl
+    first_part (Some x) g rest e = cc
+    few : (b : Bool) → ltb (opened o).limit (down_count c (opened o)) ≡ b → first_fault (fault_if b TooManyDown ∷ []) ≡ None → down_count c (opened o) ≤ (opened o).limit
+    few true q e = cc
+    few false q e = ltb-false (opened o).limit (down_count c (opened o)) q
