@@ -1,5 +1,5 @@
 -- Lists of named cells, and what it means that no fault is found in them.
-use Rattle.std.proofs.Common.{◌≡◌, ◌≢◌, ℕ, zero, suc, ◌+◌, ◌<◌, ◌≤◌, ◌^◌, Bool, true, false, not, cond, eqb, ltb, ◌&&◌, ◌||◌, refl, sym, ap, ◌∙◌, arith, inl, inr, subst, ◌⊎◌, Option, Some, None, List, [], ◌∷◌, length, get_or}
+use Rattle.std.proofs.Common.{◌≡◌, ◌≢◌, ℕ, zero, suc, ◌+◌, ◌<◌, ◌≤◌, ◌^◌, Bool, true, false, not, cond, eqb, ltb, ◌==◌, ◌&&◌, ◌||◌, refl, sym, ap, ◌∙◌, arith, inl, inr, subst, ◌⊎◌, Option, Some, None, List, [], ◌∷◌, length, get_or}
 use Rattle.std.specs.Prelude.{option_map}
 use Rattle.std.specs.List.{count_by, list_any, All}
 use Rattle.std.proofs.Math.Path.{fun_ext}
@@ -16,35 +16,10 @@ use Rattle.sm_placement.specs.Rows.{IsKnownCell}
 use Rattle.sm_placement.specs.Place.{Place, down_count}
 use Rattle.sm_placement.specs.Layout.{IsPlacement, entries_of}
 use Rattle.sm_placement.specs.Lead.{IsSettled}
-use Rattle.sm_placement.specs.Opening.{NamedCell, Opening, is_of, cell_named, opened, is_wrong_size, is_unknown, has_unknown, is_double, first_below, double_of, has_bad_lead, has_bad_listing, is_over_room, is_short, first_fault, fault_if, standing_faults, open_fault}
+use Rattle.sm_placement.specs.Opening.{NamedCell, Opening, is_of, cell_named, opened, is_wrong_size, is_unknown, is_unknown_cell, AreKnown, IsNamedOnce, has_unknown, is_double, is_handing, tally, put_all, first_below, double_of, has_bad_lead, has_bad_listing, is_over_room, is_short, first_fault, fault_if, standing_faults, open_fault}
 use Rattle.sm_placement.proofs.Sums.{put2-here, put2-row, put2-apart, sum_apart, same_sum}
 use Rattle.sm_placement.proofs.Searches.{cases_Option, first_none, first_from_none, any_none, count_none}
 use Rattle.sm_placement.proofs.Settling.{settled_from}
-
--- each pair is named once at most
-abbrev pub IsNamedOnce : List NamedCell → Type 0
-IsNamedOnce cells = (s v : ℕ) → count_by (is_of s v) cells ≤ 1
-
--- the shard or the server of a named cell is not below its count
-abbrev pub is_unknown_cell : ℕ → ℕ → NamedCell → Bool
-is_unknown_cell shards servers x = not (ltb x.0 shards) || not (ltb x.1 servers)
-
--- each shard and server of the list is below its count
-abbrev pub AreKnown : ℕ → ℕ → List NamedCell → Type 0
-AreKnown shards servers cells = list_any (is_unknown_cell shards servers) cells ≡ false
-
--- the cells once each of the list is put in its turn
-abbrev pub put_all : List NamedCell → (ℕ → ℕ → Cell) → ℕ → ℕ → Cell
-put_all [] f = f
-put_all (x ∷ xs) f = put_all xs (put2 f x.0 x.1 x.2)
-
--- how many cells that pass the list names for a shard
-abbrev pub tally : (Cell → Bool) → ℕ → List NamedCell → ℕ
-tally t s cells = count_by (λ x. eqb x.0 s && t x.2) cells
-
--- the cell has a part in a handover
-abbrev pub is_handing : Cell → Bool
-is_handing x = is_prepared x || is_forwarding x
 
 is_of-true : (s v : ℕ) (x : NamedCell) → is_of s v x ≡ true → (x.0 ≡ s) × (x.1 ≡ v)
 is_of-true s v x e = let p = and_parts (eqb x.0 s) (eqb x.1 v) e in (eqb-true x.0 s p.0, eqb-true x.1 v p.1)
@@ -199,11 +174,11 @@ option_none f None e = refl
 option_none f (Some x) e = cc
 
 -- where no pair is found doubled, each is named once at most
-pub once_from : (c : Sizes) (o : Opening) → AreKnown c.shards c.servers o.cells → first_from 0 c.shards (double_of c o) ≡ None → IsNamedOnce o.cells
+pub once_from : (c : Sizes) (o : Opening) → AreKnown c.shards c.servers o.cells → first_from 0 c.shards (double_of c.servers o.cells) ≡ None → IsNamedOnce o.cells
 once_from c o k e s v = elim (cases_lt s c.shards) [
       | inl l ↦ elim (cases_lt v c.servers) [
           | inl m ↦
-              let none : first_below c.servers (is_double o.cells s) ≡ None = option_none (λ w. DoubleCell s w) (first_below c.servers (is_double o.cells s)) (first_from_none (double_of c o) 0 c.shards e s (omega arith) (omega arith)) in
+              let none : first_below c.servers (is_double o.cells s) ≡ None = option_none (λ w. DoubleCell s w) (first_below c.servers (is_double o.cells s)) (first_from_none (double_of c.servers o.cells) 0 c.shards e s (omega arith) (omega arith)) in
               ltb-false 1 (count_by (is_of s v) o.cells) (first_none c.servers (is_double o.cells s) none v m)
           | inr m ↦ let z : count_by (is_of s v) o.cells ≡ 0 = none_unknown c.shards c.servers o.cells s v k (λ a b. absurd (omega arith)) in omega arith
         ]
@@ -249,7 +224,7 @@ pub cells_known : (c : Sizes) (o : Opening) → has_unknown c o ≡ false → Ar
 cells_known c o e = (or_parts (list_any (is_unknown_cell c.shards c.servers) o.cells) (list_any (is_unknown c.servers) o.listed || list_any (λ v. not (ltb v c.servers)) o.down) e).0
 
 -- what is named, where no fault is found, is a placement
-pub opened_placement : (c : Sizes) (o : Opening) → has_unknown c o ≡ false → first_from 0 c.shards (double_of c o) ≡ None →
+pub opened_placement : (c : Sizes) (o : Opening) → has_unknown c o ≡ false → first_from 0 c.shards (double_of c.servers o.cells) ≡ None →
     first_below c.shards (λ s. has_bad_lead c.servers (cell_named o.cells s)) ≡ None →
     first_below c.servers (is_over_room c (cell_named o.cells)) ≡ None → IsPlacement c (opened o)
 opened_placement c o unknown doubles leads rooms = record {
@@ -280,15 +255,15 @@ fault_of_size c o e = rw e refl
 pub fault_of_ids : (c : Sizes) (o : Opening) → is_wrong_size c o ≡ false → has_unknown c o ≡ true → open_fault c o ≡ Some UnknownName
 fault_of_ids c o e f = rw (e, f) refl
 
-pub fault_of_pairs : (c : Sizes) (o : Opening) (why : OpenFault) → is_wrong_size c o ≡ false → has_unknown c o ≡ false → first_from 0 c.shards (double_of c o) ≡ Some why →
+pub fault_of_pairs : (c : Sizes) (o : Opening) (why : OpenFault) → is_wrong_size c o ≡ false → has_unknown c o ≡ false → first_from 0 c.shards (double_of c.servers o.cells) ≡ Some why →
     open_fault c o ≡ Some why
 fault_of_pairs c o why e f g = rw (e, f, g) refl
 
-pub fault_of_leads : (c : Sizes) (o : Opening) (s : ℕ) → is_wrong_size c o ≡ false → has_unknown c o ≡ false → first_from 0 c.shards (double_of c o) ≡ None →
+pub fault_of_leads : (c : Sizes) (o : Opening) (s : ℕ) → is_wrong_size c o ≡ false → has_unknown c o ≡ false → first_from 0 c.shards (double_of c.servers o.cells) ≡ None →
     first_below c.shards (λ r. has_bad_lead c.servers (cell_named o.cells r)) ≡ Some s → open_fault c o ≡ Some (BadLead s)
 fault_of_leads c o s e f g h = rw (e, f, g, h) refl
 
-pub fault_of_rest : (c : Sizes) (o : Opening) → is_wrong_size c o ≡ false → has_unknown c o ≡ false → first_from 0 c.shards (double_of c o) ≡ None →
+pub fault_of_rest : (c : Sizes) (o : Opening) → is_wrong_size c o ≡ false → has_unknown c o ≡ false → first_from 0 c.shards (double_of c.servers o.cells) ≡ None →
     first_below c.shards (λ r. has_bad_lead c.servers (cell_named o.cells r)) ≡ None → open_fault c o ≡ first_fault (standing_faults c (opened o))
 fault_of_rest c o e f g h = rw (e, f, g, h) refl
 

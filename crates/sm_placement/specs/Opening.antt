@@ -1,5 +1,5 @@
 -- Opening a placement: the placement that is named, and why one is refused.
-use Rattle.std.specs.Prelude.{ℕ, ◌&&◌, ◌||◌, ◌==◌, Bool, true, false, not, List, [], ◌∷◌, length, Option, Some, None, nat_lt, if◌then◌else◌, option_map, find, count_by}
+use Rattle.std.specs.Prelude.{◌≡◌, ◌≤◌, ℕ, ◌&&◌, ◌||◌, ◌==◌, Bool, true, false, not, List, [], ◌∷◌, length, Option, Some, None, nat_lt, if◌then◌else◌, option_map, find, count_by}
 use Rattle.std.specs.List.{list_any, range_with_len}
 use Rattle.sm_server.specs.declared.call.Cell.{Cell}
 use Rattle.sm_server.specs.declared.call.Cell.TheVariants.{Absent}
@@ -7,7 +7,7 @@ use Rattle.sm_server.specs.Cell.{is_primary, is_prepared, is_forwarding}
 use Rattle.sm_placement.specs.declared.opening.OpenFault.{OpenFault}
 use Rattle.sm_placement.specs.declared.opening.OpenFault.TheVariants.{TooMany, UnknownName, DoubleCell, BadLead, BadListing, OverRoom, Short, TooManyDown}
 use Rattle.sm_placement.specs.Setup.{Sizes}
-use Rattle.sm_placement.specs.Sums.{count_below, any_below, first_from}
+use Rattle.sm_placement.specs.Sums.{put2, count_below, any_below, first_from}
 use Rattle.sm_placement.specs.Rows.{live_in}
 use Rattle.sm_placement.specs.Place.{Place, load_of, down_count}
 use Rattle.sm_placement.specs.Layout.{entries_of}
@@ -51,29 +51,54 @@ abbrev pub is_unknown : ℕ → Option ℕ → Bool
 is_unknown n None = false
 is_unknown n (Some k) = not (nat_lt k n)
 
--- an id is not below its count. The other party of a handover isn't looked at
+-- the shard or the server of a named cell is not below its count. The other party of a handover isn't looked at
+abbrev pub is_unknown_cell : ℕ → ℕ → NamedCell → Bool
+is_unknown_cell shards servers named = not (nat_lt named.0 shards) || not (nat_lt named.1 servers)
+
+-- the shard and the server of each named cell are below their counts
+abbrev pub AreKnown : ℕ → ℕ → List NamedCell → Type 0
+AreKnown shards servers cells = list_any (is_unknown_cell shards servers) cells ≡ false
+
+-- an id is not below its count
 abbrev pub has_unknown : Sizes → Opening → Bool
 has_unknown c o =
-    list_any (λ named. not (nat_lt named.0 c.shards) || not (nat_lt named.1 c.servers)) o.cells
+    list_any (is_unknown_cell c.shards c.servers) o.cells
     || (list_any (is_unknown c.servers) o.listed || list_any (λ v. not (nat_lt v c.servers)) o.down)
 
 -- the list names a pair more than once
 abbrev pub is_double : List NamedCell → ℕ → ℕ → Bool
 is_double cells s v = nat_lt 1 (count_by (is_of s v) cells)
 
+-- each pair is named once at most
+abbrev pub IsNamedOnce : List NamedCell → Type 0
+IsNamedOnce cells = (s v : ℕ) → count_by (is_of s v) cells ≤ 1
+
 -- the first number below n that passes
 abbrev pub first_below : ℕ → (ℕ → Bool) → Option ℕ
 first_below n test = find test (range_with_len 0 n)
 
 -- the lowest server that the list names more than once for a shard
-abbrev pub double_of : Sizes → Opening → ℕ → Option OpenFault
-double_of c o s = option_map (λ v. DoubleCell s v) (first_below c.servers (is_double o.cells s))
+abbrev pub double_of : ℕ → List NamedCell → ℕ → Option OpenFault
+double_of n cells s = option_map (λ v. DoubleCell s v) (first_below n (is_double cells s))
+
+-- the cell has a part in a handover
+abbrev pub is_handing : Cell → Bool
+is_handing cell = is_prepared cell || is_forwarding cell
+
+-- how many of the cells that the list names for a shard pass
+abbrev pub tally : (Cell → Bool) → ℕ → List NamedCell → ℕ
+tally test s cells = count_by (λ named. (named.0 == s) && test named.2) cells
+
+-- the cells once each of the list is put in its turn
+abbrev pub put_all : List NamedCell → (ℕ → ℕ → Cell) → ℕ → ℕ → Cell
+put_all [] f = f
+put_all (named ∷ rest) f = put_all rest (put2 f named.0 named.1 named.2)
 
 -- the row of a shard's cells has two primaries, or a handover is under way
 abbrev pub has_bad_lead : ℕ → (ℕ → Cell) → Bool
 has_bad_lead n row =
     nat_lt 1 (count_below n (λ v. is_primary (row v)))
-    || any_below n (λ v. is_prepared (row v) || is_forwarding (row v))
+    || any_below n (λ v. is_handing (row v))
 
 -- the listed server isn't the shard's primary
 abbrev pub has_bad_listing : (ℕ → Cell) → Option ℕ → Bool
@@ -112,6 +137,6 @@ abbrev pub open_fault : Sizes → Opening → Option OpenFault
 open_fault c o = first_fault (
     fault_if (is_wrong_size c o) TooMany ∷
     fault_if (has_unknown c o) UnknownName ∷
-    first_from 0 c.shards (double_of c o) ∷
+    first_from 0 c.shards (double_of c.servers o.cells) ∷
     option_map (λ s. BadLead s) (first_below c.shards (λ s. has_bad_lead c.servers (cell_named o.cells s))) ∷
     standing_faults c (opened o))
