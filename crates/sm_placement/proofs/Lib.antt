@@ -1,6 +1,8 @@
 pub mod Sums
 pub mod ConfigLemmas
 pub mod CopyLemmas
+pub mod GridLemmas
+pub mod TableLemmas
 pub mod Leads
 pub mod LeadOf
 pub mod Calls

@@ -1,7 +1,7 @@
 -- Sums of a function over the numbers below n, and a function changed at one place.
-use Rattle.std.proofs.Common.{◌≡◌, ◌≢◌, ℕ, zero, suc, ◌+◌, ◌<◌, ◌≤◌, Bool, true, false, cond, eqb, refl, sym, ap, ◌∙◌, arith, inl, inr, subst, ◌⊎◌}
+use Rattle.std.proofs.Common.{◌≡◌, ◌≢◌, ℕ, zero, suc, ◌+◌, ◌*◌, ◌<◌, ◌≤◌, Bool, true, false, cond, eqb, refl, sym, ap, ◌∙◌, arith, inl, inr, subst, ◌⊎◌}
 use Rattle.std.proofs.lemmas.Bool.{cases_eq, eq-eqb, ne_eqb}
-use Rattle.sm_placement.specs.Sums.{put, put2, sum_below}
+use Rattle.sm_placement.specs.Sums.{put, put2, sum_below, bit, count_below}
 
 pub put-here : {A : Type 0} (f : ℕ → A) (k : ℕ) (x : A) (q : ℕ) → q ≡ k → put f k x q ≡ x
 put-here f k x q e = rw (eq-eqb q k e)
@@ -60,3 +60,34 @@ part_of_sum (suc n) f k l = elim (cases_eq k n) [
       | inl e ↦ let i : f k ≡ f n = ap f e in omega arith
       | inr e ↦ let l' : k < n = omega arith in let d : f k ≤ sum_below n f = part_of_sum n f k l' in omega arith
     ]
+
+-- two functions that differ at two places
+pub sum_two_apart : (n : ℕ) (f g : ℕ → ℕ) (j k : ℕ) → j < n → k < n → j ≢ k → ((i : ℕ) → i ≢ j → i ≢ k → f i ≡ g i) →
+    sum_below n f + (g j + g k) ≡ sum_below n g + (f j + f k)
+sum_two_apart n f g j k l m d others =
+    let h : ℕ → ℕ = put f j (g j) in
+    let hj : h j ≡ g j = put-here f j (g j) j refl in
+    let hk : h k ≡ f k = put-apart f j (g j) k (λ e. d (sym e)) in
+    let a : sum_below n f + g j ≡ sum_below n h + f j = sum_apart n f h j (g j) (f j) l (λ i e. sym (put-apart f j (g j) i e)) (omega arith) in
+    let at : (i : ℕ) → i ≢ k → h i ≡ g i = λ i e. elim (cases_eq i j) [
+          | inl q ↦ put-here f j (g j) i q ∙ ap g (sym q)
+          | inr q ↦ put-apart f j (g j) i q ∙ others i q e
+        ] in
+    let b : sum_below n h + g k ≡ sum_below n g + h k = sum_apart n h g k (g k) (h k) m at (omega arith) in
+    omega arith
+
+pub bit-le-one : (b : Bool) → bit b ≤ 1
+bit-le-one true = omega arith
+bit-le-one false = omega arith
+
+pub count-le : (n : ℕ) (t : ℕ → Bool) → count_below n t ≤ n
+count-le zero t = omega arith
+count-le (suc n) t = let e : count_below n t ≤ n = count-le n t in let d : bit (t n) ≤ 1 = bit-le-one (t n) in omega arith
+
+-- a sum of n parts, none above m
+pub sum-le : (n m : ℕ) (f : ℕ → ℕ) → ((k : ℕ) → k < n → f k ≤ m) → sum_below n f ≤ n * m
+sum-le zero m f h = omega arith
+sum-le (suc n) m f h =
+    let e : sum_below n f ≤ n * m = sum-le n m f (λ k l. h k (omega arith)) in
+    let d : f n ≤ m = h n (omega arith) in
+    grind arith
