@@ -9,3 +9,4 @@ pub mod Calls
 pub mod Searches
 pub mod Settling
 pub mod Openings
+pub mod Tallies

@@ -21,13 +21,13 @@ use Rattle.sm_placement.proofs.Sums.{put2-here, put2-row, put2-apart, sum_apart,
 use Rattle.sm_placement.proofs.Searches.{cases_Option, first_none, first_from_none, any_none, count_none}
 use Rattle.sm_placement.proofs.Settling.{settled_from}
 
-is_of-true : (s v : ℕ) (x : NamedCell) → is_of s v x ≡ true → (x.0 ≡ s) × (x.1 ≡ v)
+pub is_of-true : (s v : ℕ) (x : NamedCell) → is_of s v x ≡ true → (x.0 ≡ s) × (x.1 ≡ v)
 is_of-true s v x e = let p = and_parts (eqb x.0 s) (eqb x.1 v) e in (eqb-true x.0 s p.0, eqb-true x.1 v p.1)
 
-is_of-false : (s v : ℕ) (x : NamedCell) → is_of s v x ≡ false → x.0 ≡ s → x.1 ≡ v → ⊥
+pub is_of-false : (s v : ℕ) (x : NamedCell) → is_of s v x ≡ false → x.0 ≡ s → x.1 ≡ v → ⊥
 is_of-false s v x e p q = let t : is_of s v x ≡ true = rw (eq-eqb x.0 s p, eq-eqb x.1 v q) refl in cc
 
-is_of-here : (x : NamedCell) → is_of x.0 x.1 x ≡ true
+pub is_of-here : (x : NamedCell) → is_of x.0 x.1 x ≡ true
 is_of-here x = rw (eq-eqb x.0 x.0 refl, eq-eqb x.1 x.1 refl) refl
 
 known_head : (m n : ℕ) (x : NamedCell) (xs : List NamedCell) → AreKnown m n (x ∷ xs) → (x.0 < m) × (x.1 < n)
