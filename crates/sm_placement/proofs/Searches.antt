@@ -1,7 +1,7 @@
 -- Searches and counts over the numbers below n.
-use Rattle.std.proofs.Common.{◌≡◌, ◌≢◌, ℕ, zero, suc, ◌+◌, ◌-◌, ◌<◌, ◌≤◌, Bool, true, false, cond, ◌||◌, refl, sym, ap, ◌∙◌, arith, inl, inr, subst, ◌⊎◌, Option, Some, None, List, [], ◌∷◌, length}
+use Rattle.std.proofs.Common.{◌≡◌, ◌≢◌, ℕ, zero, suc, ◌+◌, ◌-◌, ◌<◌, ◌≤◌, Bool, true, false, cond, ltb, ◌||◌, refl, sym, ap, ◌∙◌, arith, inl, inr, subst, ◌⊎◌, Option, Some, None, List, [], ◌∷◌, length}
 use Rattle.std.specs.List.{find, filter, range_with_len}
-use Rattle.std.proofs.lemmas.Bool.{cases_eq, cases_Bool, or_parts, or_from, false_from_ne_true}
+use Rattle.std.proofs.lemmas.Bool.{cases_eq, cases_Bool, or_parts, or_from, false_from_ne_true, lt-ltb, le-ltb}
 use Rattle.sm_placement.specs.Sums.{put, sum_below, count_below, bit, any_below, first_from}
 use Rattle.sm_placement.specs.Opening.{first_below}
 use Rattle.sm_placement.specs.Lead.{last_below}
@@ -14,6 +14,12 @@ cases_Option (Some x) = inr (x, refl)
 -- a search that stands at a number
 pub find_range_more : (t : ℕ → Bool) (i n : ℕ) → i < n → find t (range_with_len i (n - i)) ≡ cond (t i) (Some i) (find t (range_with_len (i + 1) (n - (i + 1))))
 find_range_more t i n h = let e : n - i ≡ suc (n - (i + 1)) = omega arith in ap (λ k. find t (range_with_len i k)) e
+
+pub find_here : (t : ℕ → Bool) (i n : ℕ) → i < n → t i ≡ true → find t (range_with_len i (n - i)) ≡ Some i
+find_here t i n h e = find_range_more t i n h ∙ rw e refl
+
+pub find_next : (t : ℕ → Bool) (i n : ℕ) → i < n → t i ≡ false → find t (range_with_len i (n - i)) ≡ find t (range_with_len (i + 1) (n - (i + 1)))
+find_next t i n h e = find_range_more t i n h ∙ rw e refl
 
 -- a search that stands at the end
 pub find_range_end : (t : ℕ → Bool) (i n : ℕ) → n ≤ i → find t (range_with_len i (n - i)) ≡ None
@@ -126,11 +132,14 @@ pub count_none_at : (n : ℕ) (t : ℕ → Bool) → count_below n t ≡ 0 → (
 count_none_at n t e k l = false_from_ne_true (t k) (λ q. let part : bit (t k) ≤ count_below n t = part_of_sum n (λ i. bit (t i)) k l in let one : bit (t k) ≡ 1 = rw q refl in absurd (omega arith))
 
 -- something below n passes exactly where the count isn't 0
-pub any_count : (n : ℕ) (t : ℕ → Bool) → any_below n t ≡ false → count_below n t ≡ 0
-any_count n t e = count_none n t (any_none n t e)
-
-pub any_count_from : (n : ℕ) (t : ℕ → Bool) → count_below n t ≡ 0 → any_below n t ≡ false
-any_count_from n t e = any_none_from n t (count_none_at n t e)
+pub any_by_count : (n : ℕ) (t : ℕ → Bool) → any_below n t ≡ ltb 0 (count_below n t)
+any_by_count n t = elim (cases_Bool (any_below n t)) [
+      | inl e ↦ e ∙ sym (elim (cases_eq (count_below n t) 0) [
+          | inl z ↦ absurd (let none : any_below n t ≡ false = any_none_from n t (count_none_at n t z) in cc)
+          | inr z ↦ lt-ltb 0 (count_below n t) (omega arith)
+        ])
+      | inr e ↦ e ∙ sym (le-ltb 0 (count_below n t) (let z : count_below n t ≡ 0 = count_none n t (any_none n t e) in omega arith))
+    ]
 
 -- the greatest that passes is below n, and where there is none nothing passes
 pub last_some : (n : ℕ) (t : ℕ → Bool) (u : ℕ) → last_below n t ≡ Some u → (u < n) × (t u ≡ true)

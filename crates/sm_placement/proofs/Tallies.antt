@@ -3,18 +3,21 @@ use Rattle.std.proofs.Common.{◌≡◌, ◌≢◌, ℕ, zero, suc, ◌+◌, ◌
 use Rattle.std.specs.Prelude.{Option, option_map}
 use Rattle.std.specs.List.{count_by, list_any}
 use Rattle.std.proofs.Math.Path.{fun_ext}
-use Rattle.std.proofs.lemmas.Bool.{cases_eq, cases_Bool, and_parts, eqb-true}
+use Rattle.std.proofs.lemmas.Bool.{cases_eq, cases_Bool, and_parts, eqb-true, eq-eqb, ne_eqb}
 use Rattle.std.proofs.lemmas.List.{length-take-le, get_or_default}
 use Rattle.std.proofs.lemmas.List.Sums.{count_by_more_yes, count_by_more_no, count_by-le-length}
 use Rattle.sm_server.specs.declared.call.Cell.{Cell}
-use Rattle.sm_placement.specs.Sums.{put2}
-use Rattle.sm_placement.specs.Layout.{grid_of}
-use Rattle.sm_placement.specs.Opening.{NamedCell, is_of, AreKnown, first_below, double_of}
+use Rattle.sm_server.specs.Cell.{is_primary}
+use Rattle.sm_placement.specs.declared.opening.LeadCells.{LeadCells}
+use Rattle.sm_placement.specs.Sums.{put, put2, bit, count_below, any_below}
+use Rattle.sm_placement.specs.Layout.{grid_of, entries_of}
+use Rattle.sm_placement.specs.Opening.{NamedCell, is_of, AreKnown, IsNamedOnce, cell_named, has_bad_lead, first_below, double_of, is_handing, tally, lead_cells}
 use Rattle.sm_placement.specs.declared.opening.OpenFault.{OpenFault}
 use Rattle.sm_placement.specs.declared.opening.OpenFault.TheVariants.{DoubleCell}
-use Rattle.sm_placement.proofs.Sums.{put2-here, put2-row, put2-apart}
-use Rattle.sm_placement.proofs.GridLemmas.{grid_of-within, grid_of-set, grid_of-read, grid_of-empty, place_within}
-use Rattle.sm_placement.proofs.Openings.{known_shard, known_server, is_of-true, is_of-here}
+use Rattle.sm_placement.proofs.Sums.{put-here, put-apart, put2-here, put2-row, put2-apart}
+use Rattle.sm_placement.proofs.GridLemmas.{grid_of-within, grid_of-set, grid_of-read, grid_of-empty, place_within, entries_of-set, entries_of-read, entries_of-empty}
+use Rattle.sm_placement.proofs.Openings.{known_shard, known_server, is_of-true, is_of-here, tally-is}
+use Rattle.sm_placement.proofs.Searches.{any_by_count}
 
 -- the list of counts by pair has each pair counted as far as i
 abbrev pub ArePairsCounted : ℕ → List NamedCell → ℕ → List ℕ → Type 0
@@ -78,3 +81,67 @@ pub double_found : (n m : ℕ) (cells : List NamedCell) (counts read : List ℕ)
 double_found n m cells counts read s r o e a b d f =
     let g : o ≡ first_below n (λ v. ltb 1 (grid_of n 0 counts s v)) = rw (← a, ← b, ← d) f in
     sym (ap (option_map (λ v. DoubleCell s v)) (g ∙ ap (λ (g : ℕ → ℕ → ℕ). first_below n (λ v. ltb 1 (g s v))) e))
+
+abbrev pub no_cells : LeadCells
+no_cells = record { primaries = 0; handing = 0 }
+
+-- the list of counts by shard has each lead counted as far as i
+abbrev pub AreLeadsCounted : List NamedCell → ℕ → List LeadCells → Type 0
+AreLeadsCounted cells i counts = entries_of no_cells counts ≡ lead_cells (take i cells)
+
+pub leads_none : (k : ℕ) (cells : List NamedCell) (counts : List LeadCells) → counts ≡ replicate k no_cells → AreLeadsCounted cells 0 counts
+leads_none k cells counts e = rw e (entries_of-empty no_cells k)
+
+-- what has been counted of the i-th cell's shard
+pub lead_count : (m n : ℕ) (cells : List NamedCell) (i : ℕ) (x : NamedCell) (counts : List LeadCells) (b : LeadCells) → AreKnown m n cells → i < length cells → x ≡ get_or cells i x → length counts ≡ m →
+    AreLeadsCounted cells i counts → b ≡ get_or counts x.0 b → b ≡ lead_cells (take i cells) x.0
+lead_count m n cells i x counts b k l e len at r =
+    entries_of-read no_cells counts x.0 m b len (subst (λ y. y.0 < m) (sym e) (known_shard m n cells i x k l)) r ∙ ap (λ f. f x.0) at
+
+pub tally_small : (t : Cell → Bool) (s i : ℕ) (cells : List NamedCell) → i < length cells → tally t s (take i cells) ≤ i
+tally_small t s i cells l =
+    let most : tally t s (take i cells) ≤ length (take i cells) = count_by-le-length (λ y. eqb y.0 s && t y.2) (take i cells) in
+    let long : length (take i cells) ≡ i = length-take-le i cells (omega arith) in
+    omega arith
+
+pub tally_more : (t : Cell → Bool) (s i : ℕ) (cells : List NamedCell) (x : NamedCell) → i < length cells → x ≡ get_or cells i x → x.0 ≡ s →
+    tally t s (take (i + 1) cells) ≡ tally t s (take i cells) + bit (t x.2)
+tally_more t s i cells x l e d = elim (cases_Bool (t x.2)) [
+      | inl q ↦ count_by_more_yes (λ y. eqb y.0 s && t y.2) cells i x l (subst (λ y. (eqb y.0 s && t y.2) ≡ true) e (rw (eq-eqb x.0 s d, q) refl)) ∙ rw q refl
+      | inr q ↦ count_by_more_no (λ y. eqb y.0 s && t y.2) cells i x l (subst (λ y. (eqb y.0 s && t y.2) ≡ false) e (rw (eq-eqb x.0 s d, q) refl)) ∙ rw q (omega arith)
+    ]
+
+pub tally_same : (t : Cell → Bool) (s i : ℕ) (cells : List NamedCell) (x : NamedCell) → i < length cells → x ≡ get_or cells i x → s ≢ x.0 →
+    tally t s (take (i + 1) cells) ≡ tally t s (take i cells)
+tally_same t s i cells x l e d = count_by_more_no (λ y. eqb y.0 s && t y.2) cells i x l (subst (λ y. (eqb y.0 s && t y.2) ≡ false) e (rw (ne_eqb x.0 s (λ g. d (sym g))) refl))
+
+pub leads_more : (m n : ℕ) (cells : List NamedCell) (i : ℕ) (x : NamedCell) (counts : List LeadCells) (b a : LeadCells) → AreKnown m n cells → i < length cells → x ≡ get_or cells i x → length counts ≡ m →
+    AreLeadsCounted cells i counts → b ≡ get_or counts x.0 b → a.primaries ≡ b.primaries + bit (is_primary x.2) → a.handing ≡ b.handing + bit (is_handing x.2) →
+    AreLeadsCounted cells (i + 1) (set counts x.0 a)
+leads_more m n cells i x counts b a k l e len at r p h =
+    entries_of-set no_cells counts x.0 a (rw len (subst (λ y. y.0 < m) (sym e) (known_shard m n cells i x k l))) ∙ ap (λ f. put f x.0 a) at ∙ fun_ext (λ s. each s)
+  where
+    read : b ≡ lead_cells (take i cells) x.0
+    read = lead_count m n cells i x counts b k l e len at r
+    same : (a b : LeadCells) → a.primaries ≡ b.primaries → a.handing ≡ b.handing → a ≡ b
+    same a b p h = ap (λ (x : ℕ). with x a.handing) p ∙ ap (λ (x : ℕ). with b.primaries x) h
+      where
+        with : ℕ → ℕ → LeadCells
+        with p h = record { primaries = p; handing = h }
+    each : (s : ℕ) → put (lead_cells (take i cells)) x.0 a s ≡ lead_cells (take (i + 1) cells) s
+    each s = elim (cases_eq s x.0) [
+          | inl d ↦ put-here (lead_cells (take i cells)) x.0 a s d ∙ same a (lead_cells (take (i + 1) cells) s)
+              (p ∙ ap (λ c. c.primaries + bit (is_primary x.2)) read ∙ rw d (sym (tally_more is_primary x.0 i cells x l e refl)))
+              (h ∙ ap (λ c. c.handing + bit (is_handing x.2)) read ∙ rw d (sym (tally_more is_handing x.0 i cells x l e refl)))
+          | inr d ↦ put-apart (lead_cells (take i cells)) x.0 a s d ∙ same (lead_cells (take i cells) s) (lead_cells (take (i + 1) cells) s)
+              (sym (tally_same is_primary s i cells x l e d)) (sym (tally_same is_handing s i cells x l e d))
+        ]
+
+-- the lead of a shard is bad exactly where its counts say so
+pub bad_by_counts : (m n : ℕ) (cells : List NamedCell) (counts : List LeadCells) (s : ℕ) (b : LeadCells) → AreKnown m n cells → IsNamedOnce cells → length counts ≡ m →
+    entries_of no_cells counts ≡ lead_cells cells → s < m → b ≡ get_or counts s b → (ltb 1 b.primaries || ltb 0 b.handing) ≡ has_bad_lead n (cell_named cells s)
+bad_by_counts m n cells counts s b k once len at l r =
+    let read : b ≡ lead_cells cells s = entries_of-read no_cells counts s m b len l r ∙ ap (λ f. f s) at in
+    let primaries : b.primaries ≡ count_below n (λ v. is_primary (cell_named cells s v)) = ap (λ c. c.primaries) read ∙ tally-is is_primary m n s cells refl k once in
+    let handing : b.handing ≡ count_below n (λ v. is_handing (cell_named cells s v)) = ap (λ c. c.handing) read ∙ tally-is is_handing m n s cells refl k once in
+    rw (primaries, handing, any_by_count n (λ v. is_handing (cell_named cells s v))) refl

@@ -6,6 +6,7 @@ use Rattle.sm_server.specs.declared.call.Cell.TheVariants.{Absent}
 use Rattle.sm_server.specs.Cell.{is_primary, is_prepared, is_forwarding}
 use Rattle.sm_placement.specs.declared.opening.OpenFault.{OpenFault}
 use Rattle.sm_placement.specs.declared.opening.OpenFault.TheVariants.{TooMany, UnknownName, DoubleCell, BadLead, BadListing, OverRoom, Short, TooManyDown}
+use Rattle.sm_placement.specs.declared.opening.LeadCells.{LeadCells}
 use Rattle.sm_placement.specs.Setup.{Sizes}
 use Rattle.sm_placement.specs.Sums.{put2, count_below, any_below, first_from}
 use Rattle.sm_placement.specs.Rows.{live_in}
@@ -88,6 +89,10 @@ is_handing cell = is_prepared cell || is_forwarding cell
 -- how many of the cells that the list names for a shard pass
 abbrev pub tally : (Cell → Bool) → ℕ → List NamedCell → ℕ
 tally test s cells = count_by (λ named. (named.0 == s) && test named.2) cells
+
+-- how many primaries the list names for a shard, and how many cells with a part in a handover
+abbrev pub lead_cells : List NamedCell → ℕ → LeadCells
+lead_cells cells s = record { primaries = tally is_primary s cells; handing = tally is_handing s cells }
 
 -- the cells once each of the list is put in its turn
 abbrev pub put_all : List NamedCell → (ℕ → ℕ → Cell) → ℕ → ℕ → Cell

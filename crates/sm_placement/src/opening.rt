@@ -4,7 +4,7 @@ ghost use Rattle.std.specs.List.{list_any};
 ghost use Rattle.sm_server.specs.Cell.{is_primary};
 ghost use Rattle.sm_placement.specs.Sums.{bit, first_from};
 ghost use Rattle.sm_placement.specs.Layout.{grid_of, entries_of};
-ghost use Rattle.sm_placement.specs.Opening.{is_of, is_unknown, is_unknown_cell, AreKnown, IsNamedOnce, is_double, first_below, double_of, is_handing, tally, cell_named, has_bad_lead};
+ghost use Rattle.sm_placement.specs.Opening.{is_of, is_unknown, is_unknown_cell, AreKnown, IsNamedOnce, is_double, first_below, double_of, is_handing, lead_cells, cell_named, has_bad_lead};
 
 use crate::config::Config;
 use sm_server::{Cell, ServerId, ShardId};
@@ -161,4 +161,47 @@ impl LeadCells {
     {
         self.primaries > 1 || self.handing > 0
     }
+}
+
+/// What the cells name for the lead of each shard.
+fn count_leads(
+    alloc: Global,
+    config: &Config,
+    cells: &[(ShardId, ServerId, Cell)],
+) -> Result<Vec<LeadCells>, AllocError>
+    requires few { length cells.now ≤ 1048576 }
+    requires known { AreKnown (length config.now.shards) (length config.now.servers) cells.now }
+    ensures len { IfOk result (λ counts. length counts.items ≡ length config.now.shards) }
+    ensures counts { IfOk result (λ counts. entries_of (record { primaries = 0; handing = 0 }) counts.items ≡ lead_cells cells.now) }
+{
+    let none = LeadCells {
+        primaries: 0,
+        handing: 0,
+    };
+    let mut counts = vec![in alloc; none; config.shard_count() as usize]?;
+    for (shard, _, cell) in cells {
+        let count = &mut counts[shard.number() as usize];
+        count.add(cell);
+    }
+    Ok(counts)
+}
+
+/// The lowest shard with a bad lead among the cells.
+fn first_bad_lead(
+    alloc: Global,
+    config: &Config,
+    cells: &[(ShardId, ServerId, Cell)],
+) -> Result<Option<ShardId>, AllocError>
+    requires few { length cells.now ≤ 1048576 }
+    requires known { AreKnown (length config.now.shards) (length config.now.servers) cells.now }
+    requires once { IsNamedOnce cells.now }
+    ensures { IfOk result (λ shard. shard ≡ first_below (length config.now.shards) (λ s. has_bad_lead (length config.now.servers) (cell_named cells.now s))) }
+{
+    let counts = count_leads(alloc, config, cells)?;
+    for number in 0..config.shard_count() {
+        if counts[number as usize].is_bad() {
+            return Ok(Some(ShardId::new(number)));
+        }
+    }
+    Ok(None)
 }
