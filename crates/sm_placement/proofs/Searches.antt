@@ -1,7 +1,7 @@
 -- Searches and counts over the numbers below n.
 use Rattle.std.proofs.Common.{◌≡◌, ◌≢◌, ℕ, zero, suc, ◌+◌, ◌-◌, ◌<◌, ◌≤◌, Bool, true, false, cond, ltb, ◌||◌, refl, sym, ap, ◌∙◌, arith, inl, inr, subst, ◌⊎◌, Option, Some, None, List, [], ◌∷◌, length}
 use Rattle.std.specs.List.{find, filter, range_with_len}
-use Rattle.std.proofs.lemmas.Bool.{cases_eq, cases_Bool, or_parts, or_from, false_from_ne_true, lt-ltb, le-ltb}
+use Rattle.std.proofs.lemmas.Bool.{cases_eq, cases_Bool, or_parts, or_from, or_left, or_right, false_from_ne_true, lt-ltb, le-ltb}
 use Rattle.sm_placement.specs.Sums.{put, sum_below, count_below, bit, any_below, first_from}
 use Rattle.sm_placement.specs.Opening.{first_below}
 use Rattle.sm_placement.specs.Lead.{last_below}
@@ -97,6 +97,13 @@ any_none (suc n) t e k l = let both = or_parts (t n) (any_below n t) e in elim (
 pub any_none_from : (n : ℕ) (t : ℕ → Bool) → ((k : ℕ) → k < n → t k ≡ false) → any_below n t ≡ false
 any_none_from zero t h = refl
 any_none_from (suc n) t h = or_from (t n) (any_below n t) (h n (omega arith)) (any_none_from n t (λ k l. h k (omega arith)))
+
+pub any_some : (n : ℕ) (t : ℕ → Bool) (k : ℕ) → k < n → t k ≡ true → any_below n t ≡ true
+any_some zero t k l e = absurd (omega arith)
+any_some (suc n) t k l e = elim (cases_eq k n) [
+      | inl d ↦ or_left (t n) (any_below n t) (rw (← d) e)
+      | inr d ↦ or_right (t n) (any_below n t) (any_some n t k (omega arith) e)
+    ]
 
 -- two numbers that pass are counted
 pub count_two : (n : ℕ) (t : ℕ → Bool) (j k : ℕ) → j < n → k < n → j ≢ k → t j ≡ true → t k ≡ true → 2 ≤ count_below n t

@@ -1,12 +1,14 @@
 //! Opening a placement.
-ghost use Rattle.std.specs.Prelude.{◌≡◌, ◌≤◌, ◌<◌, ◌+◌, ◌*◌, ◌||◌, ◌==◌, not, nat_lt, length, IfOk, count_by};
+ghost use Rattle.std.specs.Prelude.{◌≡◌, false, All, ◌≤◌, ◌<◌, ◌+◌, ◌*◌, ◌||◌, ◌==◌, not, nat_lt, length, IfOk, count_by};
 ghost use Rattle.std.specs.List.{list_any};
 ghost use Rattle.sm_server.specs.Cell.{is_primary};
 ghost use Rattle.sm_placement.specs.Sums.{bit, first_from};
 ghost use Rattle.sm_placement.specs.Layout.{grid_of, entries_of};
-ghost use Rattle.sm_placement.specs.Opening.{is_of, is_unknown, is_unknown_cell, AreKnown, IsNamedOnce, is_double, first_below, double_of, is_handing, lead_cells, cell_named, has_bad_lead};
+ghost use Rattle.sm_placement.specs.Grid.{cells_of, lasts_of, down_of};
+ghost use Rattle.sm_placement.specs.Opening.{is_of, is_unknown, is_unknown_cell, AreKnown, IsNamedOnce, is_double, first_below, double_of, is_handing, lead_cells, put_all, cell_named, opened, has_bad_lead};
 
 use crate::config::Config;
+use crate::table::Table;
 use sm_server::{Cell, ServerId, ShardId};
 use std::alloc::{AllocError, Global};
 use thiserror::Error;
@@ -204,4 +206,54 @@ fn first_bad_lead(
         }
     }
     Ok(None)
+}
+
+/// Puts each of the cells into the table.
+fn put_cells(table: &mut Table, cells: &[(ShardId, ServerId, Cell)])
+    requires known { AreKnown (length table.old.setup.shards) (length table.old.setup.servers) cells.now }
+    requires resting { All (λ named. is_handing named.2 ≡ false) cells.now }
+    ensures cells { cells_of table.new ≡ put_all cells.now (cells_of table.old) }
+    ensures lasts { table.new.lasts ≡ table.old.lasts }
+    ensures down { table.new.down ≡ table.old.down }
+    ensures setup { table.new.setup ≡ table.old.setup }
+{
+    for (shard, server, cell) in cells {
+        table.set_cell(*shard, *server, *cell);
+    }
+}
+
+/// Sets each of the servers down.
+fn put_down(table: &mut Table, down: &[ServerId])
+    requires { list_any (λ v. not (nat_lt v (length table.old.setup.servers))) down.now ≡ false }
+    ensures down { down_of table.new ≡ (λ v. down_of table.old v || list_any (λ x. x == v) down.now) }
+    ensures cells { table.new.cells ≡ table.old.cells }
+    ensures lasts { table.new.lasts ≡ table.old.lasts }
+    ensures setup { table.new.setup ≡ table.old.setup }
+{
+    for server in down {
+        if !table.is_down(*server) {
+            table.set_down(*server, true);
+        }
+    }
+}
+
+/// A table with these cells, in which these servers are down.
+fn placed(
+    alloc: Global,
+    config: &Config,
+    cells: &[(ShardId, ServerId, Cell)],
+    down: &[ServerId],
+) -> Result<Table, AllocError>
+    requires known { AreKnown (length config.now.shards) (length config.now.servers) cells.now }
+    requires resting { All (λ named. is_handing named.2 ≡ false) cells.now }
+    requires servers { list_any (λ v. not (nat_lt v (length config.now.servers))) down.now ≡ false }
+    ensures cells { IfOk result (λ table. cells_of table ≡ put_all cells.now (λ s v. Cell.Absent)) }
+    ensures lasts { IfOk result (λ table. lasts_of table ≡ (λ s v. 0)) }
+    ensures down { IfOk result (λ table. down_of table ≡ (λ v. list_any (λ x. x == v) down.now)) }
+    ensures setup { IfOk result (λ table. table.setup ≡ config.now) }
+{
+    let mut table = Table::new(alloc, config)?;
+    put_cells(&mut table, cells);
+    put_down(&mut table, down);
+    Ok(table)
 }
