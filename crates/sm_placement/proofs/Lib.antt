@@ -1,8 +1,9 @@
 pub mod Sums
+pub mod GridLemmas
+pub mod RowLemmas
+pub mod TableLemmas
 pub mod ConfigLemmas
 pub mod CopyLemmas
-pub mod GridLemmas
-pub mod TableLemmas
 pub mod Leads
 pub mod LeadOf
 pub mod Calls

@@ -33,16 +33,16 @@ sum_of_both (suc n) f g = let e : sum_below n (λ k. f k + g k) ≡ sum_below n 
 pub sum_apart : (n : ℕ) (f g : ℕ → ℕ) (k a b : ℕ) → k < n → ((j : ℕ) → j ≢ k → f j ≡ g j) → f k + a ≡ g k + b → sum_below n f + a ≡ sum_below n g + b
 sum_apart zero f g k a b l others here = absurd (omega arith)
 sum_apart (suc n) f g k a b l others here = elim (cases_eq k n) [
-      | inl e ↦
-          let d : sum_below n f ≡ sum_below n g = same_sum n f g (λ j m. others j (λ q. absurd (omega arith))) in
-          let i : f n + a ≡ g n + b = subst (λ j. f j + a ≡ g j + b) e here in
-          omega arith
-      | inr e ↦
-          let l' : k < n = omega arith in
-          let d : sum_below n f + a ≡ sum_below n g + b = sum_apart n f g k a b l' others here in
-          let i : f n ≡ g n = others n (λ q. e (sym q)) in
-          omega arith
-    ]
+  | inl e ↦
+      let d : sum_below n f ≡ sum_below n g = same_sum n f g (λ j m. others j (λ q. absurd (omega arith))) in
+      let i : f n + a ≡ g n + b = subst (λ j. f j + a ≡ g j + b) e here in
+      omega arith
+  | inr e ↦
+      let l' : k < n = omega arith in
+      let d : sum_below n f + a ≡ sum_below n g + b = sum_apart n f g k a b l' others here in
+      let i : f n ≡ g n = others n (λ q. e (sym q)) in
+      omega arith
+]
 
 pub sum_zero : (n : ℕ) (f : ℕ → ℕ) → ((k : ℕ) → f k ≡ 0) → sum_below n f ≡ 0
 sum_zero zero f h = refl
@@ -57,9 +57,9 @@ sum_one n f k l h =
 pub part_of_sum : (n : ℕ) (f : ℕ → ℕ) (k : ℕ) → k < n → f k ≤ sum_below n f
 part_of_sum zero f k l = absurd (omega arith)
 part_of_sum (suc n) f k l = elim (cases_eq k n) [
-      | inl e ↦ let i : f k ≡ f n = ap f e in omega arith
-      | inr e ↦ let l' : k < n = omega arith in let d : f k ≤ sum_below n f = part_of_sum n f k l' in omega arith
-    ]
+  | inl e ↦ let i : f k ≡ f n = ap f e in omega arith
+  | inr e ↦ let l' : k < n = omega arith in let d : f k ≤ sum_below n f = part_of_sum n f k l' in omega arith
+]
 
 -- two functions that differ at two places
 pub sum_two_apart : (n : ℕ) (f g : ℕ → ℕ) (j k : ℕ) → j < n → k < n → j ≢ k → ((i : ℕ) → i ≢ j → i ≢ k → f i ≡ g i) →
@@ -70,9 +70,9 @@ sum_two_apart n f g j k l m d others =
     let hk : h k ≡ f k = put-apart f j (g j) k (λ e. d (sym e)) in
     let a : sum_below n f + g j ≡ sum_below n h + f j = sum_apart n f h j (g j) (f j) l (λ i e. sym (put-apart f j (g j) i e)) (omega arith) in
     let at : (i : ℕ) → i ≢ k → h i ≡ g i = λ i e. elim (cases_eq i j) [
-          | inl q ↦ put-here f j (g j) i q ∙ ap g (sym q)
-          | inr q ↦ put-apart f j (g j) i q ∙ others i q e
-        ] in
+      | inl q ↦ put-here f j (g j) i q ∙ ap g (sym q)
+      | inr q ↦ put-apart f j (g j) i q ∙ others i q e
+    ] in
     let b : sum_below n h + g k ≡ sum_below n g + h k = sum_apart n h g k (g k) (h k) m at (omega arith) in
     omega arith
 

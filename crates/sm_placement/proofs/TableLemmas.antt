@@ -14,7 +14,7 @@ use Rattle.sm_placement.specs.Place.{weight, load_of}
 use Rattle.sm_placement.specs.Layout.{grid_of, entries_of}
 use Rattle.sm_placement.specs.Grid.{Grid, Totals, IsCounted, IsGrid, cells_of, lasts_of, down_of}
 use Rattle.sm_placement.proofs.Sums.{count-le, sum-le, sum_zero}
-use Rattle.sm_placement.proofs.GridLemmas.{grid_of-beside, grid_of-below, grid_of-empty, grid_of-read, entries_of-past, entries_of-empty, entries_of-read}
+use Rattle.sm_placement.proofs.GridLemmas.{grid_of-beside, grid_of-below, grid_of-empty, grid_of-read, grid_of-set, place_within, entries_of-past, entries_of-empty, entries_of-read}
 
 -- no shard has a load of 2 ^ 32
 pub shard_load-small : (setup : Setup) (s : ℕ) → IsSetup setup → s < length setup.shards → (sizes_of setup).load s < 2 ^ 32
@@ -32,7 +32,7 @@ pub load-small : (setup : Setup) (cells : ℕ → ℕ → Cell) (v : ℕ) → Is
 load-small setup cells v h =
     let c = sizes_of setup in
     let a : load_of c cells v ≤ length setup.shards * 2 ^ 32 = sum-le (length setup.shards) (2 ^ 32) (λ s. weight (cells s v) (c.load s))
-        (λ s l. let p : c.load s < 2 ^ 32 = shard_load-small setup s h l in let q : weight (cells s v) (c.load s) ≤ c.load s = weight-le (cells s v) (c.load s) in omega arith) in
+    (λ s l. let p : c.load s < 2 ^ 32 = shard_load-small setup s h l in let q : weight (cells s v) (c.load s) ≤ c.load s = weight-le (cells s v) (c.load s) in omega arith) in
     let b : length setup.shards ≤ 4096 = h.shards in
     omega arith
 
@@ -99,9 +99,9 @@ IsCounted-empty setup h = record {
   lives_length = length-replicate (length setup.shards) 0;
   servings_length = length-replicate (length setup.shards) 0;
   known = λ s v. rw (cells_of-empty setup) tt;
-  loads = λ v l. rw (cells_of-empty setup, entries_of-empty 0 (length setup.servers)) (sym (sum_zero (length setup.shards) (λ s. 0) (λ s. refl)));
-  lives = λ s l. rw (cells_of-empty setup, down_of-empty setup, entries_of-empty 0 (length setup.shards)) (sym (sum_zero (length setup.servers) (λ v. 0) (λ v. refl)));
-  servings = λ s l. rw (cells_of-empty setup, entries_of-empty 0 (length setup.shards)) (sym (sum_zero (length setup.servers) (λ v. 0) (λ v. refl)));
+  loads = λ v l. rw (cells_of-empty setup, entries_of-empty {A = ℕ} 0 (length setup.servers)) (sym (sum_zero (length setup.shards) (λ s. 0) (λ s. refl)));
+  lives = λ s l. rw (cells_of-empty setup, down_of-empty setup, entries_of-empty {A = ℕ} 0 (length setup.shards)) (sym (sum_zero (length setup.servers) (λ v. 0) (λ v. refl)));
+  servings = λ s l. rw (cells_of-empty setup, entries_of-empty {A = ℕ} 0 (length setup.shards)) (sym (sum_zero (length setup.servers) (λ v. 0) (λ v. refl)));
   down = rw (down_of-empty setup) (sym (sum_zero (length setup.servers) (λ v. 0) (λ v. refl)));
 }
 
@@ -137,3 +137,26 @@ IsGrid-read {g} {now} {t} h e = subst (λ (n : Grid). IsGrid n) e (IsGrid-from_c
 
 pub IsSetup-read : {g now : Grid} {t : Totals} → IsCounted g t → g ≡ now → IsSetup now.setup
 IsSetup-read {g} {now} {t} h e = subst (λ (n : Grid). IsSetup n.setup) e h.setup
+
+-- other last numbers leave the totals as they are
+pub IsCounted-with_lasts : {g : Grid} {t : Totals} (lasts : List ℕ) → IsCounted g t → length lasts ≡ length g.lasts → IsCounted (record g { lasts = lasts }) t
+IsCounted-with_lasts {g} {t} lasts h e = record {
+  setup = h.setup;
+  cells_length = h.cells_length;
+  lasts_length = e ∙ h.lasts_length;
+  down_length = h.down_length;
+  loads_length = h.loads_length;
+  lives_length = h.lives_length;
+  servings_length = h.servings_length;
+  known = h.known;
+  loads = h.loads;
+  lives = h.lives;
+  servings = h.servings;
+  down = h.down;
+}
+
+-- a write to a list is the write to the table. `old` is the table as its callers saw it
+pub lasts_of-set : {g old : Grid} {t : Totals} (s v x : ℕ) → IsCounted g t → g ≡ old → s < length old.setup.shards → v < length old.setup.servers →
+    lasts_of (record g { lasts = set g.lasts (s * length old.setup.servers + v) x }) ≡ put2 (lasts_of old) s v x
+lasts_of-set {g} {old} {t} s v x h e = subst (λ (n : Grid). s < length n.setup.shards → v < length n.setup.servers → lasts_of (record g { lasts = set g.lasts (s * length n.setup.servers + v) x }) ≡ put2 (lasts_of n) s v x) e
+    (λ l m. grid_of-set (length g.setup.servers) 0 g.lasts s v x m (place_within g.lasts (length g.setup.servers) (length g.setup.shards) s v h.lasts_length l m))

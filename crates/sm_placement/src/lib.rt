@@ -6,6 +6,7 @@ mod faults;
 mod lead;
 mod opening;
 mod placement;
+mod row;
 mod table;
 
 pub use config::{Config, ConfigFault, Server, Shard};

@@ -34,7 +34,7 @@ impl Table {
     ghost use Rattle.std.specs.Prelude.{◌≡◌, ◌<◌, ◌≤◌, ◌^◌, false, length, IfOk};
     ghost use Rattle.sm_placement.specs.Setup.{sizes_of};
     ghost use Rattle.sm_placement.specs.Rows.{live_in, serving_in};
-    ghost use Rattle.sm_placement.specs.Sums.{count_below};
+    ghost use Rattle.sm_placement.specs.Sums.{put2, count_below};
     ghost use Rattle.sm_placement.specs.Place.{load_of};
     ghost use Rattle.sm_placement.specs.Grid.{cells_of, lasts_of, down_of, IsGrid};
 
@@ -148,5 +148,28 @@ impl Table {
         ensures { result ≡ serving_in (length self.now.setup.servers) (cells_of self.now shard) }
     {
         self.servings[shard.number() as usize]
+    }
+
+    /// Sets the number of the last call that had an effect on a cell.
+    pub fn set_last(&mut self, shard: ShardId, server: ServerId, number: u64)
+        requires shard { shard < length self.old.setup.shards }
+        requires server { server < length self.old.setup.servers }
+        ensures lasts { lasts_of self.new ≡ put2 (lasts_of self.old) shard server number }
+        ensures cells { self.new.cells ≡ self.old.cells }
+        ensures down { self.new.down ≡ self.old.down }
+        ensures setup { self.new.setup ≡ self.old.setup }
+    {
+        let place = self.place(shard, server);
+        self.lasts[place] = number;
+    }
+
+    /// Forgets the numbers of all calls. Takes no memory.
+    pub fn forget_lasts(&mut self)
+        ensures lasts { lasts_of self.new ≡ (λ s v. 0) }
+        ensures cells { self.new.cells ≡ self.old.cells }
+        ensures down { self.new.down ≡ self.old.down }
+        ensures setup { self.new.setup ≡ self.old.setup }
+    {
+        self.lasts.as_mut_slice().fill(0);
     }
 }
