@@ -4,6 +4,9 @@ pub mod RowLemmas
 pub mod TableLemmas
 pub mod ConfigLemmas
 pub mod CopyLemmas
+pub mod DoubleLemmas
+pub mod SetupLemmas
+pub mod SameLemmas
 pub mod Leads
 pub mod LeadOf
 pub mod Calls
