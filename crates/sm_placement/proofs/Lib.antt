@@ -14,3 +14,4 @@ pub mod Searches
 pub mod Settling
 pub mod Openings
 pub mod Tallies
+pub mod Layouts
