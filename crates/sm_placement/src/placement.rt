@@ -4,7 +4,7 @@ ghost use Rattle.std.specs.Prelude.{◌≡◌, ◌<◌, length};
 use crate::config::Config;
 use crate::faults;
 use crate::table::Table;
-use sm_server::{Call, Cell, Refusal, ServerId, ShardId, serve, serve_numbered};
+use sm_server::{Call, Cell, Refusal, Served, ServerId, ShardId, serve, serve_numbered};
 use std::alloc::{AllocError, Global};
 use std::marker::Model;
 
@@ -41,10 +41,11 @@ impl Model for Placement {
 const MOST_VERSION: u64 = 1 << 40;
 
 impl Placement {
-    ghost use Rattle.std.specs.Prelude.{◌≤◌, ◌^◌, ◌↔◌, ℕ, true, false, IsTrue, IfSome, IfOk, OnOk, OnErr, IfErr, Ok, Err};
+    ghost use Rattle.std.specs.Prelude.{◌≤◌, ◌^◌, ◌-◌, ◌&&◌, ◌↔◌, ℕ, true, false, IsTrue, IfSome, IfOk, OnOk, OnErr, IfErr, Ok, Err};
+    ghost use Rattle.sm_server.specs.Cell.{is_forwarding};
     ghost use Rattle.sm_placement.specs.Setup.{sizes_of};
     ghost use Rattle.sm_placement.specs.Rows.{IsKnownCall, serves, serving_of};
-    ghost use Rattle.sm_placement.specs.Place.{load_at, live_at, down_count, set_down, publish, forget_numbers, called, called_numbered};
+    ghost use Rattle.sm_placement.specs.Place.{load_at, live_at, down_count, set_cell, set_last, answer_at, numbered_answer_at, set_down, publish, forget_numbers, called, called_numbered};
     ghost use Rattle.sm_placement.specs.Layout.{Layout, place_of, IsPlacement};
     ghost use Rattle.std.specs.Option.{ForSome};
     ghost use Rattle.sm_placement.specs.Lead.{IsSettled};
@@ -131,6 +132,42 @@ impl Placement {
         self.versions[shard.number() as usize]
     }
 
+    /// The room that a server has left.
+    fn free_room(&self, server: ServerId) -> u64
+        requires { server < length self.now.setup.servers }
+        ensures { result ≡ (sizes_of self.now.setup).room server - load_at (sizes_of self.now.setup) (place_of self.now) server }
+    {
+        let room = self.table.config().room(server);
+        room.saturating_sub(self.table.load(server))
+    }
+
+    /// What a server answers to a call.
+    fn answer(&self, server: ServerId, shard: ShardId, call: Call) -> Result<Cell, Refusal>
+        requires server { server < length self.now.setup.servers }
+        requires shard { shard < length self.now.setup.shards }
+        requires party { IsKnownCall (length self.now.setup.servers) call }
+        ensures answer { result ≡ answer_at (sizes_of self.now.setup) (place_of self.now) shard server call }
+        ensures kept { IfOk result (λ next. IsPlacement (sizes_of self.now.setup) (set_cell (place_of self.now) shard server next)) }
+        ensures forwards { IfOk result (λ next. (is_forwarding ((place_of self.now).cells shard server) && is_forwarding next) ≡ false) }
+    {
+        let cell = self.table.cell(shard, server);
+        let load = self.table.config().load(shard);
+        let up = !self.table.is_down(server);
+        serve(cell, self.free_room(server), load, up, call)
+    }
+
+    /// Changes one cell.
+    fn set_cell(&mut self, shard: ShardId, server: ServerId, cell: Cell)
+        requires shard { shard < length self.old.setup.shards }
+        requires server { server < length self.old.setup.servers }
+        requires forwards { (is_forwarding ((place_of self.old).cells shard server) && is_forwarding cell) ≡ false }
+        requires kept { IsPlacement (sizes_of self.old.setup) (set_cell (place_of self.old) shard server cell) }
+        ensures place { place_of self.new ≡ set_cell (place_of self.old) shard server cell }
+        ensures setup { self.new.setup ≡ self.old.setup }
+    {
+        self.table.set_cell(shard, server, cell);
+    }
+
     /// Makes a call at a server.
     pub fn call(&mut self, server: ServerId, shard: ShardId, call: Call) -> Result<(), Refusal>
         requires server { server < length self.old.setup.servers }
@@ -141,14 +178,43 @@ impl Placement {
         ensures setup { self.new.setup ≡ self.old.setup }
         ensures unchanged { OnErr result (self.new ≡ self.old) }
     {
-        let cell = self.table.cell(shard, server);
-        let room = self.table.config().room(server);
-        let load = self.table.config().load(shard);
-        let free_room = room.saturating_sub(self.table.load(server));
-        let up = !self.table.is_down(server);
-        let next = serve(cell, free_room, load, up, call)?;
-        self.table.set_cell(shard, server, next);
+        let next = self.answer(server, shard, call)?;
+        self.set_cell(shard, server, next);
         Ok(())
+    }
+
+    /// What a server answers to a numbered call.
+    fn numbered_answer(
+        &self,
+        server: ServerId,
+        shard: ShardId,
+        call: Call,
+        number: u64,
+    ) -> Result<Served, Refusal>
+        requires server { server < length self.now.setup.servers }
+        requires shard { shard < length self.now.setup.shards }
+        requires party { IsKnownCall (length self.now.setup.servers) call }
+        requires number { 1 ≤ number }
+        ensures answer { result ≡ numbered_answer_at (sizes_of self.now.setup) (place_of self.now) shard server call number }
+        ensures kept { IfOk result (λ served. IsTrue served.fresh → IsPlacement (sizes_of self.now.setup) (set_cell (place_of self.now) shard server served.cell)) }
+        ensures forwards { IfOk result (λ served. IsTrue served.fresh → (is_forwarding ((place_of self.now).cells shard server) && is_forwarding served.cell) ≡ false) }
+        ensures again { IfOk result (λ served. served.fresh ≡ false → set_last (set_cell (place_of self.now) shard server served.cell) shard server served.last ≡ place_of self.now) }
+    {
+        let cell = self.table.cell(shard, server);
+        let last = self.table.last(shard, server);
+        let load = self.table.config().load(shard);
+        let up = !self.table.is_down(server);
+        serve_numbered(cell, last, number, self.free_room(server), load, up, call)
+    }
+
+    /// Changes the number of the last call that had an effect on a cell.
+    fn set_last(&mut self, shard: ShardId, server: ServerId, number: u64)
+        requires shard { shard < length self.old.setup.shards }
+        requires server { server < length self.old.setup.servers }
+        ensures place { place_of self.new ≡ set_last (place_of self.old) shard server number }
+        ensures setup { self.new.setup ≡ self.old.setup }
+    {
+        self.table.set_last(shard, server, number);
     }
 
     /// Makes a call that is tried until its answer comes. A number that had its effect on the cell as the last one has
@@ -169,16 +235,10 @@ impl Placement {
         ensures setup { self.new.setup ≡ self.old.setup }
         ensures unchanged { OnErr result (self.new ≡ self.old) }
     {
-        let cell = self.table.cell(shard, server);
-        let last = self.table.last(shard, server);
-        let room = self.table.config().room(server);
-        let load = self.table.config().load(shard);
-        let free_room = room.saturating_sub(self.table.load(server));
-        let up = !self.table.is_down(server);
-        let served = serve_numbered(cell, last, number, free_room, load, up, call)?;
+        let served = self.numbered_answer(server, shard, call, number)?;
         if served.fresh {
-            self.table.set_cell(shard, server, served.cell);
-            self.table.set_last(shard, server, served.last);
+            self.set_cell(shard, server, served.cell);
+            self.set_last(shard, server, served.last);
         }
         Ok(served.fresh)
     }
