@@ -7,3 +7,11 @@ pub mod CopyLemmas
 pub mod DoubleLemmas
 pub mod SetupLemmas
 pub mod SameLemmas
+pub mod Leads
+pub mod LeadOf
+pub mod Calls
+pub mod Searches
+pub mod Settling
+pub mod Openings
+pub mod Tallies
+pub mod Layouts

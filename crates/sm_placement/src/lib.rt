@@ -2,6 +2,7 @@
 #![tactic(auto)]
 
 mod config;
+mod faults;
 mod lead;
 mod opening;
 mod placement;
