@@ -3,8 +3,9 @@ use Rattle.std.proofs.Common.{◌≡◌, ◌+◌, ◌-◌, ◌≤◌, ℕ, List,
 use Rattle.std.specs.Vec.{with_items}
 use Rattle.std.proofs.lemmas.List.{with_items_is}
 use Rattle.sm_placement.specs.Sums.{put, bit, count_below}
-use Rattle.sm_placement.specs.Layout.{entries_of}
-use Rattle.sm_placement.proofs.TableLemmas.{not-from_beq, down-toggled, down_count-small, down_of-set, IsCounted-toggle}
+use Rattle.sm_placement.specs.Grid.{down_of}
+use Rattle.sm_placement.proofs.Sums.{put-same}
+use Rattle.sm_placement.proofs.TableLemmas.{same-from_beq, not-from_beq, down-toggled, down_count-small, down_of-set, IsCounted-toggle}
 use Rattle.sm_placement.proofs.table.Table.set_down.Goals as goal
 
 pub overflow_add-self : goal.overflow_add-self
@@ -41,6 +42,10 @@ invariant_of-self-else-down c =
     rw (w, c.number.ensures)
     (IsCounted-toggle c.args.server c.args.down c.is_down.result c.deref.result.now c.deref-2.result.now c.toggle_lives.new.lives (c.self.inside.down_count - 1) c.self.invariant c.self.view_is c.requires c.is_down.ensures
     (not-from_beq c.is_down.result c.args.down c.if-is_down-down.false) c.deref.ensures.value c.deref-2.ensures.value same c.toggle_lives.ensures count)
+
+pub returns-then-is_down-down-clause-down : goal.returns-then-is_down-down-clause-down
+returns-then-is_down-down-clause-down c =
+    sym (put-same (down_of c.args.self.now) c.args.server c.args.down (sym c.is_down.ensures ∙ same-from_beq c.is_down.result c.args.down c.if-is_down-down.true))
 
 pub returns-then-down-clause-down : goal.returns-then-down-clause-down
 returns-then-down-clause-down c = rw c.number.ensures (down_of-set c.args.server c.args.down c.self.invariant c.self.view_is c.requires)
