@@ -303,6 +303,12 @@ pub down_of-set : {g old : Grid} {t : Totals} (v : ℕ) (b : Bool) → IsCounted
 down_of-set {g} {old} {t} v b h e = subst (λ (n : Grid). v < length n.setup.servers → down_of (record g { down = set g.down v b }) ≡ put (down_of n) v b) e
     (λ l. entries_of-set false g.down v b (omega (arith, h.down_length)))
 
+pub same-from_beq : (a b : Bool) → beq a b ≡ true → a ≡ b
+same-from_beq true true e = refl
+same-from_beq true false e = absurd (true≢false (sym e))
+same-from_beq false true e = absurd (true≢false (sym e))
+same-from_beq false false e = refl
+
 pub not-from_beq : (was b : Bool) → beq was b ≡ false → was ≡ not b
 not-from_beq true true e = absurd (true≢false e)
 not-from_beq true false e = refl
