@@ -3,3 +3,4 @@ pub mod CopyLemmas
 pub mod DoubleLemmas
 pub mod SetupLemmas
 pub mod SameLemmas
+pub mod NamedLemmas
