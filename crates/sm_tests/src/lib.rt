@@ -2,6 +2,8 @@
 #![tactic(auto)]
 
 #[cfg(test)]
+mod configuration;
+#[cfg(test)]
 mod fixture;
 #[cfg(test)]
 mod memory;

@@ -1,27 +1,45 @@
 //! Calls that take memory. `scripts/failing-allocations` runs each of these tests with its first allocation refused, then
 //! with its second, and so on: the answer has to be want of memory, or the right one.
 use crate::fixture::*;
-use sm_placement::{Config, ConfigFault, OpenFault, Placement};
-use sm_server::{Cell, ServerId};
-use std::test::Fail;
+use sm_placement::{Config, ConfigFault, OpenFault, Server, Shard};
+use sm_server::Cell;
+use std::process::Abort;
 
-#[test]
-fn a_configuration_is_made_or_not(rt: HostRuntime) {
-    match small_config(rt.alloc()) {
-        Ok(config) => assert_eq!(rt; config.server_count(), 3),
-        Err(why) => assert_eq!(rt; why, ConfigFault::NoMemory),
-    }
+/// Asserts that the servers and shards are those that `refused_memory_is_told` made.
+fn assert_small(rt: &impl Abort, servers: &[Server], shards: &[Shard]) {
+    assert_eq!(rt; servers.len(), 2);
+    assert_eq!(rt; servers[0].name.as_str(), "a");
+    assert_eq!(rt; servers[0].region.as_str(), "r1");
+    assert_eq!(rt; servers[0].room, 10);
+    assert_eq!(rt; servers[1].name.as_str(), "b");
+    assert_eq!(rt; servers[1].region.as_str(), "r2");
+    assert_eq!(rt; servers[1].room, 4);
+    assert_eq!(rt; shards.len(), 1);
+    assert_eq!(rt; shards[0].name.as_str(), "s");
+    assert_eq!(rt; shards[0].want, 2);
 }
 
+/// Where an allocation is refused, `new` and `copy` say so, and what they were given is as it was.
 #[test]
-fn a_configuration_is_copied_or_not(rt: HostRuntime) {
+fn a_configuration_is_made_and_copied_or_not(rt: HostRuntime) {
     let alloc = rt.alloc();
-    if let Ok(config) = small_config(alloc) {
-        if let Ok(copy) = config.copy(alloc) {
-            assert!(rt; copy == config);
+    let (Ok(a), Ok(b)) = (server(alloc, "a", "r1", 10), server(alloc, "b", "r2", 4)) else {
+        return;
+    };
+    let Ok(s) = shard(alloc, "s", 4, 2, 1) else {
+        return;
+    };
+    let (servers, shards) = ([a, b], [s]);
+    match Config::new(alloc, &servers, &shards) {
+        Err(why) => assert_eq!(rt; why, ConfigFault::NoMemory),
+        Ok(config) => {
+            if let Ok(copy) = config.copy(alloc) {
+                assert_small(&rt, copy.servers(), copy.shards());
+            }
+            assert_small(&rt, config.servers(), config.shards());
         }
-        assert_eq!(rt; config.shard_count(), 2);
     }
+    assert_small(&rt, &servers, &shards);
 }
 
 #[test]
