@@ -1,80 +1,72 @@
 //! Running totals against plain sums, in a large placement with handovers under way.
 use crate::fixture::*;
 use sm_placement::{Config, Placement, Serving};
-use sm_server::{Call, Cell, Refusal, ServerId, ShardId};
+use sm_server::{Call, Cell, Refusal, ServerId};
+use std::alloc::{AllocError, Global};
 use std::process::Abort;
 use std::test::Fail;
 
 const SERVERS: u32 = 1024;
 const SHARDS: u32 = 4096;
 
-/// How many cells of a shard are live, and how many serve, counted one by one.
-struct Counted {
-    live: u32,
-    serving: u32,
-}
-
-/// Whether a server serves a shard, by its cell and the cell of the server that it is prepared from.
-fn serves(rt: &impl Abort, placement: &Placement, shard: u32, server: u32) -> bool {
-    match cell(rt, placement, shard, server) {
+/// Whether a server that has this cell of a shard serves it, by the cell of the server that it is prepared from.
+fn serves(rt: &impl Abort, placement: &Placement, shard: u32, server: u32, has: &Cell) -> bool {
+    match has {
         Cell::Primary => true,
-        Cell::Prepared { from, number } => {
-            match cell(rt, placement, shard, from.number()) {
-                Cell::Forwarding { to, number: under } => to.number() == server && under == number,
-                _ => false,
-            }
-        }
+        Cell::Prepared { from, number } => match cell(rt, placement, shard, from.number()) {
+            Cell::Forwarding { to, number: under } => to.number() == server && under == *number,
+            _ => false,
+        },
         _ => false,
     }
 }
 
-fn counted(rt: &impl Abort, placement: &Placement, shard: u32) -> Counted {
-    let mut live = 0u32;
-    let mut serving = 0u32;
+/// Compares the live and serving replicas of a shard with those counted one by one, and adds its load to that of each
+/// server that has something of it.
+fn compare_shard(rt: &impl Abort, placement: &Placement, shard: u32, loads: &mut [u64]) {
+    let mut live_now = 0u32;
+    let mut serving_now = 0u32;
     for server in 0..SERVERS {
         let has = cell(rt, placement, shard, server);
-        let serves = serves(rt, placement, shard, server);
-        let counts = serves || has == Cell::Secondary;
+        if has.is_absent() {
+            continue;
+        }
+        if let Some(sum) = loads.get_mut(server as usize) {
+            *sum = sum.saturating_add(u64::from(shard % 7) + 1);
+        }
+        let serves = serves(rt, placement, shard, server, &has);
         if serves {
-            serving = serving.saturating_add(1);
+            serving_now = serving_now.saturating_add(1);
         }
-        if counts && !is_down(rt, placement, server) {
-            live = live.saturating_add(1);
+        if (serves || has == Cell::Secondary) && !is_down(rt, placement, server) {
+            live_now = live_now.saturating_add(1);
         }
     }
-    Counted { live, serving }
+    assert_eq!(rt; live(rt, placement, shard), live_now, "live of {shard}");
+    let told = match serving(rt, placement, shard) {
+        Serving::Nobody => 0,
+        Serving::One(_) => 1,
+        Serving::Several(count) => count,
+    };
+    assert_eq!(rt; told, serving_now, "serving of {shard}");
 }
 
-fn summed_load(rt: &impl Abort, placement: &Placement, server: u32) -> u64 {
-    let mut sum = 0u64;
+/// Compares every total with its plain sum, made from `cell` and `is_down` alone.
+fn compare(rt: &impl Abort, alloc: Global, placement: &Placement) -> Result<(), AllocError> {
+    let mut loads = vec![in alloc; 0u64; 1024]?;
     for shard in 0..SHARDS {
-        if !cell(rt, placement, shard, server).is_absent() {
-            sum = sum.saturating_add(u64::from(shard % 7 + 1));
-        }
+        compare_shard(rt, placement, shard, loads.as_mut_slice());
     }
-    sum
-}
-
-/// Compares every total with its plain sum.
-fn compare(rt: &impl Abort, placement: &Placement) {
     let mut down = 0u32;
     for server in 0..SERVERS {
-        assert_eq!(rt; load(rt, placement, server), summed_load(rt, placement, server), "load of {server}");
+        let sum = loads.get(server as usize).copied();
+        assert_eq!(rt; sum, Some(load(rt, placement, server)), "load of {server}");
         if is_down(rt, placement, server) {
             down = down.saturating_add(1);
         }
     }
     assert_eq!(rt; placement.down_count(), down);
-    for shard in 0..SHARDS {
-        let Counted { live: live_now, serving: serving_now } = counted(rt, placement, shard);
-        assert_eq!(rt; live(rt, placement, shard), live_now, "live of {shard}");
-        let told = match serving(rt, placement, shard) {
-            Serving::Nobody => 0,
-            Serving::One(_) => 1,
-            Serving::Several(count) => count,
-        };
-        assert_eq!(rt; told, serving_now, "serving of {shard}");
-    }
+    Ok(())
 }
 
 /// The calls of a round on one shard: three replicas come, a handover goes part of its way, and some calls are refused.
@@ -156,7 +148,7 @@ fn totals_are_sums(rt: HostRuntime) -> Result<(), Fail> {
             }
             calls = calls.wrapping_add(1);
             if calls % 100 == 0 {
-                compare(&rt, &placement);
+                compare(&rt, alloc, &placement)?;
             }
         }
     }
