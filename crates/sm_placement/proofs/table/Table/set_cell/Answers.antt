@@ -1,9 +1,3 @@
-<<<<<<< HEAD
-use Rattle.sm_placement.proofs.table.Table.set_cell.Goals as goal
-
-pub unreachable-requires : goal.unreachable-requires
-unreachable-requires c = ?
-=======
 -- The totals are corrected with the cell.
 use Rattle.std.proofs.Common.{◌≡◌, ◌<◌, ◌+◌, ◌-◌, ◌*◌, ℕ, List, length, set, get_or, sym, ap, subst, ◌∙◌, arith}
 use Rattle.std.specs.Vec.{with_items}
@@ -69,4 +63,3 @@ returns-clause-cells c =
     let w : (with_items c.self.inside.cells c.set_in_row-counts.new.cells).items ≡ set c.self.inside.cells.items (c.args.shard * n + c.args.server) c.args.cell =
     with_items_is c.self.inside.cells c.set_in_row-counts.new.cells fits ∙ row.0 in
     rw w (cells_of-set c.args.shard c.args.server c.args.cell c.self.invariant c.self.view_is c.requires.shard c.requires.server)
->>>>>>> table

@@ -1,9 +1,3 @@
-<<<<<<< HEAD
-use Rattle.sm_placement.proofs.table.Table.set_down.Goals as goal
-
-pub unreachable-requires : goal.unreachable-requires
-unreachable-requires c = ?
-=======
 -- The counts of live replicas and of servers that are down are corrected.
 use Rattle.std.proofs.Common.{◌≡◌, ◌+◌, ◌-◌, ◌≤◌, ℕ, List, length, set, not, true, false, refl, sym, ap, ◌∙◌, arith}
 use Rattle.std.specs.Vec.{with_items}
@@ -58,4 +52,3 @@ returns-then-down-clause-down c = rw c.number.ensures (down_of-set c.args.server
 
 pub returns-else-down-clause-down : goal.returns-else-down-clause-down
 returns-else-down-clause-down c = rw c.number.ensures (down_of-set c.args.server c.args.down c.self.invariant c.self.view_is c.requires)
->>>>>>> table
