@@ -7,7 +7,6 @@ pub mod CopyLemmas
 pub mod DoubleLemmas
 pub mod SetupLemmas
 pub mod SameLemmas
-<<<<<<< HEAD
 pub mod Leads
 pub mod LeadOf
 pub mod Calls
@@ -17,6 +16,4 @@ pub mod Openings
 pub mod Tallies
 pub mod Layouts
 pub mod Servings
-=======
 pub mod NamedLemmas
->>>>>>> config
