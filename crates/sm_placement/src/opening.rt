@@ -226,7 +226,7 @@ fn put_cells(table: &mut Table, cells: &[(ShardId, ServerId, Cell)])
     requires known { AreKnown (length table.old.setup.shards) (length table.old.setup.servers) cells.now }
     requires resting { All (λ named. is_handing named.2 ≡ false) cells.now }
     ensures cells { cells_of table.new ≡ put_all cells.now (cells_of table.old) }
-    ensures lasts { table.new.lasts ≡ table.old.lasts }
+    ensures lasts { lasts_of table.new ≡ lasts_of table.old }
     ensures down { table.new.down ≡ table.old.down }
     ensures setup { table.new.setup ≡ table.old.setup }
 {
