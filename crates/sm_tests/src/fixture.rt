@@ -1,15 +1,20 @@
 //! Small placements, and the calls of a placement with their conditions tested.
+ghost use Rattle.std.specs.Prelude.{◌<◌, length};
+
 use sm_placement::{Config, ConfigFault, OpenFault, Placement, Server, Serving, Shard};
 use sm_server::{Call, Cell, Refusal, Role, ServerId, ShardId};
 use std::alloc::{AllocError, Global};
 use std::process::Abort;
 
 pub const ADD_PRIMARY: Call = Call::Add(Role::Primary);
+
 pub const ADD_SECONDARY: Call = Call::Add(Role::Secondary);
+
 pub const TO_PRIMARY: Call = Call::Change {
     from: Role::Secondary,
     to: Role::Primary,
 };
+
 pub const TO_SECONDARY: Call = Call::Change {
     from: Role::Primary,
     to: Role::Secondary,

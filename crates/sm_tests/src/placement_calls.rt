@@ -34,21 +34,57 @@ fn reach(rt: &impl Abort, placement: &mut Placement, state: &Cell) {
 #[test]
 fn calls_follow_the_table(rt: HostRuntime) -> Result<(), Fail> {
     let alloc = rt.alloc();
-    let prepare = Call::PrepareAdd { owner: id(0), number: 3 };
-    let forward = Call::PrepareDrop { new_owner: id(2), number: 3 };
-    let same = Call::Change { from: Role::Primary, to: Role::Primary };
-    let prepared = Cell::Prepared { from: id(0), number: 3 };
-    let forwarding = Cell::Forwarding { to: id(2), number: 3 };
+    let prepare = Call::PrepareAdd {
+        owner: id(0),
+        number: 3,
+    };
+    let forward = Call::PrepareDrop {
+        new_owner: id(2),
+        number: 3,
+    };
+    let same = Call::Change {
+        from: Role::Primary,
+        to: Role::Primary,
+    };
+    let prepared = Cell::Prepared {
+        from: id(0),
+        number: 3,
+    };
+    let forwarding = Cell::Forwarding {
+        to: id(2),
+        number: 3,
+    };
     let held = Err(Refusal::AlreadyHeld);
     let missing = Err(Refusal::NotHeld);
     let role = Err(Refusal::WrongRole);
-    let cells = [Cell::Absent, prepared, Cell::Secondary, Cell::Primary, forwarding];
+    let cells = [
+        Cell::Absent,
+        prepared,
+        Cell::Secondary,
+        Cell::Primary,
+        forwarding,
+    ];
     let table = [
         (ADD_SECONDARY, [Ok(Cell::Secondary), held, held, held, held]),
-        (ADD_PRIMARY, [Ok(Cell::Primary), Ok(Cell::Primary), held, held, held]),
-        (Call::Drop, [missing, Ok(Cell::Absent), Ok(Cell::Absent), Ok(Cell::Absent), Ok(Cell::Absent)]),
+        (
+            ADD_PRIMARY,
+            [Ok(Cell::Primary), Ok(Cell::Primary), held, held, held],
+        ),
+        (
+            Call::Drop,
+            [
+                missing,
+                Ok(Cell::Absent),
+                Ok(Cell::Absent),
+                Ok(Cell::Absent),
+                Ok(Cell::Absent),
+            ],
+        ),
         (TO_PRIMARY, [missing, role, Ok(Cell::Primary), role, role]),
-        (TO_SECONDARY, [missing, role, role, Ok(Cell::Secondary), role]),
+        (
+            TO_SECONDARY,
+            [missing, role, role, Ok(Cell::Secondary), role],
+        ),
         (same, [missing, role, role, role, role]),
         (prepare, [Ok(prepared), held, held, held, held]),
         (forward, [missing, role, role, Ok(forwarding), role]),
@@ -81,7 +117,10 @@ fn room_is_asked_for_what_comes(rt: HostRuntime) -> Result<(), Fail> {
     let config = small_config(alloc)?;
     let mut placement = small_placement(alloc, &config)?;
     // Server 1 has 4 left, server 2 nothing, and server 0 has 6.
-    assert_eq!(rt; call(&rt, &mut placement, 2, 1, ADD_SECONDARY), Err(Refusal::NoRoom));
+    assert_eq!(rt;
+        call(&rt, &mut placement, 2, 1, ADD_SECONDARY),
+        Err(Refusal::NoRoom)
+    );
     assert_eq!(rt; call(&rt, &mut placement, 1, 0, ADD_SECONDARY), Ok(()));
     assert_eq!(rt; load(&rt, &placement, 1), 10);
     assert_eq!(rt; live(&rt, &placement, 0), 3);
@@ -89,7 +128,10 @@ fn room_is_asked_for_what_comes(rt: HostRuntime) -> Result<(), Fail> {
     assert_eq!(rt; load(&rt, &placement, 0), 10);
     assert_eq!(rt; call(&rt, &mut placement, 2, 0, Call::Drop), Ok(()));
     assert_eq!(rt; load(&rt, &placement, 2), 0);
-    assert_eq!(rt; call(&rt, &mut placement, 2, 1, ADD_SECONDARY), Err(Refusal::NoRoom));
+    assert_eq!(rt;
+        call(&rt, &mut placement, 2, 1, ADD_SECONDARY),
+        Err(Refusal::NoRoom)
+    );
     assert_eq!(rt; load(&rt, &placement, 2), 0);
     Ok(())
 }
@@ -104,8 +146,14 @@ fn servers_that_are_down_refuse(rt: HostRuntime) -> Result<(), Fail> {
     assert!(rt; is_down(&rt, &placement, 2));
     assert_eq!(rt; placement.down_count(), 1);
     assert_eq!(rt; live(&rt, &placement, 0), 1);
-    assert_eq!(rt; call(&rt, &mut placement, 2, 0, Call::Drop), Err(Refusal::Down));
-    assert_eq!(rt; call_numbered(&rt, &mut placement, 2, 0, Call::Drop, 1), Err(Refusal::Down));
+    assert_eq!(rt;
+        call(&rt, &mut placement, 2, 0, Call::Drop),
+        Err(Refusal::Down)
+    );
+    assert_eq!(rt;
+        call_numbered(&rt, &mut placement, 2, 0, Call::Drop, 1),
+        Err(Refusal::Down)
+    );
     set_down(&rt, &mut placement, 2, false);
     set_down(&rt, &mut placement, 2, false);
     assert_eq!(rt; placement.down_count(), 0);
@@ -119,21 +167,42 @@ fn numbered_calls_have_one_effect(rt: HostRuntime) -> Result<(), Fail> {
     let alloc = rt.alloc();
     let config = small_config(alloc)?;
     let mut placement = small_placement(alloc, &config)?;
-    assert_eq!(rt; call_numbered(&rt, &mut placement, 2, 0, Call::Drop, 7), Ok(true));
-    assert_eq!(rt; call_numbered(&rt, &mut placement, 2, 0, ADD_SECONDARY, 8), Ok(true));
-    assert_eq!(rt; call_numbered(&rt, &mut placement, 2, 0, Call::Drop, 8), Ok(false));
+    assert_eq!(rt;
+        call_numbered(&rt, &mut placement, 2, 0, Call::Drop, 7),
+        Ok(true)
+    );
+    assert_eq!(rt;
+        call_numbered(&rt, &mut placement, 2, 0, ADD_SECONDARY, 8),
+        Ok(true)
+    );
+    assert_eq!(rt;
+        call_numbered(&rt, &mut placement, 2, 0, Call::Drop, 8),
+        Ok(false)
+    );
     assert_eq!(rt; cell(&rt, &placement, 0, 2), Cell::Secondary);
     // A refused call leaves the last number; plain calls and the map do too.
-    assert_eq!(rt; call_numbered(&rt, &mut placement, 2, 0, ADD_SECONDARY, 9), Err(Refusal::AlreadyHeld));
+    assert_eq!(rt;
+        call_numbered(&rt, &mut placement, 2, 0, ADD_SECONDARY, 9),
+        Err(Refusal::AlreadyHeld)
+    );
     assert_eq!(rt; call(&rt, &mut placement, 2, 0, Call::Drop), Ok(()));
     publish(&rt, &mut placement, 0, None);
     set_down(&rt, &mut placement, 2, true);
     set_down(&rt, &mut placement, 2, false);
-    assert_eq!(rt; call_numbered(&rt, &mut placement, 2, 0, ADD_SECONDARY, 8), Ok(false));
+    assert_eq!(rt;
+        call_numbered(&rt, &mut placement, 2, 0, ADD_SECONDARY, 8),
+        Ok(false)
+    );
     let mut copy = placement.copy(alloc)?;
-    assert_eq!(rt; call_numbered(&rt, &mut copy, 2, 0, ADD_SECONDARY, 8), Ok(false));
+    assert_eq!(rt;
+        call_numbered(&rt, &mut copy, 2, 0, ADD_SECONDARY, 8),
+        Ok(false)
+    );
     placement.forget_numbers();
-    assert_eq!(rt; call_numbered(&rt, &mut placement, 2, 0, ADD_SECONDARY, 8), Ok(true));
+    assert_eq!(rt;
+        call_numbered(&rt, &mut placement, 2, 0, ADD_SECONDARY, 8),
+        Ok(true)
+    );
     assert_eq!(rt; cell(&rt, &placement, 0, 2), Cell::Secondary);
     assert_eq!(rt; cell(&rt, &copy, 0, 2), Cell::Absent);
     Ok(())
@@ -144,8 +213,14 @@ fn handovers_are_served_by_one(rt: HostRuntime) -> Result<(), Fail> {
     let alloc = rt.alloc();
     let config = small_config(alloc)?;
     let mut placement = small_placement(alloc, &config)?;
-    let prepare = Call::PrepareAdd { owner: id(0), number: 1 };
-    let forward = Call::PrepareDrop { new_owner: id(1), number: 1 };
+    let prepare = Call::PrepareAdd {
+        owner: id(0),
+        number: 1,
+    };
+    let forward = Call::PrepareDrop {
+        new_owner: id(1),
+        number: 1,
+    };
     assert_eq!(rt; serving(&rt, &placement, 0), Serving::One(id(0)));
     assert_eq!(rt; call(&rt, &mut placement, 1, 0, prepare), Ok(()));
     assert_eq!(rt; serving(&rt, &placement, 0), Serving::One(id(0)));
@@ -174,8 +249,14 @@ fn a_prepared_server_needs_its_owner_and_number(rt: HostRuntime) -> Result<(), F
     let alloc = rt.alloc();
     let config = small_config(alloc)?;
     let mut placement = small_placement(alloc, &config)?;
-    let prepare = Call::PrepareAdd { owner: id(0), number: 1 };
-    let forward = Call::PrepareDrop { new_owner: id(1), number: 2 };
+    let prepare = Call::PrepareAdd {
+        owner: id(0),
+        number: 1,
+    };
+    let forward = Call::PrepareDrop {
+        new_owner: id(1),
+        number: 2,
+    };
     assert_eq!(rt; call(&rt, &mut placement, 1, 0, prepare), Ok(()));
     assert_eq!(rt; call(&rt, &mut placement, 0, 0, forward), Ok(()));
     assert_eq!(rt; serving(&rt, &placement, 0), Serving::Nobody);
@@ -220,7 +301,10 @@ fn settled_placements_are_told(rt: HostRuntime) -> Result<(), Fail> {
     set_down(&rt, &mut many_down, 2, true);
     assert!(rt; many_down.settled());
     let mut forwarding = placement.copy(alloc)?;
-    let forward = Call::PrepareDrop { new_owner: id(1), number: 1 };
+    let forward = Call::PrepareDrop {
+        new_owner: id(1),
+        number: 1,
+    };
     assert_eq!(rt; call(&rt, &mut forwarding, 0, 0, forward), Ok(()));
     publish(&rt, &mut forwarding, 0, None);
     assert!(rt; !forwarding.settled());
@@ -233,7 +317,10 @@ fn copies_are_equal(rt: HostRuntime) -> Result<(), Fail> {
     let alloc = rt.alloc();
     let config = small_config(alloc)?;
     let mut placement = small_placement(alloc, &config)?;
-    let prepare = Call::PrepareAdd { owner: id(0), number: 5 };
+    let prepare = Call::PrepareAdd {
+        owner: id(0),
+        number: 5,
+    };
     assert_eq!(rt; call(&rt, &mut placement, 1, 0, prepare), Ok(()));
     publish(&rt, &mut placement, 1, None);
     set_down(&rt, &mut placement, 2, true);
@@ -251,10 +338,19 @@ fn copies_are_equal(rt: HostRuntime) -> Result<(), Fail> {
         assert_eq!(rt; serving(&rt, &copy, shard), serving(&rt, &placement, shard));
         assert_eq!(rt; listed(&rt, &copy, shard), listed(&rt, &placement, shard));
         for server in 0..3 {
-            assert_eq!(rt; cell(&rt, &copy, shard, server), cell(&rt, &placement, shard, server));
+            assert_eq!(rt;
+                cell(&rt, &copy, shard, server),
+                cell(&rt, &placement, shard, server)
+            );
         }
     }
-    assert_eq!(rt; cell(&rt, &copy, 0, 1), Cell::Prepared { from: id(0), number: 5 });
+    assert_eq!(rt;
+        cell(&rt, &copy, 0, 1),
+        Cell::Prepared {
+            from: id(0),
+            number: 5
+        }
+    );
     assert_eq!(rt; listed(&rt, &copy, 1), (None, 1));
     Ok(())
 }

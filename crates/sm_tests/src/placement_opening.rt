@@ -27,7 +27,14 @@ fn cells() -> [(ShardId, ServerId, Cell); 3] {
 fn the_small_placement_opens(rt: HostRuntime) -> Result<(), Fail> {
     let alloc = rt.alloc();
     let config = small_config(alloc)?;
-    let placement = Placement::open(alloc, &config, &cells(), &[Some(id(0)), None], &[id(2), id(2)], 1)?;
+    let placement = Placement::open(
+        alloc,
+        &config,
+        &cells(),
+        &[Some(id(0)), None],
+        &[id(2), id(2)],
+        1,
+    )?;
     assert!(rt; placement.settled());
     assert!(rt; placement.config() == &config);
     assert_eq!(rt; placement.limit(), 1);
@@ -47,15 +54,26 @@ fn ids_are_known(rt: HostRuntime) -> Result<(), Fail> {
     let alloc = rt.alloc();
     let config = small_config(alloc)?;
     let unknown = Some(OpenFault::UnknownName);
-    assert_eq!(rt; fault(alloc, &config, &[named(2, 0, Cell::Absent)]), unknown);
-    assert_eq!(rt; fault(alloc, &config, &[named(0, 3, Cell::Absent)]), unknown);
+    assert_eq!(rt;
+        fault(alloc, &config, &[named(2, 0, Cell::Absent)]),
+        unknown
+    );
+    assert_eq!(rt;
+        fault(alloc, &config, &[named(0, 3, Cell::Absent)]),
+        unknown
+    );
     let listed = Placement::open(alloc, &config, &cells(), &[Some(id(3)), None], &[], 1);
     assert_eq!(rt; listed.err(), unknown);
     let down = Placement::open(alloc, &config, &cells(), &[None, None], &[id(3)], 1);
     assert_eq!(rt; down.err(), unknown);
     // The other server of a handover isn't looked at: the cell is a bad lead.
-    let cell = Cell::Prepared { from: id(9), number: 1 };
-    let lead = Some(OpenFault::BadLead { shard: ShardId::new(1) });
+    let cell = Cell::Prepared {
+        from: id(9),
+        number: 1,
+    };
+    let lead = Some(OpenFault::BadLead {
+        shard: ShardId::new(1),
+    });
     assert_eq!(rt; fault(alloc, &config, &[named(1, 0, cell)]), lead);
     Ok(())
 }
@@ -70,7 +88,10 @@ fn lists_have_their_lengths(rt: HostRuntime) -> Result<(), Fail> {
     let three = Placement::open(alloc, &config, &cells(), &[None, None, None], &[], 1);
     assert_eq!(rt; three.err(), many);
     let most = vec![in alloc; named(0, 0, Cell::Absent); 1048576]?;
-    let double = Some(OpenFault::DoubleCell { shard: ShardId::new(0), server: id(0) });
+    let double = Some(OpenFault::DoubleCell {
+        shard: ShardId::new(0),
+        server: id(0),
+    });
     assert_eq!(rt; fault(alloc, &config, &most), double);
     let more = vec![in alloc; named(9, 9, Cell::Absent); 1048577]?;
     assert_eq!(rt; fault(alloc, &config, &more), many);
@@ -83,26 +104,84 @@ fn faults_name_the_lowest(rt: HostRuntime) -> Result<(), Fail> {
     let config = small_config(alloc)?;
     let s = ShardId::new(0);
     let t = ShardId::new(1);
-    let forwarding = Cell::Forwarding { to: id(1), number: 1 };
+    let forwarding = Cell::Forwarding {
+        to: id(1),
+        number: 1,
+    };
     for (cells, fault_wanted) in [
         // A cell stands twice, also as absent: the lowest shard, then the lowest server.
-        ([named(1, 2, Cell::Absent), named(1, 2, Cell::Absent), named(0, 2, Cell::Secondary), named(0, 2, Cell::Absent)],
-            OpenFault::DoubleCell { shard: s, server: id(2) }),
-        ([named(1, 2, Cell::Absent), named(1, 1, Cell::Primary), named(1, 2, Cell::Absent), named(1, 1, Cell::Primary)],
-            OpenFault::DoubleCell { shard: t, server: id(1) }),
+        (
+            [
+                named(1, 2, Cell::Absent),
+                named(1, 2, Cell::Absent),
+                named(0, 2, Cell::Secondary),
+                named(0, 2, Cell::Absent),
+            ],
+            OpenFault::DoubleCell {
+                shard: s,
+                server: id(2),
+            },
+        ),
+        (
+            [
+                named(1, 2, Cell::Absent),
+                named(1, 1, Cell::Primary),
+                named(1, 2, Cell::Absent),
+                named(1, 1, Cell::Primary),
+            ],
+            OpenFault::DoubleCell {
+                shard: t,
+                server: id(1),
+            },
+        ),
         // Two primaries, or a handover.
-        ([named(1, 0, Cell::Primary), named(1, 1, Cell::Primary), named(0, 0, Cell::Primary), named(0, 1, Cell::Primary)],
-            OpenFault::BadLead { shard: s }),
-        ([named(1, 1, forwarding), named(0, 0, Cell::Primary), named(0, 2, Cell::Secondary), named(0, 1, Cell::Absent)],
-            OpenFault::BadLead { shard: t }),
+        (
+            [
+                named(1, 0, Cell::Primary),
+                named(1, 1, Cell::Primary),
+                named(0, 0, Cell::Primary),
+                named(0, 1, Cell::Primary),
+            ],
+            OpenFault::BadLead { shard: s },
+        ),
+        (
+            [
+                named(1, 1, forwarding),
+                named(0, 0, Cell::Primary),
+                named(0, 2, Cell::Secondary),
+                named(0, 1, Cell::Absent),
+            ],
+            OpenFault::BadLead { shard: t },
+        ),
         // The listed server isn't the primary.
-        ([named(0, 0, Cell::Secondary), named(0, 2, Cell::Secondary), named(1, 0, Cell::Primary), named(1, 1, Cell::Absent)],
-            OpenFault::BadListing { shard: s }),
-        ([named(0, 0, Cell::Primary), named(0, 2, Cell::Secondary), named(1, 0, Cell::Primary), named(1, 1, Cell::Absent)],
-            OpenFault::BadListing { shard: t }),
+        (
+            [
+                named(0, 0, Cell::Secondary),
+                named(0, 2, Cell::Secondary),
+                named(1, 0, Cell::Primary),
+                named(1, 1, Cell::Absent),
+            ],
+            OpenFault::BadListing { shard: s },
+        ),
+        (
+            [
+                named(0, 0, Cell::Primary),
+                named(0, 2, Cell::Secondary),
+                named(1, 0, Cell::Primary),
+                named(1, 1, Cell::Absent),
+            ],
+            OpenFault::BadListing { shard: t },
+        ),
         // More than a server has room for.
-        ([named(0, 0, Cell::Primary), named(0, 2, Cell::Secondary), named(1, 1, Cell::Primary), named(1, 2, Cell::Secondary)],
-            OpenFault::OverRoom { server: id(2) }),
+        (
+            [
+                named(0, 0, Cell::Primary),
+                named(0, 2, Cell::Secondary),
+                named(1, 1, Cell::Primary),
+                named(1, 2, Cell::Secondary),
+            ],
+            OpenFault::OverRoom { server: id(2) },
+        ),
     ] {
         assert_eq!(rt; fault(alloc, &config, &cells), Some(fault_wanted));
     }
@@ -114,14 +193,31 @@ fn floors_and_limits_are_kept(rt: HostRuntime) -> Result<(), Fail> {
     let alloc = rt.alloc();
     let config = small_config(alloc)?;
     let none = [None, None];
-    let short = |shard| Some(OpenFault::Short { shard: ShardId::new(shard) });
+    let short = |shard| Some(OpenFault::Short {
+        shard: ShardId::new(shard),
+    });
     let alone = [named(0, 0, Cell::Primary)];
-    assert_eq!(rt; Placement::open(alloc, &config, &alone, &none, &[], 1).err(), short(1));
-    assert_eq!(rt; Placement::open(alloc, &config, &[], &none, &[], 1).err(), short(0));
+    assert_eq!(rt;
+        Placement::open(alloc, &config, &alone, &none, &[], 1).err(),
+        short(1)
+    );
+    assert_eq!(rt;
+        Placement::open(alloc, &config, &[], &none, &[], 1).err(),
+        short(0)
+    );
     let down = [id(1), id(0)];
-    assert_eq!(rt; Placement::open(alloc, &config, &cells(), &none, &down, 1).err(), short(1));
-    assert_eq!(rt; Placement::open(alloc, &config, &cells(), &none, &[id(2)], 0).err(), Some(OpenFault::TooManyDown));
-    assert_eq!(rt; Placement::open(alloc, &config, &cells(), &none, &[id(2)], 1).err(), None);
+    assert_eq!(rt;
+        Placement::open(alloc, &config, &cells(), &none, &down, 1).err(),
+        short(1)
+    );
+    assert_eq!(rt;
+        Placement::open(alloc, &config, &cells(), &none, &[id(2)], 0).err(),
+        Some(OpenFault::TooManyDown)
+    );
+    assert_eq!(rt;
+        Placement::open(alloc, &config, &cells(), &none, &[id(2)], 1).err(),
+        None
+    );
     Ok(())
 }
 

@@ -7,6 +7,7 @@ use std::process::Abort;
 use std::test::Fail;
 
 const SERVERS: u32 = 1024;
+
 const SHARDS: u32 = 4096;
 
 /// Whether a server that has this cell of a shard serves it, by the cell of the server that it is prepared from.
@@ -70,12 +71,7 @@ fn compare(rt: &impl Abort, alloc: Global, placement: &Placement) -> Result<(), 
 }
 
 /// The calls of a round on one shard: three replicas come, a handover goes part of its way, and some calls are refused.
-fn made(
-    rt: &impl Abort,
-    placement: &mut Placement,
-    round: u32,
-    step: u32,
-) -> Result<(), Refusal> {
+fn made(rt: &impl Abort, placement: &mut Placement, round: u32, step: u32) -> Result<(), Refusal> {
     let shard = round.wrapping_mul(41) % SHARDS;
     let owner = round.wrapping_mul(7) % 32;
     let new = (owner + 1) % 32;
@@ -92,7 +88,13 @@ fn made(
         1 => call(rt, placement, third, shard, ADD_SECONDARY),
         2 => {
             let owner = ServerId::new(owner);
-            call(rt, placement, new, shard, Call::PrepareAdd { owner, number })
+            call(
+                rt,
+                placement,
+                new,
+                shard,
+                Call::PrepareAdd { owner, number },
+            )
         }
         3 => {
             let new_owner = ServerId::new(new);
