@@ -69,17 +69,28 @@ fn test_at(
     Ok(())
 }
 
-/// Makes a call at a cell of each state, in the order of the table's columns.
-fn test_call(rt: &impl Abort, alloc: Global, made: Call, answers: [Answer; 5]) -> Result<(), Fail> {
-    let [absent, prepared, secondary, primary, forwarding] = answers;
+/// The answers to a call at a cell of each state.
+#[derive(Drop)]
+struct Answers {
+    absent: Answer,
+    prepared: Answer,
+    secondary: Answer,
+    primary: Answer,
+    forwarding: Answer,
+}
+
+/// Makes a call at a cell of each state.
+fn test_call(rt: &impl Abort, alloc: Global, made: Call, answers: &Answers) -> Result<(), Fail> {
     let from = id(0);
     let to = id(2);
     let number = 3;
-    test_at(rt, alloc, made, Cell::Absent, absent)?;
-    test_at(rt, alloc, made, Cell::Prepared { from, number }, prepared)?;
-    test_at(rt, alloc, made, Cell::Secondary, secondary)?;
-    test_at(rt, alloc, made, Cell::Primary, primary)?;
-    test_at(rt, alloc, made, Cell::Forwarding { to, number }, forwarding)
+    let prepared = Cell::Prepared { from, number };
+    let forwarding = Cell::Forwarding { to, number };
+    test_at(rt, alloc, *made, Cell::Absent, answers.absent)?;
+    test_at(rt, alloc, *made, prepared, answers.prepared)?;
+    test_at(rt, alloc, *made, Cell::Secondary, answers.secondary)?;
+    test_at(rt, alloc, *made, Cell::Primary, answers.primary)?;
+    test_at(rt, alloc, *made, forwarding, answers.forwarding)
 }
 
 #[test]
@@ -88,20 +99,38 @@ fn added_and_dropped_by_the_table(rt: HostRuntime) -> Result<(), Fail> {
     test_call(
         &rt,
         alloc,
-        ADD_SECONDARY,
-        [SECONDARY, HELD, HELD, HELD, HELD],
+        &ADD_SECONDARY,
+        &Answers {
+            absent: SECONDARY,
+            prepared: HELD,
+            secondary: HELD,
+            primary: HELD,
+            forwarding: HELD,
+        },
     )?;
     test_call(
         &rt,
         alloc,
-        ADD_PRIMARY,
-        [PRIMARY, PRIMARY, HELD, HELD, HELD],
+        &ADD_PRIMARY,
+        &Answers {
+            absent: PRIMARY,
+            prepared: PRIMARY,
+            secondary: HELD,
+            primary: HELD,
+            forwarding: HELD,
+        },
     )?;
     test_call(
         &rt,
         alloc,
-        Call::Drop,
-        [NOT_HELD, ABSENT, ABSENT, ABSENT, ABSENT],
+        &Call::Drop,
+        &Answers {
+            absent: NOT_HELD,
+            prepared: ABSENT,
+            secondary: ABSENT,
+            primary: ABSENT,
+            forwarding: ABSENT,
+        },
     )
 }
 
@@ -115,16 +144,39 @@ fn roles_changed_by_the_table(rt: HostRuntime) -> Result<(), Fail> {
     test_call(
         &rt,
         alloc,
-        TO_PRIMARY,
-        [NOT_HELD, WRONG, PRIMARY, WRONG, WRONG],
+        &TO_PRIMARY,
+        &Answers {
+            absent: NOT_HELD,
+            prepared: WRONG,
+            secondary: PRIMARY,
+            primary: WRONG,
+            forwarding: WRONG,
+        },
     )?;
     test_call(
         &rt,
         alloc,
-        TO_SECONDARY,
-        [NOT_HELD, WRONG, WRONG, SECONDARY, WRONG],
+        &TO_SECONDARY,
+        &Answers {
+            absent: NOT_HELD,
+            prepared: WRONG,
+            secondary: WRONG,
+            primary: SECONDARY,
+            forwarding: WRONG,
+        },
     )?;
-    test_call(&rt, alloc, same, [NOT_HELD, WRONG, WRONG, WRONG, WRONG])
+    test_call(
+        &rt,
+        alloc,
+        &same,
+        &Answers {
+            absent: NOT_HELD,
+            prepared: WRONG,
+            secondary: WRONG,
+            primary: WRONG,
+            forwarding: WRONG,
+        },
+    )
 }
 
 #[test]
@@ -146,12 +198,29 @@ fn handed_over_by_the_table(rt: HostRuntime) -> Result<(), Fail> {
         to: id(2),
         number: 3,
     });
-    test_call(&rt, alloc, prepare, [prepared, HELD, HELD, HELD, HELD])?;
     test_call(
         &rt,
         alloc,
-        forward,
-        [NOT_HELD, WRONG, WRONG, forwarding, WRONG],
+        &prepare,
+        &Answers {
+            absent: prepared,
+            prepared: HELD,
+            secondary: HELD,
+            primary: HELD,
+            forwarding: HELD,
+        },
+    )?;
+    test_call(
+        &rt,
+        alloc,
+        &forward,
+        &Answers {
+            absent: NOT_HELD,
+            prepared: WRONG,
+            secondary: WRONG,
+            primary: forwarding,
+            forwarding: WRONG,
+        },
     )
 }
 
