@@ -8,7 +8,9 @@ use crate::entry::{Entry, entry_of, word_of};
 use crate::map::{Pass, Publisher, Words};
 use sm_server::{ServerId, ShardId};
 use std::alloc::{AllocError, Global};
+use std::sync::atomic::{AtomicU64, Ordering};
 use std::test::Fail;
+use std::thread;
 use std::thread::{Threads, join};
 
 /// How many entries the storing thread stores, and how often each of the others looks.
@@ -80,24 +82,45 @@ fn a_map_without_shards_opens(rt: HostRuntime) -> Result<(), Fail> {
     Ok(())
 }
 
+/// Where threads wait for one another, so that they run at the same time. None waits for long: the test is right in any order.
+#[derive(Drop)]
+struct Start {
+    threads: u64,
+    here: AtomicU64,
+}
+
+impl Start {
+    fn line_up(&self) {
+        self.here.fetch_add(1, Ordering::SeqCst);
+        for _ in 0..10_000 {
+            if self.here.load(Ordering::SeqCst) >= self.threads {
+                break;
+            }
+            thread::yield_now();
+        }
+    }
+}
+
 /// Stores versions 1 to `ROUNDS` of shard 0.
-fn store_all(words: &Words, mut publisher: Publisher)
+fn store_all(start: &Start, words: &Words, mut publisher: Publisher)
     requires publisher { publisher.words ≡ words.now }
     requires servers { words.now.servers ≡ 2 }
     requires shards { length words.now.opening ≡ 1 }
     requires version { IsSomeAnd (newest (history publisher 0)) (λ entry. entry.version ≡ 0) }
 {
+    start.line_up();
     for stored in 0..ROUNDS {
         words.store(&mut publisher, ShardId::new(0), entry(1, stored + 1));
     }
 }
 
 /// Looks at shard 0 `ROUNDS` times. It tells whether a version was below the one before.
-fn look_all(words: &Words, mut pass: Pass) -> (Pass, bool)
+fn look_all(start: &Start, words: &Words, mut pass: Pass) -> (Pass, bool)
     requires pass { pass.words ≡ words.now }
     requires shards { length words.now.opening ≡ 1 }
     ensures { result.0.words ≡ words.now }
 {
+    start.line_up();
     let mut version = 0;
     let mut fell = false;
     for _ in 0..ROUNDS {
@@ -111,6 +134,7 @@ fn look_all(words: &Words, mut pass: Pass) -> (Pass, bool)
 /// Two threads look.
 fn look_both<R: Threads + Sync>(
     rt: &R,
+    start: &Start,
     words: &Words,
     first: Pass,
     second: Pass,
@@ -123,14 +147,12 @@ fn look_both<R: Threads + Sync>(
 {
     join(
         rt,
-        move || -> (Pass, bool)
+        move ||
             requires { (first.words ≡ words.now) × (length words.now.opening ≡ 1) }
-            ensures { result.0.words ≡ words.entry.now }
-        { look_all(words, first) },
-        move || -> (Pass, bool)
+        { look_all(start, words, first) },
+        move ||
             requires { (second.words ≡ words.now) × (length words.now.opening ≡ 1) }
-            ensures { result.0.words ≡ words.entry.now }
-        { look_all(words, second) },
+        { look_all(start, words, second) },
     )
 }
 
@@ -151,15 +173,19 @@ fn race<R: Threads + Sync>(
     ensures first { result.0.0.words ≡ words.now }
     ensures second { result.1.0.words ≡ words.now }
 {
+    let start = Start {
+        threads: 3,
+        here: AtomicU64::new(0),
+    };
+    let ready = &start;
     let (_, looked) = join(
         rt,
         move ||
             requires { (publisher.words ≡ words.now) × (words.now.servers ≡ 2) × (length words.now.opening ≡ 1) × IsSomeAnd (newest (history publisher 0)) (λ entry. entry.version ≡ 0) }
-        { store_all(words, publisher) },
-        move || -> ((Pass, bool), (Pass, bool))
+        { store_all(ready, words, publisher) },
+        move ||
             requires { IsSync R.row × (first.words ≡ words.now) × (second.words ≡ words.now) × (length words.now.opening ≡ 1) }
-            ensures { (result.0.0.words ≡ words.entry.now) × (result.1.0.words ≡ words.entry.now) }
-        { look_both(rt, words, first, second) },
+        { look_both(rt, ready, words, first, second) },
     );
     looked
 }
@@ -169,9 +195,8 @@ fn versions_never_fall(rt: HostRuntime) -> Result<(), Fail> {
     let (words, mut publisher) = open_one(rt.alloc())?;
     let first = words.pass(&mut publisher);
     let second = words.pass(&mut publisher);
-    let ((mut first, first_fell), (mut second, second_fell)) = race(
-        &rt, &words, publisher, first, second,
-    );
+    let looked = race(&rt, &words, publisher, first, second);
+    let ((mut first, first_fell), (mut second, second_fell)) = looked;
     assert!(rt; !first_fell && !second_fell);
     assert_eq!(rt; words.look(&mut first, ShardId::new(0)), entry(1, ROUNDS));
     assert_eq!(rt; words.look(&mut second, ShardId::new(0)), entry(1, ROUNDS));
