@@ -2,7 +2,7 @@
 use Rattle.std.specs.Prelude.{ℕ, List}
 use Rattle.atomic_table.specs.Seated.{TableId}
 use Rattle.sm_map.specs.declared.entry.Entry.{Entry}
-use Rattle.sm_map.specs.History.{entries_of}
+use Rattle.sm_map.specs.History.{AllStand, entries_of}
 
 -- which words: their table, how many servers there are, and each shard's entry at the opening
 pub record WordsModel : Type 0 where
@@ -23,3 +23,7 @@ pub record PassModel : Type 0 where
 -- the publisher's list of a shard: its entries, the newest first
 abbrev pub history : PublisherModel → ℕ → List Entry
 history publisher shard = entries_of publisher.words.opening publisher.stores shard
+
+-- each entry that the pass has seen stands in the publisher's list of its shard
+abbrev pub HasAllSeen : PublisherModel → PassModel → Type 0
+HasAllSeen publisher pass = AllStand publisher.words.opening publisher.stores pass.seen

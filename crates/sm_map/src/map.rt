@@ -1,8 +1,11 @@
 //! The words of the map, their one publisher, and the passes by which they are read.
+//!
+//! No call here waits, takes a lock or, past `open`, takes memory. A publisher and a pass take no bytes: proofs know by them
+//! what was stored and what was seen. Nothing is said of how old a look may be beyond what its pass has seen.
 ghost use Rattle.std.specs.Prelude.{◌≡◌, ◌<◌, ◌≤◌, [], ◌∷◌, Some, All, IfOk, length};
 ghost use Rattle.sm_map.specs.Entry.{IsInRange};
-ghost use Rattle.sm_map.specs.History.{AllStand, Follows, NoneNewer, newest, words_for};
-ghost use Rattle.sm_map.specs.Models.{history};
+ghost use Rattle.sm_map.specs.History.{Follows, NoneNewer, newest, words_for};
+ghost use Rattle.sm_map.specs.Models.{HasAllSeen, history};
 
 use crate::entry::{Entry, entry_of, word_of};
 use crate::rule::{Look, Meet, Opening, Parts, Published, Store, View};
@@ -12,10 +15,10 @@ use std::alloc::{AllocError, Global};
 use std::marker::Model;
 use std::mem;
 
-/// The words of a map: one for each shard. Any thread may read them, and the one publisher stores them.
+/// The words of a map, one for each shard. Any thread may read them, and the one publisher stores them.
 #[derive(Drop)]
 pub struct Words {
-    table: Table<u8, View, Opening, Published, Global>,
+    table: Table<(), View, Opening, Published, Global>,
 }
 
 impl Model for Words {
@@ -29,10 +32,10 @@ impl Model for Words {
     ghost invariant = { λ w. (0 < w.table.shared.table_id.words) × (length w.table.shared.key.entries.items ≤ w.table.shared.table_id.words) × (w.table.shared.key.servers ≤ 1024) };
 }
 
-/// The right to store words, of which a map has one.
+/// The right to store a map's words. There is one for each map.
 #[derive(Drop)]
 pub struct Publisher {
-    seat: Seat<u8, View>,
+    seat: Seat<(), View>,
 }
 
 impl Model for Publisher {
@@ -47,10 +50,10 @@ impl Model for Publisher {
     ghost invariant = { λ p. (p.seat.me.0 ≡ publisher_view p.seat.me.0.servers p.seat.me.0.opening p.seat.me.0.stores) × (p.seat.me.1 ≡ []) };
 }
 
-/// What a reader of the words carries: proofs know by it what the reader has seen.
+/// What a reader of a map's words carries. By it proofs know what the reader has seen.
 #[derive(Drop)]
 pub struct Pass {
-    seat: Seat<u8, View>,
+    seat: Seat<(), View>,
 }
 
 impl Model for Pass {
@@ -65,6 +68,7 @@ impl Model for Pass {
     ghost invariant = { λ p. (p.seat.me.0 ≡ pass_view p.seat.me.0.servers p.seat.me.0.opening p.seat.me.0.seen) × (p.seat.me.1 ≡ []) };
 }
 
+/// The words of some entries.
 fn words_of(alloc: Global, entries: &[Entry]) -> Result<Vec<u64>, AllocError>
     requires { All (IsInRange 1024) entries.now }
     ensures { IfOk result (λ v. v.items ≡ words_for entries.now) }
@@ -80,7 +84,8 @@ fn words_of(alloc: Global, entries: &[Entry]) -> Result<Vec<u64>, AllocError>
 }
 
 impl Words {
-    /// The words of a map with an entry for each shard, and their publisher.
+    /// The words of a map with an entry for each shard, and their publisher. Where there is no shard, there is one word that
+    /// stands for none and stays 0.
     pub fn open(
         alloc: Global,
         servers: u32,
@@ -107,12 +112,11 @@ impl Words {
         ensures same { publisher.new ≡ publisher.old }
         ensures pass { result ≡ record { words = self.now; seen = [] } }
     {
-        Pass {
-            seat: self.table.shared.split_seat::<Parts>(&mut publisher.seat),
-        }
+        let seat = self.table.shared.split_seat::<Parts>(&mut publisher.seat);
+        Pass { seat }
     }
 
-    /// The entry of a shard.
+    /// The entry of a shard, by one load of its word.
     pub fn look(&self, pass: &mut Pass, shard: ShardId) -> Entry
         requires pass { pass.old.words ≡ self.now }
         requires shard { shard < length self.now.opening }
@@ -120,14 +124,12 @@ impl Words {
         ensures not_older { NoneNewer pass.old.seen shard result }
         ensures in_range { IsInRange self.now.servers result }
     {
-        entry_of(
-            self.table
-                .shared
-                .load::<Look>(&mut pass.seat, shard.number() as usize),
-        )
+        let shared = &self.table.shared;
+        let word = shared.load::<Look>(&mut pass.seat, shard.number() as usize);
+        entry_of(word)
     }
 
-    /// Publishes the next entry of a shard.
+    /// Publishes the next entry of a shard, by one store of its word.
     pub fn store(&self, publisher: &mut Publisher, shard: ShardId, entry: Entry)
         requires publisher { publisher.old.words ≡ self.now }
         requires shard { shard < length self.now.opening }
@@ -135,14 +137,14 @@ impl Words {
         requires next { Follows (history publisher.old shard) entry }
         ensures { publisher.new ≡ record { words = self.now; stores = (shard, entry) ∷ publisher.old.stores } }
     {
-        self.table.shared.store::<Store>(
-            &mut publisher.seat,
-            shard.number() as usize,
-            word_of(entry),
-        );
+        let shared = &self.table.shared;
+        let word = word_of(entry);
+        shared.store::<Store>(&mut publisher.seat, shard.number() as usize, word);
     }
 
-    /// The publisher's newest entry of a shard, by a pass that is with the publisher.
+    /// The publisher's newest entry of a shard, which a pass sees that is in one thread with the publisher, as it is where the
+    /// publisher stands behind a lock. One load of the shard's word gives the entry. Three more loads only tell proofs that the
+    /// pass and the publisher met.
     pub fn meet_in(&self, publisher: &mut Publisher, pass: &mut Pass, shard: ShardId) -> Entry
         requires publisher { publisher.old.words ≡ self.now }
         requires pass { pass.old.words ≡ self.now }
@@ -150,7 +152,7 @@ impl Words {
         ensures same { publisher.new ≡ publisher.old }
         ensures seen { pass.new ≡ record { words = self.now; seen = (shard, result) ∷ pass.old.seen } }
         ensures last { newest (history publisher.old shard) ≡ Some result }
-        ensures stand { AllStand self.now.opening publisher.old.stores pass.old.seen }
+        ensures stand { HasAllSeen publisher.old pass.old }
         ensures not_older { NoneNewer pass.old.seen shard result }
         ensures in_range { IsInRange self.now.servers result }
     {
@@ -163,7 +165,7 @@ impl Words {
         entry_of(word)
     }
 
-    /// The same by value.
+    /// As `meet_in`, by value.
     pub fn meet(
         &self,
         mut publisher: Publisher,
@@ -176,7 +178,7 @@ impl Words {
         ensures same { result.0 ≡ publisher }
         ensures seen { result.1 ≡ record { words = self.now; seen = (shard, result.2) ∷ pass.seen } }
         ensures last { newest (history publisher shard) ≡ Some result.2 }
-        ensures stand { AllStand self.now.opening publisher.stores pass.seen }
+        ensures stand { HasAllSeen publisher pass }
         ensures not_older { NoneNewer pass.seen shard result.2 }
         ensures in_range { IsInRange self.now.servers result.2 }
     {

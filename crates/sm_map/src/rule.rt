@@ -1,7 +1,15 @@
-//! The rule that the words keep, and the steps that keep it.
+//! The rule that the words keep, and the four kinds of step that keep it.
 //!
-//! The rule speaks of a list that no code holds: what was stored, the newest first. The publisher's seat knows that list,
-//! and a pass's seat knows which entries the pass has seen.
+//! The rule speaks of lists that no code holds: each shard's entries, the newest first. It says that one seat is the publisher's
+//! and knows these lists, that each word is that of its shard's newest entry, that along a list the versions rise by one, that
+//! each server is below the count with which the words were opened and each version below 2^47, and that each entry that a
+//! seat has seen stands in its shard's list.
+//!
+//! - A pass loads a shard's word: `Look`. It has then seen the word's entry.
+//! - The publisher stores a shard's word: `Store`. Its list of the shard then has the entry.
+//! - A load parts a pass from the publisher: `Parts`, as a `Split`. The pass has what was seen: nothing where it is new.
+//! - The publisher and a pass are joined, `Parts` as a `Join`, and load a shard's word as one: `Meet`. They then know that the
+//!   entry is the newest. The pass's old seat stays behind with nothing seen.
 use crate::entry::Entry;
 use atomic_table::{Join, Play, Split, TableRule};
 use sm_server::ShardId;
@@ -63,7 +71,7 @@ impl<S> Play<S, View> for Store {
     ghost then = { Stores };
 }
 
-/// The publisher and a pass, parted and joined.
+/// How a pass is parted from the publisher, and how the two are joined.
 pub struct Parts;
 
 impl Split<View> for Parts {

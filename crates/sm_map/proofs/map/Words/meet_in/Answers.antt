@@ -11,7 +11,7 @@ use Rattle.sm_map.proofs.map.Words.meet_in.Goals as goal
 pub split_seat-place-requires : goal.split_seat-place-requires
 split_seat-place-requires c =
     let same = ap (λ (p : PublisherModel). p.words) c.publisher.view_is ∙ c.requires.publisher ∙ sym c.self.view_is in
-    (ap (λ (w : WordsModel). w.table) same, c.self.invariant.0, keep.splits ℕ _ _ _ _)
+    (ap (λ (w : WordsModel). w.table) same, c.self.invariant.0, keep.splits (Unit {0}) _ _ _ _)
 
 pub join_seat-requires : goal.join_seat-requires
 join_seat-requires c =
@@ -22,7 +22,7 @@ join_seat-requires c =
       ap (λ s. s.table_id) seat ∙ ap (λ (w : WordsModel). w.table) met,
       ap (λ s. s.me.1) seat ∙ c.pass.invariant.1,
       c.self.invariant.0,
-      keep.joins ℕ _ _ _ _ _ _,
+      keep.joins (Unit {0}) _ _ _ _ _ _,
     )
 
 pub load-word-requires : goal.load-word-requires
@@ -36,18 +36,18 @@ load-word-requires c =
     let view = ap (λ m. m.0) c.join_seat.ensures.2 ∙ (λ k. joined (c.split_seat-place.ensures.2 k).0 (c.replace-seat.ensures.value k).me.0) in (
       c.join_seat.ensures.0 ∙ c.split_seat-place.ensures.0 ∙ ap (λ (w : WordsModel). w.table) same,
       omega arith,
-      keep.meets ℕ _ _ _ _ _ _ (ap (λ (v : View). v.publishes) view ∙ ap (λ (v : View). v.publishes) c.publisher.invariant.0) inside (ap (λ (v : View). v.servers) view ∙ ap (λ (w : WordsModel). w.servers) same),
+      keep.meets (Unit {0}) _ _ _ _ _ _ (ap (λ (v : View). v.publishes) view ∙ ap (λ (v : View). v.publishes) c.publisher.invariant.0) inside (ap (λ (v : View). v.servers) view ∙ ap (λ (w : WordsModel). w.servers) same),
     )
 
 pub split_seat-requires : goal.split_seat-requires
 split_seat-requires c =
     let same = ap (λ (p : PublisherModel). p.words) c.publisher.view_is ∙ c.requires.publisher ∙ sym c.self.view_is in
-    (c.load-word.ensures.0 ∙ c.join_seat.ensures.0 ∙ c.split_seat-place.ensures.0 ∙ ap (λ (w : WordsModel). w.table) same, c.self.invariant.0, keep.splits ℕ _ _ _ _)
+    (c.load-word.ensures.0 ∙ c.join_seat.ensures.0 ∙ c.split_seat-place.ensures.0 ∙ ap (λ (w : WordsModel). w.table) same, c.self.invariant.0, keep.splits (Unit {0}) _ _ _ _)
 
 pub returns-clause-stand : goal.returns-clause-stand
 returns-clause-stand c =
     let view = ap (λ m. m.0) c.join_seat.ensures.2 ∙ (λ k. joined (c.split_seat-place.ensures.2 k).0 (c.replace-seat.ensures.value k).me.0) in
-    let opening = ap (λ (v : View). v.opening) view ∙ ap (λ (p : PublisherModel). p.words.opening) c.publisher.view_is ∙ ap (λ (w : WordsModel). w.opening) c.requires.publisher in
+    let opening = ap (λ (v : View). v.opening) view ∙ ap (λ (p : PublisherModel). p.words.opening) c.publisher.view_is in
     let stores = ap (λ (v : View). v.stores) view ∙ ap (λ (p : PublisherModel). p.stores) c.publisher.view_is in
     let seen = ap (λ (v : View). v.seen) view ∙ ap (λ (p : PassModel). p.seen) c.pass.view_is in
     subst (λ (x : List Entry × List (ℕ × Entry) × List (ℕ × Entry)). AllStand x.0 x.1 x.2) (λ k. (opening k, stores k, seen k)) c.load-word.ensures.2.stand

@@ -7,8 +7,8 @@ use Rattle.sm_map.proofs.Histories.{in_range_more}
 use Rattle.sm_map.proofs.Keeps as keep
 use Rattle.sm_map.proofs.map.Words.store.Goals as goal
 
-pub word_of-requires : goal.word_of-requires
-word_of-requires c =
+pub word_of-word-requires : goal.word_of-word-requires
+word_of-word-requires c =
     in_range_more _ 1024 _ c.self.invariant.2 (subst (λ (w : WordsModel). IsInRange w.servers c.args.entry) (sym c.self.view_is) c.requires.in_range)
 
 pub store-requires : goal.store-requires
@@ -22,4 +22,4 @@ store-requires c =
     let publishes = ap (λ (v : View). v.publishes) c.publisher.invariant.0 in
     let good = subst (λ (w : WordsModel). IsInRange w.servers c.args.entry) (sym c.self.view_is) c.requires.in_range in
     let follows = subst (λ (x : PublisherModel × ℕ). Follows (history x.0 x.1) c.args.entry) (λ k. (sym c.publisher.view_is k, sym c.number.ensures k)) c.requires.next in
-    (ap (λ (w : WordsModel). w.table) same, omega arith, keep.stores ℕ _ _ _ _ _ _ _ _ publishes c.word_of.ensures.word c.word_of.ensures.back good follows inside)
+    (ap (λ (w : WordsModel). w.table) same, omega arith, keep.stores (Unit {0}) _ _ _ _ _ _ _ _ publishes c.word_of-word.ensures.word c.word_of-word.ensures.back good follows inside)
