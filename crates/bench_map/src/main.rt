@@ -1,10 +1,11 @@
 //! What a look at the map costs, beside a plain atomic load in the same loop.
 //!
-//! It measures both, prints the time of one look and of one load, and ends with status 1 where a look takes more than
-//! twice as long. With the argument `check` it makes fewer steps and prints no times, only that both loops find the same.
+//! It prints the time that a loop of looks takes and that of a loop of loads, and ends with status 1 where the
+//! looks take more than twice as long. With the argument `check` it prints no times, only whether both loops
+//! find the same.
 #![tactic(auto)]
 
-ghost use Rattle.std.specs.Prelude.{◌≡◌, ◌<◌, All, IfOk, length, vec_len};
+ghost use Rattle.std.specs.Prelude.{◌≡◌, ◌^◌, ◌<◌, All, IfOk, length, vec_len};
 ghost use Rattle.sm_map.specs.Entry.{IsInRange};
 ghost use Rattle.bench_map.specs.declared.TheConstants.{SHARDS};
 
@@ -25,7 +26,7 @@ const SHARDS: u32 = 256;
 /// How many steps a run of a loop makes.
 const STEPS: u32 = 4_000_000;
 
-/// How many runs each loop has. Its fastest counts, since whatever else the machine does only slows a run.
+/// How many runs each loop has. The fastest counts: whatever else the machine does only slows a run.
 const RUNS: u32 = 200;
 
 /// What a run of a loop found, added up, and how long it took.
@@ -157,6 +158,13 @@ fn measure(rt: &impl Clock, alloc: Global, steps: u32, runs: u32) -> io::Result<
     compare(rt, &words, &mut pass, &plain, steps, runs)
 }
 
+/// How long one step of a run takes.
+fn picoseconds(run: Duration) -> u128
+    ensures { result < 2 ^ 127 }
+{
+    run.as_nanos() * 1_000 / u128::from(STEPS)
+}
+
 fn is_check(rt: &(impl Alloc + Env)) -> io::Result<bool> {
     let mut args = env::args(rt)?;
     let _program = args.next();
@@ -176,11 +184,11 @@ fn main(rt: HostRuntime) -> io::Result<ExitCode> {
         return Ok(ExitCode::SUCCESS);
     }
     let Compared { look, load } = measure(&rt, rt.alloc(), STEPS, RUNS)?;
-    let look = look.time.as_nanos();
-    let load = load.time.as_nanos();
-    println!(rt; "the fastest of {RUNS} runs of {STEPS} steps each:")?;
-    println!(rt; "look: {look} ns")?;
-    println!(rt; "load: {load} ns")?;
+    let look = picoseconds(look.time);
+    let load = picoseconds(load.time);
+    println!(rt; "one step of the fastest of {RUNS} runs:")?;
+    println!(rt; "look: {look} ps")?;
+    println!(rt; "load: {load} ps")?;
     if look > 2 * load {
         println!(rt; "a look takes more than twice as long as a load")?;
         return Ok(ExitCode::FAILURE);

@@ -1,6 +1,6 @@
 -- Each step keeps the rule of the words.
-use Rattle.std.proofs.Common.{◌≡◌, ◌≢◌, ◌⊎◌, ℕ, zero, suc, ◌<◌, ◌≤◌, List, [], ◌∷◌, length, set, get_or, true, true≢false, refl, sym, ap, ◌∙◌, subst, ⊎_elim, arith, length-set, get_or-set_other, get_or-set_same}
-use Rattle.std.specs.Prelude.{slice_index, Some, All, Contains}
+use Rattle.std.proofs.Common.{◌≡◌, ◌≢◌, ℕ, zero, suc, ◌<◌, ◌≤◌, List, [], ◌∷◌, length, set, get_or, true, true≢false, refl, sym, ap, ◌∙◌, subst, ⊎_elim, arith, length-set, get_or-set_other, get_or-set_same}
+use Rattle.std.specs.Prelude.{Some, All, Contains}
 use Rattle.std.proofs.lemmas.List.Elements.{All-nil, All-cons, All-head, All-same}
 use mathlib.Core.Option.{some, none, some-ne-none, some-injective}
 use lib.ListN.{get_elem?}
@@ -10,7 +10,7 @@ use Rattle.atomic_table.proofs.Lists.{at_set, at_snoc}
 use Rattle.sm_map.specs.declared.entry.Entry.{Entry}
 use Rattle.sm_map.specs.declared.rule.View.{View}
 use Rattle.sm_map.specs.Entry.{IsInRange, word_for, entry_for}
-use Rattle.sm_map.specs.History.{entries_of, newest, Follows, Rises, NoneNewer, AllStand, word_at, words_for}
+use Rattle.sm_map.specs.History.{entries_of, newest, Follows, Rises, AllStand, word_at, words_for}
 use Rattle.sm_map.specs.Rule.{publisher_view, pass_view, spent, joined, publisher_part, pass_part, with_seen, with_store, Fits, Kept, Finds, Looks, Meets, Stores}
 use Rattle.sm_map.proofs.Histories.{some_newest, after_store, stand_after, stand_more, none_newer, rises_more, enough_words, first_words, first_rises, first_in_range}
 

@@ -10,6 +10,10 @@ pub record WordsModel : Type 0 where
   pub servers : ℕ
   pub opening : List Entry
 
+-- the words of this table, opened with these entries
+abbrev pub words_model : TableId → ℕ → List Entry → WordsModel
+words_model table servers opening = record { table = table; servers = servers; opening = opening }
+
 -- the publisher: its words, and what it has stored, the newest first
 pub record PublisherModel : Type 0 where
   pub words : WordsModel

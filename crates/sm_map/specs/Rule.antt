@@ -1,12 +1,20 @@
 -- The rule of the words, and what each step tells.
-use Rattle.std.specs.Prelude.{◌≡◌, ℕ, ◌≤◌, List, [], ◌∷◌, Bool, true, false, Some, All, length, slice_index}
+use Rattle.std.specs.Prelude.{◌≡◌, ℕ, ◌<◌, ◌≤◌, List, [], ◌∷◌, true, false, Some, All, length, slice_index}
 use mathlib.Core.Option.{some}
 use lib.ListN.{get_elem?}
+use Rattle.atomic_table.specs.Seated.{TableId}
 use Rattle.atomic_table.specs.Table.{State, Me, Step}
 use Rattle.sm_map.specs.declared.entry.Entry.{Entry}
 use Rattle.sm_map.specs.declared.rule.View.{View}
 use Rattle.sm_map.specs.Entry.{IsInRange, entry_for, word_for}
 use Rattle.sm_map.specs.History.{AllStand, NoneNewer, Rises, entries_of, newest, word_at}
+use Rattle.sm_map.specs.Models.{PublisherModel, PassModel, words_model}
+
+-- a table has a word for each shard, and at least one
+pub record HasWords (table : TableId) (servers : ℕ) (opening : List Entry) : Type 0 where
+  pub some : 0 < table.words
+  pub enough : length opening ≤ table.words
+  pub few_servers : servers ≤ 1024
 
 -- the publisher's view
 abbrev pub publisher_view : ℕ → List Entry → List (ℕ × Entry) → View
@@ -15,6 +23,24 @@ publisher_view servers opening stores = record { publishes = true; servers = ser
 -- a pass's view
 abbrev pub pass_view : ℕ → List Entry → List (ℕ × Entry) → View
 pass_view servers opening seen = record { publishes = false; servers = servers; opening = opening; stores = []; seen = seen }
+
+-- a seat of the publisher: its view, and no slot of the table
+pub record IsPublisherSeat {S : Type 0} (me : Me S View) : Type 0 where
+  pub view : me.0 ≡ publisher_view me.0.servers me.0.opening me.0.stores
+  pub slots : me.1 ≡ []
+
+-- a seat of a pass
+pub record IsPassSeat {S : Type 0} (me : Me S View) : Type 0 where
+  pub view : me.0 ≡ pass_view me.0.servers me.0.opening me.0.seen
+  pub slots : me.1 ≡ []
+
+-- what contracts see of the publisher
+abbrev pub publisher_of : TableId → View → PublisherModel
+publisher_of table view = record { words = words_model table view.servers view.opening; stores = view.stores }
+
+-- what contracts see of a pass
+abbrev pub pass_of : TableId → View → PassModel
+pass_of table view = record { words = words_model table view.servers view.opening; seen = view.seen }
 
 -- the view that a pass leaves behind where it joins the publisher: nothing seen
 abbrev pub spent : View

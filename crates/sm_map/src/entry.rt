@@ -11,7 +11,7 @@ pub struct Entry {
     pub version: u64,
 }
 
-/// A word is the version times this, plus the server's number and one, or plus 0 where no server is listed.
+/// A word is the version times this, plus the server's number and one, or plus 0 for no server.
 const VERSION_UNIT: u64 = 65_536;
 
 /// The word that stands for an entry.

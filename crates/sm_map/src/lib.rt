@@ -1,4 +1,6 @@
-//! The published map of shards, one word for each shard: one publisher stores the words, and clients load them without a lock.
+//! The published map of shards, one word for each shard.
+//!
+//! One publisher stores the words, and clients load them without a lock. A client never sees an older entry than it has seen.
 #![tactic(auto)]
 
 mod entry;

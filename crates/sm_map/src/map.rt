@@ -1,7 +1,8 @@
 //! The words of the map, their one publisher, and the passes by which they are read.
 //!
-//! No call here waits, takes a lock or, past `open`, takes memory. A publisher and a pass take no bytes: proofs know by them
-//! what was stored and what was seen. Nothing is said of how old a look may be beyond what its pass has seen.
+//! No call here waits or takes a lock, and none but `open` takes memory. A publisher and a pass take no bytes:
+//! proofs know by them what was stored and what was seen. Nothing is said of how old a look may be beyond
+//! what its pass has seen.
 ghost use Rattle.std.specs.Prelude.{◌≡◌, ◌<◌, ◌≤◌, [], ◌∷◌, Some, All, IfOk, length};
 ghost use Rattle.sm_map.specs.Entry.{IsInRange};
 ghost use Rattle.sm_map.specs.History.{Follows, NoneNewer, newest, words_for};
@@ -15,21 +16,21 @@ use std::alloc::{AllocError, Global};
 use std::marker::Model;
 use std::mem;
 
-/// The words of a map, one for each shard. Any thread may read them, and the one publisher stores them.
+/// The words of a map, one for each shard. Any thread may read them; the one publisher stores them.
 #[derive(Drop)]
 pub struct Words {
     table: Table<(), View, Opening, Published, Global>,
 }
 
 impl Model for Words {
-    ghost use Rattle.std.specs.Prelude.{◌<◌, ◌≤◌, length};
-    ghost use Rattle.sm_map.specs.Models.{WordsModel};
+    ghost use Rattle.sm_map.specs.Models.{WordsModel, words_model};
+    ghost use Rattle.sm_map.specs.Rule.{HasWords};
 
     ghost Value = { WordsModel };
 
-    ghost view = { λ w. record { table = w.table.shared.table_id; servers = w.table.shared.key.servers; opening = w.table.shared.key.entries.items } };
+    ghost view = { λ w. words_model w.table.shared.table_id w.table.shared.key.servers w.table.shared.key.entries.items };
 
-    ghost invariant = { λ w. (0 < w.table.shared.table_id.words) × (length w.table.shared.key.entries.items ≤ w.table.shared.table_id.words) × (w.table.shared.key.servers ≤ 1024) };
+    ghost invariant = { λ w. HasWords w.table.shared.table_id w.table.shared.key.servers w.table.shared.key.entries.items };
 }
 
 /// The right to store a map's words. There is one for each map.
@@ -39,15 +40,14 @@ pub struct Publisher {
 }
 
 impl Model for Publisher {
-    ghost use Rattle.std.specs.Prelude.{◌≡◌, []};
     ghost use Rattle.sm_map.specs.Models.{PublisherModel};
-    ghost use Rattle.sm_map.specs.Rule.{publisher_view};
+    ghost use Rattle.sm_map.specs.Rule.{IsPublisherSeat, publisher_of};
 
     ghost Value = { PublisherModel };
 
-    ghost view = { λ p. record { words = record { table = p.seat.table_id; servers = p.seat.me.0.servers; opening = p.seat.me.0.opening }; stores = p.seat.me.0.stores } };
+    ghost view = { λ p. publisher_of p.seat.table_id p.seat.me.0 };
 
-    ghost invariant = { λ p. (p.seat.me.0 ≡ publisher_view p.seat.me.0.servers p.seat.me.0.opening p.seat.me.0.stores) × (p.seat.me.1 ≡ []) };
+    ghost invariant = { λ p. IsPublisherSeat p.seat.me };
 }
 
 /// What a reader of a map's words carries. By it proofs know what the reader has seen.
@@ -57,15 +57,14 @@ pub struct Pass {
 }
 
 impl Model for Pass {
-    ghost use Rattle.std.specs.Prelude.{◌≡◌, []};
     ghost use Rattle.sm_map.specs.Models.{PassModel};
-    ghost use Rattle.sm_map.specs.Rule.{pass_view};
+    ghost use Rattle.sm_map.specs.Rule.{IsPassSeat, pass_of};
 
     ghost Value = { PassModel };
 
-    ghost view = { λ p. record { words = record { table = p.seat.table_id; servers = p.seat.me.0.servers; opening = p.seat.me.0.opening }; seen = p.seat.me.0.seen } };
+    ghost view = { λ p. pass_of p.seat.table_id p.seat.me.0 };
 
-    ghost invariant = { λ p. (p.seat.me.0 ≡ pass_view p.seat.me.0.servers p.seat.me.0.opening p.seat.me.0.seen) × (p.seat.me.1 ≡ []) };
+    ghost invariant = { λ p. IsPassSeat p.seat.me };
 }
 
 /// The words of some entries.
@@ -84,8 +83,8 @@ fn words_of(alloc: Global, entries: &[Entry]) -> Result<Vec<u64>, AllocError>
 }
 
 impl Words {
-    /// The words of a map with an entry for each shard, and their publisher. Where there is no shard, there is one word that
-    /// stands for none and stays 0.
+    /// The words of a map with an entry for each shard, and their publisher. Where there is no shard,
+    /// there is one word that stands for none and stays 0.
     pub fn open(
         alloc: Global,
         servers: u32,
@@ -142,9 +141,9 @@ impl Words {
         shared.store::<Store>(&mut publisher.seat, shard.number() as usize, word);
     }
 
-    /// The publisher's newest entry of a shard, which a pass sees that is in one thread with the publisher, as it is where the
-    /// publisher stands behind a lock. One load of the shard's word gives the entry. Three more loads only tell proofs that the
-    /// pass and the publisher met.
+    /// The publisher's newest entry of a shard, for a pass that is in one thread with the publisher,
+    /// as where the publisher stands behind a lock. One load of the shard's word gives the entry;
+    /// three loads beside it only tell proofs that the two met.
     pub fn meet_in(&self, publisher: &mut Publisher, pass: &mut Pass, shard: ShardId) -> Entry
         requires publisher { publisher.old.words ≡ self.now }
         requires pass { pass.old.words ≡ self.now }

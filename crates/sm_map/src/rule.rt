@@ -1,29 +1,34 @@
 //! The rule that the words keep, and the four kinds of step that keep it.
 //!
-//! The rule speaks of lists that no code holds: each shard's entries, the newest first. It says that one seat is the publisher's
-//! and knows these lists, that each word is that of its shard's newest entry, that along a list the versions rise by one, that
-//! each server is below the count with which the words were opened and each version below 2^47, and that each entry that a
-//! seat has seen stands in its shard's list.
+//! The rule speaks of lists that no code holds: each shard's entries, the newest first. It says:
 //!
-//! - A pass loads a shard's word: `Look`. It has then seen the word's entry.
-//! - The publisher stores a shard's word: `Store`. Its list of the shard then has the entry.
-//! - A load parts a pass from the publisher: `Parts`, as a `Split`. The pass has what was seen: nothing where it is new.
-//! - The publisher and a pass are joined, `Parts` as a `Join`, and load a shard's word as one: `Meet`. They then know that the
-//!   entry is the newest. The pass's old seat stays behind with nothing seen.
+//! - one seat of the table is the publisher's, and it knows these lists;
+//! - each word is that of its shard's newest entry, and a word that stands for no shard is 0;
+//! - along a list the versions rise by one and stay below 2^47, and each server is below the count with which
+//!   the words were opened;
+//! - each entry that a seat has seen stands in its shard's list.
+//!
+//! The steps:
+//!
+//! - A pass loads a shard's word (`Look`). It has then seen the word's entry.
+//! - The publisher stores a shard's word (`Store`). Its list of the shard then has the entry.
+//! - A load parts a pass from the publisher (`Parts`, as a `Split`). The pass has what was seen: nothing where it is new.
+//! - A pass joins the publisher (`Parts`, as a `Join`), and the two load a shard's word as one (`Meet`).
+//!   They then know that the entry is the newest. The pass's old seat stays behind, with nothing seen.
 use crate::entry::Entry;
 use atomic_table::{Join, Play, Split, TableRule};
 use sm_server::ShardId;
 use std::collections::LinkedList;
 
-/// What the words are opened with, which proofs alone read: how many servers there are, and each shard's entry.
+/// What the words are opened with, which proofs alone read.
 #[derive(Drop)]
 pub struct Opening {
     pub servers: u32,
     pub entries: Vec<Entry>,
 }
 
-/// What a seat knows, which proofs alone read: what the words were opened with, and, the newest first, what the publisher
-/// has stored and what a pass has seen. No value of it is made.
+/// What a seat knows: what the words were opened with and, the newest first, what the publisher has stored
+/// and what a pass has seen. No value of it is made.
 pub struct View {
     pub publishes: bool,
     pub servers: u32,

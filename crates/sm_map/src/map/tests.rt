@@ -82,7 +82,8 @@ fn a_map_without_shards_opens(rt: HostRuntime) -> Result<(), Fail> {
     Ok(())
 }
 
-/// Where threads wait for one another, so that they run at the same time. None waits for long: the test is right in any order.
+/// Where threads wait for one another, so that they run at the same time. None waits for long, since the
+/// test is right in any order.
 #[derive(Drop)]
 struct Start {
     threads: u64,
@@ -181,10 +182,12 @@ fn race<R: Threads + Sync>(
     let (_, looked) = join(
         rt,
         move ||
-            requires { (publisher.words ≡ words.now) × (words.now.servers ≡ 2) × (length words.now.opening ≡ 1) × IsSomeAnd (newest (history publisher 0)) (λ entry. entry.version ≡ 0) }
+            requires { (publisher.words ≡ words.now) × (words.now.servers ≡ 2) × (length words.now.opening ≡ 1)
+                × IsSomeAnd (newest (history publisher 0)) (λ entry. entry.version ≡ 0) }
         { store_all(ready, words, publisher) },
         move ||
-            requires { IsSync R.row × (first.words ≡ words.now) × (second.words ≡ words.now) × (length words.now.opening ≡ 1) }
+            requires { IsSync R.row × (first.words ≡ words.now) × (second.words ≡ words.now)
+                × (length words.now.opening ≡ 1) }
         { look_both(rt, ready, words, first, second) },
     );
     looked

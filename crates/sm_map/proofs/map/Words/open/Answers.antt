@@ -1,4 +1,4 @@
-use Rattle.std.proofs.Common.{◌≡◌, [], ℕ, List, ◌∙◌, sym, subst}
+use Rattle.std.proofs.Common.{[], ℕ, List, ◌∙◌, sym, subst}
 use Rattle.atomic_table.specs.Table.{opening}
 use Rattle.sm_map.specs.declared.entry.Entry.{Entry}
 use Rattle.sm_map.specs.Rule.{publisher_view, Kept}
