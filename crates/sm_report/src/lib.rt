@@ -1,0 +1,11 @@
+//! The reports of `smplan`: from the bytes that are read to the bytes that are written.
+#![tactic(auto)]
+
+mod command;
+mod delivery;
+mod input;
+mod status;
+
+pub use command::{Command, LineFault, Word, command_of};
+pub use input::{InputFault, take_input};
+pub use status::Status;
