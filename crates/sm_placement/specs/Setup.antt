@@ -1,5 +1,5 @@
 -- What a configuration says: its servers and its shards, each at its number.
-use Rattle.std.specs.Prelude.{◌≤◌, ◌<◌, ◌^◌, ◌-◌, ◌&&◌, ◌||◌, ℕ, Bool, List, [], length, Option, nat_lt, nat_le, map, position, slice_index_or, All}
+use Rattle.std.specs.Prelude.{◌≡◌, ◌≤◌, ◌<◌, ◌^◌, ◌-◌, ◌&&◌, ◌||◌, ℕ, Bool, true, false, List, [], length, Option, nat_lt, nat_le, map, position, slice_index_or, All}
 use Rattle.std.specs.List.{list_all}
 use Rattle.std.specs.Str.{bytes_eq}
 use Rattle.sm_placement.specs.Names.{is_name, has_double}
@@ -64,10 +64,13 @@ has_good_numbers setup = list_all is_good_server setup.servers && list_all is_go
 pub record IsSetup (setup : Setup) : Type 0 where
   pub servers : length setup.servers ≤ 1024
   pub shards : length setup.shards ≤ 4096
+  pub good_names : has_good_names setup ≡ true
+  pub distinct_names : has_doubled_name setup ≡ false
   pub good_servers : All (λ r. r.room < 2 ^ 32) setup.servers
   pub good_loads : All (λ r. r.load < 2 ^ 32) setup.shards
   pub good_wants : All (λ r. r.want ≤ 1024) setup.shards
   pub good_caps : All (λ r. r.cap ≤ r.want) setup.shards
+  pub good_spreads : All (λ r. r.spread ≤ 1024) setup.shards
 
 abbrev pub no_server : ServerRow
 no_server = record { name = []; region = []; room = 0 }

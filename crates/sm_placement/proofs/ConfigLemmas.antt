@@ -1,0 +1,27 @@
+-- Servers and shards at their numbers, and places in a list that is a map of another.
+use Rattle.std.proofs.Common.{◌≡◌, ◌+◌, ◌<◌, ℕ, Bool, cond, not, List, [], ◌∷◌, length, map, get_or, refl, ap}
+use Rattle.std.specs.List.{prefix_len, position}
+use Rattle.std.proofs.lemmas.List.{get_or-map}
+use Rattle.sm_placement.specs.declared.config.Server.{Server}
+use Rattle.sm_placement.specs.declared.config.Shard.{Shard}
+use Rattle.sm_placement.specs.Setup.{no_server, no_shard}
+use Rattle.sm_placement.specs.Config.{server_row, shard_row}
+
+prefix_len-map : {X Y : Type 0} (f : X → Y) (p : Y → Bool) (xs : List X) → prefix_len p (map f xs) ≡ prefix_len (λ x. p (f x)) xs
+prefix_len-map f p [] = refl
+prefix_len-map f p (x ∷ xs) = ap (λ n. cond (p (f x)) (1 + n) 0) (prefix_len-map f p xs)
+
+pub length_map : {X Y : Type 0} (f : X → Y) (xs : List X) → length (map f xs) ≡ length xs
+length_map f [] = refl
+length_map f (x ∷ xs) = simp (length_map f xs)
+
+pub position_map : {X Y : Type 0} (f : X → Y) (p : Y → Bool) (xs : List X) → position p (map f xs) ≡ position (λ x. p (f x)) xs
+position_map f p xs = rw (prefix_len-map f (λ y. not (p y)) xs, length_map f xs) refl
+
+-- the row of the server with a number
+pub server_at : (servers : List Server) (i : ℕ) (d : Server) → i < length servers → get_or (map server_row servers) i no_server ≡ server_row (get_or servers i d)
+server_at servers i d h = get_or-map server_row servers i d no_server h
+
+-- the row of the shard with a number
+pub shard_at : (shards : List Shard) (i : ℕ) (d : Shard) → i < length shards → get_or (map shard_row shards) i no_shard ≡ shard_row (get_or shards i d)
+shard_at shards i d h = get_or-map shard_row shards i d no_shard h
