@@ -1,2 +1,6 @@
 pub mod Status
 pub mod CommandLine
+pub mod Lines
+pub mod Ending
+pub mod Answers
+pub mod Opening

@@ -1,9 +1,13 @@
 //! The reports of `smplan`: from the bytes that are read to the bytes that are written.
 #![tactic(auto)]
 
+mod answers;
 mod command;
 mod delivery;
+mod ending;
 mod input;
+mod names;
+mod opening;
 mod status;
 
 pub use command::{Command, LineFault, Word, command_of};
