@@ -1,0 +1,5 @@
+pub mod Lowest
+pub mod NameLemmas
+pub mod ObjectLemmas
+pub mod WalkLemmas
+pub mod ServerLemmas

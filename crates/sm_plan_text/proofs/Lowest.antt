@@ -1,0 +1,36 @@
+-- What is answered of several faults is the first of the lowest number.
+use Rattle.std.proofs.Common.{◌≡◌, ◌++◌, ◌<◌, ◌≤◌, ℕ, Bool, true, false, cond, List, [], ◌∷◌, Option, Some, None, nat_lt, refl, ap, sym, ◌∙◌, append_assoc, append-nil, arith, All, MatchOption}
+use Rattle.std.proofs.lemmas.List.Elements.{All-nil, All-cons, All-append, All-push, All-weaker}
+use Rattle.std.proofs.lemmas.Bool.Decides.{nat_tests}
+use Rattle.sm_plan_text.specs.declared.fault.TextFault.{TextFault}
+use Rattle.sm_plan_text.specs.Faults.{number_of, noted, answered, IsFirstOfLowest}
+
+abbrev AllAbove : ℕ → List TextFault → Type 0
+AllAbove n faults = All (λ other. n < number_of other) faults
+
+abbrev AllNotBelow : ℕ → List TextFault → Type 0
+AllNotBelow n faults = All (λ other. n ≤ number_of other) faults
+
+-- a property of either value holds of the one that a test chooses
+by_test : {A : Type 0} (P : A → Type 0) (b : Bool) (x y : A) → (b ≡ true → P x) → (b ≡ false → P y) → P (cond b x y)
+by_test P true x y at_true at_false = at_true refl
+by_test P false x y at_true at_false = at_false refl
+
+above_before : (n m : ℕ) (before after : List TextFault) (best : TextFault) → n < number_of best → AllAbove (number_of best) before → AllNotBelow (number_of best) after → AllAbove n (before ++ best ∷ after)
+above_before n m before after best less above not_below =
+    All-append (λ other. n < number_of other) before (best ∷ after)
+      (All-weaker (λ other. number_of best < number_of other) (λ other. n < number_of other) (λ other h. omega arith) before above)
+      (All-cons (λ other. n < number_of other) best after less
+        (All-weaker (λ other. number_of best ≤ number_of other) (λ other. n < number_of other) (λ other h. omega arith) after not_below))
+
+going : (faults before after rest : List TextFault) (best : TextFault) → faults ≡ (before ++ best ∷ after) ++ rest → AllAbove (number_of best) before → AllNotBelow (number_of best) after → MatchOption (noted (Some best) rest) (faults ≡ []) (IsFirstOfLowest faults)
+going faults before after [] best stands above not_below =
+    record { before = before; after = after; stands = stands ∙ append-nil (before ++ best ∷ after); above = above; not_below = not_below }
+going faults before after (next ∷ rest) best stands above not_below =
+    by_test (λ chosen. MatchOption (noted (Some chosen) rest) (faults ≡ []) (IsFirstOfLowest faults)) (nat_lt (number_of next) (number_of best)) next best
+      (λ test. going faults (before ++ best ∷ after) [] rest next (stands ∙ sym (append_assoc (before ++ best ∷ after) (next ∷ []) rest)) (above_before (number_of next) 0 before after best (grind (arith, nat_tests)) above not_below) (All-nil (λ other. number_of next ≤ number_of other)))
+      (λ test. going faults before (after ++ next ∷ []) rest best (stands ∙ append_assoc before (best ∷ after) (next ∷ rest) ∙ sym (append_assoc before (best ∷ after ++ next ∷ []) rest ∙ ap (λ l. before ++ best ∷ l) (append_assoc after (next ∷ []) rest))) above (All-push (λ other. number_of best ≤ number_of other) after next not_below (grind (arith, nat_tests))))
+
+pub first_of_lowest : (faults : List TextFault) → MatchOption (answered faults) (faults ≡ []) (IsFirstOfLowest faults)
+first_of_lowest [] = refl
+first_of_lowest (fault ∷ faults) = going (fault ∷ faults) [] [] faults fault refl (All-nil (λ other. number_of fault < number_of other)) (All-nil (λ other. number_of fault ≤ number_of other))

@@ -1,0 +1,53 @@
+-- A walk over the entries of a list, one entry after another.
+use Rattle.std.proofs.Common.{◌≡◌, ◌++◌, ◌+◌, ◌<◌, ◌≤◌, ℕ, List, [], ◌∷◌, length, take, drop, get_or, map, Option, Some, None, refl, ap, sym, ◌∙◌, subst, append_assoc, add-zero, arith}
+use Rattle.std.specs.List.{enumerate_from}
+use Rattle.std.proofs.lemmas.List.{drop_more, take_more, drop_all, get_or-map, length-map}
+use Rattle.serde_json.specs.Data.{Data}
+use Rattle.serde_json.specs.View.{view}
+use Rattle.serde_json.specs.declared.value.Value.{Value}
+use Rattle.sm_plan_text.specs.declared.fault.TextFault.{TextFault}
+use Rattle.sm_plan_text.specs.Faults.{noted, lower}
+use Rattle.sm_plan_text.specs.Tables.{walked}
+
+-- the faults of one part and then of the next
+pub noted_append : (best : Option TextFault) (xs ys : List TextFault) → noted best (xs ++ ys) ≡ noted (noted best xs) ys
+noted_append best [] ys = refl
+noted_append best (x ∷ xs) ys = noted_append (Some (lower best x)) xs ys
+
+-- what is left of a walk, one entry on
+pub walked_more : (faults : List Data → Data → List TextFault) (ds : List Data) (i : ℕ) (d : Data) (best next : Option TextFault) → i < length ds → d ≡ get_or ds i d → next ≡ noted best (faults (take i ds) d) → noted next (walked faults (take (i + 1) ds) (drop (i + 1) ds)) ≡ noted best (walked faults (take i ds) (drop i ds))
+walked_more faults ds i d best next h is e =
+    ap (λ b. noted b (walked faults (take (i + 1) ds) (drop (i + 1) ds))) e ∙
+    ap (λ front. noted (noted best (faults (take i ds) d)) (walked faults front (drop (i + 1) ds))) (take_more ds i d h ∙ ap (λ x. take i ds ++ x ∷ []) (sym is)) ∙
+    sym (noted_append best (faults (take i ds) d) (walked faults (take i ds ++ d ∷ []) (drop (i + 1) ds))) ∙
+    sym (ap (λ rest. noted best (walked faults (take i ds) rest)) (drop_more ds i d h ∙ ap (λ x. x ∷ drop (i + 1) ds) (sym is)))
+
+-- at the end of a walk
+pub walked_all : (faults : List Data → Data → List TextFault) (before ds : List Data) (i : ℕ) (best : Option TextFault) → length ds ≤ i → noted best (walked faults before (drop i ds)) ≡ best
+walked_all faults before ds i best h = ap (λ rest. noted best (walked faults before rest)) (drop_all i ds h)
+
+-- the entry of a list that a loop has come to
+pub entry_at : (items : List Value) (i : ℕ) (item : Value) → i < length items → item ≡ get_or items i item → view item ≡ get_or (map view items) i (view item)
+entry_at items i item h is = ap view is ∙ sym (get_or-map view items i item (view item) h)
+
+-- the entries before the next one
+pub take_view : (items : List Value) (i : ℕ) (item : Value) → i < length items → item ≡ get_or items i item → take (i + 1) (map view items) ≡ take i (map view items) ++ view item ∷ []
+take_view items i item h is =
+    take_more (map view items) i (view item) (subst (λ n. i < n) (sym (length-map items view)) h) ∙
+    ap (λ d. take i (map view items) ++ d ∷ []) (sym (entry_at items i item h is))
+
+-- a function of the entries so far, one entry on
+pub at_take_view : {A : Type 0} (f : List Data → A) (items : List Value) (i : ℕ) (item : Value) → i < length items → item ≡ get_or items i item → f (take (i + 1) (map view items)) ≡ f (take i (map view items) ++ view item ∷ [])
+at_take_view f items i item h is = ap f (take_view items i item h is)
+
+pub walked_step : (faults : List Data → Data → List TextFault) (items : List Value) (i : ℕ) (item : Value) (best next : Option TextFault) → i < length items → item ≡ get_or items i item → next ≡ noted best (faults (take i (map view items)) (view item)) → noted next (walked faults (take (i + 1) (map view items)) (drop (i + 1) (map view items))) ≡ noted best (walked faults (take i (map view items)) (drop i (map view items)))
+walked_step faults items i item best next h is e =
+    walked_more faults (map view items) i (view item) best next (subst (λ n. i < n) (sym (length-map items view)) h) (entry_at items i item h is) e
+
+pub enumerate_push : {A : Type 0} (n : ℕ) (xs : List A) (x : A) → enumerate_from n (xs ++ x ∷ []) ≡ enumerate_from n xs ++ (n + length xs, x) ∷ []
+enumerate_push n [] x = ap (λ k. (k, x) ∷ []) (sym (add-zero n))
+enumerate_push n (y ∷ ys) x = ap (λ zs. (n, y) ∷ zs) (enumerate_push (n + 1) ys x ∙ ap (λ k. enumerate_from (n + 1) ys ++ (k, x) ∷ []) (omega arith))
+
+-- what a loop has made of the entries so far, one entry on
+pub step_on : {A : Type 0} (f : List Data → A) (items : List Value) (i : ℕ) (item : Value) (new : A) → i < length items → item ≡ get_or items i item → new ≡ f (take i (map view items) ++ view item ∷ []) → new ≡ f (take (i + 1) (map view items))
+step_on f items i item new h is e = e ∙ sym (at_take_view f items i item h is)

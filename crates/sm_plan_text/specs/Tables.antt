@@ -1,0 +1,138 @@
+-- Tables of members: what each member of an object is to be. The faults of an object against its table are found in the
+-- order of the table.
+use Rattle.std.specs.Prelude.{ℕ, Bool, true, false, ◌&&◌, not, List, [], ◌∷◌, ◌++◌, length, map, Option, Some, None, is_some, nat_le, option_and_then, if◌then◌else◌}
+use Rattle.std.specs.List.{list_any, flat_map}
+use Rattle.std.specs.Str.{bytes_eq}
+use Rattle.serde_json.specs.Data.{Data, null, boolean, number, string, array, object, Num, Items, Members, no_members, member}
+use Rattle.serde_json.specs.Find.{as_bool, as_str, as_array, as_object, as_number, as_u64, as_null}
+use Rattle.sm_placement.specs.Names.{is_name}
+use Rattle.sm_plan_text.specs.declared.fault.TextFault.{TextFault}
+use Rattle.sm_plan_text.specs.declared.fault.TextFault.TheVariants.{Shape, UnknownName, TooMany, Number}
+use Rattle.sm_plan_text.specs.declared.member.Member.{Member}
+use Rattle.sm_plan_text.specs.Members.{text_of}
+use Rattle.sm_plan_text.specs.Values.{found, text_found, entries, number_named, role_named}
+
+-- what a member's value is to be
+pub data Want : Type 0 where
+  -- a whole number from 0 to a limit
+  whole : ℕ → Want
+  -- true or false
+  flag : Want
+  -- a text that passes a test
+  text : (List ℕ → Bool) → Want
+  -- a text that names one of these
+  known : List (List ℕ) → Want
+  -- such a text, or null
+  known_or_null : List (List ℕ) → Want
+  -- a list of at most so many entries
+  list : ℕ → Want
+
+abbrev pub is_among : List (List ℕ) → List ℕ → Bool
+is_among names s = list_any (bytes_eq s) names
+
+-- a name of a server, shard or region
+abbrev pub name : Want
+name = text is_name
+
+-- a name that isn't taken yet
+abbrev pub new_name : List (List ℕ) → Want
+new_name taken = text (λ s. is_name s && not (is_among taken s))
+
+-- a replica's role
+abbrev pub role : Want
+role = text (λ s. is_some (role_named s))
+
+-- a row of a table: a member, whether it may be missing, and what it is to be
+pub record Row : Type 0 where
+  pub member : Member
+  pub optional : Bool
+  pub want : Want
+
+-- a member that may not be missing
+abbrev pub one : Member → Want → Row
+one m want = record { member = m; optional = false; want = want }
+
+-- a member that may be missing
+abbrev pub maybe : Member → Want → Row
+maybe m want = record { member = m; optional = true; want = want }
+
+abbrev limit_fault : Member → ℕ → Option ℕ → List TextFault
+limit_fault m limit None = Number m ∷ []
+limit_fault m limit (Some n) = if nat_le n limit then [] else Number m ∷ []
+
+abbrev number_fault : Member → ℕ → Option Num → List TextFault
+number_fault m limit None = Shape m ∷ []
+number_fault m limit (Some n) = limit_fault m limit (as_u64 n)
+
+abbrev flag_fault : Member → Option Bool → List TextFault
+flag_fault m None = Shape m ∷ []
+flag_fault m (Some b) = []
+
+abbrev text_fault : Member → (List ℕ → Bool) → Option (List ℕ) → List TextFault
+text_fault m passes None = Shape m ∷ []
+text_fault m passes (Some s) = if passes s then [] else Shape m ∷ []
+
+abbrev name_fault : Member → List (List ℕ) → Option (List ℕ) → List TextFault
+name_fault m names None = Shape m ∷ []
+name_fault m names (Some s) = if is_some (number_named names s) then [] else UnknownName m ∷ []
+
+abbrev pub count_faults : Member → ℕ → ℕ → List TextFault
+count_faults m limit count = if nat_le count limit then [] else TooMany m ∷ []
+
+abbrev list_fault : Member → ℕ → Option Items → List TextFault
+list_fault m limit None = Shape m ∷ []
+list_fault m limit (Some ds) = count_faults m limit (length (entries ds))
+
+-- the faults of a member's value
+abbrev pub value_faults : Member → Want → Data → List TextFault
+value_faults m (whole limit) d = number_fault m limit (as_number d)
+value_faults m flag d = flag_fault m (as_bool d)
+value_faults m (text passes) d = text_fault m passes (as_str d)
+value_faults m (known names) d = name_fault m names (as_str d)
+value_faults m (known_or_null names) d = if is_some (as_null d) then [] else name_fault m names (as_str d)
+value_faults m (list limit) d = list_fault m limit (as_array d)
+
+abbrev found_faults : Row → Option Data → List TextFault
+found_faults row None = if row.optional then [] else Shape row.member ∷ []
+found_faults row (Some d) = value_faults row.member row.want d
+
+-- the faults of one member of an object
+abbrev pub row_faults : Data → Row → List TextFault
+row_faults d row = found_faults row (found row.member d)
+
+-- the keys of an object
+abbrev pub keys_of : Members → List (List ℕ)
+keys_of no_members = []
+keys_of (member key d rest) = key ∷ keys_of rest
+
+abbrev pub has_unknown : List (List ℕ) → Members → Bool
+has_unknown names members = list_any (λ key. not (is_among names key)) (keys_of members)
+
+abbrev unknown_fault : Member → List (List ℕ) → Option Members → List TextFault
+unknown_fault place names None = Shape place ∷ []
+unknown_fault place names (Some members) = if has_unknown names members then Shape place ∷ [] else []
+
+-- what stands in this place is no object, or has a member that is none of these
+abbrev pub object_faults : Member → List (List ℕ) → Data → List TextFault
+object_faults place names d = unknown_fault place names (as_object d)
+
+-- the faults of the object itself that stands in this place, where this is its table
+abbrev pub own_faults : Member → List Row → Data → List TextFault
+own_faults place table d = object_faults place (map (λ row. text_of row.member) table) d ++ flat_map (row_faults d) table
+
+abbrev by_word : {W : Type 0} → Member → Member → (W → List Row) → Data → Option W → List TextFault
+by_word place word table d None = Shape word ∷ []
+by_word place word table d (Some w) = object_faults place (text_of word ∷ map (λ row. text_of row.member) (table w)) d ++ flat_map (row_faults d) (table w)
+
+-- what stands in this place is no object
+abbrev no_object_faults : Member → Data → List TextFault
+no_object_faults place d = if is_some (as_object d) then [] else Shape place ∷ []
+
+-- the faults of the object itself, where a word of it says which table it has
+abbrev pub worded_faults : {W : Type 0} → Member → Member → (List ℕ → Option W) → (W → List Row) → Data → List TextFault
+worded_faults place word named table d = no_object_faults place d ++ by_word place word table d (option_and_then named (text_found word d))
+
+-- The faults of the entries of a list, front to back. Those of an entry may depend on the entries before it.
+abbrev pub walked : (List Data → Data → List TextFault) → List Data → List Data → List TextFault
+walked faults before [] = []
+walked faults before (d ∷ ds) = faults before d ++ walked faults (before ++ d ∷ []) ds

@@ -1,0 +1,80 @@
+-- What the members of a JSON object say. A member that is missing or not in its form says nothing, and stands for 0,
+-- false, or what is empty: a document with such a member is refused.
+use Rattle.std.specs.Prelude.{ℕ, Bool, false, List, [], ◌∷◌, codes, length, fold, map, Option, Some, None, nat_le, option_and_then, option_map, unwrap_or, position, if◌then◌else◌}
+use Rattle.std.specs.Str.{bytes_eq}
+use Rattle.indexmap.specs.IndexSet.{insert_key}
+use Rattle.serde_json.specs.Data.{Data, Items, no_items, item}
+use Rattle.serde_json.specs.Find.{get, as_bool, as_str, as_array, as_number, as_u64}
+use Rattle.sm_server.specs.declared.call.Role.{Role}
+use Rattle.sm_server.specs.declared.call.Role.TheVariants.{Primary, Secondary}
+use Rattle.sm_plan_text.specs.declared.member.Member.{Member}
+use Rattle.sm_plan_text.specs.declared.member.Member.TheVariants as members
+use Rattle.sm_plan_text.specs.Members.{text_of}
+
+-- the value of a member
+abbrev pub found : Member → Data → Option Data
+found member d = get (text_of member) d
+
+abbrev pub text_found : Member → Data → Option (List ℕ)
+text_found member d = option_and_then as_str (found member d)
+
+abbrev pub text_in : Member → Data → List ℕ
+text_in member d = unwrap_or (text_found member d) []
+
+abbrev pub flag_in : Member → Data → Bool
+flag_in member d = unwrap_or (option_and_then as_bool (found member d)) false
+
+-- a number within its limit
+abbrev pub up_to : ℕ → ℕ → ℕ
+up_to limit n = if nat_le n limit then n else 0
+
+-- the whole number that a value is
+abbrev pub whole_of : Data → Option ℕ
+whole_of d = option_and_then as_u64 (as_number d)
+
+abbrev pub limited : ℕ → Data → ℕ
+limited limit d = up_to limit (unwrap_or (whole_of d) 0)
+
+abbrev pub number_in : Member → ℕ → Data → ℕ
+number_in member limit d = unwrap_or (option_map (limited limit) (found member d)) 0
+
+-- a number that may be missing
+abbrev pub number_or : ℕ → Member → ℕ → Data → ℕ
+number_or default member limit d = unwrap_or (option_map (limited limit) (found member d)) default
+
+-- the entries of a list, front to back
+abbrev pub entries : Items → List Data
+entries no_items = []
+entries (item d ds) = d ∷ entries ds
+
+abbrev pub entries_of : Data → List Data
+entries_of d = unwrap_or (option_map entries (as_array d)) []
+
+abbrev pub entries_in : Member → Data → List Data
+entries_in member d = unwrap_or (option_map entries_of (found member d)) []
+
+-- the names of these objects, each once
+abbrev pub names_in : List Data → List (List ℕ)
+names_in ds = fold (insert_key bytes_eq) [] (map (text_in members.Name) ds)
+
+-- the number of the object that a text names
+abbrev pub number_named : List (List ℕ) → List ℕ → Option ℕ
+number_named names text = position (λ name. bytes_eq text name) names
+
+-- the number of an object as an id, which has 32 bits
+abbrev pub id_of : ℕ → ℕ
+id_of n = up_to 4294967295 n
+
+-- the id of the object that a value names
+abbrev pub id_named : List (List ℕ) → Data → Option ℕ
+id_named names d = option_map id_of (option_and_then (number_named names) (as_str d))
+
+abbrev pub id_in : List (List ℕ) → Member → Data → ℕ
+id_in names member d = unwrap_or (option_and_then (id_named names) (found member d)) 0
+
+-- the role that a word says
+abbrev pub role_named : List ℕ → Option Role
+role_named word = if bytes_eq word (codes "primary") then Some Primary else if bytes_eq word (codes "secondary") then Some Secondary else None
+
+abbrev pub role_in : Member → Data → Role
+role_in member d = unwrap_or (option_and_then role_named (text_found member d)) Secondary

@@ -1,0 +1,83 @@
+//! What is wrong with a text.
+ghost use Rattle.std.specs.Prelude.{◌≡◌, List, [], ◌∷◌, MatchOption};
+ghost use Rattle.sm_plan_text.specs.declared.fault.TextFault.{TextFault};
+ghost use Rattle.sm_plan_text.specs.Faults.{number_of, noted, answered, IsFirstOfLowest};
+
+use crate::member::Member;
+use std::alloc::AllocError;
+use thiserror::Error;
+
+/// Why a text is not read. Of several faults the one of the lowest number is answered, and of one number the first that
+/// a walk through the document meets: an object, then the objects in it, lists front to back.
+#[derive(Clone, Copy, Debug, PartialEq, Eq, Error)]
+pub enum TextFault {
+    #[error("out of memory")]
+    NoMemory,
+    #[error("not a JSON text in UTF-8")]
+    NotJson,
+    /// The member is missing, has a value of another form, or stands for an object that is none or has a member that
+    /// it does not know.
+    #[error("`{member}` is missing or not in its form")]
+    Shape { member: Member },
+    #[error("`{member}` names what is not in the document")]
+    UnknownName { member: Member },
+    #[error("`{member}` has too many entries")]
+    TooMany { member: Member },
+    #[error("`{member}` is not a whole number within its limit")]
+    Number { member: Member },
+}
+
+impl TextFault {
+    /// The fault's number, by which the one that is answered is chosen.
+    pub const fn number(&self) -> u8
+        ensures { result ≡ number_of self.now }
+    {
+        match self {
+            TextFault::NoMemory => 1,
+            TextFault::NotJson => 2,
+            TextFault::Shape { .. } => 3,
+            TextFault::UnknownName { .. } => 4,
+            TextFault::TooMany { .. } => 5,
+            TextFault::Number { .. } => 6,
+        }
+    }
+}
+
+impl From<AllocError> for TextFault {
+    ghost use Rattle.sm_plan_text.specs.declared.fault.TextFault.TheVariants.{NoMemory};
+    ghost use Rattle.std.specs.Prelude.{◌≡◌};
+
+    ghost from_gives = { λ _ fault. fault ≡ NoMemory };
+
+    fn from(_e: AllocError) -> TextFault {
+        TextFault::NoMemory
+    }
+}
+
+/// The fault to answer, of those that the walk has met.
+#[derive(Clone, Copy)]
+pub struct Faults {
+    pub lowest: Option<TextFault>,
+}
+
+impl Faults {
+    /// Takes the next fault of the walk.
+    pub fn note(&mut self, fault: TextFault)
+        ensures { self.new.lowest ≡ noted self.old.lowest (fault ∷ []) }
+    {
+        match self.lowest {
+            None => self.lowest = Some(fault),
+            Some(best) => {
+                if fault.number() < best.number() {
+                    self.lowest = Some(fault);
+                }
+            }
+        }
+    }
+}
+
+/// What is answered is the first of the faults of the lowest number, and nothing where there is no fault.
+#[tactic(auto, using(crate::proofs::Lowest::first_of_lowest))]
+pub fn first_is_answered()
+    ensures { (faults : List TextFault) → MatchOption (answered faults) (faults ≡ []) (IsFirstOfLowest faults) }
+{}

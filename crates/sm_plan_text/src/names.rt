@@ -1,0 +1,57 @@
+//! Names with their numbers.
+ghost use Rattle.std.specs.Prelude.{◌≡◌, [], OnOk, string_bytes};
+ghost use Rattle.std.specs.Str.{bytes_eq};
+ghost use Rattle.indexmap.specs.IndexSet.{insert_key};
+ghost use Rattle.sm_plan_text.specs.Values.{number_named};
+ghost use Rattle.sm_plan_text.specs.Tables.{is_among};
+
+use indexmap::IndexSet;
+use std::alloc::{AllocError, Global};
+use std::marker::Model;
+
+/// Names, each with the number of those before it.
+#[derive(Drop)]
+pub struct Names {
+    set: IndexSet<String>,
+}
+
+impl Model for Names {
+    ghost use Rattle.std.specs.Prelude.{ℕ, List, map, string_bytes};
+
+    ghost Value = { List (List ℕ) };
+
+    ghost view = { λ names. map string_bytes names.set.keys };
+}
+
+impl Names {
+    pub fn new(alloc: Global) -> Self
+        ensures { result ≡ [] }
+    {
+        Names {
+            set: IndexSet::new(alloc),
+        }
+    }
+
+    /// The number of a name.
+    pub fn find(&self, name: &str) -> Option<usize>
+        ensures { result ≡ number_named self.now name.now }
+    {
+        self.set.get_index_of(name)
+    }
+
+    /// The name is there.
+    pub fn contains(&self, name: &str) -> bool
+        ensures { result ≡ is_among self.now name.now }
+    {
+        self.set.contains(name)
+    }
+
+    /// Adds a name, unless it is there.
+    #[tactic(auto, using(crate::proofs::NameLemmas::insert_bytes))]
+    pub fn insert(&mut self, name: String) -> Result<(), AllocError>
+        ensures { OnOk result (self.new ≡ insert_key bytes_eq self.old (string_bytes name)) }
+    {
+        self.set.insert(name)?;
+        Ok(())
+    }
+}

@@ -1,0 +1,348 @@
+//! The members of one JSON object, each read with its faults.
+ghost use Rattle.std.specs.Prelude.{◌≡◌, option_map, option_and_then, map, IfOk, OnOk, string_bytes};
+ghost use Rattle.std.specs.List.{list_all};
+ghost use Rattle.serde_json.specs.View.{view, members_view};
+ghost use Rattle.sm_placement.specs.Names.{is_name_byte, is_name};
+ghost use Rattle.sm_plan_text.specs.Members.{text_of};
+ghost use Rattle.sm_plan_text.specs.Faults.{noted};
+ghost use Rattle.sm_plan_text.specs.Values.{found, text_found, text_in, flag_in, number_in, number_or, limited, entries_of, entries_in, id_of, id_named, id_in, role_named, role_in};
+ghost use Rattle.sm_plan_text.specs.Tables.{is_among, has_unknown, object_faults, row_faults, value_faults, count_faults, one, maybe, whole, flag, name, new_name, known, known_or_null, role, list};
+
+use crate::fault::{Faults, TextFault};
+use crate::member::Member;
+use crate::names::Names;
+use serde_json::{Map, Value};
+use sm_server::Role;
+use std::alloc::{AllocError, Global};
+
+/// The value of a member, where it stands.
+fn find(object: &Value, member: Member) -> Option<&Value>
+    ensures { option_map (λ v. view v.now) result ≡ found member (view object.now) }
+{
+    object.get(member.text())
+}
+
+fn is_known(key: &str, known: &[Member]) -> bool
+    ensures { result ≡ is_among (map text_of known.now) key.now }
+{
+    for member in known {
+        if key == member.text() {
+            return true;
+        }
+    }
+    false
+}
+
+#[tactic(auto, using(crate::proofs::ObjectLemmas::any_key))]
+fn has_unknown(members: &Map<String, Value>, known: &[Member]) -> bool
+    ensures { result ≡ has_unknown (map text_of known.now) (members_view members.now.entries) }
+{
+    for key in members.keys() {
+        if !is_known(key.as_str(), known) {
+            return true;
+        }
+    }
+    false
+}
+
+/// Notes that what stands in a place is no object, or has a member that it does not know.
+pub fn note_unknown(object: &Value, place: Member, known: &[Member], faults: &mut Faults)
+    ensures { faults.new.lowest ≡ noted faults.old.lowest (object_faults place (map text_of known.now) (view object.now)) }
+{
+    match object.as_object() {
+        Some(members) => {
+            if has_unknown(members, known) {
+                faults.note(TextFault::Shape { member: place });
+            }
+        }
+        None => faults.note(TextFault::Shape { member: place }),
+    }
+}
+
+/// The whole number that a value is, up to a limit.
+fn whole(value: &Value, member: Member, limit: u32, faults: &mut Faults) -> u32
+    ensures value { result ≡ limited limit (view value.now) }
+    ensures faults { faults.new.lowest ≡ noted faults.old.lowest (value_faults member (whole limit) (view value.now)) }
+{
+    if !value.is_number() {
+        faults.note(TextFault::Shape { member });
+        return 0;
+    }
+    match value.as_u64() {
+        Some(n) => {
+            if n <= u64::from(limit) {
+                return n as u32;
+            }
+        }
+        None => {}
+    }
+    faults.note(TextFault::Number { member });
+    0
+}
+
+/// A whole number up to a limit.
+pub fn number(object: &Value, member: Member, limit: u32, faults: &mut Faults) -> u32
+    ensures value { result ≡ number_in member limit (view object.now) }
+    ensures faults { faults.new.lowest ≡ noted faults.old.lowest (row_faults (view object.now) (one member (whole limit))) }
+{
+    match find(object, member) {
+        Some(value) => whole(value, member, limit, faults),
+        None => {
+            faults.note(TextFault::Shape { member });
+            0
+        }
+    }
+}
+
+/// A whole number up to a limit, or the default where the member is missing.
+pub fn number_or(
+    object: &Value,
+    member: Member,
+    default: u32,
+    limit: u32,
+    faults: &mut Faults,
+) -> u32
+    ensures value { result ≡ number_or default member limit (view object.now) }
+    ensures faults { faults.new.lowest ≡ noted faults.old.lowest (row_faults (view object.now) (maybe member (whole limit))) }
+{
+    match find(object, member) {
+        Some(value) => whole(value, member, limit, faults),
+        None => default,
+    }
+}
+
+/// True or false, and false where the member is missing.
+pub fn flag_or_false(object: &Value, member: Member, faults: &mut Faults) -> bool
+    ensures value { result ≡ flag_in member (view object.now) }
+    ensures faults { faults.new.lowest ≡ noted faults.old.lowest (row_faults (view object.now) (maybe member flag)) }
+{
+    let Some(value) = find(object, member) else {
+        return false;
+    };
+    match value.as_bool() {
+        Some(set) => set,
+        None => {
+            faults.note(TextFault::Shape { member });
+            false
+        }
+    }
+}
+
+/// The text of a member.
+pub fn text(object: &Value, member: Member) -> Option<&str>
+    ensures { option_map (λ s. s.now) result ≡ text_found member (view object.now) }
+{
+    match find(object, member) {
+        Some(value) => value.as_str(),
+        None => None,
+    }
+}
+
+fn is_name_byte(b: u8) -> bool
+    ensures { result ≡ is_name_byte b }
+{
+    b.is_ascii_alphanumeric() || b == b'-' || b == b'.' || b == b'_'
+}
+
+fn has_name_bytes(bytes: &[u8]) -> bool
+    ensures { result ≡ list_all is_name_byte bytes.now }
+{
+    bytes.iter().all(|b| is_name_byte(*b))
+}
+
+/// 1 to 32 letters, digits, `-`, `.` or `_`.
+fn is_name(text: &str) -> bool
+    ensures { result ≡ is_name text.now }
+{
+    1 <= text.len() && text.len() <= 32 && has_name_bytes(text.as_bytes())
+}
+
+/// A name.
+pub fn name(
+    alloc: Global,
+    object: &Value,
+    member: Member,
+    faults: &mut Faults,
+) -> Result<String, AllocError>
+    ensures value { IfOk result (λ s. string_bytes s ≡ text_in member (view object.now)) }
+    ensures faults { OnOk result (faults.new.lowest ≡ noted faults.old.lowest (row_faults (view object.now) (one member name))) }
+{
+    let Some(text) = text(object, member) else {
+        faults.note(TextFault::Shape { member });
+        return Ok(String::new(alloc));
+    };
+    if !is_name(text) {
+        faults.note(TextFault::Shape { member });
+    }
+    String::from_str(alloc, text)
+}
+
+/// A name that is not among those that are taken.
+pub fn new_name(
+    alloc: Global,
+    object: &Value,
+    member: Member,
+    taken: &Names,
+    faults: &mut Faults,
+) -> Result<String, AllocError>
+    ensures value { IfOk result (λ s. string_bytes s ≡ text_in member (view object.now)) }
+    ensures faults { OnOk result (faults.new.lowest ≡ noted faults.old.lowest (row_faults (view object.now) (one member (new_name taken.now)))) }
+{
+    let Some(text) = text(object, member) else {
+        faults.note(TextFault::Shape { member });
+        return Ok(String::new(alloc));
+    };
+    if !is_name(text) || taken.contains(text) {
+        faults.note(TextFault::Shape { member });
+    }
+    String::from_str(alloc, text)
+}
+
+/// A number as an id, which has 32 bits.
+pub fn id(n: usize) -> u32
+    ensures { result ≡ id_of n }
+{
+    match u32::try_from(n) {
+        Ok(id) => id,
+        Err(_) => 0,
+    }
+}
+
+/// The number of what a value names.
+fn known(value: &Value, member: Member, names: &Names, faults: &mut Faults) -> Option<u32>
+    ensures value { result ≡ id_named names.now (view value.now) }
+    ensures faults { faults.new.lowest ≡ noted faults.old.lowest (value_faults member (known names.now) (view value.now)) }
+{
+    let Some(text) = value.as_str() else {
+        faults.note(TextFault::Shape { member });
+        return None;
+    };
+    match names.find(text) {
+        Some(n) => Some(id(n)),
+        None => {
+            faults.note(TextFault::UnknownName { member });
+            None
+        }
+    }
+}
+
+/// The number of what a member names.
+pub fn reference(object: &Value, member: Member, names: &Names, faults: &mut Faults) -> u32
+    ensures value { result ≡ id_in names.now member (view object.now) }
+    ensures faults { faults.new.lowest ≡ noted faults.old.lowest (row_faults (view object.now) (one member (known names.now))) }
+{
+    let Some(value) = find(object, member) else {
+        faults.note(TextFault::Shape { member });
+        return 0;
+    };
+    match known(value, member, names, faults) {
+        Some(id) => id,
+        None => 0,
+    }
+}
+
+/// The number of what a member names, and none where it is null or missing.
+pub fn reference_or_none(
+    object: &Value,
+    member: Member,
+    names: &Names,
+    faults: &mut Faults,
+) -> Option<u32>
+    ensures value { result ≡ option_and_then (id_named names.now) (found member (view object.now)) }
+    ensures faults { faults.new.lowest ≡ noted faults.old.lowest (row_faults (view object.now) (maybe member (known_or_null names.now))) }
+{
+    let Some(value) = find(object, member) else {
+        return None;
+    };
+    if value.is_null() {
+        return None;
+    }
+    known(value, member, names, faults)
+}
+
+fn role_of(text: &str) -> Option<Role>
+    ensures { result ≡ role_named text.now }
+{
+    if text == "primary" {
+        Some(Role::Primary)
+    } else if text == "secondary" {
+        Some(Role::Secondary)
+    } else {
+        None
+    }
+}
+
+/// A replica's role.
+pub fn role(object: &Value, member: Member, faults: &mut Faults) -> Role
+    ensures value { result ≡ role_in member (view object.now) }
+    ensures faults { faults.new.lowest ≡ noted faults.old.lowest (row_faults (view object.now) (one member role)) }
+{
+    let Some(text) = text(object, member) else {
+        faults.note(TextFault::Shape { member });
+        return Role::Secondary;
+    };
+    match role_of(text) {
+        Some(role) => role,
+        None => {
+            faults.note(TextFault::Shape { member });
+            Role::Secondary
+        }
+    }
+}
+
+/// Notes that a list has more entries than it may have.
+fn note_count(count: usize, member: Member, limit: usize, faults: &mut Faults)
+    ensures { faults.new.lowest ≡ noted faults.old.lowest (count_faults member limit count) }
+{
+    if count > limit {
+        faults.note(TextFault::TooMany { member });
+    }
+}
+
+/// The entries of a value that is a list of at most so many.
+#[tactic(auto, using(crate::proofs::ObjectLemmas::entries_view, crate::proofs::ObjectLemmas::length_entries))]
+fn entries<'a>(value: &'a Value, member: Member, limit: usize, faults: &mut Faults) -> &'a [Value]
+    ensures entries { map view result.now ≡ entries_of (view value.now) }
+    ensures faults { faults.new.lowest ≡ noted faults.old.lowest (value_faults member (list limit) (view value.now)) }
+{
+    match value.as_array() {
+        Some(items) => {
+            note_count(items.len(), member, limit, faults);
+            items.as_slice()
+        }
+        None => {
+            faults.note(TextFault::Shape { member });
+            &[]
+        }
+    }
+}
+
+/// The entries of a list that may have so many, and none where there is no list.
+pub fn list<'a>(object: &'a Value, member: Member, limit: usize, faults: &mut Faults) -> &'a [Value]
+    ensures entries { map view result.now ≡ entries_in member (view object.now) }
+    ensures faults { faults.new.lowest ≡ noted faults.old.lowest (row_faults (view object.now) (one member (list limit))) }
+{
+    match find(object, member) {
+        Some(value) => entries(value, member, limit, faults),
+        None => {
+            faults.note(TextFault::Shape { member });
+            &[]
+        }
+    }
+}
+
+/// The entries of a list that may be missing.
+pub fn list_or_none<'a>(
+    object: &'a Value,
+    member: Member,
+    limit: usize,
+    faults: &mut Faults,
+) -> Option<&'a [Value]>
+    ensures entries { option_map (λ items. map view items.now) result ≡ option_map entries_of (found member (view object.now)) }
+    ensures faults { faults.new.lowest ≡ noted faults.old.lowest (row_faults (view object.now) (maybe member (list limit))) }
+{
+    match find(object, member) {
+        Some(value) => Some(entries(value, member, limit, faults)),
+        None => None,
+    }
+}

@@ -1,0 +1,110 @@
+//! The servers of a document.
+ghost use Rattle.std.specs.Prelude.{◌≡◌, ◌++◌, ◌∷◌, [], map, length, IfOk, OnOk, if◌then◌else◌};
+ghost use Rattle.std.specs.Str.{bytes_eq};
+ghost use Rattle.indexmap.specs.IndexSet.{insert_key};
+ghost use Rattle.serde_json.specs.View.{view};
+ghost use Rattle.sm_placement.specs.Config.{server_row};
+ghost use Rattle.sm_plan_text.specs.declared.member.Member.TheVariants as members;
+ghost use Rattle.sm_plan_text.specs.Faults.{noted};
+ghost use Rattle.sm_plan_text.specs.Values.{text_in, flag_in, names_in, id_of};
+ghost use Rattle.sm_plan_text.specs.Tables.{own_faults, walked};
+ghost use Rattle.sm_plan_text.specs.Servers.{server_table, server_faults, server_in, down_in};
+
+use crate::fault::Faults;
+use crate::member::Member;
+use crate::names::Names;
+use crate::object::{flag_or_false, id, name, new_name, note_unknown, number};
+use serde_json::Value;
+use sm_placement::Server;
+use sm_server::ServerId;
+use std::alloc::{AllocError, Global};
+
+/// The servers that have been read, their names, and those that are down.
+#[derive(Drop)]
+pub struct Servers {
+    pub rows: Vec<Server>,
+    pub names: Names,
+    pub down: Vec<ServerId>,
+}
+
+/// One server, and whether it is down.
+#[tactic(auto, using(crate::proofs::WalkLemmas::noted_append))]
+fn read_server(
+    alloc: Global,
+    object: &Value,
+    taken: &Names,
+    faults: &mut Faults,
+) -> Result<(Server, bool), AllocError>
+    ensures row { IfOk result (λ server. server_row server.0 ≡ server_in (view object.now)) }
+    ensures down { IfOk result (λ server. server.1 ≡ flag_in members.Down (view object.now)) }
+    ensures faults { OnOk result (faults.new.lowest
+        ≡ noted faults.old.lowest (own_faults members.Servers (server_table taken.now) (view object.now))) }
+{
+    note_unknown(
+        object,
+        Member::Servers,
+        &[Member::Name, Member::Region, Member::Room, Member::Down],
+        faults,
+    );
+    let name_text = new_name(alloc, object, Member::Name, taken, faults)?;
+    let region = name(alloc, object, Member::Region, faults)?;
+    let room = number(object, Member::Room, 4_294_967_295, faults);
+    let down = flag_or_false(object, Member::Down, faults);
+    let row = Server {
+        name: name_text,
+        region,
+        room: u64::from(room),
+    };
+    Ok((row, down))
+}
+
+/// Adds a server that is down.
+fn add_down(down: &mut Vec<ServerId>, is_down: bool, place: usize) -> Result<(), AllocError>
+    ensures { OnOk result (down.new.items ≡ (if is_down then down.old.items ++ id_of place ∷ [] else down.old.items)) }
+{
+    if is_down {
+        down.push(ServerId::new(id(place)))?;
+    }
+    Ok(())
+}
+
+/// Reads one server more.
+#[tactic(auto, using(std::proofs::lemmas::List::map_push))]
+fn add_server(
+    alloc: Global,
+    object: &Value,
+    servers: &mut Servers,
+    faults: &mut Faults,
+) -> Result<(), AllocError>
+    ensures rows { OnOk result (map server_row servers.new.rows.items ≡ map server_row servers.old.rows.items ++ server_in (view object.now) ∷ []) }
+    ensures names { OnOk result (servers.new.names ≡ insert_key bytes_eq servers.old.names (text_in members.Name (view object.now))) }
+    ensures down { OnOk result (servers.new.down.items
+        ≡ (if flag_in members.Down (view object.now) then servers.old.down.items ++ id_of (length servers.old.rows.items) ∷ [] else servers.old.down.items)) }
+    ensures faults { OnOk result (faults.new.lowest
+        ≡ noted faults.old.lowest (own_faults members.Servers (server_table servers.old.names) (view object.now))) }
+{
+    let (row, is_down) = read_server(alloc, object, &servers.names, faults)?;
+    let name = row.name.clone()?;
+    add_down(&mut servers.down, is_down, servers.rows.len())?;
+    servers.names.insert(name)?;
+    servers.rows.push(row)?;
+    Ok(())
+}
+
+/// The servers of a list.
+pub fn read_servers(alloc: Global, items: &[Value], faults: &mut Faults) -> Result<Servers, AllocError>
+    ensures rows { IfOk result (λ servers. map server_row servers.rows.items ≡ map server_in (map view items.now)) }
+    ensures names { IfOk result (λ servers. servers.names ≡ names_in (map view items.now)) }
+    ensures down { IfOk result (λ servers. servers.down.items ≡ down_in (map view items.now)) }
+    ensures faults { OnOk result (faults.new.lowest ≡ noted faults.old.lowest (walked server_faults [] (map view items.now))) }
+{
+    let mut servers = Servers {
+        rows: Vec::with_capacity(alloc, items.len())?,
+        names: Names::new(alloc),
+        down: Vec::new(alloc),
+    };
+    for item in items {
+        add_server(alloc, item, &mut servers, faults)?;
+    }
+    Ok(servers)
+}
