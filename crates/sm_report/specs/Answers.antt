@@ -1,16 +1,21 @@
 -- Calls made one after the other, and the lines of their answers.
-use Rattle.std.specs.Prelude.{ℕ, ◌+◌, List, [], ◌∷◌, ◌++◌, codes, Option, Some, None, Result, Ok, Err}
+use Rattle.std.specs.Prelude.{◌<◌, ℕ, ◌+◌, length, List, [], ◌∷◌, ◌++◌, codes, Option, Some, None, Result, Ok, Err}
 use Rattle.std.specs.Fmt.{decimal}
 use Rattle.sm_server.specs.declared.call.Refusal.{Refusal}
 use Rattle.sm_server.specs.declared.call.Refusal.TheVariants.{Down, AlreadyHeld, NotHeld, WrongRole, NoRoom}
 use Rattle.sm_server.specs.declared.call.Call.{Call}
-use Rattle.sm_placement.specs.Setup.{Sizes}
+use Rattle.sm_placement.specs.Setup.{Setup, Sizes}
+use Rattle.sm_placement.specs.Rows.{IsKnownCall}
 use Rattle.sm_placement.specs.Place.{Place, called}
 use Rattle.sm_report.specs.Lines.{line}
 
 -- a call, with the shard that it is for and the server that it is made at
 abbrev pub NamedCall : Type 0
 NamedCall = ℕ × ℕ × Call
+
+-- the call's shard and servers are known
+abbrev pub IsKnownNamed : Setup → NamedCall → Type 0
+IsKnownNamed setup named = (named.0 < length setup.shards) × (named.1 < length setup.servers) × IsKnownCall (length setup.servers) named.2
 
 abbrev pub result_of : Sizes → Place → NamedCall → Result Place Refusal
 result_of c p named = called c p named.0 named.1 named.2

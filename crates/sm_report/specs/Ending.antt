@@ -44,12 +44,20 @@ cell_line setup v Secondary = replica_line (server_name setup v) (codes "seconda
 cell_line setup v (Prepared from number) = handover_line (server_name setup v) (codes "prepared from") (server_name setup from) number
 cell_line setup v (Forwarding to number) = handover_line (server_name setup v) (codes "forwarding to") (server_name setup to) number
 
--- a shard's line, and those of its cells by server
-abbrev pub shard_lines : Setup → Place → ℕ → List ℕ
-shard_lines setup p s = shard_line setup p s
-    ++ flat_map (λ v. cell_line setup v (p.cells s v)) (range_with_len 0 (length setup.servers))
+-- the lines of a shard's cells, by server
+abbrev pub cell_lines : Setup → Place → ℕ → List ℕ
+cell_lines setup p s = flat_map (λ v. cell_line setup v (p.cells s v)) (range_with_len 0 (length setup.servers))
 
--- the lines of the placement
+-- the lines of a shard: its own, and those of its cells
+abbrev pub shard_lines : Setup → Place → ℕ → List ℕ
+shard_lines setup p s = shard_line setup p s ++ cell_lines setup p s
+
+abbrev pub server_lines : Setup → Place → List ℕ
+server_lines setup p = flat_map (server_line setup p) (range_with_len 0 (length setup.servers))
+
+abbrev pub all_shard_lines : Setup → Place → List ℕ
+all_shard_lines setup p = flat_map (shard_lines setup p) (range_with_len 0 (length setup.shards))
+
+-- the lines of a placement: its servers, and then its shards
 abbrev pub ending : Setup → Place → List ℕ
-ending setup p = flat_map (server_line setup p) (range_with_len 0 (length setup.servers))
-    ++ flat_map (shard_lines setup p) (range_with_len 0 (length setup.shards))
+ending setup p = server_lines setup p ++ all_shard_lines setup p

@@ -4,3 +4,4 @@ pub mod Lines
 pub mod Ending
 pub mod Answers
 pub mod Opening
+pub mod BadInput

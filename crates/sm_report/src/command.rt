@@ -53,6 +53,7 @@ fn parser<'a>(alloc: Global) -> Result<Parser<'a>, AllocError>
         "Makes the document's calls, and prints their answers and the placement after them",
     );
     Parser::new(alloc, "smplan")
+        .bin_name("smplan")?
         .about("Reads a placement of shards on standard input, and prints a report of it")
         .no_binary_name(true)
         .subcommand_required(true)

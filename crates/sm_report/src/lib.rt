@@ -2,6 +2,7 @@
 #![tactic(auto)]
 
 mod answers;
+mod bad_input;
 mod command;
 mod delivery;
 mod ending;
