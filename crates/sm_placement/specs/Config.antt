@@ -1,5 +1,5 @@
 -- The rows of a configuration's servers and shards, and why they are refused.
-use Rattle.std.specs.Prelude.{not, List, Option, Some, None, if◌then◌else◌, map, string_bytes}
+use Rattle.std.specs.Prelude.{not, ℕ, List, Option, Some, None, if◌then◌else◌, map, string_bytes}
 use Rattle.sm_placement.specs.declared.config.Server.{Server}
 use Rattle.sm_placement.specs.declared.config.Shard.{Shard}
 use Rattle.sm_placement.specs.declared.config.ConfigFault.{ConfigFault}
@@ -14,6 +14,14 @@ shard_row s = record { name = string_bytes s.name; load = s.load; want = s.want;
 
 abbrev pub setup_of : List Server → List Shard → Setup
 setup_of servers shards = record { servers = map server_row servers; shards = map shard_row shards }
+
+-- the names of servers in their order
+abbrev pub server_names : List Server → List (List ℕ)
+server_names servers = map (λ r. r.name) (map server_row servers)
+
+-- the names of shards in their order
+abbrev pub shard_names : List Shard → List (List ℕ)
+shard_names shards = map (λ r. r.name) (map shard_row shards)
 
 -- why servers and shards are no configuration: the first fault in the order of these lines
 abbrev pub config_fault : Setup → Option ConfigFault

@@ -1,7 +1,10 @@
 -- What a configuration says: its servers and its shards, each at its number.
-use Rattle.std.specs.Prelude.{◌≡◌, ◌≤◌, ◌<◌, ◌^◌, ◌-◌, ◌&&◌, ◌||◌, ℕ, Bool, true, false, List, [], length, Option, nat_lt, nat_le, map, position, slice_index_or, All}
+use Rattle.std.specs.Prelude.{◌≡◌, ◌≤◌, ◌<◌, ◌^◌, ◌-◌, ◌&&◌, ◌||◌, ◌==◌, ℕ, Bool, true, false, List, [], length, Option, nat_lt, nat_le, map, position, slice_index_or, All}
+use Rattle.std.specs.Cmp.{IsEquivalence}
+use Rattle.std.specs.Cmp.Lexicographic.{pointwise}
 use Rattle.std.specs.List.{list_all}
 use Rattle.std.specs.Str.{bytes_eq}
+use Rattle.std.proofs.lemmas.Cmp.{nat_eq_equiv, nat_list_eq_equiv, lists_equiv, on_equiv, and_equiv}
 use Rattle.sm_placement.specs.Names.{is_name, has_double}
 
 -- a server: its name, the region that it stands in, and the load that it has room for
@@ -41,9 +44,17 @@ shard_named setup name = position (λ n. bytes_eq name n) (names_of_shards setup
 abbrev pub is_too_large : Setup → Bool
 is_too_large setup = nat_lt 1024 (length setup.servers) || nat_lt 4096 (length setup.shards)
 
--- a server's name and region, and a shard's name, are names
+-- a server's name and region are names
+abbrev pub is_well_named_server : ServerRow → Bool
+is_well_named_server r = is_name r.name && is_name r.region
+
+-- a shard's name is a name
+abbrev pub is_well_named_shard : ShardRow → Bool
+is_well_named_shard r = is_name r.name
+
+-- every server and every shard is well named
 abbrev pub has_good_names : Setup → Bool
-has_good_names setup = list_all (λ r. is_name r.name && is_name r.region) setup.servers && list_all (λ r. is_name r.name) setup.shards
+has_good_names setup = list_all is_well_named_server setup.servers && list_all is_well_named_shard setup.shards
 
 -- two servers, or two shards, have one name
 abbrev pub has_doubled_name : Setup → Bool
@@ -71,6 +82,32 @@ pub record IsSetup (setup : Setup) : Type 0 where
   pub good_wants : All (λ r. r.want ≤ 1024) setup.shards
   pub good_caps : All (λ r. r.cap ≤ r.want) setup.shards
   pub good_spreads : All (λ r. r.spread ≤ 1024) setup.shards
+
+-- two servers agree in name, region and room
+abbrev pub same_server : ServerRow → ServerRow → Bool
+same_server a b = bytes_eq a.name b.name && (bytes_eq a.region b.region && (a.room == b.room))
+
+-- two shards agree in name, load, want, cap and spread
+abbrev pub same_shard : ShardRow → ShardRow → Bool
+same_shard a b = bytes_eq a.name b.name && ((a.load == b.load) && ((a.want == b.want) && ((a.cap == b.cap) && (a.spread == b.spread))))
+
+-- two configurations have the same servers and the same shards, each in the same order
+abbrev pub same_setup : Setup → Setup → Bool
+same_setup a b = pointwise same_server a.servers b.servers && pointwise same_shard a.shards b.shards
+
+pub same_server_laws : IsEquivalence same_server
+same_server_laws =
+    and_equiv (on_equiv (λ r. r.name) nat_list_eq_equiv) (and_equiv (on_equiv (λ r. r.region) nat_list_eq_equiv) (on_equiv (λ r. r.room) nat_eq_equiv))
+
+pub same_shard_laws : IsEquivalence same_shard
+same_shard_laws =
+    and_equiv (on_equiv (λ r. r.name) nat_list_eq_equiv)
+    (and_equiv (on_equiv (λ r. r.load) nat_eq_equiv)
+    (and_equiv (on_equiv (λ r. r.want) nat_eq_equiv)
+    (and_equiv (on_equiv (λ r. r.cap) nat_eq_equiv) (on_equiv (λ r. r.spread) nat_eq_equiv))))
+
+pub same_setup_laws : IsEquivalence same_setup
+same_setup_laws = and_equiv (on_equiv (λ c. c.servers) (lists_equiv same_server_laws)) (on_equiv (λ c. c.shards) (lists_equiv same_shard_laws))
 
 abbrev pub no_server : ServerRow
 no_server = record { name = []; region = []; room = 0 }

@@ -1,13 +1,33 @@
 //! The servers and shards that placements are of.
-ghost use Rattle.std.specs.Prelude.{◌≡◌, ◌≢◌, ◌≤◌, ◌<◌, ◌^◌, ◌-◌, map, Some, None, length, position, string_bytes, IfOk, OnOk, IfErr};
+ghost use Rattle.std.specs.Prelude.{◌≡◌, ◌≢◌, ◌≤◌, ◌<◌, ◌^◌, ◌-◌, ◌++◌, ◌∷◌, ◌&&◌, [], not, map, Some, None, length, position, string_bytes, is_none, IsTrue, IfOk, OnOk, IfErr, IfSome};
+ghost use Rattle.std.specs.List.{list_any, list_all};
+ghost use Rattle.std.specs.Cmp.Lexicographic.{pointwise};
 ghost use Rattle.std.specs.Str.{bytes_eq};
-ghost use Rattle.sm_placement.specs.Config.{server_row, shard_row};
+ghost use Rattle.sm_placement.specs.declared.config.ConfigFault.TheVariants.{NoMemory};
+ghost use Rattle.sm_placement.specs.Names.{is_name_byte, is_name, has_double};
+ghost use Rattle.sm_placement.specs.Setup.{is_too_large, is_well_named_server, is_well_named_shard, has_good_names, is_good_server, is_good_shard, has_good_numbers, same_server, same_shard};
+ghost use Rattle.sm_placement.specs.Config.{server_row, shard_row, setup_of, server_names, shard_names};
 
 use indexmap::IndexSet;
 use sm_server::{ServerId, ShardId};
 use std::alloc::{AllocError, Global};
 use std::marker::Model;
 use thiserror::Error;
+
+/// How many servers a configuration has at most.
+const MOST_SERVERS: usize = 1_024;
+
+/// How many shards a configuration has at most.
+const MOST_SHARDS: usize = 4_096;
+
+/// How many bytes a name has at most.
+const MOST_NAME_BYTES: usize = 32;
+
+/// The greatest load of a replica, and the greatest room of a server.
+const MOST_LOAD: u64 = 4_294_967_295;
+
+/// The greatest want, cap and spread of a shard.
+const MOST_REPLICAS: u32 = 1_024;
 
 /// A server: its name, the region that it stands in, and the load that it has room for.
 #[derive(Clone, Debug, Drop, PartialEq, Eq)]
@@ -53,7 +73,7 @@ pub enum ConfigFault {
 }
 
 /// Servers and shards, each with the number of its position.
-#[derive(Drop)]
+#[derive(Debug, Drop)]
 pub struct Config {
     servers: Vec<Server>,
     shards: Vec<Shard>,
@@ -72,6 +92,173 @@ impl Model for Config {
     ghost view = { λ c. setup_of c.servers.items c.shards.items };
 
     ghost invariant = { λ c. (map string_bytes c.server_names.keys ≡ names_of_servers (setup_of c.servers.items c.shards.items)) × (map string_bytes c.shard_names.keys ≡ names_of_shards (setup_of c.servers.items c.shards.items)) × IsSetup (setup_of c.servers.items c.shards.items) };
+}
+
+impl From<AllocError> for ConfigFault {
+    ghost from_gives = { λ _ why. why ≡ NoMemory };
+
+    fn from(_error: AllocError) -> ConfigFault {
+        ConfigFault::NoMemory
+    }
+}
+
+/// Whether a byte may stand in a name.
+fn is_name_byte(byte: u8) -> bool
+    ensures { result ≡ is_name_byte byte }
+{
+    byte.is_ascii_alphanumeric() || matches!(byte, b'-' | b'.' | b'_')
+}
+
+/// Whether all bytes of a text may stand in a name.
+fn are_name_bytes(text: &str) -> bool
+    ensures { result ≡ list_all is_name_byte text.now }
+{
+    text.bytes().all(is_name_byte)
+}
+
+/// Whether a text is a name.
+fn is_name(text: &str) -> bool
+    ensures { result ≡ is_name text.now }
+{
+    !text.is_empty() && text.len() <= MOST_NAME_BYTES && are_name_bytes(text)
+}
+
+/// Whether there are more servers or shards than a configuration has.
+fn is_too_large(servers: &[Server], shards: &[Shard]) -> bool
+    ensures { result ≡ is_too_large (setup_of servers.now shards.now) }
+{
+    servers.len() > MOST_SERVERS || shards.len() > MOST_SHARDS
+}
+
+/// Whether a server's name and region are names.
+fn is_well_named_server(server: &Server) -> bool
+    ensures { result ≡ is_well_named_server (server_row server.now) }
+{
+    is_name(&server.name) && is_name(&server.region)
+}
+
+/// Whether a shard's name is a name.
+fn is_well_named_shard(shard: &Shard) -> bool
+    ensures { result ≡ is_well_named_shard (shard_row shard.now) }
+{
+    is_name(&shard.name)
+}
+
+/// Whether every server is well named.
+fn are_well_named_servers(servers: &[Server]) -> bool
+    ensures { result ≡ list_all (λ s. is_well_named_server (server_row s)) servers.now }
+{
+    servers.iter().all(is_well_named_server)
+}
+
+/// Whether every shard is well named.
+fn are_well_named_shards(shards: &[Shard]) -> bool
+    ensures { result ≡ list_all (λ s. is_well_named_shard (shard_row s)) shards.now }
+{
+    shards.iter().all(is_well_named_shard)
+}
+
+/// Whether a server's room is within its limit.
+fn is_good_server(server: &Server) -> bool
+    ensures { result ≡ is_good_server (server_row server.now) }
+{
+    server.room <= MOST_LOAD
+}
+
+/// Whether a shard's numbers are within their limits.
+fn is_good_shard(shard: &Shard) -> bool
+    ensures { result ≡ is_good_shard (shard_row shard.now) }
+{
+    shard.load <= MOST_LOAD
+        && shard.want <= MOST_REPLICAS
+        && shard.cap <= MOST_REPLICAS
+        && shard.spread <= MOST_REPLICAS
+        && shard.cap <= shard.want
+}
+
+/// Whether each server's room is within its limit.
+fn are_good_servers(servers: &[Server]) -> bool
+    ensures { result ≡ list_all (λ s. is_good_server (server_row s)) servers.now }
+{
+    servers.iter().all(is_good_server)
+}
+
+/// Whether each shard's numbers are within their limits.
+fn are_good_shards(shards: &[Shard]) -> bool
+    ensures { result ≡ list_all (λ s. is_good_shard (shard_row s)) shards.now }
+{
+    shards.iter().all(is_good_shard)
+}
+
+/// Whether every server and every shard is well named.
+#[tactic(auto, using(crate::proofs::ConfigLemmas::all_well_named_servers, crate::proofs::ConfigLemmas::all_well_named_shards))]
+fn has_good_names(servers: &[Server], shards: &[Shard]) -> bool
+    ensures { result ≡ has_good_names (setup_of servers.now shards.now) }
+{
+    are_well_named_servers(servers) && are_well_named_shards(shards)
+}
+
+/// Whether all numbers are within their limits.
+#[tactic(auto, using(crate::proofs::ConfigLemmas::all_good_servers, crate::proofs::ConfigLemmas::all_good_shards))]
+fn has_good_numbers(servers: &[Server], shards: &[Shard]) -> bool
+    ensures { result ≡ has_good_numbers (setup_of servers.now shards.now) }
+{
+    are_good_servers(servers) && are_good_shards(shards)
+}
+
+/// Puts a name last in a table, and says whether it was new there.
+#[tactic(auto, using(crate::proofs::ConfigLemmas::any_name))]
+fn insert_name(alloc: Global, names: &mut IndexSet<String>, name: &str) -> Result<bool, AllocError>
+    ensures added { IfOk result (λ added. added ≡ not (list_any (bytes_eq name.now) (map string_bytes names.old.keys))) }
+    ensures names { IfOk result (λ added. IsTrue added → map string_bytes names.new.keys ≡ map string_bytes names.old.keys ++ name.now ∷ []) }
+{
+    Ok(names.insert(String::from_str(alloc, name)?)?)
+}
+
+/// The table of the servers' names, or nothing where two have one name.
+#[tactic(auto, using(crate::proofs::DoubleLemmas::server_names_more, crate::proofs::DoubleLemmas::server_single_more, crate::proofs::DoubleLemmas::server_double_here))]
+fn server_table(alloc: Global, servers: &[Server]) -> Result<Option<IndexSet<String>>, AllocError>
+    ensures double { IfOk result (λ table. is_none table ≡ has_double (server_names servers.now)) }
+    ensures names { IfOk result (λ table. IfSome table (λ names. map string_bytes names.keys ≡ server_names servers.now)) }
+{
+    let mut names = IndexSet::new(alloc);
+    for server in servers {
+        if !insert_name(alloc, &mut names, &server.name)? {
+            return Ok(None);
+        }
+    }
+    Ok(Some(names))
+}
+
+/// The table of the shards' names, or nothing where two have one name.
+#[tactic(auto, using(crate::proofs::DoubleLemmas::shard_names_more, crate::proofs::DoubleLemmas::shard_single_more, crate::proofs::DoubleLemmas::shard_double_here))]
+fn shard_table(alloc: Global, shards: &[Shard]) -> Result<Option<IndexSet<String>>, AllocError>
+    ensures double { IfOk result (λ table. is_none table ≡ has_double (shard_names shards.now)) }
+    ensures names { IfOk result (λ table. IfSome table (λ names. map string_bytes names.keys ≡ shard_names shards.now)) }
+{
+    let mut names = IndexSet::new(alloc);
+    for shard in shards {
+        if !insert_name(alloc, &mut names, &shard.name)? {
+            return Ok(None);
+        }
+    }
+    Ok(Some(names))
+}
+
+/// Whether two lists of servers agree.
+#[tactic(auto, using(crate::proofs::SameLemmas::same_server_rows))]
+fn same_servers(some: &[Server], others: &[Server]) -> bool
+    ensures { result ≡ pointwise same_server (map server_row some.now) (map server_row others.now) }
+{
+    some == others
+}
+
+/// Whether two lists of shards agree.
+#[tactic(auto, using(crate::proofs::SameLemmas::same_shard_rows))]
+fn same_shards(some: &[Shard], others: &[Shard]) -> bool
+    ensures { result ≡ pointwise same_shard (map shard_row some.now) (map shard_row others.now) }
+{
+    some == others
 }
 
 /// A copy of servers.
@@ -114,6 +301,36 @@ impl Config {
     ghost use Rattle.std.specs.Prelude.{slice_index_or, IfSome};
     ghost use Rattle.sm_placement.specs.Setup.{IsSetup, no_server, no_shard, server_named, shard_named, sizes_of};
     ghost use Rattle.sm_placement.specs.Config.{server_row, shard_row, setup_of, config_fault};
+
+    /// Copies servers and shards, or says why they are no configuration: the first fault in the order of `ConfigFault`.
+    #[tactic(auto, using(crate::proofs::SetupLemmas::setup_from_tests))]
+    pub fn new(alloc: Global, servers: &[Server], shards: &[Shard]) -> Result<Config, ConfigFault>
+        ensures ok { IfOk result (λ config. config ≡ setup_of servers.now shards.now) }
+        ensures valid { OnOk result (config_fault (setup_of servers.now shards.now) ≡ None) }
+        ensures refused { IfErr result (λ why. why ≢ ConfigFault.NoMemory → config_fault (setup_of servers.now shards.now) ≡ Some why) }
+    {
+        if is_too_large(servers, shards) {
+            return Err(ConfigFault::TooMany);
+        }
+        if !has_good_names(servers, shards) {
+            return Err(ConfigFault::BadName);
+        }
+        let Some(server_names) = server_table(alloc, servers)? else {
+            return Err(ConfigFault::DoubleName);
+        };
+        let Some(shard_names) = shard_table(alloc, shards)? else {
+            return Err(ConfigFault::DoubleName);
+        };
+        if !has_good_numbers(servers, shards) {
+            return Err(ConfigFault::BadNumber);
+        }
+        Ok(Config {
+            servers: copied_servers(alloc, servers)?,
+            shards: copied_shards(alloc, shards)?,
+            server_names,
+            shard_names,
+        })
+    }
 
     /// A copy of the configuration.
     pub fn copy(&self, alloc: Global) -> Result<Config, AllocError>
@@ -226,4 +443,27 @@ impl Config {
     {
         number_of(&self.shard_names, name).map(ShardId::new)
     }
+}
+
+impl PartialEq for Config {
+    ghost use Rattle.std.specs.Prelude.{◌↔◌};
+    ghost use Rattle.std.specs.Cmp.{partial_equiv_from_equiv};
+    ghost use Rattle.sm_placement.specs.Setup.{same_setup, same_setup_laws};
+
+    ghost eq = { same_setup };
+
+    ghost laws = { partial_equiv_from_equiv same_setup_laws };
+
+    fn eq(&self, other: &Config) -> bool
+        ensures same { result ≡ same_setup self.now other.now }
+        ensures equal { IsTrue result ↔ (self.now ≡ other.now) }
+    {
+        same_servers(self.servers(), other.servers()) && same_shards(self.shards(), other.shards())
+    }
+}
+
+impl Eq for Config {
+    ghost use Rattle.sm_placement.specs.Setup.{same_setup_laws};
+
+    ghost laws = { same_setup_laws };
 }

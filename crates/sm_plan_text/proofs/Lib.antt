@@ -3,3 +3,7 @@ pub mod NameLemmas
 pub mod ObjectLemmas
 pub mod WalkLemmas
 pub mod ServerLemmas
+pub mod ShardLemmas
+pub mod CallLemmas
+pub mod Texts
+pub mod Faultless

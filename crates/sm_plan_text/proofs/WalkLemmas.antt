@@ -1,7 +1,7 @@
 -- A walk over the entries of a list, one entry after another.
 use Rattle.std.proofs.Common.{◌≡◌, ◌++◌, ◌+◌, ◌<◌, ◌≤◌, ℕ, List, [], ◌∷◌, length, take, drop, get_or, map, Option, Some, None, refl, ap, sym, ◌∙◌, subst, append_assoc, add-zero, arith}
 use Rattle.std.specs.List.{enumerate_from}
-use Rattle.std.proofs.lemmas.List.{drop_more, take_more, drop_all, get_or-map, length-map}
+use Rattle.std.proofs.lemmas.List.{drop_more, take_more, drop_all, get_or-map, length-map, map_push}
 use Rattle.serde_json.specs.Data.{Data}
 use Rattle.serde_json.specs.View.{view}
 use Rattle.serde_json.specs.declared.value.Value.{Value}
@@ -51,3 +51,10 @@ enumerate_push n (y ∷ ys) x = ap (λ zs. (n, y) ∷ zs) (enumerate_push (n + 1
 -- what a loop has made of the entries so far, one entry on
 pub step_on : {A : Type 0} (f : List Data → A) (items : List Value) (i : ℕ) (item : Value) (new : A) → i < length items → item ≡ get_or items i item → new ≡ f (take i (map view items) ++ view item ∷ []) → new ≡ f (take (i + 1) (map view items))
 step_on f items i item new h is e = e ∙ sym (at_take_view f items i item h is)
+
+-- the same where each entry adds one
+pub mapped_step : {A : Type 0} (f : Data → A) (items : List Value) (i : ℕ) (item : Value) (start old new : List A) → i < length items → item ≡ get_or items i item → new ≡ old ++ f (view item) ∷ [] → old ≡ start ++ map f (take i (map view items)) → new ≡ start ++ map f (take (i + 1) (map view items))
+mapped_step f items i item start old new h is e inv =
+    let front : List Data = take i (map view items) in
+    step_on (λ ds. start ++ map f ds) items i item new h is
+      (e ∙ ap (λ xs. xs ++ f (view item) ∷ []) inv ∙ append_assoc start (map f front) (f (view item) ∷ []) ∙ ap (λ xs. start ++ xs) (sym (map_push f front (view item))))

@@ -3,3 +3,7 @@ pub mod Faults
 pub mod Values
 pub mod Tables
 pub mod Servers
+pub mod Shards
+pub mod Calls
+pub mod Documents
+pub mod Reading

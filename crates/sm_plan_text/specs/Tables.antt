@@ -56,30 +56,30 @@ one m want = record { member = m; optional = false; want = want }
 abbrev pub maybe : Member → Want → Row
 maybe m want = record { member = m; optional = true; want = want }
 
-abbrev limit_fault : Member → ℕ → Option ℕ → List TextFault
+abbrev pub limit_fault : Member → ℕ → Option ℕ → List TextFault
 limit_fault m limit None = Number m ∷ []
 limit_fault m limit (Some n) = if nat_le n limit then [] else Number m ∷ []
 
-abbrev number_fault : Member → ℕ → Option Num → List TextFault
+abbrev pub number_fault : Member → ℕ → Option Num → List TextFault
 number_fault m limit None = Shape m ∷ []
 number_fault m limit (Some n) = limit_fault m limit (as_u64 n)
 
-abbrev flag_fault : Member → Option Bool → List TextFault
+abbrev pub flag_fault : Member → Option Bool → List TextFault
 flag_fault m None = Shape m ∷ []
 flag_fault m (Some b) = []
 
-abbrev text_fault : Member → (List ℕ → Bool) → Option (List ℕ) → List TextFault
+abbrev pub text_fault : Member → (List ℕ → Bool) → Option (List ℕ) → List TextFault
 text_fault m passes None = Shape m ∷ []
 text_fault m passes (Some s) = if passes s then [] else Shape m ∷ []
 
-abbrev name_fault : Member → List (List ℕ) → Option (List ℕ) → List TextFault
+abbrev pub name_fault : Member → List (List ℕ) → Option (List ℕ) → List TextFault
 name_fault m names None = Shape m ∷ []
 name_fault m names (Some s) = if is_some (number_named names s) then [] else UnknownName m ∷ []
 
 abbrev pub count_faults : Member → ℕ → ℕ → List TextFault
 count_faults m limit count = if nat_le count limit then [] else TooMany m ∷ []
 
-abbrev list_fault : Member → ℕ → Option Items → List TextFault
+abbrev pub list_fault : Member → ℕ → Option Items → List TextFault
 list_fault m limit None = Shape m ∷ []
 list_fault m limit (Some ds) = count_faults m limit (length (entries ds))
 
@@ -92,7 +92,7 @@ value_faults m (known names) d = name_fault m names (as_str d)
 value_faults m (known_or_null names) d = if is_some (as_null d) then [] else name_fault m names (as_str d)
 value_faults m (list limit) d = list_fault m limit (as_array d)
 
-abbrev found_faults : Row → Option Data → List TextFault
+abbrev pub found_faults : Row → Option Data → List TextFault
 found_faults row None = if row.optional then [] else Shape row.member ∷ []
 found_faults row (Some d) = value_faults row.member row.want d
 
@@ -120,17 +120,17 @@ object_faults place names d = unknown_fault place names (as_object d)
 abbrev pub own_faults : Member → List Row → Data → List TextFault
 own_faults place table d = object_faults place (map (λ row. text_of row.member) table) d ++ flat_map (row_faults d) table
 
-abbrev by_word : {W : Type 0} → Member → Member → (W → List Row) → Data → Option W → List TextFault
-by_word place word table d None = Shape word ∷ []
-by_word place word table d (Some w) = object_faults place (text_of word ∷ map (λ row. text_of row.member) (table w)) d ++ flat_map (row_faults d) (table w)
+-- what stands in this place is no object, or a word of it isn't listed
+abbrev pub unlisted_faults : Member → Member → Data → List TextFault
+unlisted_faults place word d = (if is_some (as_object d) then [] else Shape place ∷ []) ++ Shape word ∷ []
 
--- what stands in this place is no object
-abbrev no_object_faults : Member → Data → List TextFault
-no_object_faults place d = if is_some (as_object d) then [] else Shape place ∷ []
+abbrev pub by_word : {W : Type 0} → Member → Member → (W → List Row) → Data → Option W → List TextFault
+by_word place word table d None = unlisted_faults place word d
+by_word place word table d (Some w) = object_faults place (text_of word ∷ map (λ row. text_of row.member) (table w)) d ++ flat_map (row_faults d) (table w)
 
 -- the faults of the object itself, where a word of it says which table it has
 abbrev pub worded_faults : {W : Type 0} → Member → Member → (List ℕ → Option W) → (W → List Row) → Data → List TextFault
-worded_faults place word named table d = no_object_faults place d ++ by_word place word table d (option_and_then named (text_found word d))
+worded_faults place word named table d = by_word place word table d (option_and_then named (text_found word d))
 
 -- The faults of the entries of a list, front to back. Those of an entry may depend on the entries before it.
 abbrev pub walked : (List Data → Data → List TextFault) → List Data → List Data → List TextFault

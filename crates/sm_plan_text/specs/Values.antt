@@ -50,8 +50,12 @@ entries (item d ds) = d ∷ entries ds
 abbrev pub entries_of : Data → List Data
 entries_of d = unwrap_or (option_map entries (as_array d)) []
 
+-- the entries of a list that may be missing
+abbrev pub list_in : Member → Data → Option (List Data)
+list_in member d = option_map entries_of (found member d)
+
 abbrev pub entries_in : Member → Data → List Data
-entries_in member d = unwrap_or (option_map entries_of (found member d)) []
+entries_in member d = unwrap_or (list_in member d) []
 
 -- the names of these objects, each once
 abbrev pub names_in : List Data → List (List ℕ)

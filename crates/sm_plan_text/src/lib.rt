@@ -1,11 +1,15 @@
 //! Placements and calls as JSON documents.
 #![tactic(auto)]
 
+mod call;
+mod document;
 mod fault;
 mod member;
 mod names;
 mod object;
 mod server;
+mod shard;
 
+pub use document::{Document, read_document};
 pub use fault::{TextFault, first_is_answered};
 pub use member::Member;

@@ -5,7 +5,7 @@ ghost use Rattle.serde_json.specs.View.{view, members_view};
 ghost use Rattle.sm_placement.specs.Names.{is_name_byte, is_name};
 ghost use Rattle.sm_plan_text.specs.Members.{text_of};
 ghost use Rattle.sm_plan_text.specs.Faults.{noted};
-ghost use Rattle.sm_plan_text.specs.Values.{found, text_found, text_in, flag_in, number_in, number_or, limited, entries_of, entries_in, id_of, id_named, id_in, role_named, role_in};
+ghost use Rattle.sm_plan_text.specs.Values.{found, whole_of, text_found, text_in, flag_in, number_in, number_or, limited, entries_of, list_in, entries_in, id_of, id_named, id_in, role_named, role_in};
 ghost use Rattle.sm_plan_text.specs.Tables.{is_among, has_unknown, object_faults, row_faults, value_faults, count_faults, one, maybe, whole, flag, name, new_name, known, known_or_null, role, list};
 
 use crate::fault::{Faults, TextFault};
@@ -56,6 +56,16 @@ pub fn note_unknown(object: &Value, place: Member, known: &[Member], faults: &mu
             }
         }
         None => faults.note(TextFault::Shape { member: place }),
+    }
+}
+
+/// The whole number that a member is.
+pub fn whole_number(object: &Value, member: Member) -> Option<u64>
+    ensures { result ≡ option_and_then whole_of (found member (view object.now)) }
+{
+    match find(object, member) {
+        Some(value) => value.as_u64(),
+        None => None,
     }
 }
 
@@ -338,7 +348,7 @@ pub fn list_or_none<'a>(
     limit: usize,
     faults: &mut Faults,
 ) -> Option<&'a [Value]>
-    ensures entries { option_map (λ items. map view items.now) result ≡ option_map entries_of (found member (view object.now)) }
+    ensures entries { option_map (λ items. map view items.now) result ≡ list_in member (view object.now) }
     ensures faults { faults.new.lowest ≡ noted faults.old.lowest (row_faults (view object.now) (maybe member (list limit))) }
 {
     match find(object, member) {

@@ -10,7 +10,7 @@ use Rattle.sm_plan_text.specs.Faults.{noted}
 use Rattle.sm_plan_text.specs.Tables.{own_faults}
 use Rattle.sm_plan_text.specs.Values.{text_in, flag_in, id_of, names_in}
 use Rattle.sm_plan_text.specs.Servers.{server_table, server_faults, server_in, down_in}
-use Rattle.sm_plan_text.proofs.WalkLemmas.{step_on, walked_step}
+use Rattle.sm_plan_text.proofs.WalkLemmas.{step_on, mapped_step, walked_step}
 use Rattle.sm_plan_text.proofs.ServerLemmas.{names_in_push, down_in_push}
 use Rattle.sm_plan_text.proofs.server.read_servers.Goals as goal
 
@@ -23,8 +23,7 @@ loop-item-preserved c =
     let count : length c.loop-item.servers.rows.items ≡ length front =
       sym (length-map c.loop-item.servers.rows.items server_row) ∙ ap length c.loop-item.invariant.rows ∙ length-map front server_in in
     record {
-      rows = step_on (map server_in) items i item _ c.loop-item-test.true c.item-item.is
-        (c.in_ok-add_server.ensures.rows ∙ ap (λ rows. rows ++ server_in (view item) ∷ []) c.loop-item.invariant.rows ∙ sym (map_push server_in front (view item)));
+      rows = mapped_step server_in items i item [] _ _ c.loop-item-test.true c.item-item.is c.in_ok-add_server.ensures.rows c.loop-item.invariant.rows;
       names = step_on names_in items i item _ c.loop-item-test.true c.item-item.is
         (c.in_ok-add_server.ensures.names ∙ ap (λ names. insert_key bytes_eq names (text_in members.Name (view item))) c.loop-item.invariant.names ∙ sym (names_in_push front (view item)));
       down = step_on down_in items i item _ c.loop-item-test.true c.item-item.is

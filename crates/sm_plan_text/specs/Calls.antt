@@ -1,0 +1,53 @@
+-- The calls of a document.
+use Rattle.std.specs.Prelude.{ℕ, List, [], ◌∷◌, ◌++◌, codes, Option, Some, None, option_and_then, if◌then◌else◌}
+use Rattle.std.specs.Str.{bytes_eq}
+use Rattle.serde_json.specs.Data.{Data}
+use Rattle.sm_server.specs.declared.call.Call.{Call}
+use Rattle.sm_server.specs.declared.call.Call.TheVariants as call
+use Rattle.sm_plan_text.specs.declared.fault.TextFault.{TextFault}
+use Rattle.sm_plan_text.specs.declared.member.Member.TheVariants.{Calls, Call as CallMember, Shard, Server, Role, From, To, Other, Number}
+use Rattle.sm_plan_text.specs.declared.call.CallWord.{CallWord}
+use Rattle.sm_plan_text.specs.declared.call.CallWord.TheVariants as word
+use Rattle.sm_plan_text.specs.Values.{text_found, number_in, id_in, role_in}
+use Rattle.sm_plan_text.specs.Tables.{Row, one, whole, known, role, worded_faults}
+
+abbrev pub call_word : List ℕ → Option CallWord
+call_word text =
+    if bytes_eq text (codes "add") then Some word.Add
+    else if bytes_eq text (codes "drop") then Some word.Drop
+    else if bytes_eq text (codes "change") then Some word.Change
+    else if bytes_eq text (codes "prepare_add") then Some word.PrepareAdd
+    else if bytes_eq text (codes "prepare_drop") then Some word.PrepareDrop
+    else None
+
+-- the members that a call has by its word
+abbrev pub word_table : List (List ℕ) → CallWord → List Row
+word_table servers word.Add = one Role role ∷ []
+word_table servers word.Drop = []
+word_table servers word.Change = one From role ∷ one To role ∷ []
+word_table servers word.PrepareAdd = one Other (known servers) ∷ one Number (whole 4294967295) ∷ []
+word_table servers word.PrepareDrop = one Other (known servers) ∷ one Number (whole 4294967295) ∷ []
+
+abbrev pub call_table : List (List ℕ) → List (List ℕ) → CallWord → List Row
+call_table shards servers w = one Shard (known shards) ∷ one Server (known servers) ∷ word_table servers w
+
+abbrev pub call_faults : List (List ℕ) → List (List ℕ) → List Data → Data → List TextFault
+call_faults shards servers before d = worded_faults Calls CallMember call_word (call_table shards servers) d
+
+abbrev pub call_of : List (List ℕ) → Data → CallWord → Call
+call_of servers d word.Add = call.Add (role_in Role d)
+call_of servers d word.Drop = call.Drop
+call_of servers d word.Change = call.Change (role_in From d) (role_in To d)
+call_of servers d word.PrepareAdd = call.PrepareAdd (id_in servers Other d) (number_in Number 4294967295 d)
+call_of servers d word.PrepareDrop = call.PrepareDrop (id_in servers Other d) (number_in Number 4294967295 d)
+
+-- a call, with the shard that it is for and the server that it is made at
+abbrev pub NamedCall : Type 0
+NamedCall = ℕ × ℕ × Call
+
+abbrev pub call_by : List (List ℕ) → List (List ℕ) → Data → Option CallWord → NamedCall
+call_by shards servers d None = (0, 0, call.Drop)
+call_by shards servers d (Some w) = (id_in shards Shard d, id_in servers Server d, call_of servers d w)
+
+abbrev pub call_in : List (List ℕ) → List (List ℕ) → Data → NamedCall
+call_in shards servers d = call_by shards servers d (option_and_then call_word (text_found CallMember d))

@@ -1,0 +1,78 @@
+-- A document.
+use Rattle.std.specs.Prelude.{◌≡◌, ◌≤◌, ◌<◌, ℕ, List, [], ◌∷◌, ◌++◌, length, map, Option, Some, None, option_map, All, IfSome}
+use Rattle.serde_json.specs.Data.{Data}
+use Rattle.sm_placement.specs.Setup.{Setup}
+use Rattle.sm_placement.specs.Opening.{NamedCell}
+use Rattle.sm_placement.specs.Rows.{IsKnownCall}
+use Rattle.sm_plan_text.specs.declared.fault.TextFault.{TextFault}
+use Rattle.sm_plan_text.specs.declared.member.Member.TheVariants as members
+use Rattle.sm_plan_text.specs.Values.{number_in, number_or, list_in, entries_in, names_in}
+use Rattle.sm_plan_text.specs.Tables.{Row, one, maybe, whole, list, own_faults, walked}
+use Rattle.sm_plan_text.specs.Servers.{server_faults, server_in, down_in}
+use Rattle.sm_plan_text.specs.Shards.{shard_faults, shard_in, listed_in, cells_in}
+use Rattle.sm_plan_text.specs.Calls.{NamedCall, call_faults, call_in}
+
+-- what a document says
+pub record DocumentRows : Type 0 where
+  pub setup : Setup
+  pub cells : List NamedCell
+  pub listed : List (Option ℕ)
+  pub down : List ℕ
+  pub limit : ℕ
+  pub log : ℕ
+  pub calls : Option (List NamedCall)
+
+abbrev pub document_table : List Row
+document_table =
+    one members.Limit (whole 1024) ∷
+    one members.Servers (list 1024) ∷
+    one members.Shards (list 4096) ∷
+    maybe members.Log (whole 1048576) ∷
+    maybe members.Calls (list 1048576) ∷ []
+
+abbrev pub servers_in : Data → List Data
+servers_in d = entries_in members.Servers d
+
+abbrev pub shards_in : Data → List Data
+shards_in d = entries_in members.Shards d
+
+-- the names of the servers, and of the shards
+abbrev pub server_names : Data → List (List ℕ)
+server_names d = names_in (servers_in d)
+
+abbrev pub shard_names : Data → List (List ℕ)
+shard_names d = names_in (shards_in d)
+
+-- all faults of a document, as a walk meets them: its own, and then those of the objects in it
+abbrev pub document_faults : Data → List TextFault
+document_faults d =
+    own_faults members.Document document_table d
+    ++ walked server_faults [] (servers_in d)
+    ++ walked (shard_faults (server_names d)) [] (shards_in d)
+    ++ walked (call_faults (shard_names d) (server_names d)) [] (entries_in members.Calls d)
+
+abbrev pub setup_in : Data → Setup
+setup_in d = record { servers = map server_in (servers_in d); shards = map shard_in (shards_in d) }
+
+abbrev pub rows_in : Data → DocumentRows
+rows_in d = record {
+  setup = setup_in d;
+  cells = cells_in (server_names d) (shards_in d);
+  listed = map (listed_in (server_names d)) (shards_in d);
+  down = down_in (servers_in d);
+  limit = number_in members.Limit 1024 d;
+  log = number_or 65536 members.Log 1048576 d;
+  calls = option_map (map (call_in (shard_names d) (server_names d))) (list_in members.Calls d);
+}
+
+-- every id is below its count
+pub record IsDocument (rows : DocumentRows) : Type 0 where
+  pub cells : All (λ cell. (cell.0 < length rows.setup.shards) × (cell.1 < length rows.setup.servers)) rows.cells
+  pub listed : All (λ entry. IfSome entry (λ server. server < length rows.setup.servers)) rows.listed
+  pub down : All (λ server. server < length rows.setup.servers) rows.down
+  pub calls : IfSome rows.calls (λ calls. All (λ call. (call.0 < length rows.setup.shards) × (call.1 < length rows.setup.servers) × IsKnownCall (length rows.setup.servers) call.2) calls)
+  -- each shard has its entry in the published map, and there are no more cells than a placement may be opened with
+  pub listed_length : length rows.listed ≡ length rows.setup.shards
+  pub cell_count : length rows.cells ≤ 1048576
+  pub limit : rows.limit ≤ 1024
+  pub log : rows.log ≤ 1048576

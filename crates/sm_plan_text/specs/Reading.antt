@@ -1,0 +1,52 @@
+-- What bytes are read as.
+use Rattle.std.specs.Prelude.{ℕ, List, Option, Some, None, Result, Ok, Err, option_map, if◌then◌else◌}
+use Rattle.std.specs.Str.{is_utf8}
+use Rattle.serde_json.specs.Data.{Data}
+use Rattle.serde_json.specs.Read as json
+use Rattle.sm_placement.specs.Config.{setup_of}
+use Rattle.sm_plan_text.specs.declared.fault.TextFault.{TextFault}
+use Rattle.sm_plan_text.specs.declared.fault.TextFault.TheVariants.{NotJson}
+use Rattle.sm_plan_text.specs.declared.document.Document.{Document}
+use Rattle.sm_plan_text.specs.declared.document.Parts.{Parts}
+use Rattle.sm_plan_text.specs.Faults.{answered}
+use Rattle.sm_plan_text.specs.Documents.{DocumentRows, document_faults, rows_in}
+
+-- the JSON value that the bytes are in UTF-8
+abbrev pub data_of : List ℕ → Option Data
+data_of bytes = if is_utf8 bytes then json.read bytes else None
+
+abbrev unless : Option TextFault → DocumentRows → Result DocumentRows TextFault
+unless None rows = Ok rows
+unless (Some fault) rows = Err fault
+
+abbrev pub read_data : Option Data → Result DocumentRows TextFault
+read_data None = Err NotJson
+read_data (Some d) = unless (answered (document_faults d)) (rows_in d)
+
+-- what the bytes are read as: a document, or the fault that is answered
+abbrev pub read : List ℕ → Result DocumentRows TextFault
+read bytes = read_data (data_of bytes)
+
+-- what a document says that was read
+abbrev pub rows_of : Document → DocumentRows
+rows_of d = record {
+  setup = d.config;
+  cells = d.cells.items;
+  listed = d.listed.items;
+  down = d.down.items;
+  limit = d.limit;
+  log = d.log;
+  calls = option_map (λ calls. calls.items) d.calls;
+}
+
+-- the same of a document whose servers and shards are not a configuration yet
+abbrev pub rows_of_parts : Parts → DocumentRows
+rows_of_parts p = record {
+  setup = setup_of p.servers.items p.shards.items;
+  cells = p.cells.items;
+  listed = p.listed.items;
+  down = p.down.items;
+  limit = p.limit;
+  log = p.log;
+  calls = option_map (λ calls. calls.items) p.calls;
+}

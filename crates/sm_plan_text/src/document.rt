@@ -1,0 +1,180 @@
+//! A document, from its text.
+ghost use Rattle.std.specs.Prelude.{◌≡◌, ◌≢◌, Some, None, Ok, Err, IfOk, IfErr, OnOk, [], option_map, unwrap_or, map};
+ghost use Rattle.serde_json.specs.View.{view};
+ghost use Rattle.sm_placement.specs.Config.{setup_of, config_fault};
+ghost use Rattle.sm_plan_text.specs.Faults.{noted};
+ghost use Rattle.sm_plan_text.specs.Tables.{walked};
+ghost use Rattle.sm_plan_text.specs.Calls.{call_faults, call_in};
+ghost use Rattle.sm_plan_text.specs.Documents.{document_faults, rows_in, IsDocument};
+ghost use Rattle.sm_plan_text.specs.Reading.{data_of, read_data, read, rows_of, rows_of_parts};
+
+use crate::call::read_calls;
+use crate::fault::{Faults, TextFault};
+use crate::member::Member;
+use crate::names::Names;
+use crate::object::{list, list_or_none, note_unknown, number, number_or};
+use crate::server::read_servers;
+use crate::shard::read_shards;
+use serde_json::Value;
+use sm_placement::{Config, ConfigFault, Server, Shard};
+use sm_server::{Call, Cell, ServerId, ShardId};
+use std::alloc::{AllocError, Global};
+
+/// What a document says.
+#[derive(Drop)]
+pub struct Document {
+    pub config: Config,
+    /// The cells that hold something, each with its shard and server.
+    pub cells: Vec<(ShardId, ServerId, Cell)>,
+    /// What the published map says of each shard.
+    pub listed: Vec<Option<ServerId>>,
+    /// The servers that are down.
+    pub down: Vec<ServerId>,
+    /// How many servers may be down at once.
+    pub limit: u32,
+    /// How many places the log has.
+    pub log: u32,
+    /// The calls to make, each for a shard at a server.
+    pub calls: Option<Vec<(ShardId, ServerId, Call)>>,
+}
+
+/// What a document says, before its servers and shards are a configuration.
+#[derive(Drop)]
+struct Parts {
+    servers: Vec<Server>,
+    shards: Vec<Shard>,
+    cells: Vec<(ShardId, ServerId, Cell)>,
+    listed: Vec<Option<ServerId>>,
+    down: Vec<ServerId>,
+    limit: u32,
+    log: u32,
+    calls: Option<Vec<(ShardId, ServerId, Call)>>,
+}
+
+/// The JSON value of the bytes.
+#[tactic(auto, using(crate::proofs::Texts::data_of_text, crate::proofs::Texts::data_of_none))]
+fn parse(alloc: Global, bytes: &[u8]) -> Result<Value, TextFault>
+    ensures ok { IfOk result (λ value. data_of bytes.now ≡ Some (view value)) }
+    ensures fault { IfErr result (λ why. why ≢ TextFault.NoMemory → why ≡ TextFault.NotJson) }
+    ensures none { IfErr result (λ why. why ≢ TextFault.NoMemory → data_of bytes.now ≡ None) }
+{
+    let Ok(text) = str::from_utf8(bytes) else {
+        return Err(TextFault::NotJson);
+    };
+    match Value::from_str(alloc, text) {
+        Ok(value) => Ok(value),
+        Err(e) => {
+            if e.is_memory() {
+                Err(TextFault::NoMemory)
+            } else {
+                Err(TextFault::NotJson)
+            }
+        }
+    }
+}
+
+/// The calls of a list, where it stands.
+fn calls_of(
+    alloc: Global,
+    items: Option<&[Value]>,
+    shards: &Names,
+    servers: &Names,
+    faults: &mut Faults,
+) -> Result<Option<Vec<(ShardId, ServerId, Call)>>, AllocError>
+    ensures calls { IfOk result (λ calls. option_map (λ list. list.items) calls
+        ≡ option_map (map (call_in shards.now servers.now)) (option_map (λ list. map view list.now) items.entry)) }
+    ensures faults { OnOk result (faults.new.lowest
+        ≡ noted faults.old.lowest (walked (call_faults shards.now servers.now) [] (unwrap_or (option_map (λ list. map view list.now) items.entry) []))) }
+{
+    match items {
+        Some(items) => Ok(Some(read_calls(alloc, items, shards, servers, faults)?)),
+        None => Ok(None),
+    }
+}
+
+/// The parts of a document.
+#[tactic(auto, using(crate::proofs::WalkLemmas::noted_append))]
+fn read_parts(alloc: Global, value: &Value, faults: &mut Faults) -> Result<Parts, AllocError>
+    ensures rows { IfOk result (λ parts. rows_of_parts parts ≡ rows_in (view value.now)) }
+    ensures faults { OnOk result (faults.new.lowest ≡ noted faults.old.lowest (document_faults (view value.now))) }
+{
+    note_unknown(
+        value,
+        Member::Document,
+        &[
+            Member::Limit,
+            Member::Servers,
+            Member::Shards,
+            Member::Log,
+            Member::Calls,
+        ],
+        faults,
+    );
+    let limit = number(value, Member::Limit, 1024, faults);
+    let server_items = list(value, Member::Servers, 1024, faults);
+    let shard_items = list(value, Member::Shards, 4096, faults);
+    let log = number_or(value, Member::Log, 65_536, 1_048_576, faults);
+    let call_items = list_or_none(value, Member::Calls, 1_048_576, faults);
+    let servers = read_servers(alloc, server_items, faults)?;
+    let shards = read_shards(alloc, shard_items, &servers.names, faults)?;
+    let calls = calls_of(alloc, call_items, &shards.names, &servers.names, faults)?;
+    Ok(Parts {
+        servers: servers.rows,
+        shards: shards.rows,
+        cells: shards.cells,
+        listed: shards.listed,
+        down: servers.down,
+        limit,
+        log,
+        calls,
+    })
+}
+
+/// The configuration of servers and shards that are one.
+fn configuration(
+    alloc: Global,
+    servers: &[Server],
+    shards: &[Shard],
+) -> Result<Config, AllocError>
+    requires { config_fault (setup_of servers.now shards.now) ≡ None }
+    ensures { IfOk result (λ config. config ≡ setup_of servers.now shards.now) }
+{
+    match Config::new(alloc, servers, shards) {
+        Ok(config) => Ok(config),
+        Err(ConfigFault::NoMemory) => Err(AllocError),
+        Err(_) => unreachable!(),
+    }
+}
+
+/// The document that a JSON value is.
+fn from_value(alloc: Global, value: &Value) -> Result<Document, TextFault>
+    ensures ok { IfOk result (λ document. read_data (Some (view value.now)) ≡ Ok (rows_of document)) }
+    ensures refused { IfErr result (λ why. why ≢ TextFault.NoMemory → read_data (Some (view value.now)) ≡ Err why) }
+    ensures known { IfOk result (λ document. IsDocument (rows_of document)) }
+{
+    let mut faults = Faults { lowest: None };
+    let parts = read_parts(alloc, value, &mut faults)?;
+    if let Some(fault) = faults.lowest {
+        return Err(fault);
+    }
+    let config = configuration(alloc, &parts.servers, &parts.shards)?;
+    Ok(Document {
+        config,
+        cells: parts.cells,
+        listed: parts.listed,
+        down: parts.down,
+        limit: parts.limit,
+        log: parts.log,
+        calls: parts.calls,
+    })
+}
+
+/// Reads a document from the bytes of its text.
+pub fn read_document(alloc: Global, bytes: &[u8]) -> Result<Document, TextFault>
+    ensures ok { IfOk result (λ document. read bytes.now ≡ Ok (rows_of document)) }
+    ensures refused { IfErr result (λ why. why ≢ TextFault.NoMemory → read bytes.now ≡ Err why) }
+    ensures known { IfOk result (λ document. IsDocument (rows_of document)) }
+{
+    let value = parse(alloc, bytes)?;
+    from_value(alloc, &value)
+}
