@@ -5,3 +5,4 @@ pub mod Ending
 pub mod Answers
 pub mod Opening
 pub mod BadInput
+pub mod Output
