@@ -7,3 +7,5 @@ pub mod ShardLemmas
 pub mod CallLemmas
 pub mod Texts
 pub mod Faultless
+pub mod FaultlessDocument
+pub mod Known

@@ -1,0 +1,255 @@
+-- The servers, shards and calls of a document without faults: they are a configuration, and each id is below its count.
+use Rattle.std.proofs.Common.{◌≡◌, ◌++◌, ◌+◌, ◌-◌, ◌<◌, ◌≤◌, ◌^◌, ℕ, Bool, true, false, cond, ◌&&◌, ◌||◌, not, List, [], ◌∷◌, length, map, min, Option, Some, None, is_some, option_and_then, option_map, unwrap_or, nat_lt, nat_le, refl, ap, sym, ◌∙◌, subst, arith, true≢false, lt-ltb, le-leb, length-append, add-zero, All, IfSome}
+use Rattle.std.specs.List.{flat_map, enumerate_from, filter_map, cons_option, list_any, list_all}
+use Rattle.std.specs.Str.{bytes_eq}
+use Rattle.std.proofs.lemmas.List.{map_push, length-map}
+use Rattle.std.proofs.lemmas.List.Concat.{flat_map-append}
+use Rattle.std.proofs.lemmas.List.Elements.{All-nil, All-cons, All-append, All-map, All-weaker, All-head, All-tail}
+use Rattle.std.proofs.lemmas.List.Folds.{list_all-map}
+use Rattle.std.proofs.lemmas.List.Sums.{list_all-from_AllPass}
+use Rattle.serde_json.specs.Data.{Data}
+use Rattle.serde_json.specs.Find.{as_object}
+use Rattle.indexmap.specs.IndexSet.{insert_key}
+use Rattle.sm_placement.specs.Names.{is_name, has_double}
+use Rattle.sm_placement.specs.Setup.{ServerRow, ShardRow, is_well_named_server, is_well_named_shard, is_good_server, is_good_shard}
+use Rattle.sm_placement.specs.Opening.{NamedCell}
+use Rattle.sm_placement.specs.Rows.{IsKnownCall}
+use Rattle.sm_placement.proofs.DoubleLemmas.{has_double_push}
+use Rattle.sm_plan_text.specs.declared.fault.TextFault.{TextFault}
+use Rattle.sm_plan_text.specs.declared.fault.TextFault.TheVariants.{Shape}
+use Rattle.sm_plan_text.specs.declared.call.CallWord.{CallWord}
+use Rattle.sm_plan_text.specs.declared.call.CallWord.TheVariants as word
+use Rattle.sm_plan_text.specs.declared.member.Member.TheVariants as members
+use Rattle.sm_plan_text.specs.Members.{text_of}
+use Rattle.sm_plan_text.specs.Values.{found, text_found, text_in, flag_in, number_in, entries_in, names_in, id_of, id_in}
+use Rattle.sm_plan_text.specs.Tables.{Row, one, maybe, whole, flag, text, name, new_name, known, known_or_null, role, list, is_among, row_faults, object_faults, own_faults, by_word, walked}
+use Rattle.sm_plan_text.specs.Servers.{server_table, server_faults, server_in, id_if_down, down_in}
+use Rattle.sm_plan_text.specs.Shards.{cap_limit, cell_count, shard_table, cell_table, cell_faults, faults_of_shard, shard_faults, shard_in, named_cell, cells_of, cells_in}
+use Rattle.sm_plan_text.specs.Calls.{NamedCall, call_word, word_table, call_table, call_faults, call_of, call_by, call_in}
+use Rattle.sm_plan_text.proofs.ServerLemmas.{names_in_push}
+use Rattle.sm_plan_text.proofs.Faultless.{nil_left, nil_right, walked_entries, walked_front, up_to_below, number_in-le, number_is_read, text_passes, id_known, entries_within}
+
+and_first : (a b : Bool) → (a && b) ≡ true → a ≡ true
+and_first true b h = refl
+and_first false b h = h
+
+and_second : (a b : Bool) → (a && b) ≡ true → b ≡ true
+and_second true b h = h
+and_second false b h = absurd (true≢false (sym h))
+
+and_both : (a b : Bool) → a ≡ true → b ≡ true → (a && b) ≡ true
+and_both true b h k = k
+and_both false b h k = h
+
+not_true : (b : Bool) → not b ≡ true → b ≡ false
+not_true true h = sym h
+not_true false h = refl
+
+all_rows : {R : Type 0} (test : R → Bool) (row : Data → R) (ds : List Data) → All (λ d. test (row d) ≡ true) ds → list_all test (map row ds) ≡ true
+all_rows test row ds h = list_all-map test row ds ∙ list_all-from_AllPass (λ d. test (row d)) ds h
+
+-- ---- names that stand once
+
+-- no name stands twice
+pub record IsDistinct (ds : List Data) : Type 0 where
+  pub names : names_in ds ≡ map (text_in members.Name) ds
+  pub single : has_double (map (text_in members.Name) ds) ≡ false
+
+distinct_push : (ds : List Data) (d : Data) → is_among (names_in ds) (text_in members.Name d) ≡ false → IsDistinct ds → IsDistinct (ds ++ d ∷ [])
+distinct_push ds d new distinct =
+    let s : List ℕ = text_in members.Name d in
+    record {
+      names = names_in_push ds d ∙ ap (λ b. cond b (names_in ds) (names_in ds ++ s ∷ [])) new ∙ ap (λ names. names ++ s ∷ []) distinct.names ∙ sym (map_push (text_in members.Name) ds d);
+      single = ap has_double (map_push (text_in members.Name) ds d) ∙ has_double_push (map (text_in members.Name) ds) s ∙ ap (λ b. b || list_any (bytes_eq s) (map (text_in members.Name) ds)) distinct.single ∙ ap (λ names. is_among names s) (sym distinct.names) ∙ new;
+    }
+
+distinct_all : (faults : List Data → Data → List TextFault) → ((before : List Data) (d : Data) → faults before d ≡ [] → is_among (names_in before) (text_in members.Name d) ≡ false) → (ds : List Data) → walked faults [] ds ≡ [] → IsDistinct ds
+distinct_all faults new ds h =
+    walked_front faults IsDistinct (λ before d none distinct. distinct_push before d (new before d none) distinct) [] ds h
+      (record { names = refl; single = refl })
+
+-- a new name without a fault is a name, and isn't taken
+new_name_is : (taken : List (List ℕ)) (d : Data) → row_faults d (one members.Name (new_name taken)) ≡ [] → (is_name (text_in members.Name d) ≡ true) × (is_among taken (text_in members.Name d) ≡ false)
+new_name_is taken d h =
+    let s : List ℕ = text_in members.Name d in
+    let both : (is_name s && not (is_among taken s)) ≡ true = text_passes members.Name (λ x. is_name x && not (is_among taken x)) d h in
+    (and_first (is_name s) (not (is_among taken s)) both, not_true (is_among taken s) (and_second (is_name s) (not (is_among taken s)) both))
+
+-- ---- servers
+
+record IsServer (before : List Data) (d : Data) : Type 0 where
+  named : is_well_named_server (server_in d) ≡ true
+  new : is_among (names_in before) (text_in members.Name d) ≡ false
+
+server_good : (before : List Data) (d : Data) → server_faults before d ≡ [] → IsServer before d
+server_good before d h =
+    let rows : flat_map (row_faults d) (server_table (names_in before)) ≡ [] = nil_right (object_faults members.Servers (map (λ row. text_of row.member) (server_table (names_in before))) d) _ h in
+    let is = new_name_is (names_in before) d (nil_left (row_faults d (one members.Name (new_name (names_in before)))) _ rows) in
+    let rest = nil_right (row_faults d (one members.Name (new_name (names_in before)))) _ rows in
+    let region : is_name (text_in members.Region d) ≡ true = text_passes members.Region is_name d (nil_left (row_faults d (one members.Region name)) _ rest) in
+    record { named = and_both (is_name (text_in members.Name d)) (is_name (text_in members.Region d)) is.0 region; new = is.1 }
+
+pub servers_named : (ds : List Data) → walked server_faults [] ds ≡ [] → list_all is_well_named_server (map server_in ds) ≡ true
+servers_named ds h = all_rows is_well_named_server server_in ds (walked_entries server_faults (λ d. is_well_named_server (server_in d) ≡ true) (λ before d none. (server_good before d none).named) [] ds h)
+
+pub servers_distinct : (ds : List Data) → walked server_faults [] ds ≡ [] → IsDistinct ds
+servers_distinct ds h = distinct_all server_faults (λ before d none. (server_good before d none).new) ds h
+
+all_entries : (P : Data → Type 0) → ((d : Data) → P d) → (ds : List Data) → All P ds
+all_entries P h [] = All-nil P
+all_entries P h (d ∷ ds) = All-cons P d ds (h d) (all_entries P h ds)
+
+room_good : (d : Data) → is_good_server (server_in d) ≡ true
+room_good d =
+    let within = number_in-le members.Room 4294967295 d in
+    lt-ltb (number_in members.Room 4294967295 d) (2 ^ 32) (omega arith)
+
+pub servers_good : (ds : List Data) → list_all is_good_server (map server_in ds) ≡ true
+servers_good ds = all_rows is_good_server server_in ds (all_entries (λ d. is_good_server (server_in d) ≡ true) room_good ds)
+
+down_from : (n total : ℕ) (ds : List Data) → n + length ds ≤ total → All (λ id. id < total) (filter_map id_if_down (enumerate_from n ds))
+down_from n total [] h = All-nil (λ id. id < total)
+down_from n total (d ∷ ds) h = with_flag (flag_in members.Down d) (down_from (n + 1) total ds (omega arith))
+  where
+    with_flag : (b : Bool) → All (λ id. id < total) (filter_map id_if_down (enumerate_from (n + 1) ds)) → All (λ id. id < total) (cons_option (cond b (Some (id_of n)) None) (filter_map id_if_down (enumerate_from (n + 1) ds)))
+    with_flag true rest = All-cons (λ id. id < total) (id_of n) (filter_map id_if_down (enumerate_from (n + 1) ds)) (up_to_below 4294967295 n total (omega arith)) rest
+    with_flag false rest = rest
+
+pub down_within : (ds : List Data) → All (λ id. id < length ds) (down_in ds)
+down_within ds = down_from 0 (length ds) ds (omega arith)
+
+pub names_of_rows : (ds : List Data) → map (λ row. row.name) (map server_in ds) ≡ map (text_in members.Name) ds
+names_of_rows [] = refl
+names_of_rows (d ∷ ds) = ap (λ names. text_in members.Name d ∷ names) (names_of_rows ds)
+
+pub names_of_shard_rows : (ds : List Data) → map (λ row. row.name) (map shard_in ds) ≡ map (text_in members.Name) ds
+names_of_shard_rows [] = refl
+names_of_shard_rows (d ∷ ds) = ap (λ names. text_in members.Name d ∷ names) (names_of_shard_rows ds)
+
+-- ---- shards
+
+cap_within : (d : Data) → row_faults d (one members.Want (whole 1024)) ≡ [] → number_in members.Cap (cap_limit d) d ≤ number_in members.Want 1024 d
+cap_within d h =
+    let within = number_in-le members.Cap (cap_limit d) d in
+    let read = number_is_read members.Want 1024 d h in
+    omega arith
+
+record IsShard (servers : List (List ℕ)) (before : List Data) (d : Data) : Type 0 where
+  named : is_name (text_in members.Name d) ≡ true
+  new : is_among (names_in before) (text_in members.Name d) ≡ false
+  cap : number_in members.Cap (cap_limit d) d ≤ number_in members.Want 1024 d
+  count : length (entries_in members.Cells d) ≤ 1048576 - cell_count before
+  cells : All (λ e. id_in servers members.Server e < length servers) (entries_in members.Cells d)
+
+cell_known : (servers : List (List ℕ)) (before : List Data) (d : Data) → cell_faults servers before d ≡ [] → id_in servers members.Server d < length servers
+cell_known servers before d h =
+    id_known members.Server servers d
+      (nil_left (row_faults d (one members.Server (known servers))) _
+        (nil_right (object_faults members.Cells (map (λ row. text_of row.member) (cell_table servers)) d) _ h))
+
+shard_own : (servers : List (List ℕ)) (before : List Data) (d : Data) → own_faults members.Shards (shard_table servers (names_in before) (1048576 - cell_count before) d) d ≡ [] → All (λ e. id_in servers members.Server e < length servers) (entries_in members.Cells d) → IsShard servers before d
+shard_own servers before d h cells =
+    let rows = nil_right (object_faults members.Shards (map (λ row. text_of row.member) (shard_table servers (names_in before) (1048576 - cell_count before) d)) d) _ h in
+    let is = new_name_is (names_in before) d (nil_left (row_faults d (one members.Name (new_name (names_in before)))) _ rows) in
+    let after_name = nil_right (row_faults d (one members.Name (new_name (names_in before)))) _ rows in
+    let after_load = nil_right (row_faults d (one members.Load (whole 4294967295))) _ after_name in
+    let after_want = nil_right (row_faults d (one members.Want (whole 1024))) _ after_load in
+    let after_cap = nil_right (row_faults d (one members.Cap (whole (cap_limit d)))) _ after_want in
+    let after_spread = nil_right (row_faults d (one members.Spread (whole 1024))) _ after_cap in
+    let after_listed = nil_right (row_faults d (maybe members.Listed (known_or_null servers))) _ after_spread in
+    record {
+      named = is.0;
+      new = is.1;
+      cap = cap_within d (nil_left (row_faults d (one members.Want (whole 1024))) _ after_load);
+      count = entries_within members.Cells (1048576 - cell_count before) d (nil_left (row_faults d (one members.Cells (list (1048576 - cell_count before)))) _ after_listed);
+      cells = cells;
+    }
+
+shard_good : (servers : List (List ℕ)) (before : List Data) (d : Data) → shard_faults servers before d ≡ [] → IsShard servers before d
+shard_good servers before d h =
+    shard_own servers before d
+      (nil_left (own_faults members.Shards (shard_table servers (names_in before) (1048576 - cell_count before) d) d) (walked (cell_faults servers) [] (entries_in members.Cells d)) h)
+      (walked_entries (cell_faults servers) (λ e. id_in servers members.Server e < length servers) (cell_known servers) [] (entries_in members.Cells d)
+        (nil_right (own_faults members.Shards (shard_table servers (names_in before) (1048576 - cell_count before) d) d) (walked (cell_faults servers) [] (entries_in members.Cells d)) h))
+
+pub shards_named : (servers : List (List ℕ)) (ds : List Data) → walked (shard_faults servers) [] ds ≡ [] → list_all is_well_named_shard (map shard_in ds) ≡ true
+shards_named servers ds h = all_rows is_well_named_shard shard_in ds (walked_entries (shard_faults servers) (λ d. is_well_named_shard (shard_in d) ≡ true) (λ before d none. (shard_good servers before d none).named) [] ds h)
+
+pub shards_distinct : (servers : List (List ℕ)) (ds : List Data) → walked (shard_faults servers) [] ds ≡ [] → IsDistinct ds
+shards_distinct servers ds h = distinct_all (shard_faults servers) (λ before d none. (shard_good servers before d none).new) ds h
+
+numbers_good : (d : Data) → number_in members.Cap (cap_limit d) d ≤ number_in members.Want 1024 d → is_good_shard (shard_in d) ≡ true
+numbers_good d cap =
+    let load = number_in-le members.Load 4294967295 d in
+    let want = number_in-le members.Want 1024 d in
+    let spread = number_in-le members.Spread 1024 d in
+    and_both (nat_lt (number_in members.Load 4294967295 d) (2 ^ 32)) _ (lt-ltb (number_in members.Load 4294967295 d) (2 ^ 32) (omega arith))
+      (and_both (nat_le (number_in members.Want 1024 d) 1024) _ (le-leb (number_in members.Want 1024 d) 1024 want)
+        (and_both (nat_le (number_in members.Cap (cap_limit d) d) 1024) _ (le-leb (number_in members.Cap (cap_limit d) d) 1024 (omega arith))
+          (and_both (nat_le (number_in members.Spread 1024 d) 1024) _ (le-leb (number_in members.Spread 1024 d) 1024 spread)
+            (le-leb (number_in members.Cap (cap_limit d) d) (number_in members.Want 1024 d) cap))))
+
+pub shards_good : (servers : List (List ℕ)) (ds : List Data) → walked (shard_faults servers) [] ds ≡ [] → list_all is_good_shard (map shard_in ds) ≡ true
+shards_good servers ds h = all_rows is_good_shard shard_in ds (walked_entries (shard_faults servers) (λ d. is_good_shard (shard_in d) ≡ true) (λ before d none. numbers_good d (shard_good servers before d none).cap) [] ds h)
+
+-- ---- cells
+
+cell_count_push : (before : List Data) (d : Data) → cell_count (before ++ d ∷ []) ≡ cell_count before + length (entries_in members.Cells d)
+cell_count_push before d =
+    ap length (flat_map-append (entries_in members.Cells) before (d ∷ [])) ∙
+    length-append (flat_map (entries_in members.Cells) before) (entries_in members.Cells d ++ []) ∙
+    ap (λ n. cell_count before + n) (length-append (entries_in members.Cells d) [] ∙ add-zero (length (entries_in members.Cells d)))
+
+-- all shards together have no more cells than their limit
+pub cell_count_within : (servers : List (List ℕ)) (ds : List Data) → walked (shard_faults servers) [] ds ≡ [] → cell_count ds ≤ 1048576
+cell_count_within servers ds h =
+    walked_front (shard_faults servers) (λ before. cell_count before ≤ 1048576)
+      (λ before d none within.
+        let count = (shard_good servers before d none).count in
+        let push = cell_count_push before d in
+        omega arith)
+      [] ds h (omega arith)
+
+cells_from : (servers : List (List ℕ)) (n total : ℕ) (ds : List Data) → n + length ds ≤ total → All (λ d. All (λ e. id_in servers members.Server e < length servers) (entries_in members.Cells d)) ds → All (λ cell. (cell.0 < total) × (cell.1 < length servers)) (flat_map (cells_of servers) (enumerate_from n ds))
+cells_from servers n total [] h good = All-nil (λ cell. (cell.0 < total) × (cell.1 < length servers))
+cells_from servers n total (d ∷ ds) h good =
+    let IsWithin : NamedCell → Type 0 = λ cell. (cell.0 < total) × (cell.1 < length servers) in
+    let entries : List Data = entries_in members.Cells d in
+    All-append IsWithin (cells_of servers (n, d)) (flat_map (cells_of servers) (enumerate_from (n + 1) ds))
+      (All-map IsWithin (named_cell servers (id_of n)) entries
+        (All-weaker (λ e. id_in servers members.Server e < length servers) (λ e. IsWithin (named_cell servers (id_of n) e)) (λ e is. (up_to_below 4294967295 n total (omega arith), is)) entries
+          (All-head (λ x. All (λ e. id_in servers members.Server e < length servers) (entries_in members.Cells x)) d ds good)))
+      (cells_from servers (n + 1) total ds (omega arith) (All-tail (λ x. All (λ e. id_in servers members.Server e < length servers) (entries_in members.Cells x)) d ds good))
+
+pub cells_within : (servers : List (List ℕ)) (ds : List Data) → walked (shard_faults servers) [] ds ≡ [] → All (λ cell. (cell.0 < length ds) × (cell.1 < length servers)) (cells_in servers ds)
+cells_within servers ds h =
+    cells_from servers 0 (length ds) ds (omega arith)
+      (walked_entries (shard_faults servers) (λ d. All (λ e. id_in servers members.Server e < length servers) (entries_in members.Cells d)) (λ before d none. (shard_good servers before d none).cells) [] ds h)
+
+-- ---- calls
+
+word_known : (servers : List (List ℕ)) (d : Data) (w : CallWord) → flat_map (row_faults d) (word_table servers w) ≡ [] → IsKnownCall (length servers) (call_of servers d w)
+word_known servers d word.Add h = tt
+word_known servers d word.Drop h = tt
+word_known servers d word.Change h = tt
+word_known servers d word.PrepareAdd h = id_known members.Other servers d (nil_left (row_faults d (one members.Other (known servers))) _ h)
+word_known servers d word.PrepareDrop h = id_known members.Other servers d (nil_left (row_faults d (one members.Other (known servers))) _ h)
+
+abbrev IsWithin : ℕ → ℕ → NamedCall → Type 0
+IsWithin shards servers call = (call.0 < shards) × (call.1 < servers) × IsKnownCall servers call.2
+
+call_by_word : (shards servers : List (List ℕ)) (d : Data) (o : Option CallWord) → by_word members.Calls members.Call (call_table shards servers) d o ≡ [] → IsWithin (length shards) (length servers) (call_by shards servers d o)
+call_by_word shards servers d None h =
+    let some : (Shape members.Call ∷ []) ≡ [] = nil_right (cond (is_some (as_object d)) [] (Shape members.Calls ∷ [])) (Shape members.Call ∷ []) h in
+    absurd (cc)
+call_by_word shards servers d (Some w) h =
+    let rows = nil_right (object_faults members.Calls (text_of members.Call ∷ map (λ row. text_of row.member) (call_table shards servers w)) d) _ h in
+    let after_shard = nil_right (row_faults d (one members.Shard (known shards))) _ rows in
+    (id_known members.Shard shards d (nil_left (row_faults d (one members.Shard (known shards))) _ rows),
+     id_known members.Server servers d (nil_left (row_faults d (one members.Server (known servers))) _ after_shard),
+     word_known servers d w (nil_right (row_faults d (one members.Server (known servers))) _ after_shard))
+
+pub calls_within : (shards servers : List (List ℕ)) (ds : List Data) → walked (call_faults shards servers) [] ds ≡ [] → All (λ call. (call.0 < length shards) × (call.1 < length servers) × IsKnownCall (length servers) call.2) (map (call_in shards servers) ds)
+calls_within shards servers ds h =
+    All-map (IsWithin (length shards) (length servers)) (call_in shards servers) ds
+      (walked_entries (call_faults shards servers) (λ d. IsWithin (length shards) (length servers) (call_in shards servers d)) (λ before d none. call_by_word shards servers d (option_and_then call_word (text_found members.Call d)) none) [] ds h)

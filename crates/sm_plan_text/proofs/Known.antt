@@ -1,0 +1,118 @@
+-- A document without faults: its servers and shards are a configuration, and each id is below its count.
+use Rattle.std.proofs.Common.{◌≡◌, ◌++◌, ◌<◌, ◌≤◌, ℕ, Bool, true, false, cond, ◌&&◌, ◌||◌, not, List, [], ◌∷◌, length, get_or, map, Option, Some, None, option_map, unwrap_or, nat_lt, refl, ap, sym, ◌∙◌, subst, arith, All, IfSome}
+use Rattle.std.specs.List.{flat_map, list_all}
+use Rattle.std.proofs.lemmas.List.{length-map}
+use Rattle.std.proofs.lemmas.List.Elements.{All-map}
+use Rattle.std.proofs.lemmas.Bool.Decides.{nat_tests}
+use Rattle.serde_json.specs.Data.{Data}
+use Rattle.sm_placement.specs.declared.config.ConfigFault.{ConfigFault}
+use Rattle.sm_placement.specs.declared.config.ConfigFault.TheVariants.{TooMany, BadName, DoubleName, BadNumber}
+use Rattle.sm_placement.specs.Names.{has_double}
+use Rattle.sm_placement.specs.Setup.{Setup, is_too_large, has_good_names, has_doubled_name, has_good_numbers}
+use Rattle.sm_placement.specs.Config.{config_fault}
+use Rattle.sm_placement.specs.Rows.{IsKnownCall}
+use Rattle.sm_plan_text.specs.declared.fault.TextFault.{TextFault}
+use Rattle.sm_plan_text.specs.declared.member.Member.TheVariants as members
+use Rattle.sm_plan_text.specs.Members.{text_of}
+use Rattle.sm_plan_text.specs.Values.{text_in, number_in, number_or, entries_in, list_in, names_in}
+use Rattle.sm_plan_text.specs.Tables.{one, whole, list, row_faults, object_faults, own_faults, walked}
+use Rattle.sm_plan_text.specs.Servers.{server_faults, server_in}
+use Rattle.sm_plan_text.specs.Shards.{shard_faults, shard_in, listed_in, cells_in, cell_count}
+use Rattle.sm_plan_text.specs.Calls.{NamedCall, call_faults, call_in}
+use Rattle.sm_plan_text.specs.Documents.{document_table, document_faults, servers_in, shards_in, server_names, shard_names, setup_in, rows_in, IsDocument}
+use Rattle.sm_plan_text.proofs.Faultless.{nil_left, nil_right, entries_within, id_within, number_in-le, number_or-le}
+use Rattle.sm_plan_text.proofs.ShardLemmas.{cell_count_is}
+use Rattle.sm_plan_text.proofs.FaultlessDocument.{IsDistinct, servers_named, servers_distinct, servers_good, down_within, names_of_rows, names_of_shard_rows, shards_named, shards_distinct, shards_good, cell_count_within, cells_within, calls_within}
+
+-- the parts of a document without faults have none
+record IsFaultless (d : Data) : Type 0 where
+  server_count : length (servers_in d) ≤ 1024
+  shard_count : length (shards_in d) ≤ 4096
+  servers : walked server_faults [] (servers_in d) ≡ []
+  shards : walked (shard_faults (server_names d)) [] (shards_in d) ≡ []
+  calls : walked (call_faults (shard_names d) (server_names d)) [] (entries_in members.Calls d) ≡ []
+
+faultless_parts : (d : Data) → document_faults d ≡ [] → IsFaultless d
+faultless_parts d h =
+    let own : List TextFault = own_faults members.Document document_table d in
+    let of_servers : List TextFault = walked server_faults [] (servers_in d) in
+    let of_shards : List TextFault = walked (shard_faults (server_names d)) [] (shards_in d) in
+    let of_calls : List TextFault = walked (call_faults (shard_names d) (server_names d)) [] (entries_in members.Calls d) in
+    let to_shards : own ++ of_servers ++ of_shards ≡ [] = nil_left (own ++ of_servers ++ of_shards) of_calls h in
+    let to_servers : own ++ of_servers ≡ [] = nil_left (own ++ of_servers) of_shards to_shards in
+    let rows = nil_right (object_faults members.Document (map (λ row. text_of row.member) document_table) d) (flat_map (row_faults d) document_table) (nil_left own of_servers to_servers) in
+    let after_limit = nil_right (row_faults d (one members.Limit (whole 1024))) _ rows in
+    let after_servers = nil_right (row_faults d (one members.Servers (list 1024))) _ after_limit in
+    record {
+      server_count = entries_within members.Servers 1024 d (nil_left (row_faults d (one members.Servers (list 1024))) _ after_limit);
+      shard_count = entries_within members.Shards 4096 d (nil_left (row_faults d (one members.Shards (list 4096))) _ after_servers);
+      servers = nil_right own of_servers to_servers;
+      shards = nil_right (own ++ of_servers) of_shards to_shards;
+      calls = nil_right (own ++ of_servers ++ of_shards) of_calls h;
+    }
+
+-- ---- a configuration
+
+no_fault : (large names doubled numbers : Bool) → large ≡ false → names ≡ true → doubled ≡ false → numbers ≡ true → cond large (Some TooMany) (cond (not names) (Some BadName) (cond doubled (Some DoubleName) (cond (not numbers) (Some BadNumber) None))) ≡ None
+no_fault false true false true l n d k = refl
+no_fault false true false false l n d k = absurd (cc)
+no_fault false true true numbers l n d k = absurd (cc)
+no_fault false false doubled numbers l n d k = absurd (cc)
+no_fault true names doubled numbers l n d k = absurd (cc)
+
+both_true : (a b : Bool) → a ≡ true → b ≡ true → (a && b) ≡ true
+both_true true b h k = k
+both_true false b h k = h
+
+both_false : (a b : Bool) → a ≡ false → b ≡ false → (a || b) ≡ false
+both_false true b h k = h
+both_false false b h k = k
+
+not_large : (a b : ℕ) → a ≤ 1024 → b ≤ 4096 → (nat_lt 1024 a || nat_lt 4096 b) ≡ false
+not_large a b h k = grind (arith, nat_tests)
+
+pub setup_is_good : (d : Data) → document_faults d ≡ [] → config_fault (setup_in d) ≡ None
+setup_is_good d h =
+    let parts : IsFaultless d = faultless_parts d h in
+    let setup : Setup = setup_in d in
+    no_fault (is_too_large setup) (has_good_names setup) (has_doubled_name setup) (has_good_numbers setup)
+      (not_large (length (map server_in (servers_in d))) (length (map shard_in (shards_in d)))
+        (subst (λ n. n ≤ 1024) (sym (length-map (servers_in d) server_in)) parts.server_count)
+        (subst (λ n. n ≤ 4096) (sym (length-map (shards_in d) shard_in)) parts.shard_count))
+      (both_true _ _ (servers_named (servers_in d) parts.servers) (shards_named (server_names d) (shards_in d) parts.shards))
+      (both_false _ _
+        (ap has_double (names_of_rows (servers_in d)) ∙ (servers_distinct (servers_in d) parts.servers).single)
+        (ap has_double (names_of_shard_rows (shards_in d)) ∙ (shards_distinct (server_names d) (shards_in d) parts.shards).single))
+      (both_true _ _ (servers_good (servers_in d)) (shards_good (server_names d) (shards_in d) parts.shards))
+
+-- ---- ids
+
+names_counted : (ds : List Data) → IsDistinct ds → length (names_in ds) ≡ length ds
+names_counted ds distinct = ap length distinct.names ∙ length-map ds (text_in members.Name)
+
+calls_where : (P : NamedCall → Type 0) (f : Data → NamedCall) (o : Option (List Data)) → All P (map f (unwrap_or o [])) → IfSome (option_map (map f) o) (All P)
+calls_where P f None h = tt
+calls_where P f (Some ds) h = h
+
+abbrev AreWithin : ℕ → ℕ → List NamedCall → Type 0
+AreWithin shards servers calls = All (λ call. (call.0 < shards) × (call.1 < servers) × IsKnownCall servers call.2) calls
+
+pub document_is_known : (d : Data) → document_faults d ≡ [] → IsDocument (rows_in d)
+document_is_known d h =
+    let parts : IsFaultless d = faultless_parts d h in
+    let servers : length (server_names d) ≡ length (map server_in (servers_in d)) = names_counted (servers_in d) (servers_distinct (servers_in d) parts.servers) ∙ sym (length-map (servers_in d) server_in) in
+    let shards : length (shard_names d) ≡ length (map shard_in (shards_in d)) = names_counted (shards_in d) (shards_distinct (server_names d) (shards_in d) parts.shards) ∙ sym (length-map (shards_in d) shard_in) in
+    record {
+      cells = subst (λ n. All (λ cell. (cell.0 < n) × (cell.1 < length (map server_in (servers_in d)))) (cells_in (server_names d) (shards_in d))) (sym (length-map (shards_in d) shard_in))
+        (subst (λ n. All (λ cell. (cell.0 < length (shards_in d)) × (cell.1 < n)) (cells_in (server_names d) (shards_in d))) servers (cells_within (server_names d) (shards_in d) parts.shards));
+      listed = subst (λ n. All (λ entry. IfSome entry (λ server. server < n)) (map (listed_in (server_names d)) (shards_in d))) servers
+        (All-map (λ entry. IfSome entry (λ server. server < length (server_names d))) (listed_in (server_names d)) (shards_in d) (λ k e below. id_within (server_names d) members.Listed (get_or (shards_in d) k e)));
+      down = subst (λ n. All (λ server. server < n) (rows_in d).down) (sym (length-map (servers_in d) server_in)) (down_within (servers_in d));
+      calls = calls_where (λ call. (call.0 < length (map shard_in (shards_in d))) × (call.1 < length (map server_in (servers_in d))) × IsKnownCall (length (map server_in (servers_in d))) call.2) (call_in (shard_names d) (server_names d)) (list_in members.Calls d)
+        (subst (λ n. AreWithin (length (map shard_in (shards_in d))) n (map (call_in (shard_names d) (server_names d)) (entries_in members.Calls d))) servers
+          (subst (λ n. AreWithin n (length (server_names d)) (map (call_in (shard_names d) (server_names d)) (entries_in members.Calls d))) shards (calls_within (shard_names d) (server_names d) (entries_in members.Calls d) parts.calls)));
+      listed_length = length-map (shards_in d) (listed_in (server_names d)) ∙ sym (length-map (shards_in d) shard_in);
+      cell_count = subst (λ n. n ≤ 1048576) (sym (cell_count_is (server_names d) (shards_in d))) (cell_count_within (server_names d) (shards_in d) parts.shards);
+      limit = number_in-le members.Limit 1024 d;
+      log = number_or-le 65536 members.Log 1048576 d (omega arith);
+    }
