@@ -1,8 +1,8 @@
 -- The cells of a configuration as lists, with who is down.
-use Rattle.std.specs.Prelude.{◌≡◌, ◌<◌, ℕ, ◌*◌, Bool, false, List, length}
+use Rattle.std.specs.Prelude.{◌≡◌, ◌<◌, ◌≤◌, ℕ, ◌*◌, Bool, false, List, length}
 use Rattle.sm_server.specs.declared.call.Cell.{Cell}
 use Rattle.sm_server.specs.declared.call.Cell.TheVariants.{Absent}
-use Rattle.sm_placement.specs.Setup.{Setup, sizes_of}
+use Rattle.sm_placement.specs.Setup.{Setup, IsSetup, sizes_of}
 use Rattle.sm_placement.specs.Rows.{live_in, serving_in, IsKnownCell}
 use Rattle.sm_placement.specs.Sums.{count_below}
 use Rattle.sm_placement.specs.Place.{load_of}
@@ -32,6 +32,7 @@ pub record Totals : Type 0 where
 
 -- each list has an entry for each shard, server or pair, and each total is the sum that it stands for
 pub record IsCounted (g : Grid) (t : Totals) : Type 0 where
+  pub setup : IsSetup g.setup
   pub cells_length : length g.cells ≡ length g.setup.shards * length g.setup.servers
   pub lasts_length : length g.lasts ≡ length g.setup.shards * length g.setup.servers
   pub down_length : length g.down ≡ length g.setup.servers
@@ -43,3 +44,10 @@ pub record IsCounted (g : Grid) (t : Totals) : Type 0 where
   pub lives : (s : ℕ) → s < length g.setup.shards → entries_of 0 t.lives s ≡ live_in (length g.setup.servers) (cells_of g s) (down_of g)
   pub servings : (s : ℕ) → s < length g.setup.shards → entries_of 0 t.servings s ≡ serving_in (length g.setup.servers) (cells_of g s)
   pub down : t.down ≡ count_below (length g.setup.servers) (down_of g)
+
+-- beyond its servers and shards a grid has nothing, and each server that a cell names is known
+pub record IsGrid (g : Grid) : Type 0 where
+  pub no_server : (s v : ℕ) → length g.setup.servers ≤ v → cells_of g s v ≡ Absent
+  pub no_shard : (s v : ℕ) → length g.setup.shards ≤ s → cells_of g s v ≡ Absent
+  pub known : (s v : ℕ) → IsKnownCell (length g.setup.servers) (cells_of g s v)
+  pub up : (v : ℕ) → length g.setup.servers ≤ v → down_of g v ≡ false

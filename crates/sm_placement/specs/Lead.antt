@@ -51,7 +51,8 @@ abbrev pub last_below : ℕ → (ℕ → Bool) → Option ℕ
 last_below zero t = None
 last_below (suc n) t = if t n then Some n else last_below n t
 
-abbrev lead_by : Option ℕ → Option ℕ → Option ℕ → Lead
+-- the lead, by the primary, the prepared and the forwarding server
+abbrev pub lead_by : Option ℕ → Option ℕ → Option ℕ → Lead
 lead_by (Some u) None None = At u
 lead_by (Some u) (Some v) None = Ready u v
 lead_by None (Some v) (Some u) = Handing u v

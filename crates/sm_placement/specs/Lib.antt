@@ -6,5 +6,6 @@ pub mod Rows
 pub mod Place
 pub mod Lead
 pub mod Layout
+pub mod Counts
 pub mod Grid
 pub mod Opening

@@ -1,14 +1,16 @@
 -- Opening a placement: the placement that is named, and why one is refused.
-use Rattle.std.specs.Prelude.{ℕ, ◌&&◌, ◌||◌, ◌==◌, Bool, true, false, not, List, [], ◌∷◌, length, Option, Some, None, nat_lt, if◌then◌else◌, option_map, find, count_by}
+use Rattle.std.specs.Prelude.{◌≡◌, ◌≤◌, ℕ, ◌&&◌, ◌||◌, ◌==◌, Bool, true, false, not, List, [], ◌∷◌, length, Option, Some, None, nat_lt, if◌then◌else◌, option_map, find, count_by}
 use Rattle.std.specs.List.{list_any, range_with_len}
 use Rattle.sm_server.specs.declared.call.Cell.{Cell}
 use Rattle.sm_server.specs.declared.call.Cell.TheVariants.{Absent}
 use Rattle.sm_server.specs.Cell.{is_primary, is_prepared, is_forwarding}
 use Rattle.sm_placement.specs.declared.opening.OpenFault.{OpenFault}
 use Rattle.sm_placement.specs.declared.opening.OpenFault.TheVariants.{TooMany, UnknownName, DoubleCell, BadLead, BadListing, OverRoom, Short, TooManyDown}
+use Rattle.sm_placement.specs.declared.opening.LeadCells.{LeadCells}
 use Rattle.sm_placement.specs.Setup.{Sizes}
-use Rattle.sm_placement.specs.Sums.{count_below, any_below, first_from}
-use Rattle.sm_placement.specs.Place.{Place, load_at, live_at, down_count}
+use Rattle.sm_placement.specs.Sums.{put2, count_below, any_below, first_from}
+use Rattle.sm_placement.specs.Rows.{live_in}
+use Rattle.sm_placement.specs.Place.{Place, load_of, down_count}
 use Rattle.sm_placement.specs.Layout.{entries_of}
 
 -- a cell, with the shard and the server that it is of
@@ -45,46 +47,76 @@ opened o = record {
 abbrev pub is_wrong_size : Sizes → Opening → Bool
 is_wrong_size c o = nat_lt 1048576 (length o.cells) || not (length o.listed == c.shards)
 
-abbrev is_unknown : ℕ → Option ℕ → Bool
+-- a number is given, and it is not below n
+abbrev pub is_unknown : ℕ → Option ℕ → Bool
 is_unknown n None = false
 is_unknown n (Some k) = not (nat_lt k n)
 
--- an id is not below its count. The other party of a handover isn't looked at
+-- the shard or the server of a named cell is not below its count. The other party of a handover isn't looked at
+abbrev pub is_unknown_cell : ℕ → ℕ → NamedCell → Bool
+is_unknown_cell shards servers named = not (nat_lt named.0 shards) || not (nat_lt named.1 servers)
+
+-- the shard and the server of each named cell are below their counts
+abbrev pub AreKnown : ℕ → ℕ → List NamedCell → Type 0
+AreKnown shards servers cells = list_any (is_unknown_cell shards servers) cells ≡ false
+
+-- an id is not below its count
 abbrev pub has_unknown : Sizes → Opening → Bool
 has_unknown c o =
-    list_any (λ named. not (nat_lt named.0 c.shards) || not (nat_lt named.1 c.servers)) o.cells
+    list_any (is_unknown_cell c.shards c.servers) o.cells
     || (list_any (is_unknown c.servers) o.listed || list_any (λ v. not (nat_lt v c.servers)) o.down)
 
 -- the list names a pair more than once
 abbrev pub is_double : List NamedCell → ℕ → ℕ → Bool
 is_double cells s v = nat_lt 1 (count_by (is_of s v) cells)
 
+-- each pair is named once at most
+abbrev pub IsNamedOnce : List NamedCell → Type 0
+IsNamedOnce cells = (s v : ℕ) → count_by (is_of s v) cells ≤ 1
+
 -- the first number below n that passes
 abbrev pub first_below : ℕ → (ℕ → Bool) → Option ℕ
 first_below n test = find test (range_with_len 0 n)
 
-abbrev double_of : Sizes → Opening → ℕ → Option OpenFault
-double_of c o s = option_map (λ v. DoubleCell s v) (first_below c.servers (is_double o.cells s))
+-- the lowest server that the list names more than once for a shard
+abbrev pub double_of : ℕ → List NamedCell → ℕ → Option OpenFault
+double_of n cells s = option_map (λ v. DoubleCell s v) (first_below n (is_double cells s))
 
--- the shard has two primaries, or a handover is under way
-abbrev pub has_bad_lead : Sizes → Place → ℕ → Bool
-has_bad_lead c p s =
-    nat_lt 1 (count_below c.servers (λ v. is_primary (p.cells s v)))
-    || any_below c.servers (λ v. is_prepared (p.cells s v) || is_forwarding (p.cells s v))
+-- the cell has a part in a handover
+abbrev pub is_handing : Cell → Bool
+is_handing cell = is_prepared cell || is_forwarding cell
 
-abbrev is_other : (ℕ → Cell) → Option ℕ → Bool
-is_other row None = false
-is_other row (Some u) = not (is_primary (row u))
+-- how many of the cells that the list names for a shard pass
+abbrev pub tally : (Cell → Bool) → ℕ → List NamedCell → ℕ
+tally test s cells = count_by (λ named. (named.0 == s) && test named.2) cells
+
+-- how many primaries the list names for a shard, and how many cells with a part in a handover
+abbrev pub lead_cells : List NamedCell → ℕ → LeadCells
+lead_cells cells s = record { primaries = tally is_primary s cells; handing = tally is_handing s cells }
+
+-- the cells once each of the list is put in its turn
+abbrev pub put_all : List NamedCell → (ℕ → ℕ → Cell) → ℕ → ℕ → Cell
+put_all [] f = f
+put_all (named ∷ rest) f = put_all rest (put2 f named.0 named.1 named.2)
+
+-- the row of a shard's cells has two primaries, or a handover is under way
+abbrev pub has_bad_lead : ℕ → (ℕ → Cell) → Bool
+has_bad_lead n row =
+    nat_lt 1 (count_below n (λ v. is_primary (row v)))
+    || any_below n (λ v. is_handing (row v))
 
 -- the listed server isn't the shard's primary
-abbrev pub has_bad_listing : Place → ℕ → Bool
-has_bad_listing p s = is_other (p.cells s) (p.listed s)
+abbrev pub has_bad_listing : (ℕ → Cell) → Option ℕ → Bool
+has_bad_listing row None = false
+has_bad_listing row (Some u) = not (is_primary (row u))
 
-abbrev pub is_over_room : Sizes → Place → ℕ → Bool
-is_over_room c p v = nat_lt (c.room v) (load_at c p v)
+-- the server's load is above its room
+abbrev pub is_over_room : Sizes → (ℕ → ℕ → Cell) → ℕ → Bool
+is_over_room c cells v = nat_lt (c.room v) (load_of c cells v)
 
-abbrev pub is_short : Sizes → Place → ℕ → Bool
-is_short c p s = nat_lt (live_at c p s) (c.floor s)
+-- the shard has fewer live replicas than its floor
+abbrev pub is_short : Sizes → (ℕ → ℕ → Cell) → (ℕ → Bool) → ℕ → Bool
+is_short c cells down s = nat_lt (live_in c.servers (cells s) down) (c.floor s)
 
 -- the first fault that is there
 abbrev pub first_fault : List (Option OpenFault) → Option OpenFault
@@ -92,17 +124,17 @@ first_fault [] = None
 first_fault (None ∷ rest) = first_fault rest
 first_fault (Some fault ∷ rest) = Some fault
 
-abbrev fault_if : Bool → OpenFault → Option OpenFault
+-- the fault, where it is there
+abbrev pub fault_if : Bool → OpenFault → Option OpenFault
 fault_if true fault = Some fault
 fault_if false fault = None
 
--- what is wrong with the placement itself
-abbrev pub place_faults : Sizes → Place → List (Option OpenFault)
-place_faults c p =
-    option_map (λ s. BadLead s) (first_below c.shards (has_bad_lead c p)) ∷
-    option_map (λ s. BadListing s) (first_below c.shards (has_bad_listing p)) ∷
-    option_map (λ v. OverRoom v) (first_below c.servers (is_over_room c p)) ∷
-    option_map (λ s. Short s) (first_below c.shards (is_short c p)) ∷
+-- what is wrong with listings, loads, live replicas and the servers down
+abbrev pub standing_faults : Sizes → Place → List (Option OpenFault)
+standing_faults c p =
+    option_map (λ s. BadListing s) (first_below c.shards (λ s. has_bad_listing (p.cells s) (p.listed s))) ∷
+    option_map (λ v. OverRoom v) (first_below c.servers (is_over_room c p.cells)) ∷
+    option_map (λ s. Short s) (first_below c.shards (is_short c p.cells p.down)) ∷
     fault_if (nat_lt p.limit (down_count c p)) TooManyDown ∷ []
 
 -- why a placement is not opened: the first fault in the order of these lines, each with its lowest shard and server
@@ -110,5 +142,6 @@ abbrev pub open_fault : Sizes → Opening → Option OpenFault
 open_fault c o = first_fault (
     fault_if (is_wrong_size c o) TooMany ∷
     fault_if (has_unknown c o) UnknownName ∷
-    first_from 0 c.shards (double_of c o) ∷
-    place_faults c (opened o))
+    first_from 0 c.shards (double_of c.servers o.cells) ∷
+    option_map (λ s. BadLead s) (first_below c.shards (λ s. has_bad_lead c.servers (cell_named o.cells s))) ∷
+    standing_faults c (opened o))

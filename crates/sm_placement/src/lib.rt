@@ -2,9 +2,11 @@
 #![tactic(auto)]
 
 mod config;
+mod faults;
 mod lead;
 mod opening;
 mod placement;
+mod row;
 mod table;
 
 pub use config::{Config, ConfigFault, Server, Shard};

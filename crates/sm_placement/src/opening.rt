@@ -1,5 +1,16 @@
 //! Opening a placement.
-use sm_server::{ServerId, ShardId};
+ghost use Rattle.std.specs.Prelude.{◌≡◌, false, All, ◌≤◌, ◌<◌, ◌+◌, ◌*◌, ◌||◌, ◌==◌, not, nat_lt, length, IfOk, count_by};
+ghost use Rattle.std.specs.List.{list_any};
+ghost use Rattle.sm_server.specs.Cell.{is_primary};
+ghost use Rattle.sm_placement.specs.Sums.{bit, first_from};
+ghost use Rattle.sm_placement.specs.Layout.{grid_of, entries_of};
+ghost use Rattle.sm_placement.specs.Grid.{cells_of, lasts_of, down_of};
+ghost use Rattle.sm_placement.specs.Opening.{is_of, is_unknown, is_unknown_cell, AreKnown, IsNamedOnce, is_double, first_below, double_of, is_handing, lead_cells, put_all, cell_named, opened, has_bad_lead};
+
+use crate::config::Config;
+use crate::table::Table;
+use sm_server::{Cell, ServerId, ShardId};
+use std::alloc::{AllocError, Global};
 use thiserror::Error;
 
 /// Why a placement is not opened.
@@ -23,4 +34,226 @@ pub enum OpenFault {
     Short { shard: ShardId },
     #[error("more servers are down than the limit")]
     TooManyDown,
+}
+
+/// The most cells that a placement has.
+const MOST_CELLS: usize = 1_048_576;
+
+/// A shard or a server of the cells is not in the configuration.
+fn has_unknown_cell(config: &Config, cells: &[(ShardId, ServerId, Cell)]) -> bool
+    ensures { result ≡ list_any (is_unknown_cell (length config.now.shards) (length config.now.servers)) cells.now }
+{
+    let shards = config.shard_count();
+    let servers = config.server_count();
+    cells.iter().any(|named| named.0.number() >= shards || named.1.number() >= servers)
+}
+
+/// A listed server is not in the configuration.
+fn has_unknown_listing(config: &Config, listed: &[Option<ServerId>]) -> bool
+    ensures { result ≡ list_any (is_unknown (length config.now.servers)) listed.now }
+{
+    let servers = config.server_count();
+    listed.iter().any(|server| match server {
+        Some(server) => server.number() >= servers,
+        None => false,
+    })
+}
+
+/// A server that is down is not in the configuration.
+fn has_unknown_server(config: &Config, down: &[ServerId]) -> bool
+    ensures { result ≡ list_any (λ v. not (nat_lt v (length config.now.servers))) down.now }
+{
+    let servers = config.server_count();
+    down.iter().any(|server| server.number() >= servers)
+}
+
+/// How often the cells name each pair, shard after shard.
+fn count_pairs(
+    alloc: Global,
+    config: &Config,
+    cells: &[(ShardId, ServerId, Cell)],
+) -> Result<Vec<u32>, AllocError>
+    requires few { length cells.now ≤ 1048576 }
+    requires known { AreKnown (length config.now.shards) (length config.now.servers) cells.now }
+    ensures len { IfOk result (λ counts. length counts.items ≡ length config.now.shards * length config.now.servers) }
+    ensures counts { IfOk result (λ counts. grid_of (length config.now.servers) 0 counts.items ≡ (λ s v. count_by (is_of s v) cells.now)) }
+{
+    let shards = config.shard_count() as usize;
+    let servers = config.server_count() as usize;
+    let mut counts = vec![in alloc; 0; shards * servers]?;
+    for (shard, server, _) in cells {
+        counts[shard.number() as usize * servers + server.number() as usize] += 1;
+    }
+    Ok(counts)
+}
+
+/// A pair is counted more than once.
+fn is_counted_twice(counts: &[u32], shard: ShardId, server: ServerId, shards: u32, servers: u32) -> bool
+    requires shard { shard < shards }
+    requires server { server < servers }
+    requires len { length counts.now ≡ shards * servers }
+    ensures { result ≡ nat_lt 1 (grid_of servers 0 counts.now shard server) }
+{
+    let place = shard.number() as usize * servers as usize + server.number() as usize;
+    counts[place] > 1
+}
+
+/// The lowest server whose pair with a shard is counted more than once.
+#[tactic(auto, using(crate::proofs::Searches::find_range_more))]
+fn first_double_of(counts: &[u32], shard: ShardId, shards: u32, servers: u32) -> Option<ServerId>
+    requires shard { shard < shards }
+    requires len { length counts.now ≡ shards * servers }
+    ensures { result ≡ first_below servers (λ v. nat_lt 1 (grid_of servers 0 counts.now shard v)) }
+{
+    for server in 0..servers {
+        if is_counted_twice(counts, shard, ServerId::new(server), shards, servers) {
+            return Some(ServerId::new(server));
+        }
+    }
+    None
+}
+
+/// The lowest shard, and its lowest server, whose pair the cells name more than once.
+fn first_double(
+    alloc: Global,
+    config: &Config,
+    cells: &[(ShardId, ServerId, Cell)],
+) -> Result<Option<OpenFault>, AllocError>
+    requires few { length cells.now ≤ 1048576 }
+    requires known { AreKnown (length config.now.shards) (length config.now.servers) cells.now }
+    ensures { IfOk result (λ fault. fault ≡ first_from 0 (length config.now.shards) (double_of (length config.now.servers) cells.now)) }
+{
+    let counts = count_pairs(alloc, config, cells)?;
+    let shards = config.shard_count();
+    let servers = config.server_count();
+    for number in 0..shards {
+        let shard = ShardId::new(number);
+        if let Some(server) = first_double_of(&counts, shard, shards, servers) {
+            return Ok(Some(OpenFault::DoubleCell { shard, server }));
+        }
+    }
+    Ok(None)
+}
+
+/// How many of a shard's cells are primaries, and how many have a part in a handover.
+#[derive(Clone, Copy, Debug, PartialEq, Eq)]
+struct LeadCells {
+    primaries: u32,
+    handing: u32,
+}
+
+impl LeadCells {
+    /// Counts one cell more.
+    fn add(&mut self, cell: &Cell)
+        requires primaries { self.old.primaries < 1048576 }
+        requires handing { self.old.handing < 1048576 }
+        ensures primaries { self.new.primaries ≡ self.old.primaries + bit (is_primary cell.now) }
+        ensures handing { self.new.handing ≡ self.old.handing + bit (is_handing cell.now) }
+    {
+        match cell {
+            Cell::Primary => self.primaries += 1,
+            Cell::Prepared { .. } | Cell::Forwarding { .. } => self.handing += 1,
+            Cell::Absent | Cell::Secondary => {}
+        }
+    }
+
+    /// There are two primaries, or a handover is under way.
+    fn is_bad(&self) -> bool
+        ensures { result ≡ (nat_lt 1 self.now.primaries || nat_lt 0 self.now.handing) }
+    {
+        self.primaries > 1 || self.handing > 0
+    }
+}
+
+/// What the cells name for the lead of each shard.
+fn count_leads(
+    alloc: Global,
+    config: &Config,
+    cells: &[(ShardId, ServerId, Cell)],
+) -> Result<Vec<LeadCells>, AllocError>
+    requires few { length cells.now ≤ 1048576 }
+    requires known { AreKnown (length config.now.shards) (length config.now.servers) cells.now }
+    ensures len { IfOk result (λ counts. length counts.items ≡ length config.now.shards) }
+    ensures counts { IfOk result (λ counts. entries_of (record { primaries = 0; handing = 0 }) counts.items ≡ lead_cells cells.now) }
+{
+    let none = LeadCells {
+        primaries: 0,
+        handing: 0,
+    };
+    let mut counts = vec![in alloc; none; config.shard_count() as usize]?;
+    for (shard, _, cell) in cells {
+        let count = &mut counts[shard.number() as usize];
+        count.add(cell);
+    }
+    Ok(counts)
+}
+
+/// The lowest shard with a bad lead among the cells.
+fn first_bad_lead(
+    alloc: Global,
+    config: &Config,
+    cells: &[(ShardId, ServerId, Cell)],
+) -> Result<Option<ShardId>, AllocError>
+    requires few { length cells.now ≤ 1048576 }
+    requires known { AreKnown (length config.now.shards) (length config.now.servers) cells.now }
+    requires once { IsNamedOnce cells.now }
+    ensures { IfOk result (λ shard. shard ≡ first_below (length config.now.shards) (λ s. has_bad_lead (length config.now.servers) (cell_named cells.now s))) }
+{
+    let counts = count_leads(alloc, config, cells)?;
+    for number in 0..config.shard_count() {
+        if counts[number as usize].is_bad() {
+            return Ok(Some(ShardId::new(number)));
+        }
+    }
+    Ok(None)
+}
+
+/// Puts each of the cells into the table.
+fn put_cells(table: &mut Table, cells: &[(ShardId, ServerId, Cell)])
+    requires known { AreKnown (length table.old.setup.shards) (length table.old.setup.servers) cells.now }
+    requires resting { All (λ named. is_handing named.2 ≡ false) cells.now }
+    ensures cells { cells_of table.new ≡ put_all cells.now (cells_of table.old) }
+    ensures lasts { table.new.lasts ≡ table.old.lasts }
+    ensures down { table.new.down ≡ table.old.down }
+    ensures setup { table.new.setup ≡ table.old.setup }
+{
+    for (shard, server, cell) in cells {
+        table.set_cell(*shard, *server, *cell);
+    }
+}
+
+/// Sets each of the servers down.
+fn put_down(table: &mut Table, down: &[ServerId])
+    requires { list_any (λ v. not (nat_lt v (length table.old.setup.servers))) down.now ≡ false }
+    ensures down { down_of table.new ≡ (λ v. down_of table.old v || list_any (λ x. x == v) down.now) }
+    ensures cells { table.new.cells ≡ table.old.cells }
+    ensures lasts { table.new.lasts ≡ table.old.lasts }
+    ensures setup { table.new.setup ≡ table.old.setup }
+{
+    for server in down {
+        if !table.is_down(*server) {
+            table.set_down(*server, true);
+        }
+    }
+}
+
+/// A table with these cells, in which these servers are down.
+fn placed(
+    alloc: Global,
+    config: &Config,
+    cells: &[(ShardId, ServerId, Cell)],
+    down: &[ServerId],
+) -> Result<Table, AllocError>
+    requires known { AreKnown (length config.now.shards) (length config.now.servers) cells.now }
+    requires resting { All (λ named. is_handing named.2 ≡ false) cells.now }
+    requires servers { list_any (λ v. not (nat_lt v (length config.now.servers))) down.now ≡ false }
+    ensures cells { IfOk result (λ table. cells_of table ≡ put_all cells.now (λ s v. Cell.Absent)) }
+    ensures lasts { IfOk result (λ table. lasts_of table ≡ (λ s v. 0)) }
+    ensures down { IfOk result (λ table. down_of table ≡ (λ v. list_any (λ x. x == v) down.now)) }
+    ensures setup { IfOk result (λ table. table.setup ≡ config.now) }
+{
+    let mut table = Table::new(alloc, config)?;
+    put_cells(&mut table, cells);
+    put_down(&mut table, down);
+    Ok(table)
 }

@@ -1,5 +1,5 @@
 //! The cells of a configuration, one after another, with running totals.
-ghost use Rattle.std.specs.Prelude.{◌≡◌, ◌<◌, false, length, IfOk};
+ghost use Rattle.std.specs.Prelude.{◌≡◌, ◌<◌, ◌≤◌, ◌+◌, ◌*◌, ◌^◌, false, length, IfOk};
 
 use crate::config::Config;
 use sm_server::{Cell, ServerId, ShardId};
@@ -28,4 +28,148 @@ impl Model for Table {
     ghost view = { λ t. record { setup = t.config; cells = t.cells.items; lasts = t.lasts.items; down = t.down.items } };
 
     ghost invariant = { λ t. IsCounted (record { setup = t.config; cells = t.cells.items; lasts = t.lasts.items; down = t.down.items }) (record { loads = t.loads.items; lives = t.lives.items; servings = t.servings.items; down = t.down_count }) };
+}
+
+impl Table {
+    ghost use Rattle.std.specs.Prelude.{◌≡◌, ◌<◌, ◌≤◌, ◌^◌, false, length, IfOk};
+    ghost use Rattle.sm_placement.specs.Setup.{sizes_of};
+    ghost use Rattle.sm_placement.specs.Rows.{live_in, serving_in};
+    ghost use Rattle.sm_placement.specs.Sums.{put2, count_below};
+    ghost use Rattle.sm_placement.specs.Place.{load_of};
+    ghost use Rattle.sm_placement.specs.Grid.{cells_of, lasts_of, down_of, IsGrid};
+
+    /// A table with nothing in each cell.
+    pub fn new(alloc: Global, config: &Config) -> Result<Table, AllocError>
+        ensures setup { IfOk result (λ t. t.setup ≡ config.now) }
+        ensures cells { IfOk result (λ t. cells_of t ≡ (λ s v. Cell.Absent)) }
+        ensures lasts { IfOk result (λ t. lasts_of t ≡ (λ s v. 0)) }
+        ensures down { IfOk result (λ t. down_of t ≡ (λ v. false)) }
+    {
+        let servers = config.server_count() as usize;
+        let shards = config.shard_count() as usize;
+        let config = config.copy(alloc)?;
+        Ok(Table {
+            config,
+            cells: vec![in alloc; Cell::Absent; shards * servers]?,
+            lasts: vec![in alloc; 0; shards * servers]?,
+            down: vec![in alloc; false; servers]?,
+            down_count: 0,
+            loads: vec![in alloc; 0; servers]?,
+            lives: vec![in alloc; 0; shards]?,
+            servings: vec![in alloc; 0; shards]?,
+        })
+    }
+
+    /// The table, once more.
+    pub fn copy(&self, alloc: Global) -> Result<Table, AllocError>
+        ensures { IfOk result (λ t. t ≡ self.now) }
+    {
+        Ok(Table {
+            config: self.config.copy(alloc)?,
+            cells: Vec::from_slice(alloc, &self.cells)?,
+            lasts: Vec::from_slice(alloc, &self.lasts)?,
+            down: Vec::from_slice(alloc, &self.down)?,
+            down_count: self.down_count,
+            loads: Vec::from_slice(alloc, &self.loads)?,
+            lives: Vec::from_slice(alloc, &self.lives)?,
+            servings: Vec::from_slice(alloc, &self.servings)?,
+        })
+    }
+
+    /// The configuration whose cells these are.
+    pub fn config(&self) -> &Config
+        ensures setup { result.now ≡ self.now.setup }
+        ensures layout { IsGrid self.now }
+    {
+        &self.config
+    }
+
+    /// The place of a pair in the lists of cells and of last numbers.
+    fn place(&self, shard: ShardId, server: ServerId) -> usize
+        requires shard { shard < length self.now.setup.shards }
+        requires server { server < length self.now.setup.servers }
+        ensures { result ≡ shard * length self.now.setup.servers + server }
+    {
+        shard.number() as usize * self.down.len() + server.number() as usize
+    }
+
+    pub fn cell(&self, shard: ShardId, server: ServerId) -> Cell
+        requires shard { shard < length self.now.setup.shards }
+        requires server { server < length self.now.setup.servers }
+        ensures { result ≡ cells_of self.now shard server }
+    {
+        self.cells[self.place(shard, server)]
+    }
+
+    /// The number of the last call that had an effect on the cell, and 0 for none.
+    pub fn last(&self, shard: ShardId, server: ServerId) -> u64
+        requires shard { shard < length self.now.setup.shards }
+        requires server { server < length self.now.setup.servers }
+        ensures { result ≡ lasts_of self.now shard server }
+    {
+        self.lasts[self.place(shard, server)]
+    }
+
+    pub fn is_down(&self, server: ServerId) -> bool
+        requires { server < length self.now.setup.servers }
+        ensures { result ≡ down_of self.now server }
+    {
+        self.down[server.number() as usize]
+    }
+
+    /// How many servers are down.
+    pub fn down_count(&self) -> u32
+        ensures { result ≡ count_below (length self.now.setup.servers) (down_of self.now) }
+    {
+        self.down_count
+    }
+
+    /// The load of a server.
+    pub fn load(&self, server: ServerId) -> u64
+        requires { server < length self.now.setup.servers }
+        ensures load { result ≡ load_of (sizes_of self.now.setup) (cells_of self.now) server }
+        ensures fits { result < 2 ^ 45 }
+    {
+        self.loads[server.number() as usize]
+    }
+
+    /// How many replicas of a shard are live.
+    pub fn live(&self, shard: ShardId) -> u32
+        requires { shard < length self.now.setup.shards }
+        ensures live { result ≡ live_in (length self.now.setup.servers) (cells_of self.now shard) (down_of self.now) }
+        ensures bound { result ≤ 1024 }
+    {
+        self.lives[shard.number() as usize]
+    }
+
+    /// How many servers serve a shard, up or down.
+    pub fn serving_count(&self, shard: ShardId) -> u32
+        requires { shard < length self.now.setup.shards }
+        ensures { result ≡ serving_in (length self.now.setup.servers) (cells_of self.now shard) }
+    {
+        self.servings[shard.number() as usize]
+    }
+
+    /// Sets the number of the last call that had an effect on a cell.
+    pub fn set_last(&mut self, shard: ShardId, server: ServerId, number: u64)
+        requires shard { shard < length self.old.setup.shards }
+        requires server { server < length self.old.setup.servers }
+        ensures lasts { lasts_of self.new ≡ put2 (lasts_of self.old) shard server number }
+        ensures cells { self.new.cells ≡ self.old.cells }
+        ensures down { self.new.down ≡ self.old.down }
+        ensures setup { self.new.setup ≡ self.old.setup }
+    {
+        let place = self.place(shard, server);
+        self.lasts[place] = number;
+    }
+
+    /// Forgets the numbers of all calls. Takes no memory.
+    pub fn forget_lasts(&mut self)
+        ensures lasts { lasts_of self.new ≡ (λ s v. 0) }
+        ensures cells { self.new.cells ≡ self.old.cells }
+        ensures down { self.new.down ≡ self.old.down }
+        ensures setup { self.new.setup ≡ self.old.setup }
+    {
+        self.lasts.as_mut_slice().fill(0);
+    }
 }

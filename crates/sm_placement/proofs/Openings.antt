@@ -1,0 +1,288 @@
+-- Lists of named cells, and what it means that no fault is found in them.
+use Rattle.std.proofs.Common.{◌≡◌, ◌≢◌, ℕ, zero, suc, ◌+◌, ◌<◌, ◌≤◌, ◌^◌, Bool, true, false, not, cond, eqb, ltb, ◌==◌, ◌&&◌, ◌||◌, refl, sym, ap, ◌∙◌, arith, inl, inr, subst, ◌⊎◌, Option, Some, None, List, [], ◌∷◌, length, get_or}
+use Rattle.std.specs.Prelude.{option_map}
+use Rattle.std.specs.List.{count_by, list_any, All}
+use Rattle.std.proofs.Math.Path.{fun_ext}
+use Rattle.std.proofs.lemmas.List.Sums.{sum_by-cons}
+use Rattle.std.proofs.lemmas.Bool.{cases_eq, cases_lt, cases_Bool, or_parts, and_parts, not-false, eqb-true, ltb-true, ltb-false, le-ltb, eq-eqb, ne_eqb}
+use Rattle.sm_server.specs.declared.call.Cell.{Cell}
+use Rattle.sm_server.specs.declared.call.Cell.TheVariants.{Absent, Prepared, Secondary, Primary, Forwarding}
+use Rattle.sm_server.specs.Cell.{is_primary, is_prepared, is_forwarding}
+use Rattle.sm_placement.specs.declared.opening.OpenFault.{OpenFault}
+use Rattle.sm_placement.specs.declared.opening.OpenFault.TheVariants.{TooMany, UnknownName, DoubleCell, BadLead, BadListing, OverRoom, Short, TooManyDown}
+use Rattle.sm_placement.specs.Setup.{Sizes}
+use Rattle.sm_placement.specs.Sums.{put, put2, sum_below, count_below, bit, any_below, first_from}
+use Rattle.sm_placement.specs.Rows.{IsKnownCell}
+use Rattle.sm_placement.specs.Place.{Place, down_count}
+use Rattle.sm_placement.specs.Layout.{IsPlacement, entries_of}
+use Rattle.sm_placement.specs.Lead.{IsSettled}
+use Rattle.sm_placement.specs.Opening.{NamedCell, Opening, is_of, cell_named, opened, is_wrong_size, is_unknown, is_unknown_cell, AreKnown, IsNamedOnce, has_unknown, is_double, is_handing, tally, put_all, first_below, double_of, has_bad_lead, has_bad_listing, is_over_room, is_short, first_fault, fault_if, standing_faults, open_fault}
+use Rattle.sm_placement.proofs.Sums.{put2-here, put2-row, put2-apart, sum_apart, same_sum}
+use Rattle.sm_placement.proofs.Searches.{cases_Option, first_none, first_from_none, any_none, count_none}
+use Rattle.sm_placement.proofs.Settling.{settled_from}
+
+pub is_of-true : (s v : ℕ) (x : NamedCell) → is_of s v x ≡ true → (x.0 ≡ s) × (x.1 ≡ v)
+is_of-true s v x e = let p = and_parts (eqb x.0 s) (eqb x.1 v) e in (eqb-true x.0 s p.0, eqb-true x.1 v p.1)
+
+pub is_of-false : (s v : ℕ) (x : NamedCell) → is_of s v x ≡ false → x.0 ≡ s → x.1 ≡ v → ⊥
+is_of-false s v x e p q = let t : is_of s v x ≡ true = rw (eq-eqb x.0 s p, eq-eqb x.1 v q) refl in cc
+
+pub is_of-here : (x : NamedCell) → is_of x.0 x.1 x ≡ true
+is_of-here x = rw (eq-eqb x.0 x.0 refl, eq-eqb x.1 x.1 refl) refl
+
+known_head : (m n : ℕ) (x : NamedCell) (xs : List NamedCell) → AreKnown m n (x ∷ xs) → (x.0 < m) × (x.1 < n)
+known_head m n x xs k =
+    let p = or_parts (is_unknown_cell m n x) (list_any (is_unknown_cell m n) xs) k in
+    let q = or_parts (not (ltb x.0 m)) (not (ltb x.1 n)) p.0 in
+    (ltb-true x.0 m (not-false (ltb x.0 m) q.0), ltb-true x.1 n (not-false (ltb x.1 n) q.1))
+
+known_tail : (m n : ℕ) (x : NamedCell) (xs : List NamedCell) → AreKnown m n (x ∷ xs) → AreKnown m n xs
+known_tail m n x xs k = (or_parts (is_unknown_cell m n x) (list_any (is_unknown_cell m n) xs) k).1
+
+-- each id of a list of known ones is below its count
+pub known_shard : (m n : ℕ) (xs : List NamedCell) (i : ℕ) (d : NamedCell) → AreKnown m n xs → i < length xs → (get_or xs i d).0 < m
+known_shard m n [] i d k l = absurd (omega arith)
+known_shard m n (x ∷ xs) zero d k l = (known_head m n x xs k).0
+known_shard m n (x ∷ xs) (suc i) d k l = known_shard m n xs i d (known_tail m n x xs k) (omega arith)
+
+pub known_server : (m n : ℕ) (xs : List NamedCell) (i : ℕ) (d : NamedCell) → AreKnown m n xs → i < length xs → (get_or xs i d).1 < n
+known_server m n [] i d k l = absurd (omega arith)
+known_server m n (x ∷ xs) zero d k l = (known_head m n x xs k).1
+known_server m n (x ∷ xs) (suc i) d k l = known_server m n xs i d (known_tail m n x xs k) (omega arith)
+
+-- a count over a list, by its first element
+pub count_yes : {A : Type 0} (p : A → Bool) (x : A) (xs : List A) → p x ≡ true → count_by p (x ∷ xs) ≡ 1 + count_by p xs
+count_yes p x xs e = sum_by-cons (λ y. cond (p y) 1 0) x xs ∙ ap (λ b. cond b 1 0 + count_by p xs) e
+
+pub count_no : {A : Type 0} (p : A → Bool) (x : A) (xs : List A) → p x ≡ false → count_by p (x ∷ xs) ≡ count_by p xs
+count_no p x xs e = sum_by-cons (λ y. cond (p y) 1 0) x xs ∙ ap (λ b. cond b 1 0 + count_by p xs) e ∙ omega arith
+
+-- no cell is named for an unknown pair
+pub none_unknown : (m n : ℕ) (xs : List NamedCell) (s v : ℕ) → AreKnown m n xs → (s < m → v < n → ⊥) → count_by (is_of s v) xs ≡ 0
+none_unknown m n [] s v k out = refl
+none_unknown m n (x ∷ xs) s v k out = elim (cases_Bool (is_of s v x)) [
+      | inl e ↦ let at = is_of-true s v x e in let h = known_head m n x xs k in absurd (out (subst (λ y. y < m) at.0 h.0) (subst (λ y. y < n) at.1 h.1))
+      | inr e ↦ count_no (is_of s v) x xs e ∙ none_unknown m n xs s v (known_tail m n x xs k) out
+    ]
+
+once_tail : (x : NamedCell) (xs : List NamedCell) → IsNamedOnce (x ∷ xs) → IsNamedOnce xs
+once_tail x xs once s v = let h : count_by (is_of s v) (x ∷ xs) ≤ 1 = once s v in elim (cases_Bool (is_of s v x)) [
+      | inl e ↦ let g : count_by (is_of s v) (x ∷ xs) ≡ 1 + count_by (is_of s v) xs = count_yes (is_of s v) x xs e in omega arith
+      | inr e ↦ let g : count_by (is_of s v) (x ∷ xs) ≡ count_by (is_of s v) xs = count_no (is_of s v) x xs e in omega arith
+    ]
+
+-- a pair that is named first isn't named again
+once_head : (x : NamedCell) (xs : List NamedCell) → IsNamedOnce (x ∷ xs) → count_by (is_of x.0 x.1) xs ≡ 0
+once_head x xs once =
+    let h : count_by (is_of x.0 x.1) (x ∷ xs) ≤ 1 = once x.0 x.1 in
+    let g : count_by (is_of x.0 x.1) (x ∷ xs) ≡ 1 + count_by (is_of x.0 x.1) xs = count_yes (is_of x.0 x.1) x xs (is_of-here x) in
+    omega arith
+
+-- a pair that the list doesn't name has nothing
+pub cell_named-apart : (xs : List NamedCell) (s v : ℕ) → count_by (is_of s v) xs ≡ 0 → cell_named xs s v ≡ Absent
+cell_named-apart [] s v e = refl
+cell_named-apart (x ∷ xs) s v e = elim (cases_Bool (is_of s v x)) [
+      | inl q ↦ let g : count_by (is_of s v) (x ∷ xs) ≡ 1 + count_by (is_of s v) xs = count_yes (is_of s v) x xs q in absurd (omega arith)
+      | inr q ↦ rw q (cell_named-apart xs s v (sym (count_no (is_of s v) x xs q) ∙ e))
+    ]
+
+counted : (xs : List NamedCell) (i : ℕ) (d : NamedCell) → i < length xs → 1 ≤ count_by (is_of (get_or xs i d).0 (get_or xs i d).1) xs
+counted [] i d l = absurd (omega arith)
+counted (x ∷ xs) zero d l = let g : count_by (is_of x.0 x.1) (x ∷ xs) ≡ 1 + count_by (is_of x.0 x.1) xs = count_yes (is_of x.0 x.1) x xs (is_of-here x) in omega arith
+counted (x ∷ xs) (suc i) d l =
+    let y : NamedCell = get_or xs i d in
+    let r : 1 ≤ count_by (is_of y.0 y.1) xs = counted xs i d (omega arith) in
+    elim (cases_Bool (is_of y.0 y.1 x)) [
+      | inl q ↦ let g : count_by (is_of y.0 y.1) (x ∷ xs) ≡ 1 + count_by (is_of y.0 y.1) xs = count_yes (is_of y.0 y.1) x xs q in omega arith
+      | inr q ↦ let g : count_by (is_of y.0 y.1) (x ∷ xs) ≡ count_by (is_of y.0 y.1) xs = count_no (is_of y.0 y.1) x xs q in omega arith
+    ]
+
+-- each cell of the list stands where it is named
+pub cell_named-at : (xs : List NamedCell) (i : ℕ) (d : NamedCell) → IsNamedOnce xs → i < length xs → cell_named xs (get_or xs i d).0 (get_or xs i d).1 ≡ (get_or xs i d).2
+cell_named-at [] i d once l = absurd (omega arith)
+cell_named-at (x ∷ xs) zero d once l = rw (is_of-here x) refl
+cell_named-at (x ∷ xs) (suc i) d once l =
+    let y : NamedCell = get_or xs i d in
+    elim (cases_Bool (is_of y.0 y.1 x)) [
+      | inl q ↦
+          let at = is_of-true y.0 y.1 x q in
+          let none : count_by (is_of y.0 y.1) xs ≡ 0 = subst (λ s. count_by (is_of s y.1) xs ≡ 0) at.0 (subst (λ v. count_by (is_of x.0 v) xs ≡ 0) at.1 (once_head x xs once)) in
+          let some : 1 ≤ count_by (is_of y.0 y.1) xs = counted xs i d (omega arith) in
+          absurd (omega arith)
+      | inr q ↦ rw q (cell_named-at xs i d (once_tail x xs once) (omega arith))
+    ]
+
+-- a cell is put at one pair alone
+put2_of : (f : ℕ → ℕ → Cell) (x : NamedCell) (s v : ℕ) → is_of s v x ≡ false → put2 f x.0 x.1 x.2 s v ≡ f s v
+put2_of f x s v e = elim (cases_eq s x.0) [
+      | inl d ↦ rw d (put2-row f x.0 x.1 x.2 v (λ g. is_of-false s v x e (sym d) (sym g)))
+      | inr d ↦ put2-apart f x.0 x.1 x.2 s v d
+    ]
+
+put_all-apart : (xs : List NamedCell) (f : ℕ → ℕ → Cell) (s v : ℕ) → count_by (is_of s v) xs ≡ 0 → put_all xs f s v ≡ f s v
+put_all-apart [] f s v e = refl
+put_all-apart (x ∷ xs) f s v e = elim (cases_Bool (is_of s v x)) [
+      | inl q ↦ let g : count_by (is_of s v) (x ∷ xs) ≡ 1 + count_by (is_of s v) xs = count_yes (is_of s v) x xs q in absurd (omega arith)
+      | inr q ↦ put_all-apart xs (put2 f x.0 x.1 x.2) s v (sym (count_no (is_of s v) x xs q) ∙ e) ∙ put2_of f x s v q
+    ]
+
+put_all-here : (xs : List NamedCell) (f : ℕ → ℕ → Cell) (s v : ℕ) → count_by (is_of s v) xs ≡ 1 → put_all xs f s v ≡ cell_named xs s v
+put_all-here [] f s v e = absurd (let z : 0 ≡ 1 = e in omega arith)
+put_all-here (x ∷ xs) f s v e = elim (cases_Bool (is_of s v x)) [
+      | inl q ↦
+          let g : count_by (is_of s v) (x ∷ xs) ≡ 1 + count_by (is_of s v) xs = count_yes (is_of s v) x xs q in
+          let at = is_of-true s v x q in
+          put_all-apart xs (put2 f x.0 x.1 x.2) s v (omega arith) ∙ rw (q, ← at.0, ← at.1) (put2-here f x.0 x.1 x.2)
+      | inr q ↦ rw q (put_all-here xs (put2 f x.0 x.1 x.2) s v (sym (count_no (is_of s v) x xs q) ∙ e))
+    ]
+
+-- cells that are named once each may be put in any order
+pub put_all-is : (xs : List NamedCell) → IsNamedOnce xs → put_all xs (λ s v. Absent) ≡ cell_named xs
+put_all-is xs once = fun_ext (λ s. fun_ext (λ v. at s v))
+  where
+    at : (s v : ℕ) → put_all xs (λ s v. Absent) s v ≡ cell_named xs s v
+    at s v = let h : count_by (is_of s v) xs ≤ 1 = once s v in elim (cases_eq (count_by (is_of s v) xs) 0) [
+          | inl e ↦ put_all-apart xs (λ s v. Absent) s v e ∙ sym (cell_named-apart xs s v e)
+          | inr e ↦ put_all-here xs (λ s v. Absent) s v (omega arith)
+        ]
+
+-- cells that pass are counted alike in the list and by server
+pub tally-is : (t : Cell → Bool) (m n s : ℕ) (xs : List NamedCell) → t Absent ≡ false → AreKnown m n xs → IsNamedOnce xs → tally t s xs ≡ count_below n (λ v. t (cell_named xs s v))
+tally-is t m n s [] z k once = sym (count_none n (λ v. t Absent) (λ v l. z))
+tally-is t m n s (x ∷ xs) z k once =
+    let rest : tally t s xs ≡ count_below n (λ v. t (cell_named xs s v)) = tally-is t m n s xs z (known_tail m n x xs k) (once_tail x xs once) in
+    elim (cases_Bool (eqb x.0 s)) [
+      | inl q ↦
+          let at : x.0 ≡ s = eqb-true x.0 s q in
+          let was : bit (t (cell_named xs s x.1)) ≡ 0 = rw (cell_named-apart xs s x.1 (subst (λ r. count_by (is_of r x.1) xs ≡ 0) at (once_head x xs once)), z) refl in
+          let now : bit (t (cell_named (x ∷ xs) s x.1)) ≡ bit (t x.2) = rw (q, eq-eqb x.1 x.1 refl) refl in
+          let sums : count_below n (λ v. t (cell_named (x ∷ xs) s v)) + 0 ≡ count_below n (λ v. t (cell_named xs s v)) + bit (t x.2) =
+                sum_apart n (λ v. bit (t (cell_named (x ∷ xs) s v))) (λ v. bit (t (cell_named xs s v))) x.1 0 (bit (t x.2)) (known_head m n x xs k).1 (λ j e. rw (q, ne_eqb x.1 j (λ d. e (sym d))) refl) (omega arith) in
+          elim (cases_Bool (t x.2)) [
+            | inl p ↦ let g : tally t s (x ∷ xs) ≡ 1 + tally t s xs = count_yes (λ y. eqb y.0 s && t y.2) x xs (rw (q, p) refl) in let b : bit (t x.2) ≡ 1 = rw p refl in omega arith
+            | inr p ↦ let g : tally t s (x ∷ xs) ≡ tally t s xs = count_no (λ y. eqb y.0 s && t y.2) x xs (rw (q, p) refl) in let b : bit (t x.2) ≡ 0 = rw p refl in omega arith
+          ]
+      | inr q ↦
+          let g : tally t s (x ∷ xs) ≡ tally t s xs = count_no (λ y. eqb y.0 s && t y.2) x xs (rw q refl) in
+          let same : count_below n (λ v. t (cell_named (x ∷ xs) s v)) ≡ count_below n (λ v. t (cell_named xs s v)) =
+                same_sum n (λ v. bit (t (cell_named (x ∷ xs) s v))) (λ v. bit (t (cell_named xs s v))) (λ v l. rw q refl) in
+          omega arith
+    ]
+
+option_none : {A B : Type 0} (f : A → B) (o : Option A) → option_map f o ≡ None → o ≡ None
+option_none f None e = refl
+option_none f (Some x) e = cc
+
+-- where no pair is found doubled, each is named once at most
+pub once_from : (c : Sizes) (o : Opening) → AreKnown c.shards c.servers o.cells → first_from 0 c.shards (double_of c.servers o.cells) ≡ None → IsNamedOnce o.cells
+once_from c o k e s v = elim (cases_lt s c.shards) [
+      | inl l ↦ elim (cases_lt v c.servers) [
+          | inl m ↦
+              let none : first_below c.servers (is_double o.cells s) ≡ None = option_none (λ w. DoubleCell s w) (first_below c.servers (is_double o.cells s)) (first_from_none (double_of c.servers o.cells) 0 c.shards e s (omega arith) (omega arith)) in
+              ltb-false 1 (count_by (is_of s v) o.cells) (first_none c.servers (is_double o.cells s) none v m)
+          | inr m ↦ let z : count_by (is_of s v) o.cells ≡ 0 = none_unknown c.shards c.servers o.cells s v k (λ a b. absurd (omega arith)) in omega arith
+        ]
+      | inr l ↦ let z : count_by (is_of s v) o.cells ≡ 0 = none_unknown c.shards c.servers o.cells s v k (λ a b. absurd (omega arith)) in omega arith
+    ]
+
+-- a row that has no bad lead has no part of a handover
+pub row_rests : (n : ℕ) (row : ℕ → Cell) (v : ℕ) → has_bad_lead n row ≡ false → v < n → is_handing (row v) ≡ false
+row_rests n row v e l = any_none n (λ w. is_handing (row w)) (or_parts (ltb 1 (count_below n (λ w. is_primary (row w)))) (any_below n (λ w. is_handing (row w))) e).1 v l
+
+-- where no lead is bad, no named cell has a part in a handover
+pub named_rests : (m n : ℕ) (xs : List NamedCell) → AreKnown m n xs → IsNamedOnce xs → first_below m (λ s. has_bad_lead n (cell_named xs s)) ≡ None →
+    (i : ℕ) (d : NamedCell) → i < length xs → is_handing (get_or xs i d).2 ≡ false
+named_rests m n xs k once e i d l =
+    let y : NamedCell = get_or xs i d in
+    let rests : is_handing (cell_named xs y.0 y.1) ≡ false =
+          row_rests n (cell_named xs y.0) y.1 (first_none m (λ s. has_bad_lead n (cell_named xs s)) e y.0 (known_shard m n xs i d k l)) (known_server m n xs i d k l) in
+    rw (cell_named-at xs i d once l) at rests
+
+resting_known : (n : ℕ) (x : Cell) → is_handing x ≡ false → IsKnownCell n x
+resting_known n Absent e = tt
+resting_known n Secondary e = tt
+resting_known n Primary e = tt
+resting_known n (Prepared a b) e = cc
+resting_known n (Forwarding a b) e = cc
+
+-- a list of known servers lists no other
+listed_known : (n : ℕ) (xs : List (Option ℕ)) (s u : ℕ) → list_any (is_unknown n) xs ≡ false → get_or xs s None ≡ Some u → u < n
+listed_known n [] s u k e = cc
+listed_known n (x ∷ xs) zero u k e = let z = (or_parts (is_unknown n x) (list_any (is_unknown n) xs) k).0 in at x z e
+  where
+    at : (x : Option ℕ) → is_unknown n x ≡ false → x ≡ Some u → u < n
+    at None z e = cc
+    at (Some w) z e = let same : w ≡ u = cc in let l : w < n = ltb-true w n (not-false (ltb w n) z) in omega arith
+listed_known n (x ∷ xs) (suc s) u k e = listed_known n xs s u (or_parts (is_unknown n x) (list_any (is_unknown n) xs) k).1 e
+
+entries_of-get : {A : Type 0} (none : A) (xs : List A) (k : ℕ) → entries_of none xs k ≡ get_or xs k none
+unfolding entries_of
+entries_of-get none xs k = refl
+
+-- the parts of what is unknown
+pub cells_known : (c : Sizes) (o : Opening) → has_unknown c o ≡ false → AreKnown c.shards c.servers o.cells
+cells_known c o e = (or_parts (list_any (is_unknown_cell c.shards c.servers) o.cells) (list_any (is_unknown c.servers) o.listed || list_any (λ v. not (ltb v c.servers)) o.down) e).0
+
+-- what is named, where no fault is found, is a placement
+pub opened_placement : (c : Sizes) (o : Opening) → has_unknown c o ≡ false → first_from 0 c.shards (double_of c.servers o.cells) ≡ None →
+    first_below c.shards (λ s. has_bad_lead c.servers (cell_named o.cells s)) ≡ None →
+    first_below c.servers (is_over_room c (cell_named o.cells)) ≡ None → IsPlacement c (opened o)
+opened_placement c o unknown doubles leads rooms = record {
+  no_server = λ s v l. nothing s v (λ a b. absurd (omega arith));
+  no_shard = λ s v l. nothing s v (λ a b. absurd (omega arith));
+  known = λ s v. elim (cases_lt s c.shards) [
+      | inl l ↦ elim (cases_lt v c.servers) [
+          | inl m ↦ resting_known c.servers (cell_named o.cells s v) (row_rests c.servers (cell_named o.cells s) v (first_none c.shards (λ r. has_bad_lead c.servers (cell_named o.cells r)) leads s l) m)
+          | inr m ↦ rw (nothing s v (λ a b. absurd (omega arith))) tt
+        ]
+      | inr l ↦ rw (nothing s v (λ a b. absurd (omega arith))) tt
+    ];
+  listed = λ s u e. listed_known c.servers o.listed s u listings (sym (entries_of-get None o.listed s) ∙ e);
+  rooms = λ v l. ltb-false (c.room v) _ (first_none c.servers (is_over_room c (cell_named o.cells)) rooms v l);
+}
+  where
+    known : AreKnown c.shards c.servers o.cells
+    known = cells_known c o unknown
+    nothing : (s v : ℕ) → (s < c.shards → v < c.servers → ⊥) → cell_named o.cells s v ≡ Absent
+    nothing s v out = cell_named-apart o.cells s v (none_unknown c.shards c.servers o.cells s v known out)
+    listings : list_any (is_unknown c.servers) o.listed ≡ false
+    listings = (or_parts (list_any (is_unknown c.servers) o.listed) (list_any (λ v. not (ltb v c.servers)) o.down) (or_parts (list_any (is_unknown_cell c.shards c.servers) o.cells) (list_any (is_unknown c.servers) o.listed || list_any (λ v. not (ltb v c.servers)) o.down) unknown).1).0
+
+-- the faults in their order
+pub fault_of_size : (c : Sizes) (o : Opening) → is_wrong_size c o ≡ true → open_fault c o ≡ Some TooMany
+fault_of_size c o e = rw e refl
+
+pub fault_of_ids : (c : Sizes) (o : Opening) → is_wrong_size c o ≡ false → has_unknown c o ≡ true → open_fault c o ≡ Some UnknownName
+fault_of_ids c o e f = rw (e, f) refl
+
+pub fault_of_pairs : (c : Sizes) (o : Opening) (why : OpenFault) → is_wrong_size c o ≡ false → has_unknown c o ≡ false → first_from 0 c.shards (double_of c.servers o.cells) ≡ Some why →
+    open_fault c o ≡ Some why
+fault_of_pairs c o why e f g = rw (e, f, g) refl
+
+pub fault_of_leads : (c : Sizes) (o : Opening) (s : ℕ) → is_wrong_size c o ≡ false → has_unknown c o ≡ false → first_from 0 c.shards (double_of c.servers o.cells) ≡ None →
+    first_below c.shards (λ r. has_bad_lead c.servers (cell_named o.cells r)) ≡ Some s → open_fault c o ≡ Some (BadLead s)
+fault_of_leads c o s e f g h = rw (e, f, g, h) refl
+
+pub fault_of_rest : (c : Sizes) (o : Opening) → is_wrong_size c o ≡ false → has_unknown c o ≡ false → first_from 0 c.shards (double_of c.servers o.cells) ≡ None →
+    first_below c.shards (λ r. has_bad_lead c.servers (cell_named o.cells r)) ≡ None → open_fault c o ≡ first_fault (standing_faults c (opened o))
+fault_of_rest c o e f g h = rw (e, f, g, h) refl
+
+-- what is opened is settled
+pub opened_settled : (c : Sizes) (o : Opening) → IsPlacement c (opened o) → first_below c.shards (λ s. has_bad_lead c.servers (cell_named o.cells s)) ≡ None →
+    first_fault (standing_faults c (opened o)) ≡ None → IsSettled c (opened o)
+opened_settled c o is leads e =
+    let p : Place = opened o in
+    let listings : first_below c.shards (λ s. has_bad_listing (p.cells s) (p.listed s)) ≡ None = first_part (first_below c.shards (λ s. has_bad_listing (p.cells s) (p.listed s))) (λ s. BadListing s) _ e in
+    let e1 = (rw listings at e) in
+    let rooms : first_below c.servers (is_over_room c p.cells) ≡ None = first_part (first_below c.servers (is_over_room c p.cells)) (λ v. OverRoom v) _ e1 in
+    let e2 = (rw rooms at e1) in
+    let floors : first_below c.shards (is_short c p.cells p.down) ≡ None = first_part (first_below c.shards (is_short c p.cells p.down)) (λ s. Short s) _ e2 in
+    let e3 = (rw floors at e2) in
+    settled_from c p is.no_server leads listings rooms floors (few (ltb p.limit (down_count c p)) refl e3) (λ s l. omega arith)
+  where
+    first_part : (f : Option ℕ) (g : ℕ → OpenFault) (rest : List (Option OpenFault)) → first_fault (option_map g f ∷ rest) ≡ None → f ≡ None
+    first_part None g rest e = refl
+    first_part (Some x) g rest e = cc
+    few : (b : Bool) → ltb (opened o).limit (down_count c (opened o)) ≡ b → first_fault (fault_if b TooManyDown ∷ []) ≡ None → down_count c (opened o) ≤ (opened o).limit
+    few true q e = cc
+    few false q e = ltb-false (opened o).limit (down_count c (opened o)) q

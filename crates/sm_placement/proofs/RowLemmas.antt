@@ -1,0 +1,154 @@
+-- A row of cells with one cell changed: whose part changes, and the counts.
+use Rattle.std.proofs.Common.{◌≡◌, ◌≢◌, ℕ, zero, suc, ◌+◌, ◌-◌, ◌^◌, ◌<◌, ◌≤◌, List, length, set, Bool, true, false, not, ◌&&◌, ◌||◌, cond, eqb, Option, Some, None, refl, sym, ap, subst, ◌∙◌, arith, inl, inr}
+use Rattle.std.specs.Option.{unwrap_or}
+use Rattle.std.proofs.lemmas.Bool.{cases_eq, eq-eqb, ne_eqb}
+use Rattle.std.proofs.lemmas.List.{length-set}
+use Rattle.std.proofs.lemmas.Option.{none-some, same_Some}
+use Rattle.sm_server.specs.declared.call.Cell.{Cell}
+use Rattle.sm_server.specs.declared.call.Cell.TheVariants.{Absent, Prepared, Secondary, Primary, Forwarding}
+use Rattle.sm_server.specs.Cell.{is_secondary, is_forwarding}
+use Rattle.sm_placement.specs.declared.row.Counts.{Counts}
+use Rattle.sm_placement.specs.Layout.{entries_of}
+use Rattle.sm_placement.specs.Sums.{put, sum_below, bit, count_below}
+use Rattle.sm_placement.specs.Rows.{IsKnownCell, forwards, serves_as, serves, is_live, live_in, serving_in}
+use Rattle.sm_placement.specs.Counts.{has_replica, target_of, party_of, at_both, counts_at, counts_in, counts_of, CanCorrect, corrected}
+use Rattle.sm_placement.proofs.GridLemmas.{entries_of-set}
+use Rattle.sm_placement.proofs.Sums.{put-here, put-apart, count-le, sum_apart, sum_two_apart, bit-le-one}
+
+-- a cell that doesn't forward to a server doesn't forward to it under any number
+forwards-apart : (x : Cell) (q number : ℕ) → target_of x ≢ Some q → forwards x q number ≡ false
+forwards-apart Absent q number h = refl
+forwards-apart (Prepared from own) q number h = refl
+forwards-apart Secondary q number h = refl
+forwards-apart Primary q number h = refl
+forwards-apart (Forwarding to own) q number h = rw (ne_eqb to q (λ e. h (ap Some e))) refl
+
+serves_as-put : (row : ℕ → Cell) (v : ℕ) (next : Cell) (q : ℕ) (x : Cell) → target_of (row v) ≢ Some q → target_of next ≢ Some q → serves_as (put row v next) q x ≡ serves_as row q x
+serves_as-put row v next q Absent h k = refl
+serves_as-put row v next q (Prepared from number) h k = elim (cases_eq from v) [
+      | inl e ↦ ap (λ c. forwards c q number) (put-here row v next from e) ∙ forwards-apart next q number k ∙ sym (ap (λ u. forwards (row u) q number) e ∙ forwards-apart (row v) q number h)
+      | inr e ↦ ap (λ c. forwards c q number) (put-apart row v next from e)
+    ]
+serves_as-put row v next q Secondary h k = refl
+serves_as-put row v next q Primary h k = refl
+serves_as-put row v next q (Forwarding to number) h k = refl
+
+-- who is neither the cell's server nor forwarded to by the old or the new cell serves as before
+pub serves-put : (row : ℕ → Cell) (v : ℕ) (next : Cell) (q : ℕ) → q ≢ v → target_of (row v) ≢ Some q → target_of next ≢ Some q → serves (put row v next) q ≡ serves row q
+serves-put row v next q d h k = ap (λ c. serves_as (put row v next) q c) (put-apart row v next q d) ∙ serves_as-put row v next q (row q) h k
+
+pub has_replica-put : (row : ℕ → Cell) (v : ℕ) (next : Cell) (q : ℕ) → q ≢ v → target_of (row v) ≢ Some q → target_of next ≢ Some q → has_replica (put row v next) q ≡ has_replica row q
+has_replica-put row v next q d h k =
+    ap (λ c. is_secondary c || serves (put row v next) q) (put-apart row v next q d) ∙ ap (λ b. is_secondary (row q) || b) (serves-put row v next q d h k)
+
+target_of-apart : (x : Cell) (v q : ℕ) → q ≢ unwrap_or (target_of x) v → target_of x ≢ Some q
+target_of-apart Absent v q h = none-some q
+target_of-apart (Prepared from number) v q h = none-some q
+target_of-apart Secondary v q h = none-some q
+target_of-apart Primary v q h = none-some q
+target_of-apart (Forwarding to number) v q h = λ e. h (sym (same_Some to q e))
+
+-- where only one of two cells forwards, the party is whom it forwards to
+party_of-apart : (old next : Cell) (v q : ℕ) → (is_forwarding old && is_forwarding next) ≡ false → q ≢ v → q ≢ party_of old next v → (target_of old ≢ Some q) × (target_of next ≢ Some q)
+party_of-apart Absent next v q o d h = (none-some q, target_of-apart next v q h)
+party_of-apart (Prepared from number) next v q o d h = (none-some q, target_of-apart next v q h)
+party_of-apart Secondary next v q o d h = (none-some q, target_of-apart next v q h)
+party_of-apart Primary next v q o d h = (none-some q, target_of-apart next v q h)
+party_of-apart (Forwarding to number) Absent v q o d h = (λ e. h (sym (same_Some to q e)), none-some q)
+party_of-apart (Forwarding to number) (Prepared from n) v q o d h = (λ e. h (sym (same_Some to q e)), none-some q)
+party_of-apart (Forwarding to number) Secondary v q o d h = (λ e. h (sym (same_Some to q e)), none-some q)
+party_of-apart (Forwarding to number) Primary v q o d h = (λ e. h (sym (same_Some to q e)), none-some q)
+party_of-apart (Forwarding to number) (Forwarding t n) v q o d h = absurd (cc)
+
+target_of-known : (n : ℕ) (x : Cell) (v : ℕ) → v < n → IsKnownCell n x → unwrap_or (target_of x) v < n
+target_of-known n Absent v l h = l
+target_of-known n (Prepared from number) v l h = l
+target_of-known n Secondary v l h = l
+target_of-known n Primary v l h = l
+target_of-known n (Forwarding to number) v l h = h
+
+-- the party is a known server
+pub party_of-known : (n : ℕ) (old next : Cell) (v : ℕ) → v < n → IsKnownCell n old → IsKnownCell n next → party_of old next v < n
+party_of-known n Absent next v l h k = target_of-known n next v l k
+party_of-known n (Prepared from number) next v l h k = target_of-known n next v l k
+party_of-known n Secondary next v l h k = target_of-known n next v l k
+party_of-known n Primary next v l h k = target_of-known n next v l k
+party_of-known n (Forwarding to number) next v l h k = h
+
+-- two sums whose functions differ at no more than two numbers
+pub sum_at_both : (n : ℕ) (f g : ℕ → ℕ) (v u : ℕ) → v < n → u < n → ((q : ℕ) → q ≢ v → q ≢ u → f q ≡ g q) →
+    sum_below n f + at_both g v u ≡ sum_below n g + at_both f v u
+sum_at_both n f g v u l m others = elim (cases_eq u v) [
+      | inl e ↦ rw (eq-eqb u v e) (sum_apart n f g v (g v) (f v) l (λ q d. others q d (λ s. d (s ∙ e))) (omega arith))
+      | inr e ↦ rw (ne_eqb u v e) (sum_two_apart n f g v u l m (λ s. e (sym s)) others)
+    ]
+
+pub at_both-le : (t : ℕ → Bool) (v u : ℕ) → at_both (λ q. bit (t q)) v u ≤ 2
+at_both-le t v u =
+    let a : bit (t v) ≤ 1 = bit-le-one (t v) in
+    let b : bit (t u) ≤ 1 = bit-le-one (t u) in
+    elim (cases_eq u v) [
+      | inl e ↦ rw (eq-eqb u v e) (omega arith)
+      | inr e ↦ rw (ne_eqb u v e) (omega arith)
+    ]
+
+-- how the counts of a row change with a cell
+pub live_in-put : (n : ℕ) (row : ℕ → Cell) (down : ℕ → Bool) (v : ℕ) (next : Cell) → v < n → IsKnownCell n (row v) → IsKnownCell n next → (is_forwarding (row v) && is_forwarding next) ≡ false →
+    live_in n row down + (counts_at (put row v next) down v (party_of (row v) next v)).live ≡ live_in n (put row v next) down + (counts_at row down v (party_of (row v) next v)).live
+live_in-put n row down v next l h k o =
+    sum_at_both n (λ q. bit (is_live row down q)) (λ q. bit (is_live (put row v next) down q)) v (party_of (row v) next v) l (party_of-known n (row v) next v l h k)
+      (λ q d m. let p = party_of-apart (row v) next v q o d m in sym (ap (λ b. bit (not (down q) && b)) (has_replica-put row v next q d p.0 p.1)))
+
+pub serving_in-put : (n : ℕ) (row : ℕ → Cell) (down : ℕ → Bool) (v : ℕ) (next : Cell) → v < n → IsKnownCell n (row v) → IsKnownCell n next → (is_forwarding (row v) && is_forwarding next) ≡ false →
+    serving_in n row + (counts_at (put row v next) down v (party_of (row v) next v)).serving ≡ serving_in n (put row v next) + (counts_at row down v (party_of (row v) next v)).serving
+serving_in-put n row down v next l h k o =
+    sum_at_both n (λ q. bit (serves row q)) (λ q. bit (serves (put row v next) q)) v (party_of (row v) next v) l (party_of-known n (row v) next v l h k)
+      (λ q d m. let p = party_of-apart (row v) next v q o d m in sym (ap bit (serves-put row v next q d p.0 p.1)))
+
+same_counts : (a b c d : ℕ) → a ≡ b → c ≡ d → ◌≡◌ {A = Counts} (record { live = a; serving = c }) (record { live = b; serving = d })
+same_counts a b c d e f = cc
+
+-- a row that is kept as a list, with a cell changed: the parts of the cell's server and of the other party are exchanged
+pub CanCorrect-set : (row : List Cell) (down : List Bool) (v : ℕ) (next : Cell) (counts before after : Counts) → length row ≤ 1024 → v < length row →
+    IsKnownCell (length row) (entries_of Absent row v) → IsKnownCell (length row) next → (is_forwarding (entries_of Absent row v) && is_forwarding next) ≡ false →
+    counts ≡ counts_of row down →
+    before ≡ counts_at (entries_of Absent row) (entries_of false down) v (party_of (entries_of Absent row v) next v) →
+    after ≡ counts_at (entries_of Absent (set row v next)) (entries_of false down) v (party_of (entries_of Absent row v) next v) →
+    CanCorrect counts before after × (corrected counts before after ≡ counts_of (set row v next) down)
+CanCorrect-set row down v next counts before after b l h k o e d a =
+    let n : ℕ = length row in
+    let r : ℕ → Cell = entries_of Absent row in
+    let dn : ℕ → Bool = entries_of false down in
+    let now : ℕ → Cell = put r v next in
+    let p : ℕ = party_of (r v) next v in
+    let s : entries_of Absent (set row v next) ≡ now = entries_of-set Absent row v next l in
+    let a' : after ≡ counts_at now dn v p = a ∙ ap (λ (f : ℕ → Cell). counts_at f dn v p) s in
+    let z : counts_of (set row v next) down ≡ counts_in n now dn = ap (λ (m : ℕ). counts_in m (entries_of Absent (set row v next)) dn) (length-set row v next) ∙ ap (λ (f : ℕ → Cell). counts_in n f dn) s in
+    let al : after.live ≡ (counts_at now dn v p).live = ap (λ (q : Counts). q.live) a' in
+    let ase : after.serving ≡ (counts_at now dn v p).serving = ap (λ (q : Counts). q.serving) a' in
+    let bl : before.live ≡ (counts_at r dn v p).live = ap (λ (q : Counts). q.live) d in
+    let bs : before.serving ≡ (counts_at r dn v p).serving = ap (λ (q : Counts). q.serving) d in
+    let cl : counts.live ≡ live_in n r dn = ap (λ (q : Counts). q.live) e in
+    let cs : counts.serving ≡ serving_in n r = ap (λ (q : Counts). q.serving) e in
+    let live : live_in n r dn + (counts_at now dn v p).live ≡ live_in n now dn + (counts_at r dn v p).live = live_in-put n r dn v next l h k o in
+    let serving : serving_in n r + (counts_at now dn v p).serving ≡ serving_in n now + (counts_at r dn v p).serving = serving_in-put n r dn v next l h k o in
+    let few : (counts_at now dn v p).live ≤ 2 = at_both-le (is_live now dn) v p in
+    let few' : (counts_at now dn v p).serving ≤ 2 = at_both-le (serves now) v p in
+    let most : live_in n r dn ≤ n = count-le n (is_live r dn) in
+    let most' : serving_in n r ≤ n = count-le n (serves r) in
+    (record { live = omega arith; serving = omega arith; live_fits = omega arith; serving_fits = omega arith },
+     same_counts (counts.live + after.live - before.live) (live_in n now dn) (counts.serving + after.serving - before.serving) (serving_in n now) (omega arith) (omega arith) ∙ sym z)
+
+-- the same, from what each step of the code gives: the old cell, the other party, and the place that is written
+pub CanCorrect-steps : (row : List Cell) (down : List Bool) (v place u : ℕ) (old next : Cell) (counts before after : Counts) → length row ≤ 1024 → v < length row →
+    IsKnownCell (length row) (entries_of Absent row v) → IsKnownCell (length row) next → (is_forwarding (entries_of Absent row v) && is_forwarding next) ≡ false →
+    counts ≡ counts_of row down →
+    old ≡ entries_of Absent row v → u ≡ party_of old next v → place ≡ v →
+    before ≡ counts_at (entries_of Absent row) (entries_of false down) v u →
+    after ≡ counts_at (entries_of Absent (set row place next)) (entries_of false down) v u →
+    CanCorrect counts before after × (corrected counts before after ≡ counts_of (set row place next) down)
+CanCorrect-steps row down v place u old next counts before after b l h k o e oe ue pe =
+    let f : u ≡ party_of (entries_of Absent row v) next v = ue ∙ ap (λ (x : Cell). party_of x next v) oe in
+    let Goal : ℕ → ℕ → Type 0 = λ (q w : ℕ). before ≡ counts_at (entries_of Absent row) (entries_of false down) v w → after ≡ counts_at (entries_of Absent (set row q next)) (entries_of false down) v w →
+        CanCorrect counts before after × (corrected counts before after ≡ counts_of (set row q next) down) in
+    subst (λ (q : ℕ). Goal q u) (sym pe) (subst (λ (w : ℕ). Goal v w) (sym f) (CanCorrect-set row down v next counts before after b l h k o e))

@@ -1,0 +1,61 @@
+-- How many servers of a shard's row are live, and how many serve it.
+use Rattle.std.specs.Prelude.{◌≡◌, ◌<◌, ◌≤◌, ℕ, ◌+◌, ◌-◌, ◌^◌, ◌==◌, ◌||◌, Bool, false, Option, Some, None, if◌then◌else◌, List, length}
+use Rattle.std.specs.Option.{option_or, unwrap_or}
+use Rattle.sm_server.specs.declared.call.Cell.{Cell}
+use Rattle.sm_server.specs.declared.call.Cell.TheVariants.{Absent, Forwarding}
+use Rattle.sm_server.specs.Cell.{is_secondary}
+use Rattle.sm_placement.specs.declared.row.Counts.{Counts}
+use Rattle.sm_placement.specs.Sums.{bit}
+use Rattle.sm_placement.specs.Rows.{serves, is_live, live_in, serving_in}
+use Rattle.sm_placement.specs.Layout.{grid_of, entries_of}
+
+-- the counts of a row of n servers
+abbrev pub counts_in : ℕ → (ℕ → Cell) → (ℕ → Bool) → Counts
+counts_in n row down = record { live = live_in n row down; serving = serving_in n row }
+
+-- the counts of a row that is kept as a list
+abbrev pub counts_of : List Cell → List Bool → Counts
+counts_of row down = counts_in (length row) (entries_of Absent row) (entries_of false down)
+
+-- the server has a replica that is live while the server is up
+abbrev pub has_replica : (ℕ → Cell) → ℕ → Bool
+has_replica row v = is_secondary (row v) || serves row v
+
+-- the server to which a cell forwards
+abbrev pub target_of : Cell → Option ℕ
+target_of (Forwarding to number) = Some to
+target_of _ = None
+
+-- the other server whose part in a row may change with the cell of v: the one to which the old or the new cell forwards,
+-- or v itself where neither does
+abbrev pub party_of : Cell → Cell → ℕ → ℕ
+party_of old next v = unwrap_or (option_or (target_of old) (target_of next)) v
+
+-- f at v and at u, once where they are one
+abbrev pub at_both : (ℕ → ℕ) → ℕ → ℕ → ℕ
+at_both f v u = if u == v then f v else f v + f u
+
+-- what two servers add to the counts of a row
+abbrev pub counts_at : (ℕ → Cell) → (ℕ → Bool) → ℕ → ℕ → Counts
+counts_at row down v u = record {
+  live = at_both (λ q. bit (is_live row down q)) v u;
+  serving = at_both (λ q. bit (serves row q)) v u;
+}
+
+-- the counts, where one part of them was `before` and is `after`
+abbrev pub corrected : Counts → Counts → Counts → Counts
+corrected counts before after = record {
+  live = counts.live + after.live - before.live;
+  serving = counts.serving + after.serving - before.serving;
+}
+
+-- one part can leave the counts, and the other come in
+pub record CanCorrect (counts before after : Counts) : Type 0 where
+  pub live : before.live ≤ counts.live + after.live
+  pub serving : before.serving ≤ counts.serving + after.serving
+  pub live_fits : counts.live + after.live < 2 ^ 32
+  pub serving_fits : counts.serving + after.serving < 2 ^ 32
+
+-- each entry is the count of the live replicas of its shard
+abbrev pub AreLives : List ℕ → ℕ → (ℕ → ℕ → Cell) → (ℕ → Bool) → Type 0
+AreLives lives n cells down = (s : ℕ) → s < length lives → entries_of 0 lives s ≡ live_in n (cells s) down

@@ -1,0 +1,144 @@
+//! One shard's cells, by server: who serves it, who is live, and how many.
+ghost use Rattle.std.specs.Prelude.{◌≡◌, ◌≢◌, ◌<◌, ◌≤◌, ◌+◌, ◌*◌, ◌&&◌, ℕ, false, not, length, slice_set};
+ghost use Rattle.sm_server.specs.Cell.{is_forwarding};
+ghost use Rattle.sm_placement.specs.Sums.{put, bit};
+ghost use Rattle.sm_placement.specs.Rows.{IsKnownCell, forwards, serves, is_live};
+ghost use Rattle.sm_placement.specs.Layout.{grid_of, entries_of};
+
+use sm_server::{Cell, ServerId};
+
+/// How many servers of a row are live, and how many serve.
+#[derive(Clone, Copy)]
+pub struct Counts {
+    pub live: u32,
+    pub serving: u32,
+}
+
+ghost use Rattle.sm_placement.specs.Counts.{counts_of, counts_at, has_replica, target_of, party_of, CanCorrect, corrected, AreLives};
+
+/// The cell forwards to the server under the number.
+fn forwards(cell: &Cell, server: ServerId, number: u64) -> bool
+    ensures { result ≡ forwards cell.now server number }
+{
+    match cell {
+        Cell::Forwarding { to, number: own } => *to == server && *own == number,
+        _ => false,
+    }
+}
+
+/// The cell of a server. Beyond the row it is absent.
+#[tactic(auto, unfolding(crate::specs::Layout::entries_of))]
+fn cell_at(row: &[Cell], server: ServerId) -> Cell
+    ensures { result ≡ entries_of Cell.Absent row.now server }
+{
+    match row.get(server.number() as usize) {
+        Some(cell) => *cell,
+        None => Cell::Absent,
+    }
+}
+
+/// The server serves the shard of the row: a primary does, and a prepared server to which the owner forwards.
+fn serves(row: &[Cell], server: ServerId) -> bool
+    ensures { result ≡ serves (entries_of Cell.Absent row.now) server }
+{
+    match cell_at(row, server) {
+        Cell::Primary => true,
+        Cell::Prepared { from, number } => forwards(&cell_at(row, from), server, number),
+        _ => false,
+    }
+}
+
+/// The server has a replica that is live while the server is up.
+fn has_replica(row: &[Cell], server: ServerId) -> bool
+    ensures { result ≡ has_replica (entries_of Cell.Absent row.now) server }
+{
+    match cell_at(row, server) {
+        Cell::Secondary => true,
+        _ => serves(row, server),
+    }
+}
+
+/// The server to which the cell forwards.
+fn target(cell: &Cell) -> Option<ServerId>
+    ensures { result ≡ target_of cell.now }
+{
+    match cell {
+        Cell::Forwarding { to, .. } => Some(*to),
+        _ => None,
+    }
+}
+
+/// What one server adds to the counts of a row.
+#[tactic(auto, unfolding(crate::specs::Layout::entries_of))]
+fn counts_at_one(row: &[Cell], down: &[bool], server: ServerId) -> Counts
+    requires { server < length down.now }
+    ensures live { result.live ≡ bit (is_live (entries_of Cell.Absent row.now) (entries_of false down.now) server) }
+    ensures serving { result.serving ≡ bit (serves (entries_of Cell.Absent row.now) server) }
+{
+    let is_up = !down[server.number() as usize];
+    Counts {
+        live: u32::from(is_up && has_replica(row, server)),
+        serving: u32::from(serves(row, server)),
+    }
+}
+
+/// The other server whose part in a row may change with the cell of a server: the one to which the old or the new cell
+/// forwards, or the server itself where neither does.
+fn party_of(old: &Cell, next: &Cell, server: ServerId) -> ServerId
+    ensures { result ≡ party_of old.now next.now server }
+{
+    target(old).or(target(next)).unwrap_or(server)
+}
+
+/// What two servers, which may be one, add to the counts of a row.
+fn counts_at(row: &[Cell], down: &[bool], server: ServerId, other: ServerId) -> Counts
+    requires server { server < length down.now }
+    requires other { other < length down.now }
+    ensures { result ≡ counts_at (entries_of Cell.Absent row.now) (entries_of false down.now) server other }
+{
+    let own = counts_at_one(row, down, server);
+    if other == server {
+        return own;
+    }
+    let more = counts_at_one(row, down, other);
+    Counts {
+        live: own.live + more.live,
+        serving: own.serving + more.serving,
+    }
+}
+
+/// The counts, where one part of them was `before` and is `after`.
+fn corrected(counts: Counts, before: Counts, after: Counts) -> Counts
+    requires { CanCorrect counts before after }
+    ensures { result ≡ corrected counts before after }
+{
+    Counts {
+        live: counts.live + after.live - before.live,
+        serving: counts.serving + after.serving - before.serving,
+    }
+}
+
+/// Sets the cell of a server in a row with these counts, and says what the counts are then.
+pub fn set_cell(
+    row: &mut [Cell],
+    down: &[bool],
+    server: ServerId,
+    cell: Cell,
+    counts: Counts,
+) -> Counts
+    requires bound { length row.old ≤ 1024 }
+    requires length { length down.now ≡ length row.old }
+    requires server { server < length row.old }
+    requires known { IsKnownCell (length row.old) (entries_of Cell.Absent row.old server) }
+    requires next { IsKnownCell (length row.old) cell }
+    requires one_forwards { (is_forwarding (entries_of Cell.Absent row.old server) && is_forwarding cell) ≡ false }
+    requires counts { counts ≡ counts_of row.old down.now }
+    ensures row { row.new ≡ slice_set row.old server cell }
+    ensures counts { result ≡ counts_of row.new down.now }
+{
+    let other = party_of(&cell_at(row, server), &cell, server);
+    let before = counts_at(row, down, server, other);
+    row[server.number() as usize] = cell;
+    let after = counts_at(row, down, server, other);
+    corrected(counts, before, after)
+}
