@@ -1,10 +1,12 @@
 //! The reports of `smplan`: from the bytes that are read to the bytes that are written.
 #![tactic(auto)]
 
+mod answers;
 mod bad_input;
 mod calls;
 mod command;
 mod delivery;
+mod ending;
 mod input;
 mod made;
 mod names;

@@ -22,9 +22,9 @@ const READ_TURNS: u32 = 134_217_728;
 pub const MOST_BYTES: u32 = 67_108_864;
 
 /// What a command reports of a document.
-fn report_document(alloc: Global, command: Command, document: Document) -> Result<Made, AllocError>
-    requires { IsDocument (rows_of document) }
-    ensures { IfOk result (λ made. made ≡ document_output command (rows_of document)) }
+fn report_document(alloc: Global, command: Command, document: &Document) -> Result<Made, AllocError>
+    requires { IsDocument (rows_of document.now) }
+    ensures { IfOk result (λ made. made ≡ document_output command (rows_of document.now)) }
 {
     match command {
         Command::Calls => report_calls(alloc, document),
@@ -39,7 +39,7 @@ fn report_input(alloc: Global, command: Command, input: Vec<u8>) -> Result<Made,
     let document = read_document(alloc, input.as_slice());
     drop(input);
     match document {
-        Ok(document) => report_document(alloc, command, document),
+        Ok(document) => report_document(alloc, command, &document),
         Err(TextFault::NoMemory) => Err(AllocError),
         Err(fault) => Made::bad_input(alloc, fault),
     }
