@@ -1,6 +1,7 @@
 -- What a call leaves true of a placement, and which calls are allowed.
 use Rattle.std.proofs.Common.{◌≡◌, ◌≢◌, ℕ, zero, suc, ◌+◌, ◌-◌, ◌<◌, ◌≤◌, Bool, true, false, not, cond, eqb, ltb, ◌&&◌, refl, sym, ap, ◌∙◌, arith, inl, inr, subst, ◌⊎◌, ◌↔◌, Option, Some, None}
-use Rattle.std.specs.Prelude.{Result, Ok, Err}
+use Rattle.std.specs.Prelude.{Result, Ok, Err, IfOk}
+use Rattle.std.proofs.Math.Path.{fun_ext}
 use Rattle.std.proofs.lemmas.Bool.{cases_eq, cases_lt, cases_Bool, eq-eqb, ne_eqb, ltb-true, ltb-false, le-ltb, lt-ltb}
 use Rattle.sm_server.specs.declared.call.Cell.{Cell}
 use Rattle.sm_server.specs.declared.call.Cell.TheVariants.{Absent, Prepared, Secondary, Primary, Forwarding}
@@ -9,11 +10,12 @@ use Rattle.sm_server.specs.declared.call.Role.TheVariants as role
 use Rattle.sm_server.specs.declared.call.Call.{Call}
 use Rattle.sm_server.specs.declared.call.Call.TheVariants.{Add, Drop, Change, PrepareAdd, PrepareDrop}
 use Rattle.sm_server.specs.declared.call.Refusal.{Refusal}
+use Rattle.sm_server.specs.declared.call.Served.{Served}
 use Rattle.sm_server.specs.Cell.{is_absent, is_forwarding, cell_in}
-use Rattle.sm_server.specs.Call.{Leads, led_to, served}
+use Rattle.sm_server.specs.Call.{Leads, led_to, served, served_numbered}
 use Rattle.sm_placement.specs.Setup.{Sizes}
 use Rattle.sm_placement.specs.Rows.{IsKnownCell, IsKnownCall}
-use Rattle.sm_placement.specs.Place.{Place, weight, load_of, load_at, set_cell, set_last, answer_at, called, IsAllowed}
+use Rattle.sm_placement.specs.Place.{Place, weight, load_of, load_at, set_cell, set_last, answer_at, numbered_answer_at, called, IsAllowed}
 use Rattle.sm_placement.specs.Layout.{IsPlacement}
 use Rattle.sm_placement.specs.Sums.{put, put2, sum_below}
 use Rattle.sm_placement.proofs.Sums.{put2-here, put2-row, put2-apart, same_sum, sum_apart, part_of_sum}
@@ -190,3 +192,62 @@ allowed_answer c p s v call to fits law = (forth, back)
         }
     back : IsAllowed c p s v call to → answer_at c p s v call ≡ Ok to
     back a = rw a.up (served_from (p.cells s v) (c.room v - load_at c p v) (c.load s) call to (law.1 a.leads) (λ t. let room : load_at c p v + c.load s ≤ c.room v = a.room (absent_from (p.cells s v) t) in omega arith))
+
+-- what an answer to a call keeps
+pub answer_kept : (c : Sizes) (p : Place) (s v : ℕ) (call : Call) (r : Result Cell Refusal) → IsPlacement c p → s < c.shards → v < c.servers → IsKnownCall c.servers call →
+    r ≡ answer_at c p s v call → IfOk r (λ next. IsPlacement c (set_cell p s v next))
+answer_kept c p s v call (Ok next) is hs hv known e = called_keeps c p s v call next is hs hv known (sym e)
+answer_kept c p s v call (Err why) is hs hv known e = tt
+
+-- what a numbered call is answered: an effect now is that of the call, and an earlier one leaves all as it is
+numbered_cases : (c : Sizes) (p : Place) (s v : ℕ) (call : Call) (number : ℕ) (served : Served) → Ok served ≡ numbered_answer_at c p s v call number →
+    ((served.fresh ≡ true) × (answer_at c p s v call ≡ Ok served.cell)) ⊎ ((served.fresh ≡ false) × (served.cell ≡ p.cells s v) × (served.last ≡ p.last s v))
+numbered_cases c p s v call number served e = go (not (p.down v)) refl (eqb number (p.last s v)) refl (answer_at c p s v call) refl
+  where
+    go : (u : Bool) → not (p.down v) ≡ u → (t : Bool) → eqb number (p.last s v) ≡ t → (r : Result Cell Refusal) → answer_at c p s v call ≡ r →
+        ((served.fresh ≡ true) × (answer_at c p s v call ≡ Ok served.cell)) ⊎ ((served.fresh ≡ false) × (served.cell ≡ p.cells s v) × (served.last ≡ p.last s v))
+    go false qu t qt r qr = absurd (let z = rw qu at e in cc)
+    go true qu true qt r qr =
+        let z : ◌≡◌ {A = Result Served Refusal} (Ok served) (Ok (record { cell = p.cells s v; last = p.last s v; fresh = false })) = rw (qu, qt) at e in
+        let same : served ≡ record { cell = p.cells s v; last = p.last s v; fresh = false } = cc in
+        inr (ap (λ (x : Served). x.fresh) same, ap (λ (x : Served). x.cell) same, ap (λ (x : Served). x.last) same)
+    go true qu false qt (Ok next) qr =
+        let q1 = rw qu at qr in
+        let z : ◌≡◌ {A = Result Served Refusal} (Ok served) (Ok (record { cell = next; last = number; fresh = true })) = rw (qu, qt, q1) at e in
+        let same : served ≡ record { cell = next; last = number; fresh = true } = cc in
+        inl (ap (λ (x : Served). x.fresh) same, qr ∙ ap Ok (sym (ap (λ (x : Served). x.cell) same)))
+    go true qu false qt (Err why) qr =
+        let q1 = rw qu at qr in
+        let z : ◌≡◌ {A = Result Served Refusal} (Ok served) (Err why) = rw (qu, qt, q1) at e in
+        absurd (cc)
+
+pub numbered_kept : (c : Sizes) (p : Place) (s v : ℕ) (call : Call) (number : ℕ) (r : Result Served Refusal) → IsPlacement c p → s < c.shards → v < c.servers → IsKnownCall c.servers call →
+    r ≡ numbered_answer_at c p s v call number → IfOk r (λ served. served.fresh ≡ true → IsPlacement c (set_cell p s v served.cell))
+numbered_kept c p s v call number (Err why) is hs hv known e = tt
+numbered_kept c p s v call number (Ok served) is hs hv known e = λ f. elim (numbered_cases c p s v call number served e) [
+      | inl w ↦ called_keeps c p s v call served.cell is hs hv known w.1
+      | inr w ↦ absurd (cc (f, w.0))
+    ]
+
+put2-same : {A : Type 0} (f : ℕ → ℕ → A) (s v : ℕ) → put2 f s v (f s v) ≡ f
+put2-same {A} f s v = fun_ext (λ r. fun_ext (λ w. at r w))
+  where
+    at : (r w : ℕ) → put2 f s v (f s v) r w ≡ f r w
+    at r w = elim (cases_eq r s) [
+          | inl d ↦ elim (cases_eq w v) [
+              | inl g ↦ rw (d, g) (put2-here f s v (f s v))
+              | inr g ↦ rw d (put2-row f s v (f s v) w g)
+            ]
+          | inr d ↦ put2-apart f s v (f s v) r w d
+        ]
+
+pub numbered_again : (c : Sizes) (p : Place) (s v : ℕ) (call : Call) (number : ℕ) (r : Result Served Refusal) → r ≡ numbered_answer_at c p s v call number →
+    IfOk r (λ served. served.fresh ≡ false → set_last (set_cell p s v served.cell) s v served.last ≡ p)
+numbered_again c p s v call number (Err why) e = tt
+numbered_again c p s v call number (Ok served) e = λ f. elim (numbered_cases c p s v call number served e) [
+      | inl w ↦ absurd (cc (f, w.0))
+      | inr w ↦
+          let cells : put2 p.cells s v served.cell ≡ p.cells = ap (put2 p.cells s v) w.1 ∙ put2-same p.cells s v in
+          let lasts : put2 p.last s v served.last ≡ p.last = ap (put2 p.last s v) w.2 ∙ put2-same p.last s v in
+          ap (λ (g : ℕ → ℕ → Cell). record p { cells = g; last = put2 p.last s v served.last }) cells ∙ ap (λ (g : ℕ → ℕ → ℕ). record p { last = g }) lasts
+    ]

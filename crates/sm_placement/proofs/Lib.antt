@@ -15,3 +15,4 @@ pub mod Settling
 pub mod Openings
 pub mod Tallies
 pub mod Layouts
+pub mod Servings

@@ -1,15 +1,19 @@
 -- A placement is settled exactly where the tests of its opening find nothing.
-use Rattle.std.proofs.Common.{◌≡◌, ◌≢◌, ℕ, ◌+◌, ◌<◌, ◌≤◌, ◌^◌, Bool, true, false, not, cond, ltb, ◌||◌, refl, sym, ap, ◌∙◌, arith, inl, inr, subst, ◌⊎◌, ◌↔◌, Option, Some, None}
+use Rattle.std.proofs.Common.{◌≡◌, ◌≢◌, ℕ, ◌+◌, ◌<◌, ◌≤◌, ◌^◌, Bool, true, false, not, cond, ltb, ◌||◌, refl, sym, ap, ◌∙◌, arith, inl, inr, subst, ◌⊎◌, ◌↔◌, Option, Some, None, List, length, get_or}
+use Rattle.std.specs.Prelude.{IsTrue, is_some}
+use Rattle.std.specs.List.{All}
+use Rattle.std.proofs.lemmas.List.{get_or_default}
 use Rattle.std.proofs.lemmas.Bool.{cases_eq, cases_lt, cases_Bool, or_parts, or_from, false_from_ne_true, ltb-false, le-ltb}
 use Rattle.sm_server.specs.declared.call.Cell.{Cell}
 use Rattle.sm_server.specs.declared.call.Cell.TheVariants.{Absent, Prepared, Secondary, Primary, Forwarding}
 use Rattle.sm_server.specs.Cell.{is_primary, is_prepared, is_forwarding}
 use Rattle.sm_placement.specs.declared.lead.Lead.{Lead}
 use Rattle.sm_placement.specs.declared.lead.Lead.TheVariants.{Gone, At, Ready, Handing, Handed}
-use Rattle.sm_placement.specs.Setup.{Sizes}
+use Rattle.sm_placement.specs.Setup.{Sizes, sizes_of}
 use Rattle.sm_placement.specs.Sums.{count_below, any_below}
 use Rattle.sm_placement.specs.Place.{Place, load_of, down_count}
-use Rattle.sm_placement.specs.Layout.{IsPlacement}
+use Rattle.sm_placement.specs.Layout.{Layout, place_of, entries_of, IsPlacement}
+use Rattle.sm_placement.proofs.GridLemmas.{entries_of-is}
 use Rattle.sm_placement.specs.Lead.{IsPlain, Describes, is_at_rest, IsSettled, last_below}
 use Rattle.sm_placement.specs.Opening.{first_below, has_bad_lead, has_bad_listing, is_over_room, is_short}
 use Rattle.sm_placement.proofs.LeadOf.{plain_not_primary, plain_not_prepared, plain_not_forwarding}
@@ -114,3 +118,36 @@ settled_listings c p is = first_none_from c.shards (λ s. has_bad_listing (p.cel
 
 pub settled_floors : (c : Sizes) (p : Place) → IsSettled c p → first_below c.shards (is_short c p.cells p.down) ≡ None
 settled_floors c p is = first_none_from c.shards (is_short c p.cells p.down) (λ s l. le-ltb _ (c.floor s) (is.floors s l))
+
+-- no load of a placement is above its room
+pub rooms_hold : (c : Sizes) (p : Place) → IsPlacement c p → first_below c.servers (is_over_room c p.cells) ≡ None
+rooms_hold c p is = first_none_from c.servers (is_over_room c p.cells) (λ v l. le-ltb (c.room v) (load_of c p.cells v) (is.rooms v l))
+
+-- the versions are low exactly where each entry of their list is
+pub versions_low : (n : ℕ) (versions : List ℕ) → length versions ≡ n → All (λ v. v ≤ 2 ^ 40) versions → (s : ℕ) → s < n → entries_of 0 versions s ≤ 2 ^ 40
+versions_low n versions e all s l = rw (entries_of-is 0 versions s) (all s 0 (rw e l))
+
+pub low_versions : (n : ℕ) (versions : List ℕ) → length versions ≡ n → ((s : ℕ) → s < n → entries_of 0 versions s ≤ 2 ^ 40) → All (λ v. v ≤ 2 ^ 40) versions
+low_versions n versions e low k d l =
+    let at : get_or versions k d ≡ entries_of 0 versions k = get_or_default versions k d 0 l ∙ sym (entries_of-is 0 versions k) in
+    let m : entries_of 0 versions k ≤ 2 ^ 40 = low k (rw (← e) l) in
+    rw at m
+
+-- what a test of an option says
+pub none_found : {A : Type 0} (o : Option A) (b : Bool) → b ≡ is_some o → b ≡ false → o ≡ None
+none_found None b e f = refl
+none_found (Some x) b e f = cc
+
+pub some_found : {A : Type 0} (o : Option A) (b : Bool) → b ≡ is_some o → b ≡ true → o ≡ None → ⊥
+some_found None b e f g = cc
+some_found (Some x) b e f g = cc
+
+-- What holds of the lists holds of the placement as its callers see it.
+pub settled_read : {l now : Layout} → l ≡ now → IsSettled (sizes_of now.setup) (place_of now) → IsSettled (sizes_of l.setup) (place_of l)
+settled_read {l} {now} e = subst (λ (n : Layout). IsSettled (sizes_of n.setup) (place_of n) → IsSettled (sizes_of l.setup) (place_of l)) e (λ is. is)
+
+pub settled_seen : {l now : Layout} → l ≡ now → IsSettled (sizes_of l.setup) (place_of l) → IsSettled (sizes_of now.setup) (place_of now)
+settled_seen {l} {now} e is = subst (λ (n : Layout). IsSettled (sizes_of n.setup) (place_of n)) e is
+
+pub not_settled : {l now : Layout} → l ≡ now → (IsSettled (sizes_of l.setup) (place_of l) → ⊥) → IsTrue false ↔ IsSettled (sizes_of now.setup) (place_of now)
+not_settled {l} {now} e never = (λ t. absurd (cc), λ is. absurd (never (settled_read e is)))

@@ -49,7 +49,8 @@ live_in n row down = count_below n (is_live row down)
 abbrev pub serving_in : ℕ → (ℕ → Cell) → ℕ
 serving_in n row = count_below n (serves row)
 
-abbrev serving_among : List ℕ → Serving
+-- these servers serve, and no other
+abbrev pub serving_among : List ℕ → Serving
 serving_among [] = Nobody
 serving_among (v ∷ []) = One v
 serving_among (v ∷ vs) = Several (length (v ∷ vs))

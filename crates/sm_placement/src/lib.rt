@@ -12,4 +12,4 @@ mod table;
 pub use config::{Config, ConfigFault, Server, Shard};
 pub use lead::Lead;
 pub use opening::OpenFault;
-pub use placement::{Placement, Serving};
+pub use placement::{Placement, Serving, answered_where_allowed};

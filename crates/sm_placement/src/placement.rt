@@ -1,10 +1,12 @@
 //! Where the replicas stand, and the calls that move them.
-ghost use Rattle.std.specs.Prelude.{◌≡◌, ◌<◌, length};
+ghost use Rattle.std.specs.Prelude.{◌≡◌, ◌<◌, ◌≤◌, ◌^◌, ◌↔◌, ℕ, length, IsTrue, All, Ok};
+ghost use Rattle.sm_placement.specs.Setup.{Sizes};
+ghost use Rattle.sm_placement.specs.Place.{Place, load_at, answer_at, IsAllowed};
 
 use crate::config::Config;
 use crate::faults;
 use crate::table::Table;
-use sm_server::{Call, Cell, Refusal, ServerId, ShardId, serve, serve_numbered};
+use sm_server::{Call, Cell, Refusal, Served, ServerId, ShardId, leads_where_led, serve, serve_numbered};
 use std::alloc::{AllocError, Global};
 use std::marker::Model;
 
@@ -40,14 +42,23 @@ impl Model for Placement {
 /// The highest version of a settled placement.
 const MOST_VERSION: u64 = 1 << 40;
 
+/// No version is above that of a settled placement.
+fn are_low(versions: &[u64]) -> bool
+    ensures { IsTrue result ↔ All (λ version. version ≤ 2 ^ 40) versions.now }
+{
+    versions.iter().all(|version| *version <= MOST_VERSION)
+}
+
 impl Placement {
-    ghost use Rattle.std.specs.Prelude.{◌≤◌, ◌^◌, ◌↔◌, ℕ, true, false, IsTrue, IfSome, IfOk, OnOk, OnErr, IfErr, Ok, Err};
+    ghost use Rattle.std.specs.Prelude.{◌≤◌, ◌^◌, ◌-◌, ◌&&◌, ◌↔◌, ℕ, true, false, IsTrue, IfSome, IfOk, OnOk, OnErr, IfErr, Ok, Err};
+    ghost use Rattle.sm_server.specs.Cell.{is_forwarding};
     ghost use Rattle.sm_placement.specs.Setup.{sizes_of};
-    ghost use Rattle.sm_placement.specs.Rows.{IsKnownCall, serves, serving_of};
-    ghost use Rattle.sm_placement.specs.Place.{load_at, live_at, down_count, set_down, publish, forget_numbers, called, called_numbered};
+    ghost use Rattle.sm_placement.specs.Rows.{IsKnownCall, serves, serving_in, serving_of};
+    ghost use Rattle.sm_placement.specs.Place.{load_at, live_at, down_count, set_cell, set_last, answer_at, numbered_answer_at, set_down, publish, forget_numbers, called, called_numbered};
     ghost use Rattle.sm_placement.specs.Layout.{Layout, place_of, IsPlacement};
     ghost use Rattle.std.specs.Option.{ForSome};
     ghost use Rattle.sm_placement.specs.Lead.{IsSettled};
+    ghost use Rattle.sm_placement.specs.Opening.{first_below};
 
     /// The servers and shards that the placement is of.
     pub fn config(&self) -> &Config
@@ -131,6 +142,117 @@ impl Placement {
         self.versions[shard.number() as usize]
     }
 
+    /// A server serves the shard.
+    fn is_serving(&self, shard: ShardId, server: ServerId) -> bool
+        requires shard { shard < length self.now.setup.shards }
+        requires server { server < length self.now.setup.servers }
+        ensures { result ≡ serves ((place_of self.now).cells shard) server }
+    {
+        match self.table.cell(shard, server) {
+            Cell::Primary => true,
+            Cell::Prepared { from, number } => {
+                self.table.cell(shard, from) == Cell::Forwarding { to: server, number }
+            }
+            _ => false,
+        }
+    }
+
+    /// The lowest server that serves a shard.
+    #[tactic(auto, using(crate::proofs::Searches::find_range_more))]
+    fn first_serving(&self, shard: ShardId) -> Option<ServerId>
+        requires { shard < length self.now.setup.shards }
+        ensures { result ≡ first_below (length self.now.setup.servers) (serves ((place_of self.now).cells shard)) }
+    {
+        for number in 0..self.config().server_count() {
+            if self.is_serving(shard, ServerId::new(number)) {
+                return Some(ServerId::new(number));
+            }
+        }
+        None
+    }
+
+    /// How many servers serve a shard, up or down.
+    fn serving_count(&self, shard: ShardId) -> u32
+        requires { shard < length self.now.setup.shards }
+        ensures { result ≡ serving_in (length self.now.setup.servers) ((place_of self.now).cells shard) }
+    {
+        self.table.serving_count(shard)
+    }
+
+    /// Who serves a shard, up or down.
+    pub fn serving(&self, shard: ShardId) -> Serving
+        requires { shard < length self.now.setup.shards }
+        ensures { result ≡ serving_of (length self.now.setup.servers) ((place_of self.now).cells shard) }
+    {
+        let count = self.serving_count(shard);
+        if count == 0 {
+            return Serving::Nobody;
+        }
+        if count > 1 {
+            return Serving::Several(count);
+        }
+        match self.first_serving(shard) {
+            Some(server) => Serving::One(server),
+            None => Serving::Nobody,
+        }
+    }
+
+    /// Each shard's lead is at rest, each listed server is its shard's primary, no shard is below its floor, no more
+    /// servers are down than the limit, and no version is above 2^40.
+    pub fn settled(&self) -> bool
+        ensures { IsTrue result ↔ IsSettled (sizes_of self.now.setup) (place_of self.now) }
+    {
+        if faults::first_bad_lead(&self.table).is_some() {
+            return false;
+        }
+        if faults::first_bad_listing(&self.table, &self.listed).is_some() {
+            return false;
+        }
+        if faults::first_short(&self.table).is_some() {
+            return false;
+        }
+        if self.table.down_count() > self.limit {
+            return false;
+        }
+        are_low(&self.versions)
+    }
+
+    /// The room that a server has left.
+    fn free_room(&self, server: ServerId) -> u64
+        requires { server < length self.now.setup.servers }
+        ensures { result ≡ (sizes_of self.now.setup).room server - load_at (sizes_of self.now.setup) (place_of self.now) server }
+    {
+        let room = self.table.config().room(server);
+        room.saturating_sub(self.table.load(server))
+    }
+
+    /// What a server answers to a call.
+    fn answer(&self, server: ServerId, shard: ShardId, call: Call) -> Result<Cell, Refusal>
+        requires server { server < length self.now.setup.servers }
+        requires shard { shard < length self.now.setup.shards }
+        requires party { IsKnownCall (length self.now.setup.servers) call }
+        ensures answer { result ≡ answer_at (sizes_of self.now.setup) (place_of self.now) shard server call }
+        ensures kept { IfOk result (λ next. IsPlacement (sizes_of self.now.setup) (set_cell (place_of self.now) shard server next)) }
+        ensures forwards { IfOk result (λ next. (is_forwarding ((place_of self.now).cells shard server) && is_forwarding next) ≡ false) }
+    {
+        let cell = self.table.cell(shard, server);
+        let load = self.table.config().load(shard);
+        let up = !self.table.is_down(server);
+        serve(cell, self.free_room(server), load, up, call)
+    }
+
+    /// Changes one cell.
+    fn set_cell(&mut self, shard: ShardId, server: ServerId, cell: Cell)
+        requires shard { shard < length self.old.setup.shards }
+        requires server { server < length self.old.setup.servers }
+        requires forwards { (is_forwarding ((place_of self.old).cells shard server) && is_forwarding cell) ≡ false }
+        requires kept { IsPlacement (sizes_of self.old.setup) (set_cell (place_of self.old) shard server cell) }
+        ensures place { place_of self.new ≡ set_cell (place_of self.old) shard server cell }
+        ensures setup { self.new.setup ≡ self.old.setup }
+    {
+        self.table.set_cell(shard, server, cell);
+    }
+
     /// Makes a call at a server.
     pub fn call(&mut self, server: ServerId, shard: ShardId, call: Call) -> Result<(), Refusal>
         requires server { server < length self.old.setup.servers }
@@ -141,14 +263,43 @@ impl Placement {
         ensures setup { self.new.setup ≡ self.old.setup }
         ensures unchanged { OnErr result (self.new ≡ self.old) }
     {
-        let cell = self.table.cell(shard, server);
-        let room = self.table.config().room(server);
-        let load = self.table.config().load(shard);
-        let free_room = room.saturating_sub(self.table.load(server));
-        let up = !self.table.is_down(server);
-        let next = serve(cell, free_room, load, up, call)?;
-        self.table.set_cell(shard, server, next);
+        let next = self.answer(server, shard, call)?;
+        self.set_cell(shard, server, next);
         Ok(())
+    }
+
+    /// What a server answers to a numbered call.
+    fn numbered_answer(
+        &self,
+        server: ServerId,
+        shard: ShardId,
+        call: Call,
+        number: u64,
+    ) -> Result<Served, Refusal>
+        requires server { server < length self.now.setup.servers }
+        requires shard { shard < length self.now.setup.shards }
+        requires party { IsKnownCall (length self.now.setup.servers) call }
+        requires number { 1 ≤ number }
+        ensures answer { result ≡ numbered_answer_at (sizes_of self.now.setup) (place_of self.now) shard server call number }
+        ensures kept { IfOk result (λ served. IsTrue served.fresh → IsPlacement (sizes_of self.now.setup) (set_cell (place_of self.now) shard server served.cell)) }
+        ensures forwards { IfOk result (λ served. IsTrue served.fresh → (is_forwarding ((place_of self.now).cells shard server) && is_forwarding served.cell) ≡ false) }
+        ensures again { IfOk result (λ served. served.fresh ≡ false → set_last (set_cell (place_of self.now) shard server served.cell) shard server served.last ≡ place_of self.now) }
+    {
+        let cell = self.table.cell(shard, server);
+        let last = self.table.last(shard, server);
+        let load = self.table.config().load(shard);
+        let up = !self.table.is_down(server);
+        serve_numbered(cell, last, number, self.free_room(server), load, up, call)
+    }
+
+    /// Changes the number of the last call that had an effect on a cell.
+    fn set_last(&mut self, shard: ShardId, server: ServerId, number: u64)
+        requires shard { shard < length self.old.setup.shards }
+        requires server { server < length self.old.setup.servers }
+        ensures place { place_of self.new ≡ set_last (place_of self.old) shard server number }
+        ensures setup { self.new.setup ≡ self.old.setup }
+    {
+        self.table.set_last(shard, server, number);
     }
 
     /// Makes a call that is tried until its answer comes. A number that had its effect on the cell as the last one has
@@ -169,16 +320,10 @@ impl Placement {
         ensures setup { self.new.setup ≡ self.old.setup }
         ensures unchanged { OnErr result (self.new ≡ self.old) }
     {
-        let cell = self.table.cell(shard, server);
-        let last = self.table.last(shard, server);
-        let room = self.table.config().room(server);
-        let load = self.table.config().load(shard);
-        let free_room = room.saturating_sub(self.table.load(server));
-        let up = !self.table.is_down(server);
-        let served = serve_numbered(cell, last, number, free_room, load, up, call)?;
+        let served = self.numbered_answer(server, shard, call, number)?;
         if served.fresh {
-            self.table.set_cell(shard, server, served.cell);
-            self.table.set_last(shard, server, served.last);
+            self.set_cell(shard, server, served.cell);
+            self.set_last(shard, server, served.last);
         }
         Ok(served.fresh)
     }
@@ -233,4 +378,12 @@ impl Placement {
             limit: self.limit,
         })
     }
+}
+
+/// A call is answered with a next cell exactly where it is allowed, and leads to that cell.
+#[tactic(auto, using(crate::proofs::Calls::allowed_answer))]
+pub fn answered_where_allowed()
+    ensures { (c : Sizes) (p : Place) (s v : ℕ) (call : Call) (to : Cell) → load_at c p v ≤ c.room v → ((answer_at c p s v call ≡ Ok to) ↔ IsAllowed c p s v call to) }
+{
+    leads_where_led();
 }

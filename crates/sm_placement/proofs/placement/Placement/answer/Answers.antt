@@ -1,0 +1,13 @@
+-- An answer keeps what every placement keeps.
+use Rattle.std.proofs.Common.{◌≡◌, ◌∙◌, refl, ap, sym, rules}
+use Rattle.sm_placement.specs.Setup.{sizes_of}
+use Rattle.sm_placement.specs.Layout.{place_of}
+use Rattle.sm_placement.specs.Place.{answer_at}
+use Rattle.sm_placement.proofs.Layouts.{placement_read}
+use Rattle.sm_placement.proofs.Calls.{answer_kept}
+use Rattle.sm_placement.proofs.placement.Placement.answer.Goals as goal
+
+pub returns-clause-kept : goal.returns-clause-kept
+returns-clause-kept c =
+    let same : c.serve.result ≡ answer_at (sizes_of c.args.self.now.setup) (place_of c.args.self.now) c.args.shard c.args.server c.args.call = search rules in
+    answer_kept (sizes_of c.args.self.now.setup) (place_of c.args.self.now) c.args.shard c.args.server c.args.call c.serve.result (placement_read c.self.invariant.placement c.self.view_is) c.requires.shard c.requires.server c.requires.party same
