@@ -1,6 +1,9 @@
 //! The program: one word says what is reported of the document on standard input.
 #![tactic(auto)]
 
+#[cfg(test)]
+mod tests;
+
 use sm_report::{LineFault, Status, Word, command_of, report};
 use std::alloc::{AllocError, Global};
 use std::io::ErrorKind;
@@ -9,7 +12,10 @@ use std::{env, io};
 
 /// The words after the program's name.
 fn words_of(rt: &HostRuntime) -> io::Result<Vec<String>> {
-    let words = env::args(rt)?.skip(1).collect(rt.alloc())?;
+    let mut words = Vec::new(rt.alloc());
+    for word in env::args(rt)?.skip(1) {
+        words.push(word)?;
+    }
     Ok(words)
 }
 
