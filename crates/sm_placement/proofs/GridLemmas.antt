@@ -1,8 +1,9 @@
 -- Lists read by shard and server, or by place: after a write, where nothing was written, and one row alone.
-use Rattle.std.proofs.Common.{◌≡◌, ◌≢◌, ℕ, ◌+◌, ◌-◌, ◌*◌, ◌<◌, ◌≤◌, Bool, true, false, cond, ltb, List, length, set, get_or, take, drop, replicate, refl, sym, ap, ◌∙◌, arith, inl, inr}
+use Rattle.std.proofs.Common.{◌≡◌, ◌≢◌, ℕ, ◌+◌, ◌-◌, ◌*◌, ◌<◌, ◌≤◌, Bool, true, false, cond, ltb, List, ◌++◌, length, set, get_or, take, drop, replicate, refl, sym, ap, ◌∙◌, arith, inl, inr}
 use Rattle.std.proofs.Math.Path.{fun_ext}
 use Rattle.std.proofs.lemmas.Bool.{cases_eq, cases_lt, cases_Bool, lt-ltb, le-ltb, ltb-true}
-use Rattle.std.proofs.lemmas.List.{get_or-set_same, get_or-set_other, get_or-replicate, get_or_past, get_or-take, get_or-drop, get_or_read, length-replicate, length-take, length-drop}
+use Rattle.std.proofs.lemmas.List.{get_or-set_same, get_or-set_other, get_or-replicate, get_or_past, get_or-take, get_or-drop, get_or_read, length-replicate, length-set, length-take, length-drop, take-append-drop, length-take-le, set-append_left, set-append_right}
+use borrow.Rule.Slice.PartMut.{put_mid}
 use Rattle.std.proofs.lemmas.Nat.{same_from_place, mul-add-lt, mul-le}
 use Rattle.sm_placement.specs.Sums.{put, put2}
 use Rattle.sm_placement.specs.Layout.{grid_of, entries_of}
@@ -109,3 +110,39 @@ grid_of-read width height none xs s v x e l m r = get_or_read xs (s * width + v)
 
 pub entries_of-read : {A : Type 0} (none : A) (xs : List A) (k n : ℕ) (x : A) → length xs ≡ n → k < n → x ≡ get_or xs k x → x ≡ entries_of none xs k
 entries_of-read none xs k n x e l r = get_or_read xs k x (omega arith) r none ∙ sym (entries_of-is none xs k)
+
+-- `&xs[start..start + width]`, where a row of the grid starts
+pub length-row : {A : Type 0} (width start : ℕ) (xs : List A) → start + width ≤ length xs → length (take (start + width - start) (drop start xs)) ≡ width
+length-row width start xs l = omega (arith, length-take (start + width - start) (drop start xs), length-drop start xs)
+
+pub entries_of-row : {A : Type 0} (width start : ℕ) (none : A) (xs : List A) (s : ℕ) → start ≡ s * width → s * width + width ≤ length xs →
+    entries_of none (take (start + width - start) (drop start xs)) ≡ grid_of width none xs s
+entries_of-row {A} width start none xs s e l =
+    let k : start + width - start ≡ width = omega arith in
+    rw (k, e) (sym (grid_of-row width none xs s l))
+
+-- a write within the row is a write to the list
+pub put_mid-row : {A : Type 0} (width start : ℕ) (xs : List A) (i : ℕ) (y : A) → start + width ≤ length xs → i < width →
+    put_mid start (start + width - start) xs (set (take (start + width - start) (drop start xs)) i y) ≡ set xs (start + i) y
+put_mid-row {A} width start xs i y l m =
+    let w : ℕ = start + width - start in
+    let e : w ≡ width = omega arith in
+    let front : List A = take start xs in
+    let back : List A = drop start xs in
+    let at : start + i - start ≡ i = omega arith in
+    let inside : i < length (take w back) = omega (arith, length-row width start xs l) in
+    let whole : set xs (start + i) y ≡ set (front ++ back) (start + i) y = ap (λ (zs : List A). set zs (start + i) y) (sym (take-append-drop start xs)) in
+    let right : set (front ++ back) (start + i) y ≡ front ++ set back (start + i - start) y = set-append_right front back start (start + i) y (length-take-le start xs (omega arith)) (omega arith) in
+    let part : set back i y ≡ set (take w back) i y ++ drop w back = ap (λ (zs : List A). set zs i y) (sym (take-append-drop w back)) ∙ set-append_left (take w back) (drop w back) i y inside in
+    sym (whole ∙ right ∙ ap (λ (k : ℕ). front ++ set back k y) at ∙ ap (λ (zs : List A). front ++ zs) part)
+
+-- a loop over a list of numbers, which writes one of them
+pub entries_of-done : (xs : List ℕ) (s x : ℕ) (f : ℕ → ℕ) → s < length xs → ((r : ℕ) → r < s → entries_of 0 xs r ≡ f r) → x ≡ f s → (r : ℕ) → r < s + 1 → entries_of 0 (set xs s x) r ≡ f r
+entries_of-done xs s x f l done here r m = ap (λ (q : ℕ → ℕ). q r) (entries_of-set 0 xs s x l) ∙ elim (cases_eq r s) [
+  | inl e ↦ put-here (entries_of 0 xs) s x r e ∙ here ∙ ap f (sym e)
+  | inr e ↦ let k : r < s = omega arith in put-apart (entries_of 0 xs) s x r e ∙ done r k
+]
+
+pub entries_of-rest : (xs : List ℕ) (s x : ℕ) (g : ℕ → ℕ) → s < length xs → ((r : ℕ) → s ≤ r → r < length xs → entries_of 0 xs r ≡ g r) → (r : ℕ) → s + 1 ≤ r → r < length (set xs s x) → entries_of 0 (set xs s x) r ≡ g r
+entries_of-rest xs s x g l rest r m k =
+    ap (λ (q : ℕ → ℕ). q r) (entries_of-set 0 xs s x l) ∙ put-apart (entries_of 0 xs) s x r (λ e. absurd (omega arith)) ∙ rest r (omega arith) (omega (arith, length-set xs s x))

@@ -16,3 +16,4 @@ pub mod Openings
 pub mod Tallies
 pub mod Layouts
 pub mod Servings
+pub mod NamedLemmas

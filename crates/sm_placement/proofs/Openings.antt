@@ -1,6 +1,6 @@
 -- Lists of named cells, and what it means that no fault is found in them.
-use Rattle.std.proofs.Common.{◌≡◌, ◌≢◌, ℕ, zero, suc, ◌+◌, ◌<◌, ◌≤◌, ◌^◌, Bool, true, false, not, cond, eqb, ltb, ◌==◌, ◌&&◌, ◌||◌, refl, sym, ap, ◌∙◌, arith, inl, inr, subst, ◌⊎◌, Option, Some, None, List, [], ◌∷◌, length, get_or}
-use Rattle.std.specs.Prelude.{option_map}
+use Rattle.std.proofs.Common.{◌≡◌, ◌≢◌, ℕ, zero, suc, ◌+◌, ◌<◌, ◌≤◌, ◌^◌, Bool, true, false, not, cond, eqb, ltb, ◌&&◌, ◌||◌, refl, sym, ap, ◌∙◌, arith, inl, inr, subst, ◌⊎◌, Option, Some, None, List, [], ◌∷◌, ◌++◌, length, get_or, replicate, ◌==◌}
+use Rattle.std.specs.Prelude.{option_map, Result, Ok, Err, IfOk, OnOk}
 use Rattle.std.specs.List.{count_by, list_any, All}
 use Rattle.std.proofs.Math.Path.{fun_ext}
 use Rattle.std.proofs.lemmas.List.Sums.{sum_by-cons}
@@ -10,13 +10,15 @@ use Rattle.sm_server.specs.declared.call.Cell.TheVariants.{Absent, Prepared, Sec
 use Rattle.sm_server.specs.Cell.{is_primary, is_prepared, is_forwarding}
 use Rattle.sm_placement.specs.declared.opening.OpenFault.{OpenFault}
 use Rattle.sm_placement.specs.declared.opening.OpenFault.TheVariants.{TooMany, UnknownName, DoubleCell, BadLead, BadListing, OverRoom, Short, TooManyDown}
-use Rattle.sm_placement.specs.Setup.{Sizes}
+use Rattle.sm_placement.specs.Setup.{Sizes, sizes_of}
 use Rattle.sm_placement.specs.Sums.{put, put2, sum_below, count_below, bit, any_below, first_from}
 use Rattle.sm_placement.specs.Rows.{IsKnownCell}
 use Rattle.sm_placement.specs.Place.{Place, down_count}
-use Rattle.sm_placement.specs.Layout.{IsPlacement, entries_of}
+use Rattle.sm_placement.specs.Layout.{Layout, IsPlacement, entries_of, place_of}
+use Rattle.sm_placement.specs.Grid.{Grid, IsGrid, cells_of, lasts_of, down_of}
+use Rattle.sm_placement.proofs.GridLemmas.{entries_of-empty}
 use Rattle.sm_placement.specs.Lead.{IsSettled}
-use Rattle.sm_placement.specs.Opening.{NamedCell, Opening, is_of, cell_named, opened, is_wrong_size, is_unknown, is_unknown_cell, AreKnown, IsNamedOnce, has_unknown, is_double, is_handing, tally, put_all, first_below, double_of, has_bad_lead, has_bad_listing, is_over_room, is_short, first_fault, fault_if, standing_faults, open_fault}
+use Rattle.sm_placement.specs.Opening.{NamedCell, Opening, is_of, cell_named, opened, is_wrong_size, is_unknown, is_unknown_cell, AreKnown, IsNamedOnce, has_unknown, is_double, is_handing, tally, put_all, first_below, double_of, has_bad_lead, has_bad_listing, is_over_room, is_short, first_fault, fault_if, list_faults, standing_faults, open_fault, unpublished}
 use Rattle.sm_placement.proofs.Sums.{put2-here, put2-row, put2-apart, sum_apart, same_sum}
 use Rattle.sm_placement.proofs.Searches.{cases_Option, first_none, first_from_none, any_none, count_none}
 use Rattle.sm_placement.proofs.Settling.{settled_from}
@@ -174,15 +176,15 @@ option_none f None e = refl
 option_none f (Some x) e = cc
 
 -- where no pair is found doubled, each is named once at most
-pub once_from : (c : Sizes) (o : Opening) → AreKnown c.shards c.servers o.cells → first_from 0 c.shards (double_of c.servers o.cells) ≡ None → IsNamedOnce o.cells
-once_from c o k e s v = elim (cases_lt s c.shards) [
-      | inl l ↦ elim (cases_lt v c.servers) [
-          | inl m ↦
-              let none : first_below c.servers (is_double o.cells s) ≡ None = option_none (λ w. DoubleCell s w) (first_below c.servers (is_double o.cells s)) (first_from_none (double_of c.servers o.cells) 0 c.shards e s (omega arith) (omega arith)) in
-              ltb-false 1 (count_by (is_of s v) o.cells) (first_none c.servers (is_double o.cells s) none v m)
-          | inr m ↦ let z : count_by (is_of s v) o.cells ≡ 0 = none_unknown c.shards c.servers o.cells s v k (λ a b. absurd (omega arith)) in omega arith
+pub once_from : (m n : ℕ) (cells : List NamedCell) → AreKnown m n cells → first_from 0 m (double_of n cells) ≡ None → IsNamedOnce cells
+once_from m n cells k e s v = elim (cases_lt s m) [
+      | inl l ↦ elim (cases_lt v n) [
+          | inl h ↦
+              let none : first_below n (is_double cells s) ≡ None = option_none (λ w. DoubleCell s w) (first_below n (is_double cells s)) (first_from_none (double_of n cells) 0 m e s (omega arith) (omega arith)) in
+              ltb-false 1 (count_by (is_of s v) cells) (first_none n (is_double cells s) none v h)
+          | inr h ↦ let z : count_by (is_of s v) cells ≡ 0 = none_unknown m n cells s v k (λ a b. absurd (omega arith)) in omega arith
         ]
-      | inr l ↦ let z : count_by (is_of s v) o.cells ≡ 0 = none_unknown c.shards c.servers o.cells s v k (λ a b. absurd (omega arith)) in omega arith
+      | inr l ↦ let z : count_by (is_of s v) cells ≡ 0 = none_unknown m n cells s v k (λ a b. absurd (omega arith)) in omega arith
     ]
 
 -- a row that has no bad lead has no part of a handover
@@ -206,7 +208,7 @@ resting_known n (Prepared a b) e = cc
 resting_known n (Forwarding a b) e = cc
 
 -- a list of known servers lists no other
-listed_known : (n : ℕ) (xs : List (Option ℕ)) (s u : ℕ) → list_any (is_unknown n) xs ≡ false → get_or xs s None ≡ Some u → u < n
+pub listed_known : (n : ℕ) (xs : List (Option ℕ)) (s u : ℕ) → list_any (is_unknown n) xs ≡ false → get_or xs s None ≡ Some u → u < n
 listed_known n [] s u k e = cc
 listed_known n (x ∷ xs) zero u k e = let z = (or_parts (is_unknown n x) (list_any (is_unknown n) xs) k).0 in at x z e
   where
@@ -215,7 +217,7 @@ listed_known n (x ∷ xs) zero u k e = let z = (or_parts (is_unknown n x) (list_
     at (Some w) z e = let same : w ≡ u = cc in let l : w < n = ltb-true w n (not-false (ltb w n) z) in omega arith
 listed_known n (x ∷ xs) (suc s) u k e = listed_known n xs s u (or_parts (is_unknown n x) (list_any (is_unknown n) xs) k).1 e
 
-entries_of-get : {A : Type 0} (none : A) (xs : List A) (k : ℕ) → entries_of none xs k ≡ get_or xs k none
+pub entries_of-get : {A : Type 0} (none : A) (xs : List A) (k : ℕ) → entries_of none xs k ≡ get_or xs k none
 unfolding entries_of
 entries_of-get none xs k = refl
 
@@ -248,41 +250,116 @@ opened_placement c o unknown doubles leads rooms = record {
     listings : list_any (is_unknown c.servers) o.listed ≡ false
     listings = (or_parts (list_any (is_unknown c.servers) o.listed) (list_any (λ v. not (ltb v c.servers)) o.down) (or_parts (list_any (is_unknown_cell c.shards c.servers) o.cells) (list_any (is_unknown c.servers) o.listed || list_any (λ v. not (ltb v c.servers)) o.down) unknown).1).0
 
--- the faults in their order
-pub fault_of_size : (c : Sizes) (o : Opening) → is_wrong_size c o ≡ true → open_fault c o ≡ Some TooMany
+-- the faults of the lists in their order
+pub fault_of_size : (c : Sizes) (o : Opening) → is_wrong_size c o ≡ true → first_fault (list_faults c o) ≡ Some TooMany
 fault_of_size c o e = rw e refl
 
-pub fault_of_ids : (c : Sizes) (o : Opening) → is_wrong_size c o ≡ false → has_unknown c o ≡ true → open_fault c o ≡ Some UnknownName
+pub fault_of_ids : (c : Sizes) (o : Opening) → is_wrong_size c o ≡ false → has_unknown c o ≡ true → first_fault (list_faults c o) ≡ Some UnknownName
 fault_of_ids c o e f = rw (e, f) refl
 
 pub fault_of_pairs : (c : Sizes) (o : Opening) (why : OpenFault) → is_wrong_size c o ≡ false → has_unknown c o ≡ false → first_from 0 c.shards (double_of c.servers o.cells) ≡ Some why →
-    open_fault c o ≡ Some why
+    first_fault (list_faults c o) ≡ Some why
 fault_of_pairs c o why e f g = rw (e, f, g) refl
 
 pub fault_of_leads : (c : Sizes) (o : Opening) (s : ℕ) → is_wrong_size c o ≡ false → has_unknown c o ≡ false → first_from 0 c.shards (double_of c.servers o.cells) ≡ None →
-    first_below c.shards (λ r. has_bad_lead c.servers (cell_named o.cells r)) ≡ Some s → open_fault c o ≡ Some (BadLead s)
+    first_below c.shards (λ r. has_bad_lead c.servers (cell_named o.cells r)) ≡ Some s → first_fault (list_faults c o) ≡ Some (BadLead s)
 fault_of_leads c o s e f g h = rw (e, f, g, h) refl
 
-pub fault_of_rest : (c : Sizes) (o : Opening) → is_wrong_size c o ≡ false → has_unknown c o ≡ false → first_from 0 c.shards (double_of c.servers o.cells) ≡ None →
-    first_below c.shards (λ r. has_bad_lead c.servers (cell_named o.cells r)) ≡ None → open_fault c o ≡ first_fault (standing_faults c (opened o))
-fault_of_rest c o e f g h = rw (e, f, g, h) refl
+pub no_fault : (c : Sizes) (o : Opening) → is_wrong_size c o ≡ false → has_unknown c o ≡ false → first_from 0 c.shards (double_of c.servers o.cells) ≡ None →
+    first_below c.shards (λ r. has_bad_lead c.servers (cell_named o.cells r)) ≡ None → first_fault (list_faults c o) ≡ None
+no_fault c o e f g h = rw (e, f, g, h) refl
+
+-- what it means that the lists have none
+pub record AreGood (c : Sizes) (o : Opening) : Type 0 where
+  pub size : is_wrong_size c o ≡ false
+  pub ids : has_unknown c o ≡ false
+  pub pairs : first_from 0 c.shards (double_of c.servers o.cells) ≡ None
+  pub leads : first_below c.shards (λ r. has_bad_lead c.servers (cell_named o.cells r)) ≡ None
+
+pub good_lists : (c : Sizes) (o : Opening) → first_fault (list_faults c o) ≡ None → AreGood c o
+good_lists c o e = go (is_wrong_size c o) (has_unknown c o) (first_from 0 c.shards (double_of c.servers o.cells)) (first_below c.shards (λ r. has_bad_lead c.servers (cell_named o.cells r))) refl refl refl refl e
+  where
+    go : (a b : Bool) (d : Option OpenFault) (h : Option ℕ) → is_wrong_size c o ≡ a → has_unknown c o ≡ b → first_from 0 c.shards (double_of c.servers o.cells) ≡ d →
+        first_below c.shards (λ r. has_bad_lead c.servers (cell_named o.cells r)) ≡ h →
+        first_fault (fault_if a TooMany ∷ fault_if b UnknownName ∷ d ∷ option_map (λ s. BadLead s) h ∷ []) ≡ None → AreGood c o
+    go true b d h qa qb qd qh e = cc
+    go false true d h qa qb qd qh e = cc
+    go false false (Some x) h qa qb qd qh e = cc
+    go false false None (Some x) qa qb qd qh e = cc
+    go false false None None qa qb qd qh e = record { size = qa; ids = qb; pairs = qd; leads = qh }
+
+first_some-append : (xs ys : List (Option OpenFault)) (why : OpenFault) → first_fault xs ≡ Some why → first_fault (xs ++ ys) ≡ Some why
+first_some-append [] ys why e = cc
+first_some-append (None ∷ xs) ys why e = first_some-append xs ys why e
+first_some-append (Some x ∷ xs) ys why e = e
+
+first_none-append : (xs ys : List (Option OpenFault)) → first_fault xs ≡ None → first_fault (xs ++ ys) ≡ first_fault ys
+first_none-append [] ys e = refl
+first_none-append (None ∷ xs) ys e = first_none-append xs ys e
+first_none-append (Some x ∷ xs) ys e = cc
+
+pub fault_of_lists : (c : Sizes) (o : Opening) (why : OpenFault) → first_fault (list_faults c o) ≡ Some why → open_fault c o ≡ Some why
+fault_of_lists c o why e = first_some-append (list_faults c o) (standing_faults c (opened o)) why e
+
+pub fault_of_rest : (c : Sizes) (o : Opening) → first_fault (list_faults c o) ≡ None → open_fault c o ≡ first_fault (standing_faults c (opened o))
+fault_of_rest c o e = first_none-append (list_faults c o) (standing_faults c (opened o)) e
+
+-- what it means that nothing is wrong with the placement itself
+pub record Stands (c : Sizes) (p : Place) : Type 0 where
+  pub listings : first_below c.shards (λ s. has_bad_listing (p.cells s) (p.listed s)) ≡ None
+  pub rooms : first_below c.servers (is_over_room c p.cells) ≡ None
+  pub floors : first_below c.shards (is_short c p.cells p.down) ≡ None
+  pub few : down_count c p ≤ p.limit
+
+pub stands_from : (c : Sizes) (p : Place) → first_fault (standing_faults c p) ≡ None → Stands c p
+stands_from c p e =
+    go (first_below c.shards (λ s. has_bad_listing (p.cells s) (p.listed s))) (first_below c.servers (is_over_room c p.cells)) (first_below c.shards (is_short c p.cells p.down)) (ltb p.limit (down_count c p)) refl refl refl refl e
+  where
+    go : (a b d : Option ℕ) (f : Bool) → first_below c.shards (λ s. has_bad_listing (p.cells s) (p.listed s)) ≡ a → first_below c.servers (is_over_room c p.cells) ≡ b →
+        first_below c.shards (is_short c p.cells p.down) ≡ d → ltb p.limit (down_count c p) ≡ f →
+        first_fault (option_map (λ s. BadListing s) a ∷ option_map (λ v. OverRoom v) b ∷ option_map (λ s. Short s) d ∷ fault_if f TooManyDown ∷ []) ≡ None → Stands c p
+    go (Some x) b d f qa qb qd qf e = cc
+    go None (Some x) d f qa qb qd qf e = cc
+    go None None (Some x) f qa qb qd qf e = cc
+    go None None None true qa qb qd qf e = cc
+    go None None None false qa qb qd qf e = record { listings = qa; rooms = qb; floors = qd; few = ltb-false p.limit (down_count c p) qf }
+
+-- a table's cells with good listings and loads are a placement
+pub grid_placement : (g : Grid) (listed : List (Option ℕ)) (limit : ℕ) → IsGrid g → list_any (is_unknown (length g.setup.servers)) listed ≡ false → Stands (sizes_of g.setup) (unpublished g listed limit) →
+    IsPlacement (sizes_of g.setup) (unpublished g listed limit)
+grid_placement g listed limit is known stands = record {
+  no_server = is.no_server;
+  no_shard = is.no_shard;
+  known = is.known;
+  listed = λ s u e. listed_known (length g.setup.servers) listed s u known (sym (entries_of-get None listed s) ∙ e);
+  rooms = λ v l. ltb-false _ _ (first_none (length g.setup.servers) (is_over_room (sizes_of g.setup) (cells_of g)) stands.rooms v l);
+}
+
+-- the lists of a placement of which nothing has been published
+pub unpublished_is : (g : Grid) (listed : List (Option ℕ)) (versions : List ℕ) (n limit : ℕ) → versions ≡ replicate n 0 →
+    place_of (record { setup = g.setup; cells = g.cells; lasts = g.lasts; down = g.down; listed = listed; versions = versions; limit = limit }) ≡ unpublished g listed limit
+unpublished_is g listed versions n limit e =
+    let none : entries_of 0 versions ≡ (λ s. 0) = rw e (entries_of-empty 0 n) in
+    ap (λ (f : ℕ → ℕ). record (unpublished g listed limit) { version = f }) none
+
+-- a table in which the named cells and servers down were put is what is opened
+pub unpublished_opened : (c : Sizes) (o : Opening) (g : Grid) → AreKnown c.shards c.servers o.cells → first_from 0 c.shards (double_of c.servers o.cells) ≡ None → cells_of g ≡ put_all o.cells (λ s v. Absent) →
+    lasts_of g ≡ (λ s v. 0) → down_of g ≡ (λ v. list_any (λ x. x == v) o.down) → unpublished g o.listed o.limit ≡ opened o
+unpublished_opened c o g known pairs cells lasts down =
+    ap (λ (f : ℕ → ℕ → Cell). record (unpublished g o.listed o.limit) { cells = f }) (cells ∙ put_all-is o.cells (once_from c.shards c.servers o.cells known pairs))
+    ∙ ap (λ (f : ℕ → ℕ → ℕ). record (unpublished g o.listed o.limit) { cells = cell_named o.cells; last = f }) lasts
+    ∙ ap (λ (f : ℕ → Bool). record (opened o) { down = f }) down
 
 -- what is opened is settled
-pub opened_settled : (c : Sizes) (o : Opening) → IsPlacement c (opened o) → first_below c.shards (λ s. has_bad_lead c.servers (cell_named o.cells s)) ≡ None →
-    first_fault (standing_faults c (opened o)) ≡ None → IsSettled c (opened o)
-opened_settled c o is leads e =
-    let p : Place = opened o in
-    let listings : first_below c.shards (λ s. has_bad_listing (p.cells s) (p.listed s)) ≡ None = first_part (first_below c.shards (λ s. has_bad_listing (p.cells s) (p.listed s))) (λ s. BadListing s) _ e in
-    let e1 = (rw listings at e) in
-    let rooms : first_below c.servers (is_over_room c p.cells) ≡ None = first_part (first_below c.servers (is_over_room c p.cells)) (λ v. OverRoom v) _ e1 in
-    let e2 = (rw rooms at e1) in
-    let floors : first_below c.shards (is_short c p.cells p.down) ≡ None = first_part (first_below c.shards (is_short c p.cells p.down)) (λ s. Short s) _ e2 in
-    let e3 = (rw floors at e2) in
-    settled_from c p is.no_server leads listings rooms floors (few (ltb p.limit (down_count c p)) refl e3) (λ s l. omega arith)
-  where
-    first_part : (f : Option ℕ) (g : ℕ → OpenFault) (rest : List (Option OpenFault)) → first_fault (option_map g f ∷ rest) ≡ None → f ≡ None
-    first_part None g rest e = refl
-    first_part (Some x) g rest e = cc
-    few : (b : Bool) → ltb (opened o).limit (down_count c (opened o)) ≡ b → first_fault (fault_if b TooManyDown ∷ []) ≡ None → down_count c (opened o) ≤ (opened o).limit
-    few true q e = cc
-    few false q e = ltb-false (opened o).limit (down_count c (opened o)) q
+pub opened_settled : (c : Sizes) (o : Opening) → AreGood c o → first_fault (standing_faults c (opened o)) ≡ None → IsSettled c (opened o)
+opened_settled c o good e =
+    let stands = stands_from c (opened o) e in
+    settled_from c (opened o) (opened_placement c o good.ids good.pairs good.leads stands.rooms).no_server good.leads stands.listings stands.rooms stands.floors stands.few (λ s l. omega arith)
+
+pub listings_known : (c : Sizes) (o : Opening) → has_unknown c o ≡ false → list_any (is_unknown c.servers) o.listed ≡ false
+listings_known c o e = (or_parts (list_any (is_unknown c.servers) o.listed) (list_any (λ v. not (ltb v c.servers)) o.down) (or_parts (list_any (is_unknown_cell c.shards c.servers) o.cells) (list_any (is_unknown c.servers) o.listed || list_any (λ v. not (ltb v c.servers)) o.down) e).1).0
+
+pub settled_result : (c : Sizes) (o : Opening) (r : Result Layout OpenFault) → AreGood c o → IfOk r (λ p. place_of p ≡ opened o) → OnOk r (first_fault (standing_faults c (opened o)) ≡ None) →
+    IfOk r (λ p. IsSettled c (place_of p))
+settled_result c o (Ok p) good at e = subst (λ (q : Place). IsSettled c q) (sym at) (opened_settled c o good e)
+settled_result c o (Err why) good at e = tt

@@ -26,9 +26,9 @@ forwards-apart (Forwarding to own) q number h = rw (ne_eqb to q (λ e. h (ap Som
 serves_as-put : (row : ℕ → Cell) (v : ℕ) (next : Cell) (q : ℕ) (x : Cell) → target_of (row v) ≢ Some q → target_of next ≢ Some q → serves_as (put row v next) q x ≡ serves_as row q x
 serves_as-put row v next q Absent h k = refl
 serves_as-put row v next q (Prepared from number) h k = elim (cases_eq from v) [
-      | inl e ↦ ap (λ c. forwards c q number) (put-here row v next from e) ∙ forwards-apart next q number k ∙ sym (ap (λ u. forwards (row u) q number) e ∙ forwards-apart (row v) q number h)
-      | inr e ↦ ap (λ c. forwards c q number) (put-apart row v next from e)
-    ]
+  | inl e ↦ ap (λ c. forwards c q number) (put-here row v next from e) ∙ forwards-apart next q number k ∙ sym (ap (λ u. forwards (row u) q number) e ∙ forwards-apart (row v) q number h)
+  | inr e ↦ ap (λ c. forwards c q number) (put-apart row v next from e)
+]
 serves_as-put row v next q Secondary h k = refl
 serves_as-put row v next q Primary h k = refl
 serves_as-put row v next q (Forwarding to number) h k = refl
@@ -79,9 +79,9 @@ party_of-known n (Forwarding to number) next v l h k = h
 pub sum_at_both : (n : ℕ) (f g : ℕ → ℕ) (v u : ℕ) → v < n → u < n → ((q : ℕ) → q ≢ v → q ≢ u → f q ≡ g q) →
     sum_below n f + at_both g v u ≡ sum_below n g + at_both f v u
 sum_at_both n f g v u l m others = elim (cases_eq u v) [
-      | inl e ↦ rw (eq-eqb u v e) (sum_apart n f g v (g v) (f v) l (λ q d. others q d (λ s. d (s ∙ e))) (omega arith))
-      | inr e ↦ rw (ne_eqb u v e) (sum_two_apart n f g v u l m (λ s. e (sym s)) others)
-    ]
+  | inl e ↦ rw (eq-eqb u v e) (sum_apart n f g v (g v) (f v) l (λ q d. others q d (λ s. d (s ∙ e))) (omega arith))
+  | inr e ↦ rw (ne_eqb u v e) (sum_two_apart n f g v u l m (λ s. e (sym s)) others)
+]
 
 pub at_both-le : (t : ℕ → Bool) (v u : ℕ) → at_both (λ q. bit (t q)) v u ≤ 2
 at_both-le t v u =
@@ -97,18 +97,25 @@ pub live_in-put : (n : ℕ) (row : ℕ → Cell) (down : ℕ → Bool) (v : ℕ)
     live_in n row down + (counts_at (put row v next) down v (party_of (row v) next v)).live ≡ live_in n (put row v next) down + (counts_at row down v (party_of (row v) next v)).live
 live_in-put n row down v next l h k o =
     sum_at_both n (λ q. bit (is_live row down q)) (λ q. bit (is_live (put row v next) down q)) v (party_of (row v) next v) l (party_of-known n (row v) next v l h k)
-      (λ q d m. let p = party_of-apart (row v) next v q o d m in sym (ap (λ b. bit (not (down q) && b)) (has_replica-put row v next q d p.0 p.1)))
+    (λ q d m. let p = party_of-apart (row v) next v q o d m in sym (ap (λ b. bit (not (down q) && b)) (has_replica-put row v next q d p.0 p.1)))
 
 pub serving_in-put : (n : ℕ) (row : ℕ → Cell) (down : ℕ → Bool) (v : ℕ) (next : Cell) → v < n → IsKnownCell n (row v) → IsKnownCell n next → (is_forwarding (row v) && is_forwarding next) ≡ false →
     serving_in n row + (counts_at (put row v next) down v (party_of (row v) next v)).serving ≡ serving_in n (put row v next) + (counts_at row down v (party_of (row v) next v)).serving
 serving_in-put n row down v next l h k o =
     sum_at_both n (λ q. bit (serves row q)) (λ q. bit (serves (put row v next) q)) v (party_of (row v) next v) l (party_of-known n (row v) next v l h k)
-      (λ q d m. let p = party_of-apart (row v) next v q o d m in sym (ap bit (serves-put row v next q d p.0 p.1)))
+    (λ q d m. let p = party_of-apart (row v) next v q o d m in sym (ap bit (serves-put row v next q d p.0 p.1)))
 
 same_counts : (a b c d : ℕ) → a ≡ b → c ≡ d → ◌≡◌ {A = Counts} (record { live = a; serving = c }) (record { live = b; serving = d })
 same_counts a b c d e f = cc
 
--- a row that is kept as a list, with a cell changed: the parts of the cell's server and of the other party are exchanged
+-- a row that is kept as a list, with a cell changed
+pub counts_of-set : (row : List Cell) (down : List Bool) (n : ℕ) (f : ℕ → Cell) (v : ℕ) (next : Cell) → length row ≡ n → entries_of Absent row ≡ f → v < n →
+    counts_of (set row v next) down ≡ counts_in n (put f v next) (entries_of false down)
+counts_of-set row down n f v next e s l =
+    ap (λ (m : ℕ). counts_in m (entries_of Absent (set row v next)) (entries_of false down)) (length-set row v next ∙ e)
+    ∙ ap (λ (g : ℕ → Cell). counts_in n g (entries_of false down)) (entries_of-set Absent row v next (omega arith) ∙ ap (λ (g : ℕ → Cell). put g v next) s)
+
+-- the counts of such a row are exchanged with the parts: the parts of the cell's server and of the other party are exchanged
 pub CanCorrect-set : (row : List Cell) (down : List Bool) (v : ℕ) (next : Cell) (counts before after : Counts) → length row ≤ 1024 → v < length row →
     IsKnownCell (length row) (entries_of Absent row v) → IsKnownCell (length row) next → (is_forwarding (entries_of Absent row v) && is_forwarding next) ≡ false →
     counts ≡ counts_of row down →
@@ -123,7 +130,7 @@ CanCorrect-set row down v next counts before after b l h k o e d a =
     let p : ℕ = party_of (r v) next v in
     let s : entries_of Absent (set row v next) ≡ now = entries_of-set Absent row v next l in
     let a' : after ≡ counts_at now dn v p = a ∙ ap (λ (f : ℕ → Cell). counts_at f dn v p) s in
-    let z : counts_of (set row v next) down ≡ counts_in n now dn = ap (λ (m : ℕ). counts_in m (entries_of Absent (set row v next)) dn) (length-set row v next) ∙ ap (λ (f : ℕ → Cell). counts_in n f dn) s in
+    let z : counts_of (set row v next) down ≡ counts_in n now dn = counts_of-set row down n r v next refl refl l in
     let al : after.live ≡ (counts_at now dn v p).live = ap (λ (q : Counts). q.live) a' in
     let ase : after.serving ≡ (counts_at now dn v p).serving = ap (λ (q : Counts). q.serving) a' in
     let bl : before.live ≡ (counts_at r dn v p).live = ap (λ (q : Counts). q.live) d in
@@ -135,9 +142,10 @@ CanCorrect-set row down v next counts before after b l h k o e d a =
     let few : (counts_at now dn v p).live ≤ 2 = at_both-le (is_live now dn) v p in
     let few' : (counts_at now dn v p).serving ≤ 2 = at_both-le (serves now) v p in
     let most : live_in n r dn ≤ n = count-le n (is_live r dn) in
-    let most' : serving_in n r ≤ n = count-le n (serves r) in
-    (record { live = omega arith; serving = omega arith; live_fits = omega arith; serving_fits = omega arith },
-     same_counts (counts.live + after.live - before.live) (live_in n now dn) (counts.serving + after.serving - before.serving) (serving_in n now) (omega arith) (omega arith) ∙ sym z)
+    let most' : serving_in n r ≤ n = count-le n (serves r) in (
+      record { live = omega arith; serving = omega arith; live_fits = omega arith; serving_fits = omega arith },
+      same_counts (counts.live + after.live - before.live) (live_in n now dn) (counts.serving + after.serving - before.serving) (serving_in n now) (omega arith) (omega arith) ∙ sym z,
+    )
 
 -- the same, from what each step of the code gives: the old cell, the other party, and the place that is written
 pub CanCorrect-steps : (row : List Cell) (down : List Bool) (v place u : ℕ) (old next : Cell) (counts before after : Counts) → length row ≤ 1024 → v < length row →
@@ -150,5 +158,22 @@ pub CanCorrect-steps : (row : List Cell) (down : List Bool) (v place u : ℕ) (o
 CanCorrect-steps row down v place u old next counts before after b l h k o e oe ue pe =
     let f : u ≡ party_of (entries_of Absent row v) next v = ue ∙ ap (λ (x : Cell). party_of x next v) oe in
     let Goal : ℕ → ℕ → Type 0 = λ (q w : ℕ). before ≡ counts_at (entries_of Absent row) (entries_of false down) v w → after ≡ counts_at (entries_of Absent (set row q next)) (entries_of false down) v w →
-        CanCorrect counts before after × (corrected counts before after ≡ counts_of (set row q next) down) in
+    CanCorrect counts before after × (corrected counts before after ≡ counts_of (set row q next) down) in
     subst (λ (q : ℕ). Goal q u) (sym pe) (subst (λ (w : ℕ). Goal v w) (sym f) (CanCorrect-set row down v next counts before after b l h k o e))
+
+-- a server that comes up or goes down: only its own replica counts or stops to count
+pub live_in-toggle : (n : ℕ) (row : ℕ → Cell) (down : ℕ → Bool) (v : ℕ) → v < n →
+    live_in n row (put down v (not (down v))) + bit (not (down v) && has_replica row v) ≡ live_in n row down + bit (down v && has_replica row v)
+live_in-toggle n row down v l =
+    sum_apart n (λ q. bit (is_live row (put down v (not (down v))) q)) (λ q. bit (is_live row down q)) v (bit (not (down v) && has_replica row v)) (bit (down v && has_replica row v)) l
+    (λ q d. ap (λ b. bit (not b && has_replica row q)) (put-apart down v (not (down v)) q d))
+    (ap (λ b. bit (not b && has_replica row v) + bit (not (down v) && has_replica row v)) (put-here down v (not (down v)) v refl) ∙ both (down v) (has_replica row v))
+  where
+    both : (b r : Bool) → bit (not (not b) && r) + bit (not b && r) ≡ bit (not b && r) + bit (b && r)
+    both true r = omega arith
+    both false r = omega arith
+
+-- the same by cases, as code tests them, for a row that is kept as a list
+pub live_in-toggled : (row : List Cell) (down : List Bool) (n v : ℕ) (b r : Bool) → v < n → b ≡ entries_of false down v → r ≡ has_replica (entries_of Absent row) v →
+    live_in n (entries_of Absent row) (put (entries_of false down) v (not (entries_of false down v))) + bit (not b && r) ≡ live_in n (entries_of Absent row) (entries_of false down) + bit (b && r)
+live_in-toggled row down n v b r l e d = rw (e, d) (live_in-toggle n (entries_of Absent row) (entries_of false down) v l)

@@ -1,20 +1,23 @@
 -- A table's totals: that they fit, where nothing stands anywhere, and after a write.
-use Rattle.std.proofs.Common.{◌≡◌, ◌≢◌, ℕ, zero, suc, ◌+◌, ◌-◌, ◌*◌, ◌^◌, ◌<◌, ◌≤◌, Bool, true, false, not, ◌&&◌, cond, List, length, set, get_or, replicate, refl, sym, ap, subst, ◌∙◌, arith, inl, inr}
+use Rattle.std.proofs.Common.{◌≡◌, ◌≢◌, ℕ, zero, suc, ◌+◌, ◌-◌, ◌*◌, ◌^◌, ◌<◌, ◌≤◌, Bool, true, false, not, List, length, set, get_or, replicate, refl, sym, ap, subst, ◌∙◌, arith, inl, inr}
+use Rattle.std.specs.Bool.{beq}
 use Rattle.std.proofs.Math.Path.{fun_ext}
-use Rattle.std.proofs.lemmas.Bool.{cases_eq, cases_lt}
+use Rattle.std.proofs.lemmas.Bool.{cases_eq, true≢false}
 use Rattle.std.proofs.lemmas.List.{length-replicate, length-set, get_or_past}
 use Rattle.std.proofs.lemmas.List.Elements.{All-get_or}
 use Rattle.std.proofs.lemmas.Nat.{mul-le}
 use Rattle.sm_server.specs.declared.call.Cell.{Cell}
 use Rattle.sm_server.specs.declared.call.Cell.TheVariants.{Absent, Prepared, Secondary, Primary, Forwarding}
+use Rattle.sm_placement.specs.declared.row.Counts.{Counts}
+use Rattle.sm_placement.specs.Counts.{counts_in, AreLives}
 use Rattle.sm_placement.specs.Sums.{put, put2, sum_below, bit, count_below}
-use Rattle.sm_placement.specs.Setup.{Setup, ShardRow, IsSetup, sizes_of, no_shard}
+use Rattle.sm_placement.specs.Setup.{Setup, Sizes, ShardRow, IsSetup, sizes_of, no_shard}
 use Rattle.sm_placement.specs.Rows.{live_in, serving_in, serves, is_live, IsKnownCell}
 use Rattle.sm_placement.specs.Place.{weight, load_of}
 use Rattle.sm_placement.specs.Layout.{grid_of, entries_of}
 use Rattle.sm_placement.specs.Grid.{Grid, Totals, IsCounted, IsGrid, cells_of, lasts_of, down_of}
-use Rattle.sm_placement.proofs.Sums.{count-le, sum-le, sum_zero}
-use Rattle.sm_placement.proofs.GridLemmas.{grid_of-beside, grid_of-below, grid_of-empty, grid_of-read, grid_of-set, place_within, entries_of-past, entries_of-empty, entries_of-read}
+use Rattle.sm_placement.proofs.Sums.{put-here, put-apart, put2-here, put2-row, put2-apart, same_sum, sum_apart, count-le, sum-le, sum_zero}
+use Rattle.sm_placement.proofs.GridLemmas.{grid_of-beside, grid_of-below, grid_of-empty, grid_of-read, grid_of-set, place_within, entries_of-past, entries_of-set, entries_of-empty, entries_of-read}
 
 -- no shard has a load of 2 ^ 32
 pub shard_load-small : (setup : Setup) (s : ℕ) → IsSetup setup → s < length setup.shards → (sizes_of setup).load s < 2 ^ 32
@@ -160,3 +163,204 @@ pub lasts_of-set : {g old : Grid} {t : Totals} (s v x : ℕ) → IsCounted g t �
     lasts_of (record g { lasts = set g.lasts (s * length old.setup.servers + v) x }) ≡ put2 (lasts_of old) s v x
 lasts_of-set {g} {old} {t} s v x h e = subst (λ (n : Grid). s < length n.setup.shards → v < length n.setup.servers → lasts_of (record g { lasts = set g.lasts (s * length n.setup.servers + v) x }) ≡ put2 (lasts_of n) s v x) e
     (λ l m. grid_of-set (length g.setup.servers) 0 g.lasts s v x m (place_within g.lasts (length g.setup.servers) (length g.setup.shards) s v h.lasts_length l m))
+
+-- ---- one cell changed ----
+
+-- the load of the cell's server changes by the weights of the old and the new cell
+pub load_of-put : (c : Sizes) (cells : ℕ → ℕ → Cell) (s v : ℕ) (next : Cell) → s < c.shards →
+    load_of c (put2 cells s v next) v + weight (cells s v) (c.load s) ≡ load_of c cells v + weight next (c.load s)
+load_of-put c cells s v next l =
+    sum_apart c.shards (λ r. weight (put2 cells s v next r v) (c.load r)) (λ r. weight (cells r v) (c.load r)) s (weight (cells s v) (c.load s)) (weight next (c.load s)) l
+    (λ r d. ap (λ (x : Cell). weight x (c.load r)) (put2-apart cells s v next r v d))
+    (let e : weight (put2 cells s v next s v) (c.load s) ≡ weight next (c.load s) = ap (λ (x : Cell). weight x (c.load s)) (put2-here cells s v next) in omega arith)
+
+-- and the load of no other server does
+pub load_of-beside : (c : Sizes) (cells : ℕ → ℕ → Cell) (s v u : ℕ) (next : Cell) → u ≢ v → load_of c (put2 cells s v next) u ≡ load_of c cells u
+load_of-beside c cells s v u next d = same_sum c.shards (λ r. weight (put2 cells s v next r u) (c.load r)) (λ r. weight (cells r u) (c.load r)) (λ r l. ap (λ (x : Cell). weight x (c.load r)) (at r))
+  where
+    at : (r : ℕ) → put2 cells s v next r u ≡ cells r u
+    at r = elim (cases_eq r s) [
+      | inl e ↦ rw e (put2-row cells s v next u d)
+      | inr e ↦ put2-apart cells s v next r u e
+    ]
+
+-- a property of each cell
+known-put : (n : ℕ) (cells : ℕ → ℕ → Cell) (s v : ℕ) (next : Cell) → ((r u : ℕ) → IsKnownCell n (cells r u)) → IsKnownCell n next → (r u : ℕ) → IsKnownCell n (put2 cells s v next r u)
+known-put n cells s v next h k r u = elim (cases_eq r s) [
+  | inl e ↦ elim (cases_eq u v) [
+    | inl d ↦ rw (e, d, put2-here cells s v next) k
+    | inr d ↦ rw (e, put2-row cells s v next u d) (h s u)
+  ]
+  | inr e ↦ rw (put2-apart cells s v next r u e) (h r u)
+]
+
+-- a list of totals, where one total and what it stands for change
+total-set : (xs : List ℕ) (f g : ℕ → ℕ) (n k x : ℕ) → length xs ≡ n → k < n → ((j : ℕ) → j < n → entries_of 0 xs j ≡ f j) → ((j : ℕ) → j ≢ k → g j ≡ f j) → x ≡ g k →
+    (j : ℕ) → j < n → entries_of 0 (set xs k x) j ≡ g j
+total-set xs f g n k x e l h others here j m = ap (λ (q : ℕ → ℕ). q j) (entries_of-set 0 xs k x (omega arith)) ∙ elim (cases_eq j k) [
+  | inl d ↦ put-here (entries_of 0 xs) k x j d ∙ here ∙ ap g (sym d)
+  | inr d ↦ put-apart (entries_of 0 xs) k x j d ∙ h j m ∙ sym (others j d)
+]
+
+-- a table whose totals are corrected with the cell
+pub IsCounted-set : {g : Grid} {t : Totals} (s v : ℕ) (next : Cell) (load : ℕ) (counts : Counts) → IsCounted g t → s < length g.setup.shards → v < length g.setup.servers →
+    IsKnownCell (length g.setup.servers) next →
+    load ≡ load_of (sizes_of g.setup) (put2 (cells_of g) s v next) v →
+    counts ≡ counts_in (length g.setup.servers) (put (cells_of g s) v next) (down_of g) →
+    IsCounted (record g { cells = set g.cells (s * length g.setup.servers + v) next })
+    (record { loads = set t.loads v load; lives = set t.lives s counts.live; servings = set t.servings s counts.serving; down = t.down })
+IsCounted-set {g} {t} s v next load counts h l m known by_load by_counts = record {
+  setup = h.setup;
+  cells_length = length-set g.cells (s * n + v) next ∙ h.cells_length;
+  lasts_length = h.lasts_length;
+  down_length = h.down_length;
+  loads_length = length-set t.loads v load ∙ h.loads_length;
+  lives_length = length-set t.lives s counts.live ∙ h.lives_length;
+  servings_length = length-set t.servings s counts.serving ∙ h.servings_length;
+  known = λ r u. rw written (known-put n (cells_of g) s v next h.known known r u);
+  loads = λ u k. rw written (total-set t.loads (λ j. load_of c (cells_of g) j) (λ j. load_of c cells j) n v load h.loads_length m h.loads (λ j d. load_of-beside c (cells_of g) s v j next d) by_load u k);
+  lives = λ r k. rw written (total-set t.lives (λ j. live_in n (cells_of g j) (down_of g)) (λ j. live_in n (cells j) (down_of g)) (length g.setup.shards) s counts.live h.lives_length l h.lives
+      (λ j d. ap (λ (f : ℕ → Cell). live_in n f (down_of g)) (other j d)) (ap (λ (q : Counts). q.live) by_counts ∙ ap (λ (f : ℕ → Cell). live_in n f (down_of g)) (sym own)) r k);
+  servings = λ r k. rw written (total-set t.servings (λ j. serving_in n (cells_of g j)) (λ j. serving_in n (cells j)) (length g.setup.shards) s counts.serving h.servings_length l h.servings
+      (λ j d. ap (λ (f : ℕ → Cell). serving_in n f) (other j d)) (ap (λ (q : Counts). q.serving) by_counts ∙ ap (λ (f : ℕ → Cell). serving_in n f) (sym own)) r k);
+  down = h.down;
+}
+  where
+    n : ℕ
+    n = length g.setup.servers
+
+    c : Sizes
+    c = sizes_of g.setup
+
+    cells : ℕ → ℕ → Cell
+    cells = put2 (cells_of g) s v next
+
+    written : grid_of (length g.setup.servers) Absent (set g.cells (s * length g.setup.servers + v) next) ≡ put2 (cells_of g) s v next
+    written = grid_of-set (length g.setup.servers) Absent g.cells s v next m (place_within g.cells (length g.setup.servers) (length g.setup.shards) s v h.cells_length l m)
+
+    own : put2 (cells_of g) s v next s ≡ put (cells_of g s) v next
+    own = put-here (cells_of g) s (put (cells_of g s) v next) s refl
+
+    other : (j : ℕ) → j ≢ s → put2 (cells_of g) s v next j ≡ cells_of g j
+    other j d = put-apart (cells_of g) s (put (cells_of g s) v next) j d
+
+-- ---- what the code reads and writes for it, over the lists of the table ----
+
+-- the totals of a shard are the counts of its row
+pub counts_in-read : {g : Grid} {t : Totals} (s live serving : ℕ) (cells : List Cell) (down : List Bool) → IsCounted g t → s < length g.setup.shards → cells ≡ g.cells → down ≡ g.down →
+    live ≡ get_or t.lives s live → serving ≡ get_or t.servings s serving →
+    ◌≡◌ {A = Counts} (record { live = live; serving = serving }) (counts_in (length down) (grid_of (length down) Absent cells s) (entries_of false down))
+counts_in-read {g} {t} s live serving cells down h l ce de a b =
+    let n : ℕ = length g.setup.servers in
+    let x : live ≡ live_in n (cells_of g s) (down_of g) = entries_of-read 0 t.lives s (length g.setup.shards) live h.lives_length l a ∙ h.lives s l in
+    let y : serving ≡ serving_in n (cells_of g s) = entries_of-read 0 t.servings s (length g.setup.shards) serving h.servings_length l b ∙ h.servings s l in
+    rw (x, y, ce, de, h.down_length) refl
+
+-- the list and the counts after a cell is set in its row
+pub set_in_row-is : {g : Grid} {t : Totals} (s v : ℕ) (next : Cell) (counts : Counts) (cells now : List Cell) (down : List Bool) → IsCounted g t → cells ≡ g.cells → down ≡ g.down →
+    now ≡ set cells (s * length down + v) next → counts ≡ counts_in (length down) (put (grid_of (length down) Absent cells s) v next) (entries_of false down) →
+    (now ≡ set g.cells (s * length g.setup.servers + v) next) × (counts ≡ counts_in (length g.setup.servers) (put (cells_of g s) v next) (down_of g))
+set_in_row-is {g} {t} s v next counts cells now down h ce de a b =
+    let l : length down ≡ length g.setup.servers = ap length de ∙ h.down_length in
+    let P : ℕ → List Cell → List Bool → Type 0 = λ (n : ℕ) (xs : List Cell) (ds : List Bool). (now ≡ set xs (s * n + v) next) × (counts ≡ counts_in n (put (grid_of n Absent xs s) v next) (entries_of false ds)) in
+    subst (λ (ds : List Bool). P (length g.setup.servers) g.cells ds) de (subst (λ (xs : List Cell). P (length g.setup.servers) xs down) ce (subst (λ (n : ℕ). P n cells down) l (a, b)))
+
+-- the load of the cell's server, corrected
+pub record IsCorrected (load added removed after : ℕ) : Type 0 where
+  pub fits : load + added < 2 ^ 64
+  pub enough : removed ≤ load + added
+  pub is : load + added - removed ≡ after
+
+pub load_of-corrected : {g : Grid} {t : Totals} (s v : ℕ) (next : Cell) (load added removed : ℕ) → IsCounted g t → s < length g.setup.shards → v < length g.setup.servers →
+    load ≡ get_or t.loads v load → added ≡ weight next ((sizes_of g.setup).load s) → removed ≡ weight (cells_of g s v) ((sizes_of g.setup).load s) →
+    IsCorrected load added removed (load_of (sizes_of g.setup) (put2 (cells_of g) s v next) v)
+load_of-corrected {g} {t} s v next load added removed h l m a b d =
+    let c : Sizes = sizes_of g.setup in
+    let x : load ≡ load_of c (cells_of g) v = entries_of-read 0 t.loads v (length g.setup.servers) load h.loads_length m a ∙ h.loads v m in
+    let e : load_of c (put2 (cells_of g) s v next) v + weight (cells_of g s v) (c.load s) ≡ load_of c (cells_of g) v + weight next (c.load s) = load_of-put c (cells_of g) s v next l in
+    let p : load_of c (cells_of g) v < 2 ^ 45 = load-small g.setup (cells_of g) v h.setup in
+    let q : weight next (c.load s) ≤ c.load s = weight-le next (c.load s) in
+    let r : c.load s < 2 ^ 32 = shard_load-small g.setup s h.setup l in
+    record { fits = omega arith; enough = omega arith; is = omega arith }
+
+pub cells_of-set : {g old : Grid} {t : Totals} (s v : ℕ) (next : Cell) → IsCounted g t → g ≡ old → s < length old.setup.shards → v < length old.setup.servers →
+    grid_of (length g.setup.servers) Absent (set g.cells (s * length g.setup.servers + v) next) ≡ put2 (cells_of old) s v next
+cells_of-set {g} {old} {t} s v next h e = subst (λ (n : Grid). s < length n.setup.shards → v < length n.setup.servers → grid_of (length g.setup.servers) Absent (set g.cells (s * length g.setup.servers + v) next) ≡ put2 (cells_of n) s v next) e
+    (λ l m. grid_of-set (length g.setup.servers) Absent g.cells s v next m (place_within g.cells (length g.setup.servers) (length g.setup.shards) s v h.cells_length l m))
+
+-- ---- a server comes up or goes down ----
+
+not-not : (b : Bool) → not (not b) ≡ b
+not-not true = refl
+not-not false = refl
+
+count_below-toggle : (n : ℕ) (down : ℕ → Bool) (v : ℕ) (b : Bool) → v < n → down v ≡ not b → count_below n (put down v b) + bit (not b) ≡ count_below n down + bit b
+count_below-toggle n down v b l e =
+    sum_apart n (λ q. bit (put down v b q)) (λ q. bit (down q)) v (bit (not b)) (bit b) l (λ q d. ap bit (put-apart down v b q d))
+    (let x : bit (put down v b v) ≡ bit b = ap bit (put-here down v b v refl) in let y : bit (down v) ≡ bit (not b) = ap bit e in omega arith)
+
+pub down_of-set : {g old : Grid} {t : Totals} (v : ℕ) (b : Bool) → IsCounted g t → g ≡ old → v < length old.setup.servers → down_of (record g { down = set g.down v b }) ≡ put (down_of old) v b
+down_of-set {g} {old} {t} v b h e = subst (λ (n : Grid). v < length n.setup.servers → down_of (record g { down = set g.down v b }) ≡ put (down_of n) v b) e
+    (λ l. entries_of-set false g.down v b (omega (arith, h.down_length)))
+
+pub same-from_beq : (a b : Bool) → beq a b ≡ true → a ≡ b
+same-from_beq true true e = refl
+same-from_beq true false e = absurd (true≢false (sym e))
+same-from_beq false true e = absurd (true≢false (sym e))
+same-from_beq false false e = refl
+
+pub not-from_beq : (was b : Bool) → beq was b ≡ false → was ≡ not b
+not-from_beq true true e = absurd (true≢false e)
+not-from_beq true false e = refl
+not-from_beq false true e = refl
+not-from_beq false false e = absurd (true≢false e)
+
+-- the count of the servers that are down, where a server's state turns
+pub down-toggled : {g old : Grid} {t : Totals} (v : ℕ) (b was : Bool) → IsCounted g t → g ≡ old → v < length old.setup.servers → was ≡ down_of old v → was ≡ not b →
+    count_below (length g.setup.servers) (put (down_of g) v b) + bit (not b) ≡ t.down + bit b
+down-toggled {g} {old} {t} v b was h e l r w =
+    let m : v < length g.setup.servers = omega (arith, ap (λ (n : Grid). length n.setup.servers) e) in
+    let d : down_of g v ≡ not b = ap (λ (n : Grid). down_of n v) e ∙ sym r ∙ w in
+    let k : count_below (length g.setup.servers) (put (down_of g) v b) + bit (not b) ≡ count_below (length g.setup.servers) (down_of g) + bit b = count_below-toggle (length g.setup.servers) (down_of g) v b m d in
+    k ∙ ap (λ (n : ℕ). n + bit b) (sym h.down)
+
+pub down_count-small : {g : Grid} {t : Totals} → IsCounted g t → t.down ≤ 1024
+down_count-small {g} {t} h = rw h.down (down-small g.setup (down_of g) h.setup)
+
+-- the table with corrected counts
+pub IsCounted-toggle : {g old : Grid} {t : Totals} (v : ℕ) (b was : Bool) (cells : List Cell) (down : List Bool) (lives : List ℕ) (count : ℕ) → IsCounted g t → g ≡ old → v < length old.setup.servers →
+    was ≡ down_of old v → was ≡ not b → cells ≡ g.cells → down ≡ g.down → length lives ≡ length t.lives →
+    AreLives lives (length down) (grid_of (length down) Absent cells) (put (entries_of false down) v (not (entries_of false down v))) →
+    count + bit (not b) ≡ t.down + bit b →
+    IsCounted (record g { down = set g.down v b }) (record t { lives = lives; down = count })
+IsCounted-toggle {g} {old} {t} v b was cells down lives count h e l r w ce de le are counted = record {
+  setup = h.setup;
+  cells_length = h.cells_length;
+  lasts_length = h.lasts_length;
+  down_length = length-set g.down v b ∙ h.down_length;
+  loads_length = h.loads_length;
+  lives_length = le ∙ h.lives_length;
+  servings_length = h.servings_length;
+  known = h.known;
+  loads = h.loads;
+  lives = λ s k. rw written (turned s (omega (arith, h.lives_length)));
+  servings = h.servings;
+  down = rw written (let k : count_below (length g.setup.servers) (put (down_of g) v b) + bit (not b) ≡ t.down + bit b = down-toggled v b was h e l r w in omega arith);
+}
+  where
+    m : v < length g.setup.servers
+    m = omega (arith, ap (λ (n : Grid). length n.setup.servers) e)
+
+    d : not (down_of g v) ≡ b
+    d = ap not (ap (λ (n : Grid). down_of n v) e ∙ sym r ∙ w) ∙ not-not b
+
+    written : entries_of false (set g.down v b) ≡ put (down_of g) v b
+    written = entries_of-set false g.down v b (omega (arith, h.down_length, m))
+
+    listed : AreLives lives (length g.setup.servers) (cells_of g) (put (down_of g) v (not (down_of g v)))
+    listed = subst (λ (ds : List Bool). AreLives lives (length g.setup.servers) (grid_of (length g.setup.servers) Absent g.cells) (put (entries_of false ds) v (not (entries_of false ds v)))) de
+        (subst (λ (xs : List Cell). AreLives lives (length g.setup.servers) (grid_of (length g.setup.servers) Absent xs) (put (entries_of false down) v (not (entries_of false down v)))) ce
+        (subst (λ (n : ℕ). AreLives lives n (grid_of n Absent cells) (put (entries_of false down) v (not (entries_of false down v)))) (ap length de ∙ h.down_length) are))
+
+    turned : AreLives lives (length g.setup.servers) (cells_of g) (put (down_of g) v b)
+    turned = subst (λ (x : Bool). AreLives lives (length g.setup.servers) (cells_of g) (put (down_of g) v x)) d listed

@@ -1,5 +1,5 @@
 -- Opening a placement: the placement that is named, and why one is refused.
-use Rattle.std.specs.Prelude.{◌≡◌, ◌≤◌, ℕ, ◌&&◌, ◌||◌, ◌==◌, Bool, true, false, not, List, [], ◌∷◌, length, Option, Some, None, nat_lt, if◌then◌else◌, option_map, find, count_by}
+use Rattle.std.specs.Prelude.{◌≡◌, ◌≤◌, ℕ, ◌&&◌, ◌||◌, ◌==◌, Bool, true, false, not, List, [], ◌∷◌, ◌++◌, length, Option, Some, None, nat_lt, if◌then◌else◌, option_map, find, count_by}
 use Rattle.std.specs.List.{list_any, range_with_len}
 use Rattle.sm_server.specs.declared.call.Cell.{Cell}
 use Rattle.sm_server.specs.declared.call.Cell.TheVariants.{Absent}
@@ -12,6 +12,7 @@ use Rattle.sm_placement.specs.Sums.{put2, count_below, any_below, first_from}
 use Rattle.sm_placement.specs.Rows.{live_in}
 use Rattle.sm_placement.specs.Place.{Place, load_of, down_count}
 use Rattle.sm_placement.specs.Layout.{entries_of}
+use Rattle.sm_placement.specs.Grid.{Grid, cells_of, lasts_of, down_of}
 
 -- a cell, with the shard and the server that it is of
 abbrev pub NamedCell : Type 0
@@ -129,6 +130,14 @@ abbrev pub fault_if : Bool → OpenFault → Option OpenFault
 fault_if true fault = Some fault
 fault_if false fault = None
 
+-- what is wrong with the lists themselves
+abbrev pub list_faults : Sizes → Opening → List (Option OpenFault)
+list_faults c o =
+    fault_if (is_wrong_size c o) TooMany ∷
+    fault_if (has_unknown c o) UnknownName ∷
+    first_from 0 c.shards (double_of c.servers o.cells) ∷
+    option_map (λ s. BadLead s) (first_below c.shards (λ s. has_bad_lead c.servers (cell_named o.cells s))) ∷ []
+
 -- what is wrong with listings, loads, live replicas and the servers down
 abbrev pub standing_faults : Sizes → Place → List (Option OpenFault)
 standing_faults c p =
@@ -139,9 +148,8 @@ standing_faults c p =
 
 -- why a placement is not opened: the first fault in the order of these lines, each with its lowest shard and server
 abbrev pub open_fault : Sizes → Opening → Option OpenFault
-open_fault c o = first_fault (
-    fault_if (is_wrong_size c o) TooMany ∷
-    fault_if (has_unknown c o) UnknownName ∷
-    first_from 0 c.shards (double_of c.servers o.cells) ∷
-    option_map (λ s. BadLead s) (first_below c.shards (λ s. has_bad_lead c.servers (cell_named o.cells s))) ∷
-    standing_faults c (opened o))
+open_fault c o = first_fault (list_faults c o ++ standing_faults c (opened o))
+
+-- the placement of a table's cells, of which nothing has been published
+abbrev pub unpublished : Grid → List (Option ℕ) → ℕ → Place
+unpublished g listed limit = record { cells = cells_of g; last = lasts_of g; down = down_of g; listed = entries_of None listed; version = λ s. 0; limit = limit }

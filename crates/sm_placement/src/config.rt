@@ -337,8 +337,8 @@ impl Config {
         ensures { IfOk result (λ config. config ≡ self.now) }
     {
         Ok(Config {
-            servers: copied_servers(alloc, self.servers.as_slice())?,
-            shards: copied_shards(alloc, self.shards.as_slice())?,
+            servers: copied_servers(alloc, self.servers())?,
+            shards: copied_shards(alloc, self.shards())?,
             server_names: copied_names(&self.server_names)?,
             shard_names: copied_names(&self.shard_names)?,
         })
@@ -383,6 +383,7 @@ impl Config {
         ensures row { server_row result.now ≡ slice_index_or self.now.servers server no_server }
         ensures room { result.now.room ≡ (sizes_of self.now).room server }
         ensures fits { result.now.room < 2 ^ 32 }
+        ensures named { server_named self.now (string_bytes result.now.name) ≡ Some server }
     {
         &self.servers[server.number() as usize]
     }
@@ -397,6 +398,7 @@ impl Config {
         ensures want { result.now.want ≤ 1024 }
         ensures cap { result.now.cap ≤ result.now.want }
         ensures spread { result.now.spread ≤ 1024 }
+        ensures named { shard_named self.now (string_bytes result.now.name) ≡ Some shard }
     {
         &self.shards[shard.number() as usize]
     }
@@ -467,3 +469,6 @@ impl Eq for Config {
 
     ghost laws = { same_setup_laws };
 }
+
+#[cfg(test)]
+mod tests;

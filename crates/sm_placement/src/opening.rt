@@ -1,13 +1,16 @@
 //! Opening a placement.
-ghost use Rattle.std.specs.Prelude.{◌≡◌, false, All, ◌≤◌, ◌<◌, ◌+◌, ◌*◌, ◌||◌, ◌==◌, not, nat_lt, length, IfOk, count_by};
+ghost use Rattle.std.specs.Prelude.{◌≡◌, ◌≢◌, false, All, Some, None, OnOk, IfErr, ◌≤◌, ◌<◌, ◌+◌, ◌*◌, ◌||◌, ◌==◌, not, nat_lt, length, IfOk, count_by};
 ghost use Rattle.std.specs.List.{list_any};
 ghost use Rattle.sm_server.specs.Cell.{is_primary};
+ghost use Rattle.sm_placement.specs.Setup.{sizes_of};
 ghost use Rattle.sm_placement.specs.Sums.{bit, first_from};
-ghost use Rattle.sm_placement.specs.Layout.{grid_of, entries_of};
+ghost use Rattle.sm_placement.specs.Layout.{grid_of, entries_of, place_of};
 ghost use Rattle.sm_placement.specs.Grid.{cells_of, lasts_of, down_of};
-ghost use Rattle.sm_placement.specs.Opening.{is_of, is_unknown, is_unknown_cell, AreKnown, IsNamedOnce, is_double, first_below, double_of, is_handing, lead_cells, put_all, cell_named, opened, has_bad_lead};
+ghost use Rattle.sm_placement.specs.Opening.{is_of, is_unknown, is_unknown_cell, AreKnown, IsNamedOnce, is_double, first_below, double_of, is_handing, lead_cells, put_all, cell_named, opened, has_bad_lead, first_fault, list_faults, standing_faults, open_fault, unpublished};
 
 use crate::config::Config;
+use crate::faults;
+use crate::placement::Placement;
 use crate::table::Table;
 use sm_server::{Cell, ServerId, ShardId};
 use std::alloc::{AllocError, Global};
@@ -34,6 +37,16 @@ pub enum OpenFault {
     Short { shard: ShardId },
     #[error("more servers are down than the limit")]
     TooManyDown,
+}
+
+impl From<AllocError> for OpenFault {
+    ghost use Rattle.sm_placement.specs.declared.opening.OpenFault.TheVariants.{NoMemory};
+
+    ghost from_gives = { λ _ why. why ≡ NoMemory };
+
+    fn from(_error: AllocError) -> Self {
+        OpenFault::NoMemory
+    }
 }
 
 /// The most cells that a placement has.
@@ -213,7 +226,7 @@ fn put_cells(table: &mut Table, cells: &[(ShardId, ServerId, Cell)])
     requires known { AreKnown (length table.old.setup.shards) (length table.old.setup.servers) cells.now }
     requires resting { All (λ named. is_handing named.2 ≡ false) cells.now }
     ensures cells { cells_of table.new ≡ put_all cells.now (cells_of table.old) }
-    ensures lasts { table.new.lasts ≡ table.old.lasts }
+    ensures lasts { lasts_of table.new ≡ lasts_of table.old }
     ensures down { table.new.down ≡ table.old.down }
     ensures setup { table.new.setup ≡ table.old.setup }
 {
@@ -256,4 +269,103 @@ fn placed(
     put_cells(&mut table, cells);
     put_down(&mut table, down);
     Ok(table)
+}
+
+/// What is wrong with the lists themselves.
+fn check_lists(
+    alloc: Global,
+    config: &Config,
+    cells: &[(ShardId, ServerId, Cell)],
+    listed: &[Option<ServerId>],
+    down: &[ServerId],
+    limit: u32,
+) -> Result<(), OpenFault>
+    ensures ok { OnOk result (first_fault (list_faults (sizes_of config.now) (record { cells = cells.now; listed = listed.now; down = down.now; limit = limit })) ≡ None) }
+    ensures refused { IfErr result (λ why. why ≢ OpenFault.NoMemory → first_fault (list_faults (sizes_of config.now) (record { cells = cells.now; listed = listed.now; down = down.now; limit = limit })) ≡ Some why) }
+{
+    if cells.len() > MOST_CELLS || listed.len() != config.shard_count() as usize {
+        return Err(OpenFault::TooMany);
+    }
+    if has_unknown_cell(config, cells)
+        || has_unknown_listing(config, listed)
+        || has_unknown_server(config, down)
+    {
+        return Err(OpenFault::UnknownName);
+    }
+    if let Some(fault) = first_double(alloc, config, cells)? {
+        return Err(fault);
+    }
+    if let Some(shard) = first_bad_lead(alloc, config, cells)? {
+        return Err(OpenFault::BadLead { shard });
+    }
+    Ok(())
+}
+
+/// What is wrong with the placement of a table's cells.
+fn standing_fault(table: &Table, listed: &[Option<ServerId>], limit: u32) -> Option<OpenFault>
+    requires len { length listed.now ≡ length table.now.setup.shards }
+    requires known { list_any (is_unknown (length table.now.setup.servers)) listed.now ≡ false }
+    ensures { result ≡ first_fault (standing_faults (sizes_of table.now.setup) (unpublished table.now listed.now limit)) }
+{
+    if let Some(shard) = faults::first_bad_listing(table, listed) {
+        return Some(OpenFault::BadListing { shard });
+    }
+    if let Some(server) = faults::first_over_room(table) {
+        return Some(OpenFault::OverRoom { server });
+    }
+    if let Some(shard) = faults::first_short(table) {
+        return Some(OpenFault::Short { shard });
+    }
+    if table.down_count() > limit {
+        return Some(OpenFault::TooManyDown);
+    }
+    None
+}
+
+/// The placement of a table's cells, of which nothing has been published.
+fn stand(
+    alloc: Global,
+    table: Table,
+    listed: &[Option<ServerId>],
+    limit: u32,
+) -> Result<Placement, OpenFault>
+    requires len { length listed.now ≡ length table.setup.shards }
+    requires known { list_any (is_unknown (length table.setup.servers)) listed.now ≡ false }
+    ensures ok { IfOk result (λ p. place_of p ≡ unpublished table listed.now limit) }
+    ensures setup { IfOk result (λ p. p.setup ≡ table.setup) }
+    ensures valid { OnOk result (first_fault (standing_faults (sizes_of table.setup) (unpublished table listed.now limit)) ≡ None) }
+    ensures refused { IfErr result (λ why. why ≢ OpenFault.NoMemory → first_fault (standing_faults (sizes_of table.setup) (unpublished table listed.now limit)) ≡ Some why) }
+{
+    if let Some(fault) = standing_fault(&table, listed, limit) {
+        return Err(fault);
+    }
+    let versions = vec![in alloc; 0; listed.len()]?;
+    let listed = Vec::from_slice(alloc, listed)?;
+    Ok(Placement::from_parts(table, listed, versions, limit))
+}
+
+impl Placement {
+    ghost use Rattle.sm_placement.specs.Lead.{IsSettled};
+
+    /// A placement with these cells, listed servers and servers down, and no other cell. A refusal is the first that
+    /// applies in the order of the faults, and of one fault that of the lowest shard, then server; want of memory may
+    /// stand before any other.
+    pub fn open(
+        alloc: Global,
+        config: &Config,
+        cells: &[(ShardId, ServerId, Cell)],
+        listed: &[Option<ServerId>],
+        down: &[ServerId],
+        limit: u32,
+    ) -> Result<Placement, OpenFault>
+        ensures ok { IfOk result (λ p. place_of p ≡ opened (record { cells = cells.now; listed = listed.now; down = down.now; limit = limit })) }
+        ensures setup { IfOk result (λ p. p.setup ≡ config.now) }
+        ensures valid { OnOk result (open_fault (sizes_of config.now) (record { cells = cells.now; listed = listed.now; down = down.now; limit = limit }) ≡ None) }
+        ensures settled { IfOk result (λ p. IsSettled (sizes_of config.now) (place_of p)) }
+        ensures refused { IfErr result (λ why. why ≢ OpenFault.NoMemory → open_fault (sizes_of config.now) (record { cells = cells.now; listed = listed.now; down = down.now; limit = limit }) ≡ Some why) }
+    {
+        check_lists(alloc, config, cells, listed, down, limit)?;
+        let table = placed(alloc, config, cells, down)?;
+        stand(alloc, table, listed, limit)
+    }
 }

@@ -60,6 +60,26 @@ impl Placement {
     ghost use Rattle.sm_placement.specs.Lead.{IsSettled};
     ghost use Rattle.sm_placement.specs.Opening.{first_below};
 
+    /// The placement of a table's cells, with an entry of the map for each shard.
+    pub(crate) fn from_parts(
+        table: Table,
+        listed: Vec<Option<ServerId>>,
+        versions: Vec<u64>,
+        limit: u32,
+    ) -> Placement
+        requires listed { length listed.items ≡ length table.setup.shards }
+        requires versions { length versions.items ≡ length table.setup.shards }
+        requires placement { IsPlacement (sizes_of table.setup) (place_of (record { setup = table.setup; cells = table.cells; lasts = table.lasts; down = table.down; listed = listed.items; versions = versions.items; limit = limit })) }
+        ensures { result ≡ record { setup = table.setup; cells = table.cells; lasts = table.lasts; down = table.down; listed = listed.items; versions = versions.items; limit = limit } }
+    {
+        Placement {
+            table,
+            listed,
+            versions,
+            limit,
+        }
+    }
+
     /// The servers and shards that the placement is of.
     pub fn config(&self) -> &Config
         ensures setup { result.now ≡ self.now.setup }
@@ -387,3 +407,6 @@ pub fn answered_where_allowed()
 {
     leads_where_led();
 }
+
+#[cfg(test)]
+mod tests;

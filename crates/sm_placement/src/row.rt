@@ -2,7 +2,7 @@
 ghost use Rattle.std.specs.Prelude.{◌≡◌, ◌≢◌, ◌<◌, ◌≤◌, ◌+◌, ◌*◌, ◌&&◌, ℕ, false, not, length, slice_set};
 ghost use Rattle.sm_server.specs.Cell.{is_forwarding};
 ghost use Rattle.sm_placement.specs.Sums.{put, bit};
-ghost use Rattle.sm_placement.specs.Rows.{IsKnownCell, forwards, serves, is_live};
+ghost use Rattle.sm_placement.specs.Rows.{IsKnownCell, forwards, serves, is_live, live_in};
 ghost use Rattle.sm_placement.specs.Layout.{grid_of, entries_of};
 
 use sm_server::{Cell, ServerId};
@@ -55,6 +55,23 @@ fn has_replica(row: &[Cell], server: ServerId) -> bool
     match cell_at(row, server) {
         Cell::Secondary => true,
         _ => serves(row, server),
+    }
+}
+
+/// The count of a row's live replicas, once a server that is down comes up, or one that is up goes down.
+pub fn live_toggled(row: &[Cell], down: &[bool], server: ServerId, live: u32) -> u32
+    requires bound { length row.now ≤ 1024 }
+    requires length { length down.now ≡ length row.now }
+    requires server { server < length row.now }
+    requires live { live ≡ live_in (length row.now) (entries_of Cell.Absent row.now) (entries_of false down.now) }
+    ensures { result ≡ live_in (length row.now) (entries_of Cell.Absent row.now) (put (entries_of false down.now) server (not (entries_of false down.now server))) }
+{
+    if !has_replica(row, server) {
+        live
+    } else if down[server.number() as usize] {
+        live + 1
+    } else {
+        live - 1
     }
 }
 

@@ -1,7 +1,14 @@
 //! The cells of a configuration, one after another, with running totals.
-ghost use Rattle.std.specs.Prelude.{◌≡◌, ◌<◌, ◌≤◌, ◌+◌, ◌*◌, ◌^◌, false, length, IfOk};
+ghost use Rattle.std.specs.Prelude.{◌≡◌, ◌<◌, ◌≤◌, ◌+◌, ◌*◌, ◌^◌, ◌&&◌, false, not, length, slice_set, IfOk};
+ghost use Rattle.sm_server.specs.Cell.{is_forwarding};
+ghost use Rattle.sm_placement.specs.Sums.{put};
+ghost use Rattle.sm_placement.specs.Rows.{IsKnownCell};
+ghost use Rattle.sm_placement.specs.Place.{weight};
+ghost use Rattle.sm_placement.specs.Layout.{grid_of, entries_of};
+ghost use Rattle.sm_placement.specs.Counts.{counts_in, AreLives};
 
 use crate::config::Config;
+use crate::row::{self, Counts};
 use sm_server::{Cell, ServerId, ShardId};
 use std::alloc::{AllocError, Global};
 use std::marker::Model;
@@ -30,11 +37,60 @@ impl Model for Table {
     ghost invariant = { λ t. IsCounted (record { setup = t.config; cells = t.cells.items; lasts = t.lasts.items; down = t.down.items }) (record { loads = t.loads.items; lives = t.lives.items; servings = t.servings.items; down = t.down_count }) };
 }
 
+/// What a cell weighs on its server.
+const fn weight(cell: &Cell, load: u64) -> u64
+    ensures { result ≡ weight cell.now load }
+{
+    if cell.is_absent() { 0 } else { load }
+}
+
+/// Sets a cell of a shard whose row has these counts, and says what the counts are then.
+fn set_in_row(
+    cells: &mut [Cell],
+    down: &[bool],
+    shard: ShardId,
+    server: ServerId,
+    cell: Cell,
+    counts: Counts,
+) -> Counts
+    requires bound { length down.now ≤ 1024 }
+    requires shard { shard * length down.now + length down.now ≤ length cells.old }
+    requires server { server < length down.now }
+    requires known { IsKnownCell (length down.now) (grid_of (length down.now) Cell.Absent cells.old shard server) }
+    requires next { IsKnownCell (length down.now) cell }
+    requires one_forwards { (is_forwarding (grid_of (length down.now) Cell.Absent cells.old shard server) && is_forwarding cell) ≡ false }
+    requires counts { counts ≡ counts_in (length down.now) (grid_of (length down.now) Cell.Absent cells.old shard) (entries_of false down.now) }
+    ensures cells { cells.new ≡ slice_set cells.old (shard * length down.now + server) cell }
+    ensures counts { result ≡ counts_in (length down.now) (put (grid_of (length down.now) Cell.Absent cells.old shard) server cell) (entries_of false down.now) }
+{
+    let servers = down.len();
+    let start = shard.number() as usize * servers;
+    let row = &mut cells[start..start + servers];
+    row::set_cell(row, down, server, cell, counts)
+}
+
+/// Corrects the counts of live replicas, once a server that is down comes up, or one that is up goes down.
+fn toggle_lives(lives: &mut [u32], cells: &[Cell], down: &[bool], server: ServerId)
+    requires bound { length down.now ≤ 1024 }
+    requires cells { length cells.now ≡ length lives.old * length down.now }
+    requires server { server < length down.now }
+    requires lives { AreLives lives.old (length down.now) (grid_of (length down.now) Cell.Absent cells.now) (entries_of false down.now) }
+    ensures { AreLives lives.new (length down.now) (grid_of (length down.now) Cell.Absent cells.now) (put (entries_of false down.now) server (not (entries_of false down.now server))) }
+{
+    let servers = down.len();
+    for shard in 0..lives.len() {
+        let start = shard * servers;
+        let row = &cells[start..start + servers];
+        lives[shard] = row::live_toggled(row, down, server, lives[shard]);
+    }
+}
+
 impl Table {
-    ghost use Rattle.std.specs.Prelude.{◌≡◌, ◌<◌, ◌≤◌, ◌^◌, false, length, IfOk};
+    ghost use Rattle.std.specs.Prelude.{◌≡◌, ◌<◌, ◌≤◌, ◌+◌, ◌*◌, ◌^◌, ◌&&◌, false, length, IfOk};
     ghost use Rattle.sm_placement.specs.Setup.{sizes_of};
-    ghost use Rattle.sm_placement.specs.Rows.{live_in, serving_in};
-    ghost use Rattle.sm_placement.specs.Sums.{put2, count_below};
+    ghost use Rattle.sm_placement.specs.Rows.{live_in, serving_in, IsKnownCell};
+    ghost use Rattle.sm_server.specs.Cell.{is_forwarding};
+    ghost use Rattle.sm_placement.specs.Sums.{put, put2, count_below};
     ghost use Rattle.sm_placement.specs.Place.{load_of};
     ghost use Rattle.sm_placement.specs.Grid.{cells_of, lasts_of, down_of, IsGrid};
 
@@ -148,6 +204,52 @@ impl Table {
         ensures { result ≡ serving_in (length self.now.setup.servers) (cells_of self.now shard) }
     {
         self.servings[shard.number() as usize]
+    }
+
+    /// Sets a cell, and corrects the totals of its server and its shard.
+    pub fn set_cell(&mut self, shard: ShardId, server: ServerId, cell: Cell)
+        requires shard { shard < length self.old.setup.shards }
+        requires server { server < length self.old.setup.servers }
+        requires known { IsKnownCell (length self.old.setup.servers) cell }
+        requires one_forwards { (is_forwarding (cells_of self.old shard server) && is_forwarding cell) ≡ false }
+        ensures cells { cells_of self.new ≡ put2 (cells_of self.old) shard server cell }
+        ensures lasts { lasts_of self.new ≡ lasts_of self.old }
+        ensures down { self.new.down ≡ self.old.down }
+        ensures setup { self.new.setup ≡ self.old.setup }
+    {
+        let load = self.config.load(shard);
+        let removed = weight(&self.cell(shard, server), load);
+        let row = shard.number() as usize;
+        let counts = Counts {
+            live: self.lives[row],
+            serving: self.servings[row],
+        };
+        let cells = self.cells.as_mut_slice();
+        let counts = set_in_row(cells, &self.down, shard, server, cell, counts);
+        self.lives[row] = counts.live;
+        self.servings[row] = counts.serving;
+        let column = server.number() as usize;
+        self.loads[column] = self.loads[column] + weight(&cell, load) - removed;
+    }
+
+    /// Sets whether a server is down, and corrects the totals of the shards with a replica there. Takes no memory.
+    pub fn set_down(&mut self, server: ServerId, down: bool)
+        requires { server < length self.old.setup.servers }
+        ensures down { down_of self.new ≡ put (down_of self.old) server down }
+        ensures cells { self.new.cells ≡ self.old.cells }
+        ensures lasts { self.new.lasts ≡ self.old.lasts }
+        ensures setup { self.new.setup ≡ self.old.setup }
+    {
+        if self.is_down(server) == down {
+            return;
+        }
+        toggle_lives(self.lives.as_mut_slice(), &self.cells, &self.down, server);
+        self.down[server.number() as usize] = down;
+        if down {
+            self.down_count += 1;
+        } else {
+            self.down_count -= 1;
+        }
     }
 
     /// Sets the number of the last call that had an effect on a cell.

@@ -1,4 +1,54 @@
+-- The counts of live replicas and of servers that are down are corrected.
+use Rattle.std.proofs.Common.{◌≡◌, ◌+◌, ◌-◌, ◌≤◌, ℕ, List, length, set, not, true, false, refl, sym, ap, ◌∙◌, arith}
+use Rattle.std.specs.Vec.{with_items}
+use Rattle.std.proofs.lemmas.List.{with_items_is}
+use Rattle.sm_placement.specs.Sums.{put, bit, count_below}
+use Rattle.sm_placement.specs.Grid.{down_of}
+use Rattle.sm_placement.proofs.Sums.{put-same}
+use Rattle.sm_placement.proofs.TableLemmas.{same-from_beq, not-from_beq, down-toggled, down_count-small, down_of-set, IsCounted-toggle}
 use Rattle.sm_placement.proofs.table.Table.set_down.Goals as goal
 
-pub unreachable-requires : goal.unreachable-requires
-unreachable-requires c = ?
+pub overflow_add-self : goal.overflow_add-self
+overflow_add-self c = let few : c.self.inside.down_count ≤ 1024 = down_count-small c.self.invariant in omega arith
+
+pub overflow_sub-self : goal.overflow_sub-self
+overflow_sub-self c =
+    let k = down-toggled c.args.server c.args.down c.is_down.result c.self.invariant c.self.view_is c.requires c.is_down.ensures (not-from_beq c.is_down.result c.args.down c.if-is_down-down.false) in
+    let e : bit (not c.args.down) ≡ 1 = rw c.if-down.false refl in
+    let o : bit c.args.down ≡ 0 = rw c.if-down.false refl in
+    omega (arith, k)
+
+pub invariant_of-self : goal.invariant_of-self
+invariant_of-self c =
+    let fits : length c.toggle_lives.new.lives ≡ c.self.inside.lives.len = omega arith in
+    let same : length c.toggle_lives.new.lives ≡ length c.self.inside.lives.items = omega arith in
+    let w : (with_items c.self.inside.lives c.toggle_lives.new.lives).items ≡ c.toggle_lives.new.lives = with_items_is c.self.inside.lives c.toggle_lives.new.lives fits in
+    let e : bit (not c.args.down) ≡ 0 = rw c.if-down.true refl in
+    let o : bit c.args.down ≡ 1 = rw c.if-down.true refl in
+    let count : c.self.inside.down_count + 1 + bit (not c.args.down) ≡ c.self.inside.down_count + bit c.args.down = omega arith in
+    rw (w, c.number.ensures)
+    (IsCounted-toggle c.args.server c.args.down c.is_down.result c.deref.result.now c.deref-2.result.now c.toggle_lives.new.lives (c.self.inside.down_count + 1) c.self.invariant c.self.view_is c.requires c.is_down.ensures
+    (not-from_beq c.is_down.result c.args.down c.if-is_down-down.false) c.deref.ensures.value c.deref-2.ensures.value same c.toggle_lives.ensures count)
+
+pub invariant_of-self-else-down : goal.invariant_of-self-else-down
+invariant_of-self-else-down c =
+    let fits : length c.toggle_lives.new.lives ≡ c.self.inside.lives.len = omega arith in
+    let same : length c.toggle_lives.new.lives ≡ length c.self.inside.lives.items = omega arith in
+    let w : (with_items c.self.inside.lives c.toggle_lives.new.lives).items ≡ c.toggle_lives.new.lives = with_items_is c.self.inside.lives c.toggle_lives.new.lives fits in
+    let e : bit (not c.args.down) ≡ 1 = rw c.if-down.false refl in
+    let o : bit c.args.down ≡ 0 = rw c.if-down.false refl in
+    let some : 1 ≤ c.self.inside.down_count = let k = down-toggled c.args.server c.args.down c.is_down.result c.self.invariant c.self.view_is c.requires c.is_down.ensures (not-from_beq c.is_down.result c.args.down c.if-is_down-down.false) in omega (arith, k) in
+    let count : c.self.inside.down_count - 1 + bit (not c.args.down) ≡ c.self.inside.down_count + bit c.args.down = omega arith in
+    rw (w, c.number.ensures)
+    (IsCounted-toggle c.args.server c.args.down c.is_down.result c.deref.result.now c.deref-2.result.now c.toggle_lives.new.lives (c.self.inside.down_count - 1) c.self.invariant c.self.view_is c.requires c.is_down.ensures
+    (not-from_beq c.is_down.result c.args.down c.if-is_down-down.false) c.deref.ensures.value c.deref-2.ensures.value same c.toggle_lives.ensures count)
+
+pub returns-then-is_down-down-clause-down : goal.returns-then-is_down-down-clause-down
+returns-then-is_down-down-clause-down c =
+    sym (put-same (down_of c.args.self.now) c.args.server c.args.down (sym c.is_down.ensures ∙ same-from_beq c.is_down.result c.args.down c.if-is_down-down.true))
+
+pub returns-then-down-clause-down : goal.returns-then-down-clause-down
+returns-then-down-clause-down c = rw c.number.ensures (down_of-set c.args.server c.args.down c.self.invariant c.self.view_is c.requires)
+
+pub returns-else-down-clause-down : goal.returns-else-down-clause-down
+returns-else-down-clause-down c = rw c.number.ensures (down_of-set c.args.server c.args.down c.self.invariant c.self.view_is c.requires)
