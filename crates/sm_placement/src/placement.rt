@@ -407,3 +407,6 @@ pub fn answered_where_allowed()
 {
     leads_where_led();
 }
+
+#[cfg(test)]
+mod tests;
