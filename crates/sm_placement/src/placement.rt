@@ -407,6 +407,3 @@ pub fn answered_where_allowed()
 {
     leads_where_led();
 }
-
-#[cfg(test)]
-mod tests;
