@@ -1,8 +1,8 @@
 -- What a call leaves true of a placement, and which calls are allowed.
-use Rattle.std.proofs.Common.{◌≡◌, ◌≢◌, ℕ, zero, suc, ◌+◌, ◌-◌, ◌<◌, ◌≤◌, Bool, true, false, not, cond, eqb, ltb, ◌&&◌, refl, sym, ap, ◌∙◌, arith, inl, inr, subst, ◌⊎◌, ◌↔◌, Option, Some, None}
+use Rattle.std.proofs.Common.{◌≡◌, ◌≢◌, ℕ, ◌+◌, ◌-◌, ◌<◌, ◌≤◌, Bool, true, false, not, eqb, ltb, refl, sym, ap, ◌∙◌, arith, inl, inr, subst, ◌⊎◌, ◌↔◌, Option, Some, None}
 use Rattle.std.specs.Prelude.{Result, Ok, Err, IfOk}
 use Rattle.std.proofs.Math.Path.{fun_ext}
-use Rattle.std.proofs.lemmas.Bool.{cases_eq, cases_lt, cases_Bool, eq-eqb, ne_eqb, ltb-true, ltb-false, le-ltb, lt-ltb}
+use Rattle.std.proofs.lemmas.Bool.{cases_eq, cases_Bool, ltb-false, le-ltb}
 use Rattle.sm_server.specs.declared.call.Cell.{Cell}
 use Rattle.sm_server.specs.declared.call.Cell.TheVariants.{Absent, Prepared, Secondary, Primary, Forwarding}
 use Rattle.sm_server.specs.declared.call.Role.{Role}
@@ -12,13 +12,13 @@ use Rattle.sm_server.specs.declared.call.Call.TheVariants.{Add, Drop, Change, Pr
 use Rattle.sm_server.specs.declared.call.Refusal.{Refusal}
 use Rattle.sm_server.specs.declared.call.Served.{Served}
 use Rattle.sm_server.specs.Cell.{is_absent, is_forwarding, cell_in}
-use Rattle.sm_server.specs.Call.{Leads, led_to, served, served_numbered}
+use Rattle.sm_server.specs.Call.{Leads, led_to, served}
 use Rattle.sm_placement.specs.Setup.{Sizes}
 use Rattle.sm_placement.specs.Rows.{IsKnownCell, IsKnownCall}
-use Rattle.sm_placement.specs.Place.{Place, weight, load_of, load_at, set_cell, set_last, answer_at, numbered_answer_at, called, IsAllowed}
+use Rattle.sm_placement.specs.Place.{Place, weight, load_of, load_at, set_cell, set_last, answer_at, numbered_answer_at, IsAllowed}
 use Rattle.sm_placement.specs.Layout.{IsPlacement}
-use Rattle.sm_placement.specs.Sums.{put, put2, sum_below}
-use Rattle.sm_placement.proofs.Sums.{put2-here, put2-row, put2-apart, same_sum, sum_apart, part_of_sum}
+use Rattle.sm_placement.specs.Sums.{put2}
+use Rattle.sm_placement.proofs.Sums.{put2-here, put2-row, put2-apart, same_sum, sum_apart}
 
 -- a server's load after one cell of it has changed: what the cell weighed leaves, and what it weighs comes in
 pub load_of-put : (c : Sizes) (cells : ℕ → ℕ → Cell) (s v : ℕ) (x : Cell) → s < c.shards →
@@ -43,9 +43,11 @@ led_to_known n call cell next k e = go call cell k e
   where
     at : (x : Cell) → IsKnownCell n x → Some x ≡ Some next → IsKnownCell n next
     at x h q = let same : x ≡ next = cc in subst (λ y. IsKnownCell n y) same h
+
     role_known : (r : Role) → IsKnownCell n (cell_in r)
     role_known role.Primary = tt
     role_known role.Secondary = tt
+
     go : (call : Call) (cell : Cell) → IsKnownCall n call → led_to call cell ≡ Some next → IsKnownCell n next
     go (Add r) Absent k e = at (cell_in r) (role_known r) e
     go (Add role.Primary) (Prepared a b) k e = at Primary tt e
@@ -141,21 +143,23 @@ called_keeps c p s v call next is hs hv known e = record {
   known = λ r w. kept (λ y. IsKnownCell c.servers y) r w (λ a b. led_to_known c.servers call (p.cells s v) next known ok.1) (is.known r w);
   listed = is.listed;
   rooms = λ w l. elim (cases_eq w v) [
-      | inl d ↦ subst (λ k. load_at c (set_cell p s v next) k ≤ c.room k) (sym d) here
-      | inr d ↦ let same : load_of c (put2 p.cells s v next) w ≡ load_of c p.cells w = load_of-apart c p.cells s v next w d in let was : load_of c p.cells w ≤ c.room w = is.rooms w l in omega arith
-    ];
+    | inl d ↦ subst (λ k. load_at c (set_cell p s v next) k ≤ c.room k) (sym d) here
+    | inr d ↦ let same : load_of c (put2 p.cells s v next) w ≡ load_of c p.cells w = load_of-apart c p.cells s v next w d in let was : load_of c p.cells w ≤ c.room w = is.rooms w l in omega arith
+  ];
 }
   where
     ok : (not (p.down v) ≡ true) × (led_to call (p.cells s v) ≡ Some next) × (is_absent (p.cells s v) ≡ true → c.load s ≤ c.room v - load_at c p v)
     ok = served_ok (p.cells s v) (c.room v - load_at c p v) (c.load s) (not (p.down v)) call next e
+
     kept : (P : Cell → Type 0) (r w : ℕ) → (r ≡ s → w ≡ v → P next) → P (p.cells r w) → P (put2 p.cells s v next r w)
     kept P r w new old = elim (cases_eq r s) [
-          | inl d ↦ elim (cases_eq w v) [
-              | inl g ↦ rw (d, g, put2-here p.cells s v next) (new d g)
-              | inr g ↦ rw (d, put2-row p.cells s v next w g) (subst (λ k. P (p.cells k w)) d old)
-            ]
-          | inr d ↦ rw (put2-apart p.cells s v next r w d) old
-        ]
+      | inl d ↦ elim (cases_eq w v) [
+        | inl g ↦ rw (d, g, put2-here p.cells s v next) (new d g)
+        | inr g ↦ rw (d, put2-row p.cells s v next w g) (subst (λ k. P (p.cells k w)) d old)
+      ]
+      | inr d ↦ rw (put2-apart p.cells s v next r w d) old
+    ]
+
     here : load_of c (put2 p.cells s v next) v ≤ c.room v
     here =
         let moved : load_of c (put2 p.cells s v next) v + weight (p.cells s v) (c.load s) ≡ load_of c p.cells v + weight next (c.load s) = load_of-put c p.cells s v next hs in
@@ -174,14 +178,17 @@ allowed_answer c p s v call to fits law = (forth, back)
     not_down : (b : Bool) → not b ≡ true → b ≡ false
     not_down true e = cc
     not_down false e = refl
+
     absent_test : (x : Cell) → x ≡ Absent → is_absent x ≡ true
     absent_test x e = rw e refl
+
     absent_from : (x : Cell) → is_absent x ≡ true → x ≡ Absent
     absent_from Absent e = refl
     absent_from Secondary e = cc
     absent_from Primary e = cc
     absent_from (Prepared a b) e = cc
     absent_from (Forwarding a b) e = cc
+
     forth : answer_at c p s v call ≡ Ok to → IsAllowed c p s v call to
     forth e =
         let ok = served_ok (p.cells s v) (c.room v - load_at c p v) (c.load s) (not (p.down v)) call to e in
@@ -190,6 +197,7 @@ allowed_answer c p s v call to fits law = (forth, back)
           up = not_down (p.down v) ok.0;
           room = λ a. let free : c.load s ≤ c.room v - load_at c p v = ok.2 (absent_test (p.cells s v) a) in omega arith;
         }
+
     back : IsAllowed c p s v call to → answer_at c p s v call ≡ Ok to
     back a = rw a.up (served_from (p.cells s v) (c.room v - load_at c p v) (c.load s) call to (law.1 a.leads) (λ t. let room : load_at c p v + c.load s ≤ c.room v = a.room (absent_from (p.cells s v) t) in omega arith))
 
@@ -225,29 +233,29 @@ pub numbered_kept : (c : Sizes) (p : Place) (s v : ℕ) (call : Call) (number : 
     r ≡ numbered_answer_at c p s v call number → IfOk r (λ served. served.fresh ≡ true → IsPlacement c (set_cell p s v served.cell))
 numbered_kept c p s v call number (Err why) is hs hv known e = tt
 numbered_kept c p s v call number (Ok served) is hs hv known e = λ f. elim (numbered_cases c p s v call number served e) [
-      | inl w ↦ called_keeps c p s v call served.cell is hs hv known w.1
-      | inr w ↦ absurd (cc (f, w.0))
-    ]
+  | inl w ↦ called_keeps c p s v call served.cell is hs hv known w.1
+  | inr w ↦ absurd (cc (f, w.0))
+]
 
 put2-same : {A : Type 0} (f : ℕ → ℕ → A) (s v : ℕ) → put2 f s v (f s v) ≡ f
 put2-same {A} f s v = fun_ext (λ r. fun_ext (λ w. at r w))
   where
     at : (r w : ℕ) → put2 f s v (f s v) r w ≡ f r w
     at r w = elim (cases_eq r s) [
-          | inl d ↦ elim (cases_eq w v) [
-              | inl g ↦ rw (d, g) (put2-here f s v (f s v))
-              | inr g ↦ rw d (put2-row f s v (f s v) w g)
-            ]
-          | inr d ↦ put2-apart f s v (f s v) r w d
-        ]
+      | inl d ↦ elim (cases_eq w v) [
+        | inl g ↦ rw (d, g) (put2-here f s v (f s v))
+        | inr g ↦ rw d (put2-row f s v (f s v) w g)
+      ]
+      | inr d ↦ put2-apart f s v (f s v) r w d
+    ]
 
 pub numbered_again : (c : Sizes) (p : Place) (s v : ℕ) (call : Call) (number : ℕ) (r : Result Served Refusal) → r ≡ numbered_answer_at c p s v call number →
     IfOk r (λ served. served.fresh ≡ false → set_last (set_cell p s v served.cell) s v served.last ≡ p)
 numbered_again c p s v call number (Err why) e = tt
 numbered_again c p s v call number (Ok served) e = λ f. elim (numbered_cases c p s v call number served e) [
-      | inl w ↦ absurd (cc (f, w.0))
-      | inr w ↦
-          let cells : put2 p.cells s v served.cell ≡ p.cells = ap (put2 p.cells s v) w.1 ∙ put2-same p.cells s v in
-          let lasts : put2 p.last s v served.last ≡ p.last = ap (put2 p.last s v) w.2 ∙ put2-same p.last s v in
-          ap (λ (g : ℕ → ℕ → Cell). record p { cells = g; last = put2 p.last s v served.last }) cells ∙ ap (λ (g : ℕ → ℕ → ℕ). record p { last = g }) lasts
-    ]
+  | inl w ↦ absurd (cc (f, w.0))
+  | inr w ↦
+      let cells : put2 p.cells s v served.cell ≡ p.cells = ap (put2 p.cells s v) w.1 ∙ put2-same p.cells s v in
+      let lasts : put2 p.last s v served.last ≡ p.last = ap (put2 p.last s v) w.2 ∙ put2-same p.last s v in
+      ap (λ (g : ℕ → ℕ → Cell). record p { cells = g; last = put2 p.last s v served.last }) cells ∙ ap (λ (g : ℕ → ℕ → ℕ). record p { last = g }) lasts
+]

@@ -1,5 +1,5 @@
 -- A placement's lists: what is read in them, and what a write makes of the placement.
-use Rattle.std.proofs.Common.{◌≡◌, ◌≢◌, ℕ, suc, ◌+◌, ◌<◌, ◌≤◌, Bool, length, length-set, get_or, set, refl, sym, ap, ◌∙◌, arith, inl, inr, subst, Option, Some, None, List}
+use Rattle.std.proofs.Common.{◌≡◌, ℕ, suc, ◌+◌, ◌<◌, length, get_or, set, refl, sym, ap, ◌∙◌, arith, inl, inr, subst, Option, Some, None}
 use Rattle.std.specs.Option.{ForSome, IfSome}
 use Rattle.std.proofs.lemmas.Bool.{cases_eq}
 use Rattle.sm_placement.specs.Setup.{Sizes, sizes_of}
@@ -33,9 +33,9 @@ published_placement c p s x is known = record {
   no_shard = is.no_shard;
   known = is.known;
   listed = λ r u e. elim (cases_eq r s) [
-      | inl d ↦ known u (sym (put-here p.listed s x r d) ∙ e)
-      | inr d ↦ is.listed r u (sym (put-apart p.listed s x r d) ∙ e)
-    ];
+    | inl d ↦ known u (sym (put-here p.listed s x r d) ∙ e)
+    | inr d ↦ is.listed r u (sym (put-apart p.listed s x r d) ∙ e)
+  ];
   rooms = is.rooms;
 }
 

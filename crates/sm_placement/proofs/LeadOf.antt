@@ -1,5 +1,5 @@
 -- The lead that is computed from a row is the one that describes it.
-use Rattle.std.proofs.Common.{◌≡◌, ◌≢◌, ℕ, zero, suc, ◌+◌, ◌<◌, ◌≤◌, Bool, true, false, cond, refl, sym, ap, ◌∙◌, arith, inl, inr, subst, ◌⊎◌, Option, Some, None}
+use Rattle.std.proofs.Common.{◌≡◌, ◌≢◌, ℕ, zero, suc, ◌<◌, ◌≤◌, Bool, true, false, refl, arith, inl, inr, Option, Some, None}
 use Rattle.std.proofs.lemmas.Bool.{cases_eq, cases_lt}
 use Rattle.sm_server.specs.declared.call.Cell.{Cell}
 use Rattle.sm_server.specs.declared.call.Cell.TheVariants.{Absent, Prepared, Secondary, Primary, Forwarding}
@@ -15,9 +15,9 @@ last_none (suc n) t h = rw (h n) (last_none n t h)
 pub last_one : (n : ℕ) (t : ℕ → Bool) (u : ℕ) → u < n → t u ≡ true → ((x : ℕ) → x ≢ u → t x ≡ false) → last_below n t ≡ Some u
 last_one zero t u l e h = absurd (omega arith)
 last_one (suc n) t u l e h = elim (cases_eq n u) [
-      | inl q ↦ rw (q, e) refl
-      | inr q ↦ rw (h n q) (last_one n t u (omega arith) e h)
-    ]
+  | inl q ↦ rw (q, e) refl
+  | inr q ↦ rw (h n q) (last_one n t u (omega arith) e h)
+]
 
 -- what a plain cell isn't
 pub plain_not_primary : (x : Cell) → IsPlain x → is_primary x ≡ false
@@ -60,6 +60,7 @@ lead_of_is lead n row servers d out = go lead d
   where
     within : (v : ℕ) → row v ≢ Absent → v < servers
     within v e = elim (cases_lt v servers) [ inl l ↦ l | inr l ↦ absurd (e (out v l)) ]
+
     go : (lead : Lead) → Describes lead n row → lead_of servers row ≡ lead
     go Gone d = three _ _ _ _ _ _ (last_none servers (λ v. is_primary (row v)) (λ x. plain_not_primary (row x) (d x))) (last_none servers (λ v. is_prepared (row v)) (λ x. plain_not_prepared (row x) (d x))) (last_none servers (λ v. is_forwarding (row v)) (λ x. plain_not_forwarding (row x) (d x)))
     go (At u) d =

@@ -1,13 +1,13 @@
 -- What a lead says of live and serving servers.
-use Rattle.std.proofs.Common.{◌≡◌, ◌≢◌, ℕ, zero, suc, ◌+◌, ◌<◌, ◌≤◌, Bool, true, false, not, cond, eqb, ◌&&◌, ◌||◌, refl, sym, ap, ◌∙◌, arith, inl, inr, subst, ◌⊎◌, Option, Some, None}
-use Rattle.std.proofs.lemmas.Bool.{cases_eq, eq-eqb, ne_eqb, eqb-true, and_parts}
+use Rattle.std.proofs.Common.{◌≡◌, ◌≢◌, ℕ, ◌+◌, ◌<◌, Bool, true, false, not, ◌&&◌, ◌||◌, refl, sym, ap, ◌∙◌, inl, inr, subst, ◌⊎◌, Option, Some, None}
+use Rattle.std.proofs.lemmas.Bool.{cases_eq, eq-eqb}
 use Rattle.sm_server.specs.declared.call.Cell.{Cell}
 use Rattle.sm_server.specs.declared.call.Cell.TheVariants.{Absent, Prepared, Secondary, Primary, Forwarding}
 use Rattle.sm_server.specs.Cell.{is_secondary}
 use Rattle.sm_placement.specs.declared.lead.Lead.{Lead}
 use Rattle.sm_placement.specs.declared.lead.Lead.TheVariants.{Gone, At, Ready, Handing, Handed}
 use Rattle.sm_placement.specs.Setup.{Sizes}
-use Rattle.sm_placement.specs.Rows.{is_live, serves, serves_as, forwards, live_in}
+use Rattle.sm_placement.specs.Rows.{is_live, serves, serves_as, forwards}
 use Rattle.sm_placement.specs.Place.{Place, live_at}
 use Rattle.sm_placement.specs.Lead.{Describes, IsPlain, leader}
 use Rattle.sm_placement.specs.Sums.{sum_below, count_below, bit}
@@ -68,17 +68,17 @@ pub others_dont : (lead : Lead) (n : ℕ) (row : ℕ → Cell) → Describes lea
 others_dont Gone n row d u e = by_plain row u (d u)
 others_dont (At x) n row d u e = by_plain row u (d.1 u (λ q. e (ap Some (sym q))))
 others_dont (Ready x y) n row d u e = elim (cases_eq u y) [
-      | inl q ↦ not_forwarding row x (λ to m f. cc (d.1, f)) u n (rw q d.2)
-      | inr q ↦ by_plain row u (d.3 u (λ r. e (ap Some (sym r))) q)
-    ]
+  | inl q ↦ not_forwarding row x (λ to m f. cc (d.1, f)) u n (rw q d.2)
+  | inr q ↦ by_plain row u (d.3 u (λ r. e (ap Some (sym r))) q)
+]
 others_dont (Handing x y) n row d u e = elim (cases_eq u x) [
-      | inl q ↦ by_forwarding row u y n (rw q d.1)
-      | inr q ↦ by_plain row u (d.3 u q (λ r. e (ap Some (sym r))))
-    ]
+  | inl q ↦ by_forwarding row u y n (rw q d.1)
+  | inr q ↦ by_plain row u (d.3 u q (λ r. e (ap Some (sym r))))
+]
 others_dont (Handed x y) n row d u e = elim (cases_eq u x) [
-      | inl q ↦ by_forwarding row u y n (rw q d.1)
-      | inr q ↦ by_plain row u (d.3 u q (λ r. e (ap Some (sym r))))
-    ]
+  | inl q ↦ by_forwarding row u y n (rw q d.1)
+  | inr q ↦ by_plain row u (d.3 u q (λ r. e (ap Some (sym r))))
+]
 
 -- at most one server serves
 pub one_serves : (lead : Lead) (n : ℕ) (row : ℕ → Cell) → Describes lead n row → (u v : ℕ) → serves row u ≡ true → serves row v ≡ true → u ≡ v
@@ -87,9 +87,10 @@ one_serves lead n row d u v e f = go (leader lead) refl
     leads : (x : ℕ) → serves row x ≡ true → (o : Option ℕ) → leader lead ≡ o → o ≡ Some x
     leads x s None q = absurd (let z : serves row x ≡ false = others_dont lead n row d x (λ r. cc) in cc)
     leads x s (Some y) q = elim (cases_eq y x) [
-          | inl r ↦ ap Some r
-          | inr r ↦ absurd (let z : serves row x ≡ false = others_dont lead n row d x (λ t. r (some_is y x (sym q ∙ t))) in cc)
-        ]
+      | inl r ↦ ap Some r
+      | inr r ↦ absurd (let z : serves row x ≡ false = others_dont lead n row d x (λ t. r (some_is y x (sym q ∙ t))) in cc)
+    ]
+
     go : (o : Option ℕ) → leader lead ≡ o → u ≡ v
     go o q = some_is u v (sym (leads u e o q) ∙ leads v f o q)
 
@@ -101,30 +102,38 @@ live_by_lead c p s n lead d within = go (leader lead) refl
     none : (b x : Bool) → x ≡ false → bit (not b && x) ≡ 0
     none true x h = refl
     none false x h = rw h
+
     here : (b x : Bool) → x ≡ true → bit (not b && x) ≡ bit (not b)
     here true x h = refl
     here false x h = rw h
+
     one : (b x y : Bool) → (x ≡ false) ⊎ (y ≡ false) → bit (not b && (x || y)) ≡ bit (not b && x) + bit (not b && y)
     one true x y h = refl
     one false true y (inl h) = cc
     one false true y (inr h) = rw h
     one false false true h = refl
     one false false false h = refl
+
     row : ℕ → Cell
     row = p.cells s
+
     sec : ℕ → ℕ
     sec v = bit (not (p.down v) && is_secondary (row v))
+
     extra : ℕ → ℕ
     extra v = bit (not (p.down v) && serves row v)
+
     apart : (v : ℕ) (o : Option ℕ) → leader lead ≡ o → (is_secondary (row v) ≡ false) ⊎ (serves row v ≡ false)
     apart v None q = inr (others_dont lead n row d v (λ r. cc))
     apart v (Some u) q = elim (cases_eq u v) [
-          | inl r ↦ inl (leader_serves lead n row d v (q ∙ ap Some r)).1
-          | inr r ↦ inr (others_dont lead n row d v (λ t. r (some_is u v (sym q ∙ t))))
-        ]
+      | inl r ↦ inl (leader_serves lead n row d v (q ∙ ap Some r)).1
+      | inr r ↦ inr (others_dont lead n row d v (λ t. r (some_is u v (sym q ∙ t))))
+    ]
+
     both : live_at c p s ≡ sum_below c.servers sec + sum_below c.servers extra
     both = same_sum c.servers (λ v. bit (is_live row p.down v)) (λ v. sec v + extra v) (λ v l. one (p.down v) (is_secondary (row v)) (serves row v) (apart v (leader lead) refl))
         ∙ sum_of_both c.servers sec extra
+
     go : (o : Option ℕ) → leader lead ≡ o → live_at c p s ≡ secondaries c p s + up_if p.down o
     go None q =
         let z : sum_below c.servers extra ≡ 0 = sum_zero c.servers extra (λ v. none (p.down v) (serves row v) (others_dont lead n row d v (λ r. cc))) in

@@ -1,17 +1,17 @@
 -- Lists of named cells, and what it means that no fault is found in them.
-use Rattle.std.proofs.Common.{◌≡◌, ◌≢◌, ℕ, zero, suc, ◌+◌, ◌<◌, ◌≤◌, ◌^◌, Bool, true, false, not, cond, eqb, ltb, ◌&&◌, ◌||◌, refl, sym, ap, ◌∙◌, arith, inl, inr, subst, ◌⊎◌, Option, Some, None, List, [], ◌∷◌, ◌++◌, length, get_or, replicate, ◌==◌}
+use Rattle.std.proofs.Common.{◌≡◌, ℕ, zero, suc, ◌+◌, ◌<◌, ◌≤◌, Bool, true, false, not, cond, eqb, ltb, ◌&&◌, ◌||◌, refl, sym, ap, ◌∙◌, arith, inl, inr, subst, Option, Some, None, List, [], ◌∷◌, ◌++◌, length, get_or, replicate, ◌==◌}
 use Rattle.std.specs.Prelude.{option_map, Result, Ok, Err, IfOk, OnOk}
-use Rattle.std.specs.List.{count_by, list_any, All}
+use Rattle.std.specs.List.{count_by, list_any}
 use Rattle.std.proofs.Math.Path.{fun_ext}
 use Rattle.std.proofs.lemmas.List.Sums.{sum_by-cons}
-use Rattle.std.proofs.lemmas.Bool.{cases_eq, cases_lt, cases_Bool, or_parts, and_parts, not-false, eqb-true, ltb-true, ltb-false, le-ltb, eq-eqb, ne_eqb}
+use Rattle.std.proofs.lemmas.Bool.{cases_eq, cases_lt, cases_Bool, or_parts, and_parts, not-false, eqb-true, ltb-true, ltb-false, eq-eqb, ne_eqb}
 use Rattle.sm_server.specs.declared.call.Cell.{Cell}
 use Rattle.sm_server.specs.declared.call.Cell.TheVariants.{Absent, Prepared, Secondary, Primary, Forwarding}
-use Rattle.sm_server.specs.Cell.{is_primary, is_prepared, is_forwarding}
+use Rattle.sm_server.specs.Cell.{is_primary}
 use Rattle.sm_placement.specs.declared.opening.OpenFault.{OpenFault}
 use Rattle.sm_placement.specs.declared.opening.OpenFault.TheVariants.{TooMany, UnknownName, DoubleCell, BadLead, BadListing, OverRoom, Short, TooManyDown}
 use Rattle.sm_placement.specs.Setup.{Sizes, sizes_of}
-use Rattle.sm_placement.specs.Sums.{put, put2, sum_below, count_below, bit, any_below, first_from}
+use Rattle.sm_placement.specs.Sums.{put2, count_below, bit, any_below, first_from}
 use Rattle.sm_placement.specs.Rows.{IsKnownCell}
 use Rattle.sm_placement.specs.Place.{Place, down_count}
 use Rattle.sm_placement.specs.Layout.{Layout, IsPlacement, entries_of, place_of}
@@ -20,7 +20,7 @@ use Rattle.sm_placement.proofs.GridLemmas.{entries_of-empty}
 use Rattle.sm_placement.specs.Lead.{IsSettled}
 use Rattle.sm_placement.specs.Opening.{NamedCell, Opening, is_of, cell_named, opened, is_wrong_size, is_unknown, is_unknown_cell, AreKnown, IsNamedOnce, has_unknown, is_double, is_handing, tally, put_all, first_below, double_of, has_bad_lead, has_bad_listing, is_over_room, is_short, first_fault, fault_if, list_faults, standing_faults, open_fault, unpublished}
 use Rattle.sm_placement.proofs.Sums.{put2-here, put2-row, put2-apart, sum_apart, same_sum}
-use Rattle.sm_placement.proofs.Searches.{cases_Option, first_none, first_from_none, any_none, count_none}
+use Rattle.sm_placement.proofs.Searches.{first_none, first_from_none, any_none, count_none}
 use Rattle.sm_placement.proofs.Settling.{settled_from}
 
 pub is_of-true : (s v : ℕ) (x : NamedCell) → is_of s v x ≡ true → (x.0 ≡ s) × (x.1 ≡ v)
@@ -63,15 +63,15 @@ count_no p x xs e = sum_by-cons (λ y. cond (p y) 1 0) x xs ∙ ap (λ b. cond b
 pub none_unknown : (m n : ℕ) (xs : List NamedCell) (s v : ℕ) → AreKnown m n xs → (s < m → v < n → ⊥) → count_by (is_of s v) xs ≡ 0
 none_unknown m n [] s v k out = refl
 none_unknown m n (x ∷ xs) s v k out = elim (cases_Bool (is_of s v x)) [
-      | inl e ↦ let at = is_of-true s v x e in let h = known_head m n x xs k in absurd (out (subst (λ y. y < m) at.0 h.0) (subst (λ y. y < n) at.1 h.1))
-      | inr e ↦ count_no (is_of s v) x xs e ∙ none_unknown m n xs s v (known_tail m n x xs k) out
-    ]
+  | inl e ↦ let at = is_of-true s v x e in let h = known_head m n x xs k in absurd (out (subst (λ y. y < m) at.0 h.0) (subst (λ y. y < n) at.1 h.1))
+  | inr e ↦ count_no (is_of s v) x xs e ∙ none_unknown m n xs s v (known_tail m n x xs k) out
+]
 
 once_tail : (x : NamedCell) (xs : List NamedCell) → IsNamedOnce (x ∷ xs) → IsNamedOnce xs
 once_tail x xs once s v = let h : count_by (is_of s v) (x ∷ xs) ≤ 1 = once s v in elim (cases_Bool (is_of s v x)) [
-      | inl e ↦ let g : count_by (is_of s v) (x ∷ xs) ≡ 1 + count_by (is_of s v) xs = count_yes (is_of s v) x xs e in omega arith
-      | inr e ↦ let g : count_by (is_of s v) (x ∷ xs) ≡ count_by (is_of s v) xs = count_no (is_of s v) x xs e in omega arith
-    ]
+  | inl e ↦ let g : count_by (is_of s v) (x ∷ xs) ≡ 1 + count_by (is_of s v) xs = count_yes (is_of s v) x xs e in omega arith
+  | inr e ↦ let g : count_by (is_of s v) (x ∷ xs) ≡ count_by (is_of s v) xs = count_no (is_of s v) x xs e in omega arith
+]
 
 -- a pair that is named first isn't named again
 once_head : (x : NamedCell) (xs : List NamedCell) → IsNamedOnce (x ∷ xs) → count_by (is_of x.0 x.1) xs ≡ 0
@@ -84,9 +84,9 @@ once_head x xs once =
 pub cell_named-apart : (xs : List NamedCell) (s v : ℕ) → count_by (is_of s v) xs ≡ 0 → cell_named xs s v ≡ Absent
 cell_named-apart [] s v e = refl
 cell_named-apart (x ∷ xs) s v e = elim (cases_Bool (is_of s v x)) [
-      | inl q ↦ let g : count_by (is_of s v) (x ∷ xs) ≡ 1 + count_by (is_of s v) xs = count_yes (is_of s v) x xs q in absurd (omega arith)
-      | inr q ↦ rw q (cell_named-apart xs s v (sym (count_no (is_of s v) x xs q) ∙ e))
-    ]
+  | inl q ↦ let g : count_by (is_of s v) (x ∷ xs) ≡ 1 + count_by (is_of s v) xs = count_yes (is_of s v) x xs q in absurd (omega arith)
+  | inr q ↦ rw q (cell_named-apart xs s v (sym (count_no (is_of s v) x xs q) ∙ e))
+]
 
 counted : (xs : List NamedCell) (i : ℕ) (d : NamedCell) → i < length xs → 1 ≤ count_by (is_of (get_or xs i d).0 (get_or xs i d).1) xs
 counted [] i d l = absurd (omega arith)
@@ -117,26 +117,26 @@ cell_named-at (x ∷ xs) (suc i) d once l =
 -- a cell is put at one pair alone
 put2_of : (f : ℕ → ℕ → Cell) (x : NamedCell) (s v : ℕ) → is_of s v x ≡ false → put2 f x.0 x.1 x.2 s v ≡ f s v
 put2_of f x s v e = elim (cases_eq s x.0) [
-      | inl d ↦ rw d (put2-row f x.0 x.1 x.2 v (λ g. is_of-false s v x e (sym d) (sym g)))
-      | inr d ↦ put2-apart f x.0 x.1 x.2 s v d
-    ]
+  | inl d ↦ rw d (put2-row f x.0 x.1 x.2 v (λ g. is_of-false s v x e (sym d) (sym g)))
+  | inr d ↦ put2-apart f x.0 x.1 x.2 s v d
+]
 
 put_all-apart : (xs : List NamedCell) (f : ℕ → ℕ → Cell) (s v : ℕ) → count_by (is_of s v) xs ≡ 0 → put_all xs f s v ≡ f s v
 put_all-apart [] f s v e = refl
 put_all-apart (x ∷ xs) f s v e = elim (cases_Bool (is_of s v x)) [
-      | inl q ↦ let g : count_by (is_of s v) (x ∷ xs) ≡ 1 + count_by (is_of s v) xs = count_yes (is_of s v) x xs q in absurd (omega arith)
-      | inr q ↦ put_all-apart xs (put2 f x.0 x.1 x.2) s v (sym (count_no (is_of s v) x xs q) ∙ e) ∙ put2_of f x s v q
-    ]
+  | inl q ↦ let g : count_by (is_of s v) (x ∷ xs) ≡ 1 + count_by (is_of s v) xs = count_yes (is_of s v) x xs q in absurd (omega arith)
+  | inr q ↦ put_all-apart xs (put2 f x.0 x.1 x.2) s v (sym (count_no (is_of s v) x xs q) ∙ e) ∙ put2_of f x s v q
+]
 
 put_all-here : (xs : List NamedCell) (f : ℕ → ℕ → Cell) (s v : ℕ) → count_by (is_of s v) xs ≡ 1 → put_all xs f s v ≡ cell_named xs s v
 put_all-here [] f s v e = absurd (let z : 0 ≡ 1 = e in omega arith)
 put_all-here (x ∷ xs) f s v e = elim (cases_Bool (is_of s v x)) [
-      | inl q ↦
-          let g : count_by (is_of s v) (x ∷ xs) ≡ 1 + count_by (is_of s v) xs = count_yes (is_of s v) x xs q in
-          let at = is_of-true s v x q in
-          put_all-apart xs (put2 f x.0 x.1 x.2) s v (omega arith) ∙ rw (q, ← at.0, ← at.1) (put2-here f x.0 x.1 x.2)
-      | inr q ↦ rw q (put_all-here xs (put2 f x.0 x.1 x.2) s v (sym (count_no (is_of s v) x xs q) ∙ e))
-    ]
+  | inl q ↦
+      let g : count_by (is_of s v) (x ∷ xs) ≡ 1 + count_by (is_of s v) xs = count_yes (is_of s v) x xs q in
+      let at = is_of-true s v x q in
+      put_all-apart xs (put2 f x.0 x.1 x.2) s v (omega arith) ∙ rw (q, ← at.0, ← at.1) (put2-here f x.0 x.1 x.2)
+  | inr q ↦ rw q (put_all-here xs (put2 f x.0 x.1 x.2) s v (sym (count_no (is_of s v) x xs q) ∙ e))
+]
 
 -- cells that are named once each may be put in any order
 pub put_all-is : (xs : List NamedCell) → IsNamedOnce xs → put_all xs (λ s v. Absent) ≡ cell_named xs
@@ -144,9 +144,9 @@ put_all-is xs once = fun_ext (λ s. fun_ext (λ v. at s v))
   where
     at : (s v : ℕ) → put_all xs (λ s v. Absent) s v ≡ cell_named xs s v
     at s v = let h : count_by (is_of s v) xs ≤ 1 = once s v in elim (cases_eq (count_by (is_of s v) xs) 0) [
-          | inl e ↦ put_all-apart xs (λ s v. Absent) s v e ∙ sym (cell_named-apart xs s v e)
-          | inr e ↦ put_all-here xs (λ s v. Absent) s v (omega arith)
-        ]
+      | inl e ↦ put_all-apart xs (λ s v. Absent) s v e ∙ sym (cell_named-apart xs s v e)
+      | inr e ↦ put_all-here xs (λ s v. Absent) s v (omega arith)
+    ]
 
 -- cells that pass are counted alike in the list and by server
 pub tally-is : (t : Cell → Bool) (m n s : ℕ) (xs : List NamedCell) → t Absent ≡ false → AreKnown m n xs → IsNamedOnce xs → tally t s xs ≡ count_below n (λ v. t (cell_named xs s v))
@@ -159,7 +159,7 @@ tally-is t m n s (x ∷ xs) z k once =
           let was : bit (t (cell_named xs s x.1)) ≡ 0 = rw (cell_named-apart xs s x.1 (subst (λ r. count_by (is_of r x.1) xs ≡ 0) at (once_head x xs once)), z) refl in
           let now : bit (t (cell_named (x ∷ xs) s x.1)) ≡ bit (t x.2) = rw (q, eq-eqb x.1 x.1 refl) refl in
           let sums : count_below n (λ v. t (cell_named (x ∷ xs) s v)) + 0 ≡ count_below n (λ v. t (cell_named xs s v)) + bit (t x.2) =
-                sum_apart n (λ v. bit (t (cell_named (x ∷ xs) s v))) (λ v. bit (t (cell_named xs s v))) x.1 0 (bit (t x.2)) (known_head m n x xs k).1 (λ j e. rw (q, ne_eqb x.1 j (λ d. e (sym d))) refl) (omega arith) in
+          sum_apart n (λ v. bit (t (cell_named (x ∷ xs) s v))) (λ v. bit (t (cell_named xs s v))) x.1 0 (bit (t x.2)) (known_head m n x xs k).1 (λ j e. rw (q, ne_eqb x.1 j (λ d. e (sym d))) refl) (omega arith) in
           elim (cases_Bool (t x.2)) [
             | inl p ↦ let g : tally t s (x ∷ xs) ≡ 1 + tally t s xs = count_yes (λ y. eqb y.0 s && t y.2) x xs (rw (q, p) refl) in let b : bit (t x.2) ≡ 1 = rw p refl in omega arith
             | inr p ↦ let g : tally t s (x ∷ xs) ≡ tally t s xs = count_no (λ y. eqb y.0 s && t y.2) x xs (rw (q, p) refl) in let b : bit (t x.2) ≡ 0 = rw p refl in omega arith
@@ -167,7 +167,7 @@ tally-is t m n s (x ∷ xs) z k once =
       | inr q ↦
           let g : tally t s (x ∷ xs) ≡ tally t s xs = count_no (λ y. eqb y.0 s && t y.2) x xs (rw q refl) in
           let same : count_below n (λ v. t (cell_named (x ∷ xs) s v)) ≡ count_below n (λ v. t (cell_named xs s v)) =
-                same_sum n (λ v. bit (t (cell_named (x ∷ xs) s v))) (λ v. bit (t (cell_named xs s v))) (λ v l. rw q refl) in
+          same_sum n (λ v. bit (t (cell_named (x ∷ xs) s v))) (λ v. bit (t (cell_named xs s v))) (λ v l. rw q refl) in
           omega arith
     ]
 
@@ -178,14 +178,14 @@ option_none f (Some x) e = cc
 -- where no pair is found doubled, each is named once at most
 pub once_from : (m n : ℕ) (cells : List NamedCell) → AreKnown m n cells → first_from 0 m (double_of n cells) ≡ None → IsNamedOnce cells
 once_from m n cells k e s v = elim (cases_lt s m) [
-      | inl l ↦ elim (cases_lt v n) [
-          | inl h ↦
-              let none : first_below n (is_double cells s) ≡ None = option_none (λ w. DoubleCell s w) (first_below n (is_double cells s)) (first_from_none (double_of n cells) 0 m e s (omega arith) (omega arith)) in
-              ltb-false 1 (count_by (is_of s v) cells) (first_none n (is_double cells s) none v h)
-          | inr h ↦ let z : count_by (is_of s v) cells ≡ 0 = none_unknown m n cells s v k (λ a b. absurd (omega arith)) in omega arith
-        ]
-      | inr l ↦ let z : count_by (is_of s v) cells ≡ 0 = none_unknown m n cells s v k (λ a b. absurd (omega arith)) in omega arith
-    ]
+  | inl l ↦ elim (cases_lt v n) [
+    | inl h ↦
+        let none : first_below n (is_double cells s) ≡ None = option_none (λ w. DoubleCell s w) (first_below n (is_double cells s)) (first_from_none (double_of n cells) 0 m e s (omega arith) (omega arith)) in
+        ltb-false 1 (count_by (is_of s v) cells) (first_none n (is_double cells s) none v h)
+    | inr h ↦ let z : count_by (is_of s v) cells ≡ 0 = none_unknown m n cells s v k (λ a b. absurd (omega arith)) in omega arith
+  ]
+  | inr l ↦ let z : count_by (is_of s v) cells ≡ 0 = none_unknown m n cells s v k (λ a b. absurd (omega arith)) in omega arith
+]
 
 -- a row that has no bad lead has no part of a handover
 pub row_rests : (n : ℕ) (row : ℕ → Cell) (v : ℕ) → has_bad_lead n row ≡ false → v < n → is_handing (row v) ≡ false
@@ -197,7 +197,7 @@ pub named_rests : (m n : ℕ) (xs : List NamedCell) → AreKnown m n xs → IsNa
 named_rests m n xs k once e i d l =
     let y : NamedCell = get_or xs i d in
     let rests : is_handing (cell_named xs y.0 y.1) ≡ false =
-          row_rests n (cell_named xs y.0) y.1 (first_none m (λ s. has_bad_lead n (cell_named xs s)) e y.0 (known_shard m n xs i d k l)) (known_server m n xs i d k l) in
+    row_rests n (cell_named xs y.0) y.1 (first_none m (λ s. has_bad_lead n (cell_named xs s)) e y.0 (known_shard m n xs i d k l)) (known_server m n xs i d k l) in
     rw (cell_named-at xs i d once l) at rests
 
 resting_known : (n : ℕ) (x : Cell) → is_handing x ≡ false → IsKnownCell n x
@@ -233,20 +233,22 @@ opened_placement c o unknown doubles leads rooms = record {
   no_server = λ s v l. nothing s v (λ a b. absurd (omega arith));
   no_shard = λ s v l. nothing s v (λ a b. absurd (omega arith));
   known = λ s v. elim (cases_lt s c.shards) [
-      | inl l ↦ elim (cases_lt v c.servers) [
-          | inl m ↦ resting_known c.servers (cell_named o.cells s v) (row_rests c.servers (cell_named o.cells s) v (first_none c.shards (λ r. has_bad_lead c.servers (cell_named o.cells r)) leads s l) m)
-          | inr m ↦ rw (nothing s v (λ a b. absurd (omega arith))) tt
-        ]
-      | inr l ↦ rw (nothing s v (λ a b. absurd (omega arith))) tt
-    ];
+    | inl l ↦ elim (cases_lt v c.servers) [
+      | inl m ↦ resting_known c.servers (cell_named o.cells s v) (row_rests c.servers (cell_named o.cells s) v (first_none c.shards (λ r. has_bad_lead c.servers (cell_named o.cells r)) leads s l) m)
+      | inr m ↦ rw (nothing s v (λ a b. absurd (omega arith))) tt
+    ]
+    | inr l ↦ rw (nothing s v (λ a b. absurd (omega arith))) tt
+  ];
   listed = λ s u e. listed_known c.servers o.listed s u listings (sym (entries_of-get None o.listed s) ∙ e);
   rooms = λ v l. ltb-false (c.room v) _ (first_none c.servers (is_over_room c (cell_named o.cells)) rooms v l);
 }
   where
     known : AreKnown c.shards c.servers o.cells
     known = cells_known c o unknown
+
     nothing : (s v : ℕ) → (s < c.shards → v < c.servers → ⊥) → cell_named o.cells s v ≡ Absent
     nothing s v out = cell_named-apart o.cells s v (none_unknown c.shards c.servers o.cells s v known out)
+
     listings : list_any (is_unknown c.servers) o.listed ≡ false
     listings = (or_parts (list_any (is_unknown c.servers) o.listed) (list_any (λ v. not (ltb v c.servers)) o.down) (or_parts (list_any (is_unknown_cell c.shards c.servers) o.cells) (list_any (is_unknown c.servers) o.listed || list_any (λ v. not (ltb v c.servers)) o.down) unknown).1).0
 

@@ -1,5 +1,5 @@
 -- A row of cells with one cell changed: whose part changes, and the counts.
-use Rattle.std.proofs.Common.{◌≡◌, ◌≢◌, ℕ, zero, suc, ◌+◌, ◌-◌, ◌^◌, ◌<◌, ◌≤◌, List, length, set, Bool, true, false, not, ◌&&◌, ◌||◌, cond, eqb, Option, Some, None, refl, sym, ap, subst, ◌∙◌, arith, inl, inr}
+use Rattle.std.proofs.Common.{◌≡◌, ◌≢◌, ℕ, ◌+◌, ◌-◌, ◌<◌, ◌≤◌, List, length, set, Bool, true, false, not, ◌&&◌, ◌||◌, Some, refl, sym, ap, subst, ◌∙◌, arith, inl, inr}
 use Rattle.std.specs.Option.{unwrap_or}
 use Rattle.std.proofs.lemmas.Bool.{cases_eq, eq-eqb, ne_eqb}
 use Rattle.std.proofs.lemmas.List.{length-set}
@@ -9,7 +9,7 @@ use Rattle.sm_server.specs.declared.call.Cell.TheVariants.{Absent, Prepared, Sec
 use Rattle.sm_server.specs.Cell.{is_secondary, is_forwarding}
 use Rattle.sm_placement.specs.declared.row.Counts.{Counts}
 use Rattle.sm_placement.specs.Layout.{entries_of}
-use Rattle.sm_placement.specs.Sums.{put, sum_below, bit, count_below}
+use Rattle.sm_placement.specs.Sums.{put, sum_below, bit}
 use Rattle.sm_placement.specs.Rows.{IsKnownCell, forwards, serves_as, serves, is_live, live_in, serving_in}
 use Rattle.sm_placement.specs.Counts.{has_replica, target_of, party_of, at_both, counts_at, counts_in, counts_of, CanCorrect, corrected}
 use Rattle.sm_placement.proofs.GridLemmas.{entries_of-set}

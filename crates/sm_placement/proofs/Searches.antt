@@ -1,11 +1,11 @@
 -- Searches and counts over the numbers below n.
-use Rattle.std.proofs.Common.{◌≡◌, ◌≢◌, ℕ, zero, suc, ◌+◌, ◌-◌, ◌<◌, ◌≤◌, Bool, true, false, cond, ltb, ◌||◌, refl, sym, ap, ◌∙◌, arith, inl, inr, subst, ◌⊎◌, Option, Some, None, List, [], ◌∷◌, length}
+use Rattle.std.proofs.Common.{◌≡◌, ◌≢◌, ℕ, zero, suc, ◌+◌, ◌-◌, ◌<◌, ◌≤◌, Bool, true, false, cond, ltb, refl, sym, ap, ◌∙◌, arith, inl, inr, ◌⊎◌, Option, Some, None, List, [], ◌∷◌, length}
 use Rattle.std.specs.List.{find, filter, range_with_len}
 use Rattle.std.proofs.lemmas.Bool.{cases_eq, cases_Bool, or_parts, or_from, or_left, or_right, false_from_ne_true, lt-ltb, le-ltb}
 use Rattle.sm_placement.specs.Sums.{put, sum_below, count_below, bit, any_below, first_from}
 use Rattle.sm_placement.specs.Opening.{first_below}
 use Rattle.sm_placement.specs.Lead.{last_below}
-use Rattle.sm_placement.proofs.Sums.{put-here, put-apart, same_sum, sum_apart, sum_zero, sum_one, part_of_sum}
+use Rattle.sm_placement.proofs.Sums.{put-here, put-apart, same_sum, sum_apart, sum_zero, part_of_sum}
 
 pub cases_Option : {A : Type 0} (o : Option A) → (o ≡ None) ⊎ ((x : A) × (o ≡ Some x))
 cases_Option None = inl refl
@@ -28,12 +28,12 @@ find_range_end t i n h = let e : n - i ≡ 0 = omega arith in ap (λ k. find t (
 find_none : (t : ℕ → Bool) (a n : ℕ) → find t (range_with_len a n) ≡ None → (k : ℕ) → a ≤ k → k < a + n → t k ≡ false
 find_none t a zero e k l h = absurd (omega arith)
 find_none t a (suc n) e k l h = elim (cases_Bool (t a)) [
-      | inl q ↦ absurd (let z = rw q at e in cc)
-      | inr q ↦ elim (cases_eq k a) [
-          | inl d ↦ rw d q
-          | inr d ↦ find_none t (a + 1) n (rw q at e) k (omega arith) (omega arith)
-        ]
-    ]
+  | inl q ↦ absurd (let z = rw q at e in cc)
+  | inr q ↦ elim (cases_eq k a) [
+    | inl d ↦ rw d q
+    | inr d ↦ find_none t (a + 1) n (rw q at e) k (omega arith) (omega arith)
+  ]
+]
 
 find_none_from : (t : ℕ → Bool) (a n : ℕ) → ((k : ℕ) → a ≤ k → k < a + n → t k ≡ false) → find t (range_with_len a n) ≡ None
 find_none_from t a zero h = refl
@@ -42,9 +42,9 @@ find_none_from t a (suc n) h = rw (h a (omega arith) (omega arith)) (find_none_f
 find_some : (t : ℕ → Bool) (a n u : ℕ) → find t (range_with_len a n) ≡ Some u → (u < a + n) × (t u ≡ true)
 find_some t a zero u e = cc
 find_some t a (suc n) u e = elim (cases_Bool (t a)) [
-      | inl q ↦ let same : a ≡ u = (let z = rw q at e in cc) in (omega arith, rw (← same) q)
-      | inr q ↦ let rest = find_some t (a + 1) n u (rw q at e) in let l : u < a + 1 + n = rest.0 in (omega arith, rest.1)
-    ]
+  | inl q ↦ let same : a ≡ u = (let z = rw q at e in cc) in (omega arith, rw (← same) q)
+  | inr q ↦ let rest = find_some t (a + 1) n u (rw q at e) in let l : u < a + 1 + n = rest.0 in (omega arith, rest.1)
+]
 
 -- nothing is found exactly where nothing passes
 pub first_none : (n : ℕ) (t : ℕ → Bool) → first_below n t ≡ None → (k : ℕ) → k < n → t k ≡ false
@@ -79,20 +79,20 @@ first_from_end f i n h = let e : n - i ≡ 0 = omega arith in ap (λ k. first_fr
 pub first_from_none : {A : Type 0} (f : ℕ → Option A) (a n : ℕ) → first_from a n f ≡ None → (k : ℕ) → a ≤ k → k < a + n → f k ≡ None
 first_from_none f a zero e k l h = absurd (omega arith)
 first_from_none f a (suc n) e k l h = elim (cases_Option (f a)) [
-      | inl q ↦ elim (cases_eq k a) [
-          | inl d ↦ rw d q
-          | inr d ↦ first_from_none f (a + 1) n (rw q at e) k (omega arith) (omega arith)
-        ]
-      | inr q ↦ absurd (let z = rw q.1 at e in cc)
-    ]
+  | inl q ↦ elim (cases_eq k a) [
+    | inl d ↦ rw d q
+    | inr d ↦ first_from_none f (a + 1) n (rw q at e) k (omega arith) (omega arith)
+  ]
+  | inr q ↦ absurd (let z = rw q.1 at e in cc)
+]
 
 -- some number below n passes, or none does
 pub any_none : (n : ℕ) (t : ℕ → Bool) → any_below n t ≡ false → (k : ℕ) → k < n → t k ≡ false
 any_none zero t e k l = absurd (omega arith)
 any_none (suc n) t e k l = let both = or_parts (t n) (any_below n t) e in elim (cases_eq k n) [
-      | inl d ↦ rw d both.0
-      | inr d ↦ any_none n t both.1 k (omega arith)
-    ]
+  | inl d ↦ rw d both.0
+  | inr d ↦ any_none n t both.1 k (omega arith)
+]
 
 pub any_none_from : (n : ℕ) (t : ℕ → Bool) → ((k : ℕ) → k < n → t k ≡ false) → any_below n t ≡ false
 any_none_from zero t h = refl
@@ -101,9 +101,9 @@ any_none_from (suc n) t h = or_from (t n) (any_below n t) (h n (omega arith)) (a
 pub any_some : (n : ℕ) (t : ℕ → Bool) (k : ℕ) → k < n → t k ≡ true → any_below n t ≡ true
 any_some zero t k l e = absurd (omega arith)
 any_some (suc n) t k l e = elim (cases_eq k n) [
-      | inl d ↦ or_left (t n) (any_below n t) (rw (← d) e)
-      | inr d ↦ or_right (t n) (any_below n t) (any_some n t k (omega arith) e)
-    ]
+  | inl d ↦ or_left (t n) (any_below n t) (rw (← d) e)
+  | inr d ↦ or_right (t n) (any_below n t) (any_some n t k (omega arith) e)
+]
 
 -- two numbers that pass are counted
 pub count_two : (n : ℕ) (t : ℕ → Bool) (j k : ℕ) → j < n → k < n → j ≢ k → t j ≡ true → t k ≡ true → 2 ≤ count_below n t
@@ -118,15 +118,15 @@ count_two n t j k hj hk apart ej ek =
 pub count_one : (n : ℕ) (t : ℕ → Bool) (u : ℕ) → ((k : ℕ) → k < n → k ≢ u → t k ≡ false) → count_below n t ≤ 1
 count_one zero t u h = omega arith
 count_one (suc n) t u h = elim (cases_eq n u) [
-      | inl d ↦
-          let none : count_below n t ≡ 0 = same_sum n (λ k. bit (t k)) (λ k. 0) (λ k l. rw (h k (omega arith) (λ e. absurd (omega arith))) refl) ∙ sum_zero n (λ k. 0) (λ k. refl) in
-          let top : bit (t n) ≤ 1 = bit_small (t n) in
-          omega arith
-      | inr d ↦
-          let rest : count_below n t ≤ 1 = count_one n t u (λ k l. h k (omega arith)) in
-          let top : bit (t n) ≡ 0 = rw (h n (omega arith) d) refl in
-          omega arith
-    ]
+  | inl d ↦
+      let none : count_below n t ≡ 0 = same_sum n (λ k. bit (t k)) (λ k. 0) (λ k l. rw (h k (omega arith) (λ e. absurd (omega arith))) refl) ∙ sum_zero n (λ k. 0) (λ k. refl) in
+      let top : bit (t n) ≤ 1 = bit_small (t n) in
+      omega arith
+  | inr d ↦
+      let rest : count_below n t ≤ 1 = count_one n t u (λ k l. h k (omega arith)) in
+      let top : bit (t n) ≡ 0 = rw (h n (omega arith) d) refl in
+      omega arith
+]
   where
     bit_small : (b : Bool) → bit b ≤ 1
     bit_small true = omega arith
@@ -141,37 +141,37 @@ count_none_at n t e k l = false_from_ne_true (t k) (λ q. let part : bit (t k) �
 -- something below n passes exactly where the count isn't 0
 pub any_by_count : (n : ℕ) (t : ℕ → Bool) → any_below n t ≡ ltb 0 (count_below n t)
 any_by_count n t = elim (cases_Bool (any_below n t)) [
-      | inl e ↦ e ∙ sym (elim (cases_eq (count_below n t) 0) [
-          | inl z ↦ absurd (let none : any_below n t ≡ false = any_none_from n t (count_none_at n t z) in cc)
-          | inr z ↦ lt-ltb 0 (count_below n t) (omega arith)
-        ])
-      | inr e ↦ e ∙ sym (le-ltb 0 (count_below n t) (let z : count_below n t ≡ 0 = count_none n t (any_none n t e) in omega arith))
-    ]
+  | inl e ↦ e ∙ sym (elim (cases_eq (count_below n t) 0) [
+    | inl z ↦ absurd (let none : any_below n t ≡ false = any_none_from n t (count_none_at n t z) in cc)
+    | inr z ↦ lt-ltb 0 (count_below n t) (omega arith)
+  ])
+  | inr e ↦ e ∙ sym (le-ltb 0 (count_below n t) (let z : count_below n t ≡ 0 = count_none n t (any_none n t e) in omega arith))
+]
 
 -- the greatest that passes is below n, and where there is none nothing passes
 pub last_some : (n : ℕ) (t : ℕ → Bool) (u : ℕ) → last_below n t ≡ Some u → (u < n) × (t u ≡ true)
 last_some zero t u e = cc
 last_some (suc n) t u e = elim (cases_Bool (t n)) [
-      | inl q ↦ let same : n ≡ u = (let z = rw q at e in cc) in (omega arith, rw (← same) q)
-      | inr q ↦ let rest = last_some n t u (rw q at e) in let l : u < n = rest.0 in (omega arith, rest.1)
-    ]
+  | inl q ↦ let same : n ≡ u = (let z = rw q at e in cc) in (omega arith, rw (← same) q)
+  | inr q ↦ let rest = last_some n t u (rw q at e) in let l : u < n = rest.0 in (omega arith, rest.1)
+]
 
 pub last_none_at : (n : ℕ) (t : ℕ → Bool) → last_below n t ≡ None → (k : ℕ) → k < n → t k ≡ false
 last_none_at zero t e k l = absurd (omega arith)
 last_none_at (suc n) t e k l = elim (cases_Bool (t n)) [
-      | inl q ↦ absurd (let z = rw q at e in cc)
-      | inr q ↦ elim (cases_eq k n) [
-          | inl d ↦ rw d q
-          | inr d ↦ last_none_at n t (rw q at e) k (omega arith)
-        ]
-    ]
+  | inl q ↦ absurd (let z = rw q at e in cc)
+  | inr q ↦ elim (cases_eq k n) [
+    | inl d ↦ rw d q
+    | inr d ↦ last_none_at n t (rw q at e) k (omega arith)
+  ]
+]
 
 -- as many numbers are listed as are counted
 filter_length : (t : ℕ → Bool) (a n : ℕ) → length (filter t (range_with_len a n)) ≡ sum_below n (λ k. bit (t (a + k)))
 filter_length t a zero = refl
 filter_length t a (suc n) =
     let rest : length (filter t (range_with_len (a + 1) n)) ≡ sum_below n (λ k. bit (t (a + (k + 1)))) =
-          filter_length t (a + 1) n ∙ same_sum n (λ k. bit (t (a + 1 + k))) (λ k. bit (t (a + (k + 1)))) (λ k l. ap (λ i. bit (t i)) (omega arith)) in
+    filter_length t (a + 1) n ∙ same_sum n (λ k. bit (t (a + 1 + k))) (λ k. bit (t (a + (k + 1)))) (λ k l. ap (λ i. bit (t i)) (omega arith)) in
     let all : sum_below (suc n) (λ k. bit (t (a + k))) ≡ bit (t (a + 0)) + sum_below n (λ k. bit (t (a + (k + 1)))) = shift (λ k. bit (t (a + k))) n in
     let at : bit (t (a + 0)) ≡ bit (t a) = ap (λ i. bit (t i)) (omega arith) in
     elim (cases_Bool (t a)) [
@@ -190,6 +190,6 @@ filter_count n t = filter_length t 0 n ∙ same_sum n (λ k. bit (t (0 + k))) (�
 pub find_filter : (t : ℕ → Bool) (xs ys : List ℕ) (v : ℕ) → filter t xs ≡ v ∷ ys → find t xs ≡ Some v
 find_filter t [] ys v e = cc
 find_filter t (x ∷ xs) ys v e = elim (cases_Bool (t x)) [
-      | inl q ↦ rw q (let z = rw q at e in cc)
-      | inr q ↦ rw q (find_filter t xs ys v (rw q at e))
-    ]
+  | inl q ↦ rw q (let z = rw q at e in cc)
+  | inr q ↦ rw q (find_filter t xs ys v (rw q at e))
+]

@@ -1,9 +1,8 @@
 -- Who serves a shard, by how many do.
-use Rattle.std.proofs.Common.{◌≡◌, ℕ, zero, suc, ◌+◌, ◌<◌, ◌≤◌, Bool, true, false, cond, refl, sym, ap, ◌∙◌, arith, Option, Some, None, List, [], ◌∷◌, length}
-use Rattle.std.specs.List.{find, filter, range_with_len}
+use Rattle.std.proofs.Common.{◌≡◌, ℕ, ◌≤◌, refl, sym, ap, ◌∙◌, arith, Option, List, [], ◌∷◌, length}
+use Rattle.std.specs.List.{filter, range_with_len}
 use Rattle.std.specs.Option.{option_map_or}
 use Rattle.sm_server.specs.declared.call.Cell.{Cell}
-use Rattle.sm_placement.specs.declared.placement.Serving.{Serving}
 use Rattle.sm_placement.specs.declared.placement.Serving.TheVariants.{Nobody, One, Several}
 use Rattle.sm_placement.specs.Rows.{serves, serving_in, serving_of, serving_among}
 use Rattle.sm_placement.specs.Opening.{first_below}

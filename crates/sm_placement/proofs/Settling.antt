@@ -1,9 +1,9 @@
 -- A placement is settled exactly where the tests of its opening find nothing.
-use Rattle.std.proofs.Common.{◌≡◌, ◌≢◌, ℕ, ◌+◌, ◌<◌, ◌≤◌, ◌^◌, Bool, true, false, not, cond, ltb, ◌||◌, refl, sym, ap, ◌∙◌, arith, inl, inr, subst, ◌⊎◌, ◌↔◌, Option, Some, None, List, length, get_or}
+use Rattle.std.proofs.Common.{◌≡◌, ℕ, ◌<◌, ◌≤◌, ◌^◌, Bool, true, false, not, ltb, ◌||◌, refl, sym, ◌∙◌, arith, inl, inr, subst, ◌⊎◌, ◌↔◌, Option, Some, None, List, length, get_or}
 use Rattle.std.specs.Prelude.{IsTrue, is_some}
 use Rattle.std.specs.List.{All}
 use Rattle.std.proofs.lemmas.List.{get_or_default}
-use Rattle.std.proofs.lemmas.Bool.{cases_eq, cases_lt, cases_Bool, or_parts, or_from, false_from_ne_true, ltb-false, le-ltb}
+use Rattle.std.proofs.lemmas.Bool.{cases_eq, cases_lt, or_parts, or_from, false_from_ne_true, ltb-false, le-ltb}
 use Rattle.sm_server.specs.declared.call.Cell.{Cell}
 use Rattle.sm_server.specs.declared.call.Cell.TheVariants.{Absent, Prepared, Secondary, Primary, Forwarding}
 use Rattle.sm_server.specs.Cell.{is_primary, is_prepared, is_forwarding}
@@ -37,29 +37,39 @@ primary_from (Forwarding a b) e = cc
 -- a row with at most one primary and no handover is described by a lead at rest
 pub rest_from : (n m : ℕ) (row : ℕ → Cell) → ((v : ℕ) → n ≤ v → row v ≡ Absent) → has_bad_lead n row ≡ false → (lead : Lead) × (is_at_rest lead ≡ true) × Describes lead m row
 rest_from n m row out e = elim (cases_Option (last_below n primary)) [
-      | inl q ↦ (Gone, refl, λ x. plain x (last_none_at n primary q x))
-      | inr q ↦
-          let u : ℕ = q.0 in
-          let at = last_some n primary u q.1 in
-          (At u, refl, (primary_from (row u) at.1, λ x d. plain x (λ l. false_from_ne_true (primary x) (λ t.
-          let two : 2 ≤ count_below n primary = count_two n primary x u l at.0 d t at.1 in
-          let one : count_below n primary ≤ 1 = ltb-false 1 (count_below n primary) few in
-          absurd (omega arith)))))
-    ]
+  | inl q ↦ (Gone, refl, λ x. plain x (last_none_at n primary q x))
+  | inr q ↦
+      let u : ℕ = q.0 in
+      let at = last_some n primary u q.1 in (
+        At u,
+        refl,
+        (
+          primary_from (row u) at.1,
+          λ x d. plain x (λ l. false_from_ne_true (primary x) (λ t.
+              let two : 2 ≤ count_below n primary = count_two n primary x u l at.0 d t at.1 in
+              let one : count_below n primary ≤ 1 = ltb-false 1 (count_below n primary) few in
+              absurd (omega arith))),
+        ),
+      )
+]
   where
     primary : ℕ → Bool
     primary v = is_primary (row v)
+
     handing : ℕ → Bool
     handing v = is_prepared (row v) || is_forwarding (row v)
+
     few : ltb 1 (count_below n primary) ≡ false
     few = (or_parts (ltb 1 (count_below n primary)) (any_below n handing) e).0
+
     none : any_below n handing ≡ false
     none = (or_parts (ltb 1 (count_below n primary)) (any_below n handing) e).1
+
     plain : (x : ℕ) → (x < n → primary x ≡ false) → IsPlain (row x)
     plain x h = elim (cases_lt x n) [
-          | inl l ↦ plain_from (row x) (h l) (any_none n handing none x l)
-          | inr l ↦ rw (out x l) tt
-        ]
+      | inl l ↦ plain_from (row x) (h l) (any_none n handing none x l)
+      | inr l ↦ rw (out x l) tt
+    ]
 
 -- such a row has none of the faults
 pub rest_to : (n m : ℕ) (row : ℕ → Cell) (lead : Lead) → is_at_rest lead ≡ true → Describes lead m row → has_bad_lead n row ≡ false
@@ -67,18 +77,22 @@ rest_to n m row lead r d = go lead r d
   where
     primary : ℕ → Bool
     primary v = is_primary (row v)
+
     handing : ℕ → Bool
     handing v = is_prepared (row v) || is_forwarding (row v)
+
     no_part : (x : ℕ) → IsPlain (row x) → handing x ≡ false
     no_part x h = or_from (is_prepared (row x)) (is_forwarding (row x)) (plain_not_prepared (row x) h) (plain_not_forwarding (row x) h)
+
     both : count_below n primary ≤ 1 → ((x : ℕ) → handing x ≡ false) → has_bad_lead n row ≡ false
     both few none = or_from (ltb 1 (count_below n primary)) (any_below n handing) (le-ltb 1 (count_below n primary) few) (any_none_from n handing (λ k l. none k))
+
     go : (lead : Lead) → is_at_rest lead ≡ true → Describes lead m row → has_bad_lead n row ≡ false
     go Gone r d = both (let z : count_below n primary ≡ 0 = count_none n primary (λ k l. plain_not_primary (row k) (d k)) in omega arith) (λ x. no_part x (d x))
     go (At u) r d = both (count_one n primary u (λ k l e. plain_not_primary (row k) (d.1 k e))) (λ x. elim (cases_eq x u) [
-          | inl q ↦ rw (q, d.0) refl
-          | inr q ↦ no_part x (d.1 x q)
-        ])
+      | inl q ↦ rw (q, d.0) refl
+      | inr q ↦ no_part x (d.1 x q)
+    ])
     go (Ready u v) r d = cc
     go (Handing u v) r d = cc
     go (Handed u v) r d = cc

@@ -1,7 +1,6 @@
 -- Servers and shards without a fault are a configuration.
-use Rattle.std.proofs.Common.{◌≡◌, ◌≤◌, ◌<◌, ◌^◌, ◌&&◌, ◌||◌, ℕ, Bool, true, false, List, length, get_or, nat_lt, nat_le, ltb-true, leb-true, refl, sym, true≢false, arith}
-use Rattle.std.specs.List.{All, list_all}
-use Rattle.std.proofs.lemmas.List.Elements.{All-weaker}
+use Rattle.std.proofs.Common.{◌≡◌, ◌≤◌, ◌<◌, ◌^◌, ◌&&◌, ◌||◌, ℕ, Bool, true, false, length, get_or, nat_lt, nat_le, ltb-true, leb-true, refl, sym, true≢false, arith}
+use Rattle.std.specs.List.{list_all}
 use Rattle.std.proofs.lemmas.List.Sums.{AllPass-from_list_all}
 use Rattle.std.proofs.lemmas.Bool.Decides.{nat_tests}
 use Rattle.sm_placement.specs.Setup.{Setup, ServerRow, ShardRow, IsSetup, is_too_large, has_good_names, has_doubled_name, has_good_numbers, is_good_server, is_good_shard}

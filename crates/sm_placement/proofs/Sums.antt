@@ -1,5 +1,5 @@
 -- Sums of a function over the numbers below n, and a function changed at one place.
-use Rattle.std.proofs.Common.{◌≡◌, ◌≢◌, ℕ, zero, suc, ◌+◌, ◌*◌, ◌<◌, ◌≤◌, Bool, true, false, cond, eqb, refl, sym, ap, ◌∙◌, arith, inl, inr, subst, ◌⊎◌}
+use Rattle.std.proofs.Common.{◌≡◌, ◌≢◌, ℕ, zero, suc, ◌+◌, ◌*◌, ◌<◌, ◌≤◌, Bool, true, false, refl, sym, ap, ◌∙◌, arith, inl, inr, subst}
 use Rattle.std.proofs.Math.Path.{fun_ext}
 use Rattle.std.proofs.lemmas.Bool.{cases_eq, eq-eqb, ne_eqb}
 use Rattle.sm_placement.specs.Sums.{put, put2, sum_below, bit, count_below}
@@ -13,9 +13,9 @@ put-apart f k x q e = rw (ne_eqb q k e)
 -- what is there already
 pub put-same : {A : Type 0} (f : ℕ → A) (k : ℕ) (x : A) → f k ≡ x → put f k x ≡ f
 put-same f k x h = fun_ext (λ q. elim (cases_eq q k) [
-      | inl e ↦ put-here f k x q e ∙ sym h ∙ ap f (sym e)
-      | inr e ↦ put-apart f k x q e
-    ])
+  | inl e ↦ put-here f k x q e ∙ sym h ∙ ap f (sym e)
+  | inr e ↦ put-apart f k x q e
+])
 
 pub put2-here : {A : Type 0} (f : ℕ → ℕ → A) (s v : ℕ) (x : A) → put2 f s v x s v ≡ x
 put2-here f s v x = ap (λ g. g v) (put-here f s (put (f s) v x) s refl) ∙ put-here (f s) v x v refl

@@ -1,16 +1,14 @@
 -- A table's totals: that they fit, where nothing stands anywhere, and after a write.
-use Rattle.std.proofs.Common.{◌≡◌, ◌≢◌, ℕ, zero, suc, ◌+◌, ◌-◌, ◌*◌, ◌^◌, ◌<◌, ◌≤◌, Bool, true, false, not, List, length, set, get_or, replicate, refl, sym, ap, subst, ◌∙◌, arith, inl, inr}
+use Rattle.std.proofs.Common.{◌≡◌, ◌≢◌, ℕ, ◌+◌, ◌-◌, ◌*◌, ◌^◌, ◌<◌, ◌≤◌, Bool, true, false, not, List, length, set, get_or, replicate, refl, sym, ap, subst, ◌∙◌, arith, inl, inr}
 use Rattle.std.specs.Bool.{beq}
-use Rattle.std.proofs.Math.Path.{fun_ext}
 use Rattle.std.proofs.lemmas.Bool.{cases_eq, true≢false}
-use Rattle.std.proofs.lemmas.List.{length-replicate, length-set, get_or_past}
+use Rattle.std.proofs.lemmas.List.{length-replicate, length-set}
 use Rattle.std.proofs.lemmas.List.Elements.{All-get_or}
-use Rattle.std.proofs.lemmas.Nat.{mul-le}
 use Rattle.sm_server.specs.declared.call.Cell.{Cell}
 use Rattle.sm_server.specs.declared.call.Cell.TheVariants.{Absent, Prepared, Secondary, Primary, Forwarding}
 use Rattle.sm_placement.specs.declared.row.Counts.{Counts}
 use Rattle.sm_placement.specs.Counts.{counts_in, AreLives}
-use Rattle.sm_placement.specs.Sums.{put, put2, sum_below, bit, count_below}
+use Rattle.sm_placement.specs.Sums.{put, put2, bit, count_below}
 use Rattle.sm_placement.specs.Setup.{Setup, Sizes, ShardRow, IsSetup, sizes_of, no_shard}
 use Rattle.sm_placement.specs.Rows.{live_in, serving_in, serves, is_live, IsKnownCell}
 use Rattle.sm_placement.specs.Place.{weight, load_of}

@@ -1,18 +1,17 @@
 -- Counts over named cells, as far as a loop has come.
-use Rattle.std.proofs.Common.{◌≡◌, ◌≢◌, ℕ, zero, suc, ◌+◌, ◌*◌, ◌<◌, ◌≤◌, Bool, true, false, not, cond, eqb, ltb, ◌==◌, ◌&&◌, ◌||◌, refl, sym, ap, ◌∙◌, arith, inl, inr, subst, List, [], ◌∷◌, ◌++◌, length, get_or, set, take, replicate}
+use Rattle.std.proofs.Common.{◌≡◌, ◌≢◌, ℕ, ◌+◌, ◌*◌, ◌<◌, ◌≤◌, Bool, true, false, eqb, ltb, ◌&&◌, ◌||◌, refl, sym, ap, ◌∙◌, arith, inl, inr, subst, List, length, get_or, set, take, replicate}
 use Rattle.std.specs.Prelude.{Option, option_map}
-use Rattle.std.specs.List.{count_by, list_any}
+use Rattle.std.specs.List.{count_by}
 use Rattle.std.proofs.Math.Path.{fun_ext}
-use Rattle.std.proofs.lemmas.Bool.{cases_eq, cases_Bool, and_parts, eqb-true, eq-eqb, ne_eqb}
+use Rattle.std.proofs.lemmas.Bool.{cases_eq, cases_Bool, eq-eqb, ne_eqb}
 use Rattle.std.proofs.lemmas.List.{length-take-le, get_or_default}
 use Rattle.std.proofs.lemmas.List.Sums.{count_by_more_yes, count_by_more_no, count_by-le-length}
 use Rattle.sm_server.specs.declared.call.Cell.{Cell}
 use Rattle.sm_server.specs.Cell.{is_primary}
 use Rattle.sm_placement.specs.declared.opening.LeadCells.{LeadCells}
-use Rattle.sm_placement.specs.Sums.{put, put2, bit, count_below, any_below}
+use Rattle.sm_placement.specs.Sums.{put, put2, bit, count_below}
 use Rattle.sm_placement.specs.Layout.{grid_of, entries_of}
 use Rattle.sm_placement.specs.Opening.{NamedCell, is_of, AreKnown, IsNamedOnce, cell_named, has_bad_lead, first_below, double_of, is_handing, tally, lead_cells}
-use Rattle.sm_placement.specs.declared.opening.OpenFault.{OpenFault}
 use Rattle.sm_placement.specs.declared.opening.OpenFault.TheVariants.{DoubleCell}
 use Rattle.sm_placement.proofs.Sums.{put-here, put-apart, put2-here, put2-row, put2-apart}
 use Rattle.sm_placement.proofs.GridLemmas.{grid_of-within, grid_of-set, grid_of-read, grid_of-empty, place_within, entries_of-set, entries_of-read, entries_of-empty}
@@ -54,22 +53,27 @@ pairs_more m n cells i x counts b k l e len at r =
   where
     before : ℕ → ℕ → ℕ
     before s v = count_by (is_of s v) (take i cells)
+
     read : b ≡ count_by (is_of x.0 x.1) (take i cells)
     read = pair_count m n cells i x counts b k l e len at r
+
     yes : (s v : ℕ) → is_of s v x ≡ true → count_by (is_of s v) (take (i + 1) cells) ≡ count_by (is_of s v) (take i cells) + 1
     yes s v q = count_by_more_yes (is_of s v) cells i x l (subst (λ y. is_of s v y ≡ true) e q)
+
     no : (s v : ℕ) → is_of s v x ≡ false → count_by (is_of s v) (take (i + 1) cells) ≡ count_by (is_of s v) (take i cells)
     no s v q = count_by_more_no (is_of s v) cells i x l (subst (λ y. is_of s v y ≡ false) e q)
+
     apart : (s v : ℕ) → is_of s v x ≡ false → put2 before x.0 x.1 (b + 1) s v ≡ before s v
     apart s v q = elim (cases_eq s x.0) [
-          | inl d ↦ rw d (put2-row before x.0 x.1 (b + 1) v (λ g. absurd (let z : is_of s v x ≡ true = rw (d, g) (is_of-here x) in cc)))
-          | inr d ↦ put2-apart before x.0 x.1 (b + 1) s v d
-        ]
+      | inl d ↦ rw d (put2-row before x.0 x.1 (b + 1) v (λ g. absurd (let z : is_of s v x ≡ true = rw (d, g) (is_of-here x) in cc)))
+      | inr d ↦ put2-apart before x.0 x.1 (b + 1) s v d
+    ]
+
     each : (s v : ℕ) → put2 before x.0 x.1 (b + 1) s v ≡ count_by (is_of s v) (take (i + 1) cells)
     each s v = elim (cases_Bool (is_of s v x)) [
-          | inl q ↦ let p = is_of-true s v x q in rw (← p.0, ← p.1) (put2-here before x.0 x.1 (b + 1) ∙ ap (λ a. a + 1) read ∙ sym (yes x.0 x.1 (is_of-here x)))
-          | inr q ↦ apart s v q ∙ sym (no s v q)
-        ]
+      | inl q ↦ let p = is_of-true s v x q in rw (← p.0, ← p.1) (put2-here before x.0 x.1 (b + 1) ∙ ap (λ a. a + 1) read ∙ sym (yes x.0 x.1 (is_of-here x)))
+      | inr q ↦ apart s v q ∙ sym (no s v q)
+    ]
 
 -- what is read at a pair's place
 pub count_read : (m n : ℕ) (counts : List ℕ) (s v d : ℕ) → length counts ≡ m * n → s < m → v < n → grid_of n 0 counts s v ≡ get_or counts (s * n + v) d
@@ -107,9 +111,9 @@ tally_small t s i cells l =
 pub tally_more : (t : Cell → Bool) (s i : ℕ) (cells : List NamedCell) (x : NamedCell) → i < length cells → x ≡ get_or cells i x → x.0 ≡ s →
     tally t s (take (i + 1) cells) ≡ tally t s (take i cells) + bit (t x.2)
 tally_more t s i cells x l e d = elim (cases_Bool (t x.2)) [
-      | inl q ↦ count_by_more_yes (λ y. eqb y.0 s && t y.2) cells i x l (subst (λ y. (eqb y.0 s && t y.2) ≡ true) e (rw (eq-eqb x.0 s d, q) refl)) ∙ rw q refl
-      | inr q ↦ count_by_more_no (λ y. eqb y.0 s && t y.2) cells i x l (subst (λ y. (eqb y.0 s && t y.2) ≡ false) e (rw (eq-eqb x.0 s d, q) refl)) ∙ rw q (omega arith)
-    ]
+  | inl q ↦ count_by_more_yes (λ y. eqb y.0 s && t y.2) cells i x l (subst (λ y. (eqb y.0 s && t y.2) ≡ true) e (rw (eq-eqb x.0 s d, q) refl)) ∙ rw q refl
+  | inr q ↦ count_by_more_no (λ y. eqb y.0 s && t y.2) cells i x l (subst (λ y. (eqb y.0 s && t y.2) ≡ false) e (rw (eq-eqb x.0 s d, q) refl)) ∙ rw q (omega arith)
+]
 
 pub tally_same : (t : Cell → Bool) (s i : ℕ) (cells : List NamedCell) (x : NamedCell) → i < length cells → x ≡ get_or cells i x → s ≢ x.0 →
     tally t s (take (i + 1) cells) ≡ tally t s (take i cells)
@@ -123,19 +127,21 @@ leads_more m n cells i x counts b a k l e len at r p h =
   where
     read : b ≡ lead_cells (take i cells) x.0
     read = lead_count m n cells i x counts b k l e len at r
+
     same : (a b : LeadCells) → a.primaries ≡ b.primaries → a.handing ≡ b.handing → a ≡ b
     same a b p h = ap (λ (x : ℕ). with x a.handing) p ∙ ap (λ (x : ℕ). with b.primaries x) h
       where
         with : ℕ → ℕ → LeadCells
         with p h = record { primaries = p; handing = h }
+
     each : (s : ℕ) → put (lead_cells (take i cells)) x.0 a s ≡ lead_cells (take (i + 1) cells) s
     each s = elim (cases_eq s x.0) [
-          | inl d ↦ put-here (lead_cells (take i cells)) x.0 a s d ∙ same a (lead_cells (take (i + 1) cells) s)
-              (p ∙ ap (λ c. c.primaries + bit (is_primary x.2)) read ∙ rw d (sym (tally_more is_primary x.0 i cells x l e refl)))
-              (h ∙ ap (λ c. c.handing + bit (is_handing x.2)) read ∙ rw d (sym (tally_more is_handing x.0 i cells x l e refl)))
-          | inr d ↦ put-apart (lead_cells (take i cells)) x.0 a s d ∙ same (lead_cells (take i cells) s) (lead_cells (take (i + 1) cells) s)
-              (sym (tally_same is_primary s i cells x l e d)) (sym (tally_same is_handing s i cells x l e d))
-        ]
+      | inl d ↦ put-here (lead_cells (take i cells)) x.0 a s d ∙ same a (lead_cells (take (i + 1) cells) s)
+          (p ∙ ap (λ c. c.primaries + bit (is_primary x.2)) read ∙ rw d (sym (tally_more is_primary x.0 i cells x l e refl)))
+          (h ∙ ap (λ c. c.handing + bit (is_handing x.2)) read ∙ rw d (sym (tally_more is_handing x.0 i cells x l e refl)))
+      | inr d ↦ put-apart (lead_cells (take i cells)) x.0 a s d ∙ same (lead_cells (take i cells) s) (lead_cells (take (i + 1) cells) s)
+          (sym (tally_same is_primary s i cells x l e d)) (sym (tally_same is_handing s i cells x l e d))
+    ]
 
 -- the lead of a shard is bad exactly where its counts say so
 pub bad_by_counts : (m n : ℕ) (cells : List NamedCell) (counts : List LeadCells) (s : ℕ) (b : LeadCells) → AreKnown m n cells → IsNamedOnce cells → length counts ≡ m →

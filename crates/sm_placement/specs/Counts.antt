@@ -7,7 +7,7 @@ use Rattle.sm_server.specs.Cell.{is_secondary}
 use Rattle.sm_placement.specs.declared.row.Counts.{Counts}
 use Rattle.sm_placement.specs.Sums.{bit}
 use Rattle.sm_placement.specs.Rows.{serves, is_live, live_in, serving_in}
-use Rattle.sm_placement.specs.Layout.{grid_of, entries_of}
+use Rattle.sm_placement.specs.Layout.{entries_of}
 
 -- the counts of a row of n servers
 abbrev pub counts_in : ℕ → (ℕ → Cell) → (ℕ → Bool) → Counts

@@ -101,7 +101,13 @@ fn count_pairs(
 }
 
 /// A pair is counted more than once.
-fn is_counted_twice(counts: &[u32], shard: ShardId, server: ServerId, shards: u32, servers: u32) -> bool
+fn is_counted_twice(
+    counts: &[u32],
+    shard: ShardId,
+    server: ServerId,
+    shards: u32,
+    servers: u32,
+) -> bool
     requires shard { shard < shards }
     requires server { server < servers }
     requires len { length counts.now ≡ shards * servers }

@@ -6,7 +6,9 @@ ghost use Rattle.sm_placement.specs.Place.{Place, load_at, answer_at, IsAllowed}
 use crate::config::Config;
 use crate::faults;
 use crate::table::Table;
-use sm_server::{Call, Cell, Refusal, Served, ServerId, ShardId, leads_where_led, serve, serve_numbered};
+use sm_server::{
+    Call, Cell, Refusal, Served, ServerId, ShardId, leads_where_led, serve, serve_numbered,
+};
 use std::alloc::{AllocError, Global};
 use std::marker::Model;
 

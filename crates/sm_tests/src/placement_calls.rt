@@ -2,6 +2,7 @@
 use crate::fixture::*;
 use sm_placement::{Placement, Serving};
 use sm_server::{Call, Cell, Refusal, Role, ServerId};
+use std::alloc::Global;
 use std::process::Abort;
 use std::test::Fail;
 
@@ -30,85 +31,128 @@ fn reach(rt: &impl Abort, placement: &mut Placement, state: &Cell) {
     }
 }
 
-/// A call of every kind at every cell that a placement can have, each with what it is answered and the cell afterwards.
+type Answer = Result<Cell, Refusal>;
+
+const HELD: Answer = Err(Refusal::AlreadyHeld);
+
+const NOT_HELD: Answer = Err(Refusal::NotHeld);
+
+const WRONG: Answer = Err(Refusal::WrongRole);
+
+const ABSENT: Answer = Ok(Cell::Absent);
+
+const SECONDARY: Answer = Ok(Cell::Secondary);
+
+const PRIMARY: Answer = Ok(Cell::Primary);
+
+/// Makes a call at a cell of this state, and compares its answer and the cell afterwards.
+fn test_at(
+    rt: &impl Abort,
+    alloc: Global,
+    made: Call,
+    before: Cell,
+    answer: Answer,
+) -> Result<(), Fail> {
+    let config = small_config(alloc)?;
+    let mut placement = small_placement(alloc, &config)?;
+    reach(rt, &mut placement, &before);
+    let told = call(rt, &mut placement, 1, 0, made);
+    let after = cell(rt, &placement, 0, 1);
+    assert_eq!(rt; told.is_ok(), answer.is_ok());
+    match answer {
+        Ok(next) => assert_eq!(rt; after, next),
+        Err(why) => {
+            assert_eq!(rt; told, Err(why));
+            assert_eq!(rt; after, before);
+        }
+    }
+    Ok(())
+}
+
+/// Makes a call at a cell of each state, in the order of the table's columns.
+fn test_call(rt: &impl Abort, alloc: Global, made: Call, answers: [Answer; 5]) -> Result<(), Fail> {
+    let [absent, prepared, secondary, primary, forwarding] = answers;
+    let from = id(0);
+    let to = id(2);
+    let number = 3;
+    test_at(rt, alloc, made, Cell::Absent, absent)?;
+    test_at(rt, alloc, made, Cell::Prepared { from, number }, prepared)?;
+    test_at(rt, alloc, made, Cell::Secondary, secondary)?;
+    test_at(rt, alloc, made, Cell::Primary, primary)?;
+    test_at(rt, alloc, made, Cell::Forwarding { to, number }, forwarding)
+}
+
 #[test]
-fn calls_follow_the_table(rt: HostRuntime) -> Result<(), Fail> {
+fn added_and_dropped_by_the_table(rt: HostRuntime) -> Result<(), Fail> {
+    let alloc = rt.alloc();
+    test_call(
+        &rt,
+        alloc,
+        ADD_SECONDARY,
+        [SECONDARY, HELD, HELD, HELD, HELD],
+    )?;
+    test_call(
+        &rt,
+        alloc,
+        ADD_PRIMARY,
+        [PRIMARY, PRIMARY, HELD, HELD, HELD],
+    )?;
+    test_call(
+        &rt,
+        alloc,
+        Call::Drop,
+        [NOT_HELD, ABSENT, ABSENT, ABSENT, ABSENT],
+    )
+}
+
+#[test]
+fn roles_changed_by_the_table(rt: HostRuntime) -> Result<(), Fail> {
+    let alloc = rt.alloc();
+    let same = Call::Change {
+        from: Role::Primary,
+        to: Role::Primary,
+    };
+    test_call(
+        &rt,
+        alloc,
+        TO_PRIMARY,
+        [NOT_HELD, WRONG, PRIMARY, WRONG, WRONG],
+    )?;
+    test_call(
+        &rt,
+        alloc,
+        TO_SECONDARY,
+        [NOT_HELD, WRONG, WRONG, SECONDARY, WRONG],
+    )?;
+    test_call(&rt, alloc, same, [NOT_HELD, WRONG, WRONG, WRONG, WRONG])
+}
+
+#[test]
+fn handed_over_by_the_table(rt: HostRuntime) -> Result<(), Fail> {
     let alloc = rt.alloc();
     let prepare = Call::PrepareAdd {
         owner: id(0),
         number: 3,
     };
+    let prepared = Ok(Cell::Prepared {
+        from: id(0),
+        number: 3,
+    });
     let forward = Call::PrepareDrop {
         new_owner: id(2),
         number: 3,
     };
-    let same = Call::Change {
-        from: Role::Primary,
-        to: Role::Primary,
-    };
-    let prepared = Cell::Prepared {
-        from: id(0),
-        number: 3,
-    };
-    let forwarding = Cell::Forwarding {
+    let forwarding = Ok(Cell::Forwarding {
         to: id(2),
         number: 3,
-    };
-    let held = Err(Refusal::AlreadyHeld);
-    let missing = Err(Refusal::NotHeld);
-    let role = Err(Refusal::WrongRole);
-    let cells = [
-        Cell::Absent,
-        prepared,
-        Cell::Secondary,
-        Cell::Primary,
-        forwarding,
-    ];
-    let table = [
-        (ADD_SECONDARY, [Ok(Cell::Secondary), held, held, held, held]),
-        (
-            ADD_PRIMARY,
-            [Ok(Cell::Primary), Ok(Cell::Primary), held, held, held],
-        ),
-        (
-            Call::Drop,
-            [
-                missing,
-                Ok(Cell::Absent),
-                Ok(Cell::Absent),
-                Ok(Cell::Absent),
-                Ok(Cell::Absent),
-            ],
-        ),
-        (TO_PRIMARY, [missing, role, Ok(Cell::Primary), role, role]),
-        (
-            TO_SECONDARY,
-            [missing, role, role, Ok(Cell::Secondary), role],
-        ),
-        (same, [missing, role, role, role, role]),
-        (prepare, [Ok(prepared), held, held, held, held]),
-        (forward, [missing, role, role, Ok(forwarding), role]),
-    ];
-    let config = small_config(alloc)?;
-    for (made, answers) in table {
-        for (before, answer) in cells.iter().zip(answers.iter()) {
-            let mut placement = small_placement(alloc, &config)?;
-            reach(&rt, &mut placement, before);
-            let told = call(&rt, &mut placement, 1, 0, made);
-            let after = cell(&rt, &placement, 0, 1);
-            match answer {
-                Ok(next) => {
-                    assert_eq!(rt; told, Ok(()), "{made:?} at {before:?}");
-                    assert_eq!(rt; after, *next, "{made:?} at {before:?}");
-                }
-                Err(why) => {
-                    assert_eq!(rt; told, Err(*why), "{made:?} at {before:?}");
-                    assert_eq!(rt; after, *before, "{made:?} at {before:?}");
-                }
-            }
-        }
-    }
-    Ok(())
+    });
+    test_call(&rt, alloc, prepare, [prepared, HELD, HELD, HELD, HELD])?;
+    test_call(
+        &rt,
+        alloc,
+        forward,
+        [NOT_HELD, WRONG, WRONG, forwarding, WRONG],
+    )
 }
 
 #[test]

@@ -98,93 +98,104 @@ fn lists_have_their_lengths(rt: HostRuntime) -> Result<(), Fail> {
     Ok(())
 }
 
+/// A cell stands twice, also as absent: the lowest shard is named, and of it the lowest server.
 #[test]
-fn faults_name_the_lowest(rt: HostRuntime) -> Result<(), Fail> {
+fn doubles_name_the_lowest(rt: HostRuntime) -> Result<(), Fail> {
     let alloc = rt.alloc();
     let config = small_config(alloc)?;
-    let s = ShardId::new(0);
-    let t = ShardId::new(1);
+    let two_shards = [
+        named(1, 2, Cell::Absent),
+        named(1, 2, Cell::Absent),
+        named(0, 2, Cell::Secondary),
+        named(0, 2, Cell::Absent),
+    ];
+    let (shard, server) = (ShardId::new(0), id(2));
+    assert_eq!(rt;
+        fault(alloc, &config, &two_shards),
+        Some(OpenFault::DoubleCell { shard, server })
+    );
+    let two_servers = [
+        named(1, 2, Cell::Absent),
+        named(1, 1, Cell::Primary),
+        named(1, 2, Cell::Absent),
+        named(1, 1, Cell::Primary),
+    ];
+    let (shard, server) = (ShardId::new(1), id(1));
+    assert_eq!(rt;
+        fault(alloc, &config, &two_servers),
+        Some(OpenFault::DoubleCell { shard, server })
+    );
+    Ok(())
+}
+
+/// Two primaries, or a handover under way.
+#[test]
+fn bad_leads_name_the_lowest(rt: HostRuntime) -> Result<(), Fail> {
+    let alloc = rt.alloc();
+    let config = small_config(alloc)?;
+    let primaries = [
+        named(1, 0, Cell::Primary),
+        named(1, 1, Cell::Primary),
+        named(0, 0, Cell::Primary),
+        named(0, 1, Cell::Primary),
+    ];
+    let shard = ShardId::new(0);
+    assert_eq!(rt;
+        fault(alloc, &config, &primaries),
+        Some(OpenFault::BadLead { shard })
+    );
     let forwarding = Cell::Forwarding {
         to: id(1),
         number: 1,
     };
-    for (cells, fault_wanted) in [
-        // A cell stands twice, also as absent: the lowest shard, then the lowest server.
-        (
-            [
-                named(1, 2, Cell::Absent),
-                named(1, 2, Cell::Absent),
-                named(0, 2, Cell::Secondary),
-                named(0, 2, Cell::Absent),
-            ],
-            OpenFault::DoubleCell {
-                shard: s,
-                server: id(2),
-            },
-        ),
-        (
-            [
-                named(1, 2, Cell::Absent),
-                named(1, 1, Cell::Primary),
-                named(1, 2, Cell::Absent),
-                named(1, 1, Cell::Primary),
-            ],
-            OpenFault::DoubleCell {
-                shard: t,
-                server: id(1),
-            },
-        ),
-        // Two primaries, or a handover.
-        (
-            [
-                named(1, 0, Cell::Primary),
-                named(1, 1, Cell::Primary),
-                named(0, 0, Cell::Primary),
-                named(0, 1, Cell::Primary),
-            ],
-            OpenFault::BadLead { shard: s },
-        ),
-        (
-            [
-                named(1, 1, forwarding),
-                named(0, 0, Cell::Primary),
-                named(0, 2, Cell::Secondary),
-                named(0, 1, Cell::Absent),
-            ],
-            OpenFault::BadLead { shard: t },
-        ),
-        // The listed server isn't the primary.
-        (
-            [
-                named(0, 0, Cell::Secondary),
-                named(0, 2, Cell::Secondary),
-                named(1, 0, Cell::Primary),
-                named(1, 1, Cell::Absent),
-            ],
-            OpenFault::BadListing { shard: s },
-        ),
-        (
-            [
-                named(0, 0, Cell::Primary),
-                named(0, 2, Cell::Secondary),
-                named(1, 0, Cell::Primary),
-                named(1, 1, Cell::Absent),
-            ],
-            OpenFault::BadListing { shard: t },
-        ),
-        // More than a server has room for.
-        (
-            [
-                named(0, 0, Cell::Primary),
-                named(0, 2, Cell::Secondary),
-                named(1, 1, Cell::Primary),
-                named(1, 2, Cell::Secondary),
-            ],
-            OpenFault::OverRoom { server: id(2) },
-        ),
-    ] {
-        assert_eq!(rt; fault(alloc, &config, &cells), Some(fault_wanted));
-    }
+    let handover = [
+        named(1, 1, forwarding),
+        named(0, 0, Cell::Primary),
+        named(0, 2, Cell::Secondary),
+    ];
+    let shard = ShardId::new(1);
+    assert_eq!(rt;
+        fault(alloc, &config, &handover),
+        Some(OpenFault::BadLead { shard })
+    );
+    Ok(())
+}
+
+#[test]
+fn bad_listings_and_loads_name_the_lowest(rt: HostRuntime) -> Result<(), Fail> {
+    let alloc = rt.alloc();
+    let config = small_config(alloc)?;
+    let secondary = [
+        named(0, 0, Cell::Secondary),
+        named(0, 2, Cell::Secondary),
+        named(1, 0, Cell::Primary),
+    ];
+    let shard = ShardId::new(0);
+    assert_eq!(rt;
+        fault(alloc, &config, &secondary),
+        Some(OpenFault::BadListing { shard })
+    );
+    let elsewhere = [
+        named(0, 0, Cell::Primary),
+        named(0, 2, Cell::Secondary),
+        named(1, 0, Cell::Primary),
+    ];
+    let shard = ShardId::new(1);
+    assert_eq!(rt;
+        fault(alloc, &config, &elsewhere),
+        Some(OpenFault::BadListing { shard })
+    );
+    let heavy = [
+        named(0, 0, Cell::Primary),
+        named(0, 2, Cell::Secondary),
+        named(1, 1, Cell::Primary),
+        named(1, 2, Cell::Secondary),
+    ];
+    let server = id(2);
+    assert_eq!(rt;
+        fault(alloc, &config, &heavy),
+        Some(OpenFault::OverRoom { server })
+    );
     Ok(())
 }
 

@@ -1,9 +1,7 @@
-use Rattle.std.proofs.Common.{◌≡◌, ◌-◌, length, None}
+use Rattle.std.proofs.Common.{◌≡◌, ◌-◌, length}
 use Rattle.std.specs.List.{find, range_with_len}
-use Rattle.sm_placement.specs.Setup.{sizes_of}
-use Rattle.sm_placement.specs.Layout.{entries_of}
-use Rattle.sm_placement.specs.Grid.{cells_of, down_of}
-use Rattle.sm_placement.specs.Opening.{first_below, has_bad_lead, has_bad_listing, is_over_room, is_short}
+use Rattle.sm_placement.specs.Grid.{cells_of}
+use Rattle.sm_placement.specs.Opening.{first_below, has_bad_lead}
 use Rattle.sm_placement.proofs.faults.first_bad_lead.Given as goal
 
 abbrev pub invariant-loop-number : goal.invariant-loop-number

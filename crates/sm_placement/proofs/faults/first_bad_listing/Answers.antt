@@ -1,5 +1,5 @@
 -- The first shard whose entry in the list is bad.
-use Rattle.std.proofs.Common.{◌≡◌, ◌<◌, ◌∙◌, ℕ, true, false, length, Option, Some, None, sym, ap, refl, arith}
+use Rattle.std.proofs.Common.{◌≡◌, ◌<◌, ◌∙◌, true, false, length, None, sym, ap, arith}
 use Rattle.sm_placement.specs.Setup.{Setup}
 use Rattle.sm_placement.specs.Layout.{entries_of}
 use Rattle.sm_placement.specs.Grid.{cells_of}

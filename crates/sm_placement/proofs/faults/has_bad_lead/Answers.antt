@@ -1,9 +1,9 @@
 -- A cell that has a part in a handover makes the lead bad.
-use Rattle.std.proofs.Common.{◌≡◌, ◌<◌, ◌∙◌, ℕ, true, ltb, length, sym, ap, refl, arith, inl, inr}
+use Rattle.std.proofs.Common.{◌≡◌, ◌∙◌, true, ltb, length, sym, ap, refl, arith, inl, inr}
 use Rattle.std.proofs.lemmas.Bool.{or_right}
 use Rattle.sm_server.specs.Cell.{is_primary}
 use Rattle.sm_placement.specs.Setup.{Setup}
-use Rattle.sm_placement.specs.Sums.{count_below, any_below}
+use Rattle.sm_placement.specs.Sums.{count_below}
 use Rattle.sm_placement.specs.Grid.{cells_of}
 use Rattle.sm_placement.specs.Opening.{is_handing}
 use Rattle.sm_placement.proofs.Searches.{any_some}

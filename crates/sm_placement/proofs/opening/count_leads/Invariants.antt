@@ -1,4 +1,4 @@
-use Rattle.std.proofs.Common.{◌≡◌, length, take}
+use Rattle.std.proofs.Common.{◌≡◌, length}
 use Rattle.sm_placement.proofs.Tallies.{AreLeadsCounted}
 use Rattle.sm_placement.proofs.opening.count_leads.Given as goal
 

@@ -1,9 +1,9 @@
 -- A table in which nothing is wrong is a placement.
-use Rattle.std.proofs.Common.{◌≡◌, ◌∙◌, sym, ap, length, None, subst}
+use Rattle.std.proofs.Common.{◌∙◌, sym, subst}
 use Rattle.sm_placement.specs.Setup.{sizes_of}
 use Rattle.sm_placement.specs.Place.{Place}
-use Rattle.sm_placement.specs.Layout.{place_of, IsPlacement}
-use Rattle.sm_placement.specs.Opening.{first_fault, standing_faults, unpublished}
+use Rattle.sm_placement.specs.Layout.{IsPlacement}
+use Rattle.sm_placement.specs.Opening.{unpublished}
 use Rattle.sm_placement.proofs.TableLemmas.{IsGrid-read}
 use Rattle.sm_placement.proofs.Openings.{stands_from, grid_placement, unpublished_is}
 use Rattle.sm_placement.proofs.opening.stand.Goals as goal

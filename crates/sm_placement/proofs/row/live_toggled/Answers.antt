@@ -1,5 +1,5 @@
 -- Only the server's own replica counts or stops to count.
-use Rattle.std.proofs.Common.{◌≡◌, ◌+◌, ◌≤◌, ℕ, Bool, true, false, not, length, sym, ◌∙◌, arith}
+use Rattle.std.proofs.Common.{◌≡◌, ◌+◌, true, false, not, length, sym, ◌∙◌, arith}
 use Rattle.sm_server.specs.declared.call.Cell.TheVariants.{Absent}
 use Rattle.sm_placement.specs.Sums.{put}
 use Rattle.sm_placement.specs.Rows.{live_in, is_live}

@@ -1,7 +1,7 @@
 -- The copies say what the servers and shards say, which have passed the tests.
-use Rattle.std.proofs.Common.{rules, ◌≡◌, true, false, map, string_bytes, sym, subst}
+use Rattle.std.proofs.Common.{rules, ◌≡◌, true, false, sym, subst}
 use Rattle.sm_placement.specs.Setup.{Setup, IsSetup, is_too_large, has_good_names, has_doubled_name, has_good_numbers}
-use Rattle.sm_placement.specs.Config.{server_row, shard_row, setup_of, server_names, shard_names}
+use Rattle.sm_placement.specs.Config.{setup_of}
 use Rattle.sm_placement.proofs.SetupLemmas.{setup_from_tests}
 use Rattle.sm_placement.proofs.config.Config.new.Goals as goal
 

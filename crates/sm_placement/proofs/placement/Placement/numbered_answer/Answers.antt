@@ -1,5 +1,5 @@
 -- An answer keeps what every placement keeps.
-use Rattle.std.proofs.Common.{◌≡◌, ◌∙◌, refl, ap, sym, rules}
+use Rattle.std.proofs.Common.{◌≡◌, rules}
 use Rattle.sm_placement.specs.Setup.{sizes_of}
 use Rattle.sm_placement.specs.Layout.{place_of}
 use Rattle.sm_placement.specs.Place.{numbered_answer_at}

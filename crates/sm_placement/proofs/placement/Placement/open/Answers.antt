@@ -3,7 +3,7 @@ use Rattle.std.proofs.Common.{◌≡◌, ◌≢◌, ◌∙◌, sym, ap, length, 
 use Rattle.std.specs.Prelude.{IfOk, OnOk, IfErr}
 use Rattle.sm_placement.specs.declared.opening.OpenFault.{OpenFault}
 use Rattle.sm_placement.specs.declared.opening.OpenFault.TheVariants.{NoMemory}
-use Rattle.sm_placement.specs.Setup.{Setup, Sizes, sizes_of}
+use Rattle.sm_placement.specs.Setup.{Setup, sizes_of}
 use Rattle.sm_placement.specs.Place.{Place}
 use Rattle.sm_placement.specs.Layout.{place_of}
 use Rattle.sm_placement.specs.Opening.{Opening, opened, first_fault, standing_faults, open_fault, unpublished}

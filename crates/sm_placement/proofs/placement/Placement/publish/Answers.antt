@@ -1,9 +1,6 @@
 -- The shard's entry and version are written.
-use Rattle.std.proofs.Common.{◌≡◌, ◌+◌, ◌<◌, ◌∙◌, ℕ, length, length-set, get_or, set, arith, sym, subst}
-use Rattle.std.specs.Option.{ForSome}
-use Rattle.sm_placement.specs.Setup.{sizes_of}
-use Rattle.sm_placement.specs.Place.{publish}
-use Rattle.sm_placement.specs.Layout.{Layout, place_of, IsPlacement}
+use Rattle.std.proofs.Common.{◌≡◌, ◌+◌, ◌∙◌, length-set, arith}
+use Rattle.sm_placement.specs.Layout.{place_of}
 use Rattle.sm_placement.proofs.Layouts.{version_read, published_here, published_keeps}
 use Rattle.sm_placement.proofs.placement.Placement.publish.Goals as goal
 

@@ -1,5 +1,5 @@
 -- Who serves goes by how many do.
-use Rattle.std.proofs.Common.{◌≡◌, ◌≤◌, ◌<◌, ◌∙◌, ℕ, sym, ap, length, Option, arith}
+use Rattle.std.proofs.Common.{◌≡◌, ◌≤◌, ◌∙◌, ℕ, sym, ap, length, Option, arith}
 use Rattle.std.specs.Option.{option_map_or}
 use Rattle.sm_placement.specs.declared.placement.Serving.TheVariants.{Nobody, One, Several}
 use Rattle.sm_placement.specs.Rows.{serving_in}

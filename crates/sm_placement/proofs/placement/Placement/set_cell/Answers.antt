@@ -1,7 +1,5 @@
 -- A cell that a placement keeps names known servers alone.
-use Rattle.std.proofs.Common.{◌≡◌, ap, sym, length, subst}
-use Rattle.sm_server.specs.declared.call.Cell.{Cell}
-use Rattle.sm_placement.specs.Rows.{IsKnownCell}
+use Rattle.std.proofs.Common.{ap, length}
 use Rattle.sm_placement.specs.Layout.{Layout, place_of}
 use Rattle.sm_placement.proofs.Sums.{put2-here}
 use Rattle.sm_placement.proofs.placement.Placement.set_cell.Goals as goal

@@ -1,9 +1,5 @@
 -- Each test that finds something shows that the placement isn't settled, and where none does it is.
-use Rattle.std.proofs.Common.{◌≡◌, ◌≤◌, ◌<◌, ◌∙◌, ℕ, sym, subst, length, Option, None}
-use Rattle.sm_placement.specs.Setup.{Sizes, sizes_of}
-use Rattle.sm_placement.specs.Place.{Place}
-use Rattle.sm_placement.specs.Layout.{Layout, place_of}
-use Rattle.sm_placement.specs.Lead.{IsSettled}
+use Rattle.std.proofs.Common.{◌≤◌, ◌∙◌, sym, subst, length}
 use Rattle.sm_placement.proofs.Settling.{settled_from, settled_leads, settled_listings, settled_floors, rooms_hold, versions_low, low_versions, none_found, some_found, settled_read, settled_seen, not_settled}
 use Rattle.sm_placement.proofs.placement.Placement.settled.Goals as goal
 
@@ -25,5 +21,5 @@ returns c = (
       (sym c.first_short.ensures ∙ none_found c.first_short.result c.is_some-3.result c.is_some-3.ensures c.if-is_some-3.false)
       (subst (λ k. k ≤ c.self.inside.limit) c.down_count.ensures c.if-down_count-self.false)
       (versions_low (length c.self.inside.table.setup.shards) c.self.inside.versions.items c.self.invariant.versions_length (rw c.deref-2.ensures.value at (c.are_low.ensures.0 low)))),
-  λ is. c.are_low.ensures.1 (rw c.deref-2.ensures.value (low_versions (length c.self.inside.table.setup.shards) c.self.inside.versions.items c.self.invariant.versions_length (settled_read c.self.view_is is).versions))
+  λ is. c.are_low.ensures.1 (rw c.deref-2.ensures.value (low_versions (length c.self.inside.table.setup.shards) c.self.inside.versions.items c.self.invariant.versions_length (settled_read c.self.view_is is).versions)),
 )

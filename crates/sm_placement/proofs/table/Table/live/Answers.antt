@@ -1,5 +1,5 @@
 -- The total is the shard's, and no more than all servers.
-use Rattle.std.proofs.Common.{◌≡◌, ◌≤◌, length}
+use Rattle.std.proofs.Common.{◌≡◌, length}
 use Rattle.sm_placement.specs.Rows.{live_in}
 use Rattle.sm_placement.specs.Grid.{cells_of, down_of}
 use Rattle.sm_placement.proofs.TableLemmas.{live_in-read, live-small, IsSetup-read}

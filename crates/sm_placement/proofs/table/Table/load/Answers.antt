@@ -1,5 +1,5 @@
 -- The total is the server's, and fits.
-use Rattle.std.proofs.Common.{◌≡◌, ◌<◌, sym, subst, arith}
+use Rattle.std.proofs.Common.{◌≡◌}
 use Rattle.sm_placement.specs.Setup.{sizes_of}
 use Rattle.sm_placement.specs.Place.{load_of}
 use Rattle.sm_placement.specs.Grid.{cells_of}

@@ -1,6 +1,5 @@
 -- Each list has the same entry everywhere.
-use Rattle.std.proofs.Common.{◌≡◌, ◌*◌, ℕ, Bool, false, length, replicate, sym, ap, ◌∙◌}
-use Rattle.sm_server.specs.declared.call.Cell.{Cell}
+use Rattle.std.proofs.Common.{◌≡◌, ◌*◌, false, length, replicate, sym, ap, ◌∙◌}
 use Rattle.sm_server.specs.declared.call.Cell.TheVariants.{Absent}
 use Rattle.sm_placement.specs.Setup.{Setup, IsSetup}
 use Rattle.sm_placement.proofs.TableLemmas.{cells_of-empty, lasts_of-empty, down_of-empty, IsCounted-empty}

@@ -1,12 +1,12 @@
 -- The totals are corrected with the cell.
-use Rattle.std.proofs.Common.{◌≡◌, ◌<◌, ◌+◌, ◌-◌, ◌*◌, ℕ, List, length, set, get_or, sym, ap, subst, ◌∙◌, arith}
+use Rattle.std.proofs.Common.{◌≡◌, ◌<◌, ◌+◌, ◌-◌, ◌*◌, ℕ, length, set, get_or, sym, ap, subst, ◌∙◌, arith}
 use Rattle.std.specs.Vec.{with_items}
-use Rattle.std.proofs.lemmas.List.{with_items_is, length-set}
+use Rattle.std.proofs.lemmas.List.{with_items_is}
 use Rattle.sm_server.specs.declared.call.Cell.{Cell}
 use Rattle.sm_placement.specs.Rows.{IsKnownCell}
 use Rattle.sm_placement.specs.Setup.{sizes_of}
 use Rattle.sm_placement.specs.Place.{weight, load_of}
-use Rattle.sm_placement.specs.Sums.{put, put2}
+use Rattle.sm_placement.specs.Sums.{put2}
 use Rattle.sm_placement.specs.Grid.{Grid, Totals, IsCounted, cells_of}
 use Rattle.sm_placement.proofs.TableLemmas.{counts_in-read, set_in_row-is, IsCorrected, load_of-corrected, IsCounted-set, cells_of-set}
 use Rattle.sm_placement.proofs.table.Table.set_cell.Goals as goal

@@ -1,8 +1,8 @@
 -- The counts of live replicas and of servers that are down are corrected.
-use Rattle.std.proofs.Common.{◌≡◌, ◌+◌, ◌-◌, ◌≤◌, ℕ, List, length, set, not, true, false, refl, sym, ap, ◌∙◌, arith}
+use Rattle.std.proofs.Common.{◌≡◌, ◌+◌, ◌-◌, ◌≤◌, length, not, refl, sym, ◌∙◌, arith}
 use Rattle.std.specs.Vec.{with_items}
 use Rattle.std.proofs.lemmas.List.{with_items_is}
-use Rattle.sm_placement.specs.Sums.{put, bit, count_below}
+use Rattle.sm_placement.specs.Sums.{bit}
 use Rattle.sm_placement.specs.Grid.{down_of}
 use Rattle.sm_placement.proofs.Sums.{put-same}
 use Rattle.sm_placement.proofs.TableLemmas.{same-from_beq, not-from_beq, down-toggled, down_count-small, down_of-set, IsCounted-toggle}
