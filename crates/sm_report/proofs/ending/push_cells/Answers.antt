@@ -15,8 +15,8 @@ loop-number-preserved c =
     let place = place_of c.args.placement.now in
     let v = c.new-server.result in
     let added : string_bytes c.push_cell.new.out ≡ string_bytes c.loop-number.out ++ cell_line setup c.loop-number.number (place.cells c.args.shard c.loop-number.number)
-        = c.in_ok-push_cell.ensures
-        ∙ ap (λ (x : Setup). string_bytes c.loop-number.out ++ cell_line x v c.cell.result) config_is
-        ∙ ap (λ (x : Cell). string_bytes c.loop-number.out ++ cell_line setup v x) c.cell.ensures
-        ∙ ap (λ (n : ℕ). string_bytes c.loop-number.out ++ cell_line setup n (place.cells c.args.shard n)) c.new-server.ensures in
+    = c.in_ok-push_cell.ensures
+    ∙ ap (λ (x : Setup). string_bytes c.loop-number.out ++ cell_line x v c.cell.result) config_is
+    ∙ ap (λ (x : Cell). string_bytes c.loop-number.out ++ cell_line setup v x) c.cell.ensures
+    ∙ ap (λ (n : ℕ). string_bytes c.loop-number.out ++ cell_line setup n (place.cells c.args.shard n)) c.new-server.ensures in
     text_of_next (λ v. cell_line setup v (place.cells c.args.shard v)) _ _ _ c.loop-number.number (length setup.servers) below added c.loop-number.invariant
