@@ -1,7 +1,23 @@
-# make test: the gate, and what must run beside it.
+# make build: proves and builds build/smplan.    make run: prints the report of a bundled example.
+# make test: the gate, and what must run beside it.    make bench: seconds and memory of a large run.
 
-.PHONY: test
+.PHONY: build run test bench
+
+build:
+	mkdir -p build
+	cp "$$(scripts/build-smplan)" build/smplan
+
+run: build
+	build/smplan calls < examples/placement.json
 
 test:
 	rt ci
+	$(MAKE) build
+	scripts/check-examples
+	scripts/check-command-line
+	scripts/check-memory
 	scripts/refused-programs
+
+bench: build
+	scripts/bench
+	scripts/bench-map
