@@ -1,0 +1,107 @@
+-- Lists of entries: what a store adds, and that what was seen is no newer than the newest entry.
+use Rattle.std.proofs.Common.{◌≡◌, ◌≢◌, ℕ, zero, suc, ◌<◌, ◌≤◌, List, [], ◌∷◌, map, length, Bool, true, false, refl, sym, ap, subst, arith, eqb, eq-eqb, ne_eqb}
+use Rattle.std.specs.Prelude.{slice_index, slice_index_or, if◌then◌else◌, Option, Some, None, All, Contains}
+use Rattle.std.proofs.lemmas.List.Elements.{All-nil, All-cons, All-head, All-tail}
+use mathlib.Core.Logic.{dite}
+use native.Mathlib.Decide.{ℕ_discrete}
+use Rattle.sm_map.specs.declared.entry.Entry.{Entry}
+use Rattle.sm_map.specs.Entry.{word_for, IsServerBelow, IsInRange}
+use Rattle.sm_map.specs.History.{opened_at, entries_of, newest, Follows, Rises, NoneNewer, AllStand, word_at, words_for}
+
+-- an entry that is in range stays so for a larger count
+pub in_range_more : (few many : ℕ) (entry : Entry) → few ≤ many → IsInRange few entry → IsInRange many entry
+in_range_more few many entry more good = (below_more entry.server good.0, good.1)
+  where
+    below_more : (server : Option ℕ) → IsServerBelow few server → IsServerBelow many server
+    below_more None below = tt
+    below_more (Some server) below = omega arith
+
+-- an entry of a rising list is no newer than the first
+no_newer : (first : Entry) (rest : List Entry) (entry : Entry) → Rises (first ∷ rest) → Contains (first ∷ rest) entry → entry.version ≤ first.version
+no_newer first rest entry rises (zero, inside, is) = let same : first.version ≡ entry.version = ap (λ (e : Entry). e.version) is in omega arith
+no_newer first [] entry rises (suc k, inside, is) = absurd (omega arith)
+no_newer first (next ∷ rest) entry rises (suc k, inside, is) =
+    let below : entry.version ≤ next.version = no_newer next rest entry rises.1 (k, omega arith, is) in let up = rises.0 in omega arith
+
+opened_some : (opening : List Entry) (shard : ℕ) → shard < length opening → (entry : Entry) × (opened_at opening shard ≡ entry ∷ [])
+opened_some [] shard inside = absurd (omega arith)
+opened_some (first ∷ opening) zero inside = (first, refl)
+opened_some (first ∷ opening) (suc shard) inside = opened_some opening shard (omega arith)
+
+-- a shard's list begins with some entry
+pub some_newest : (opening : List Entry) (stores : List (ℕ × Entry)) (shard : ℕ) → shard < length opening → (entry : Entry) × (rest : List Entry) × (entries_of opening stores shard ≡ entry ∷ rest)
+some_newest opening [] shard inside = let first = opened_some opening shard inside in (first.0, [], first.1)
+some_newest opening (x ∷ xs) shard inside = begins (eqb x.0 shard) (some_newest opening xs shard inside)
+  where
+    before : List Entry
+    before = entries_of opening xs shard
+
+    begins : (here : Bool) → (entry : Entry) × (rest : List Entry) × (before ≡ entry ∷ rest) → (entry : Entry) × (rest : List Entry) × ((if here then x.1 ∷ before else before) ≡ entry ∷ rest)
+    begins true was = (x.1, before, refl)
+    begins false was = was
+
+-- the list of a shard after a store, by the two cases that it may be of this shard or of another
+pub after_store : (opening : List Entry) (stores : List (ℕ × Entry)) (stored shard : ℕ) (entry : Entry) (P : List Entry → Type 0) → (stored ≡ shard → P (entry ∷ entries_of opening stores shard)) → (stored ≢ shard → P (entries_of opening stores shard)) → P (entries_of opening ((stored, entry) ∷ stores) shard)
+after_store opening stores stored shard entry P here there = dite (ℕ_discrete stored shard)
+    (λ t. subst (λ (b : Bool). P (if b then entry ∷ entries_of opening stores shard else entries_of opening stores shard)) (sym (eq-eqb stored shard t)) (here t))
+    (λ t. subst (λ (b : Bool). P (if b then entry ∷ entries_of opening stores shard else entries_of opening stores shard)) (sym (ne_eqb stored shard t)) (there t))
+
+contains_more : (first entry : Entry) (rest : List Entry) → Contains rest entry → Contains (first ∷ rest) entry
+contains_more first entry rest (k, inside, is) = (suc k, omega arith, is)
+
+-- what stood in the lists stands in them after a store
+pub stand_after : (opening : List Entry) (stores : List (ℕ × Entry)) (stored : ℕ) (entry : Entry) (seen : List (ℕ × Entry)) → AllStand opening stores seen → AllStand opening ((stored, entry) ∷ stores) seen
+stand_after opening stores stored entry seen stand k d inside =
+    let x = slice_index_or seen k d in
+    after_store opening stores stored x.0 entry (λ l. Contains l x.1) (λ _. contains_more entry x.1 (entries_of opening stores x.0) (stand k d inside)) (λ _. stand k d inside)
+
+-- one more entry that stands
+pub stand_more : (opening : List Entry) (stores : List (ℕ × Entry)) (shard : ℕ) (entry : Entry) (rest : List Entry) (seen : List (ℕ × Entry)) → entries_of opening stores shard ≡ entry ∷ rest → AllStand opening stores seen → AllStand opening stores ((shard, entry) ∷ seen)
+stand_more opening stores shard entry rest seen is stand =
+    All-cons (λ (x : ℕ × Entry). Contains (entries_of opening stores x.0) x.1) (shard, entry) seen (subst (λ (l : List Entry). Contains l entry) (sym is) (zero, omega arith, refl)) stand
+
+-- what was seen of a shard is no newer than its newest entry
+pub none_newer : (opening : List Entry) (stores seen : List (ℕ × Entry)) (shard : ℕ) (entry : Entry) (rest : List Entry) → Rises (entry ∷ rest) → entries_of opening stores shard ≡ entry ∷ rest → AllStand opening stores seen → NoneNewer seen shard entry
+none_newer opening stores seen shard entry rest rises is stand k d inside same =
+    let x = slice_index_or seen k d in
+    no_newer entry rest x.1 rises (subst (λ (l : List Entry). Contains l x.1) is (subst (λ (j : ℕ). Contains (entries_of opening stores j) x.1) same (stand k d inside)))
+
+-- a list that rises goes on rising by an entry that follows
+pub rises_more : (entries : List Entry) (entry : Entry) → Follows entries entry → Rises entries → Rises (entry ∷ entries)
+rises_more [] entry follows rises = tt
+rises_more (last ∷ entries) entry follows rises = (follows, rises)
+
+long_words : (opening : List Entry) → length opening ≤ length (map word_for opening)
+long_words [] = omega arith
+long_words (entry ∷ opening) = let more = long_words opening in omega arith
+
+-- there are as many words as shards, or more
+pub enough_words : (opening : List Entry) → length opening ≤ length (words_for opening)
+enough_words [] = omega arith
+enough_words (entry ∷ opening) = long_words (entry ∷ opening)
+
+-- there is a word
+pub some_word : (opening : List Entry) → 0 < length (words_for opening)
+some_word [] = omega arith
+some_word (entry ∷ opening) = omega arith
+
+word_of_each : (opening : List Entry) (shard : ℕ) → slice_index (map word_for opening) shard ≡ word_at (newest (opened_at opening shard))
+word_of_each [] shard = refl
+word_of_each (entry ∷ opening) zero = refl
+word_of_each (entry ∷ opening) (suc shard) = word_of_each opening shard
+
+-- at the opening each word is that of its shard's entry
+pub first_words : (opening : List Entry) (shard : ℕ) → slice_index (words_for opening) shard ≡ word_at (newest (opened_at opening shard))
+first_words [] zero = refl
+first_words [] (suc shard) = refl
+first_words (entry ∷ opening) shard = word_of_each (entry ∷ opening) shard
+
+pub first_rises : (opening : List Entry) (shard : ℕ) → Rises (opened_at opening shard)
+first_rises [] shard = tt
+first_rises (entry ∷ opening) zero = tt
+first_rises (entry ∷ opening) (suc shard) = first_rises opening shard
+
+pub first_in_range : (servers : ℕ) (opening : List Entry) (shard : ℕ) → All (IsInRange servers) opening → All (IsInRange servers) (opened_at opening shard)
+first_in_range servers [] shard good = All-nil (IsInRange servers)
+first_in_range servers (entry ∷ opening) zero good = All-cons (IsInRange servers) entry [] (All-head (IsInRange servers) entry opening good) (All-nil (IsInRange servers))
+first_in_range servers (entry ∷ opening) (suc shard) good = first_in_range servers opening shard (All-tail (IsInRange servers) entry opening good)

@@ -1,0 +1,33 @@
+-- What contracts see of the words, of the publisher and of a pass.
+use Rattle.std.specs.Prelude.{ℕ, List}
+use Rattle.atomic_table.specs.Seated.{TableId}
+use Rattle.sm_map.specs.declared.entry.Entry.{Entry}
+use Rattle.sm_map.specs.History.{AllStand, entries_of}
+
+-- which words: their table, how many servers there are, and each shard's entry at the opening
+pub record WordsModel : Type 0 where
+  pub table : TableId
+  pub servers : ℕ
+  pub opening : List Entry
+
+-- the words of this table, opened with these entries
+abbrev pub words_model : TableId → ℕ → List Entry → WordsModel
+words_model table servers opening = record { table = table; servers = servers; opening = opening }
+
+-- the publisher: its words, and what it has stored, the newest first
+pub record PublisherModel : Type 0 where
+  pub words : WordsModel
+  pub stores : List (ℕ × Entry)
+
+-- a pass: its words, and what it has seen, the last first
+pub record PassModel : Type 0 where
+  pub words : WordsModel
+  pub seen : List (ℕ × Entry)
+
+-- the publisher's list of a shard: its entries, the newest first
+abbrev pub history : PublisherModel → ℕ → List Entry
+history publisher shard = entries_of publisher.words.opening publisher.stores shard
+
+-- each entry that the pass has seen stands in the publisher's list of its shard
+abbrev pub HasAllSeen : PublisherModel → PassModel → Type 0
+HasAllSeen publisher pass = AllStand publisher.words.opening publisher.stores pass.seen

@@ -1,0 +1,44 @@
+//! An entry of the map, and the word that stands for it.
+ghost use Rattle.std.specs.Prelude.{◌≡◌};
+ghost use Rattle.sm_map.specs.Entry.{IsInRange, entry_for, word_for};
+
+use sm_server::ServerId;
+
+/// Where a shard is listed, and how often that has changed.
+#[derive(Clone, Copy, Debug, PartialEq, Eq)]
+pub struct Entry {
+    pub server: Option<ServerId>,
+    pub version: u64,
+}
+
+/// A word is the version times this, plus the server's number and one, or plus 0 for no server.
+const VERSION_UNIT: u64 = 65_536;
+
+/// The word that stands for an entry.
+pub fn word_of(entry: Entry) -> u64
+    requires { IsInRange 1024 entry }
+    ensures word { result ≡ word_for entry }
+    ensures back { entry_for result ≡ entry }
+{
+    let server = match entry.server {
+        Some(server) => u64::from(server.number()) + 1,
+        None => 0,
+    };
+    entry.version * VERSION_UNIT + server
+}
+
+/// The entry that a word stands for.
+pub fn entry_of(word: u64) -> Entry
+    ensures entry { result ≡ entry_for word }
+    ensures back { word_for result ≡ word }
+    ensures only { (e : _) → IsInRange 1024 e → word ≡ word_for e → result ≡ e }
+{
+    let server = match (word % VERSION_UNIT) as u32 {
+        0 => None,
+        after => Some(ServerId::new(after - 1)),
+    };
+    Entry {
+        server,
+        version: word / VERSION_UNIT,
+    }
+}

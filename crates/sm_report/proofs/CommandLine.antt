@@ -1,0 +1,50 @@
+-- What clap makes of the words that name a command.
+use Rattle.std.proofs.Common.{◌≡◌, ◌≢◌, ℕ, true, false, Bool, List, [], ◌∷◌, Some, None, codes, refl, sym, ap, subst, cond, inl, inr, ◌∙◌, ◌⊎◌}
+use Rattle.std.specs.Str.{bytes_eq}
+use Rattle.std.proofs.lemmas.Slice.Eq.{bytes_eq-Decides}
+use Rattle.clap.specs.Words.{App, Text, takes, fault_of, is_simple_and_free}
+use Rattle.clap.specs.Kinds.{Kinds, IsAmong}
+use Rattle.clap.specs.declared.error.kind.ErrorKind.{ErrorKind}
+use Rattle.clap.specs.declared.error.kind.ErrorKind.TheVariants as kind
+use Rattle.clap.proofs.OnLiterals.{clap_on_literals}
+use Rattle.sm_report.specs.CommandLine.{named, asked_for, program, Tells, TellsKind}
+use Rattle.sm_report.specs.declared.command.LineFault.{LineFault}
+use Rattle.sm_report.specs.declared.command.LineFault.TheVariants.{NoMemory, Help, Bad}
+
+takes_calls : takes program (codes "calls" ∷ []) ≡ true
+unfolding clap_on_literals
+takes_calls = refl
+
+takes_named : (word : Text) (b : Bool) → bytes_eq word (codes "calls") ≡ b → asked_for (word ∷ []) ≢ None → takes program (word ∷ []) ≡ true
+takes_named word true is asked = rw ((bytes_eq-Decides word (codes "calls")).0 is) takes_calls
+takes_named word false is asked = absurd (asked (rw is refl))
+
+-- clap takes the words that name a command
+pub takes_asked : (words : List Text) → asked_for words ≢ None → takes program words ≡ true
+takes_asked [] asked = absurd (asked refl)
+takes_asked (word ∷ []) asked = takes_named word (bytes_eq word (codes "calls")) refl asked
+takes_asked (word ∷ next ∷ rest) asked = absurd (asked refl)
+
+-- memory ran out, so nothing else is said
+pub tells_no_memory : (fault : LineFault) (k : ErrorKind) → k ≡ kind.OutOfMemory → TellsKind fault k → fault ≡ NoMemory
+tells_no_memory NoMemory k is tells = refl
+tells_no_memory (Help text) k is tells = let bad : kind.OutOfMemory ≡ kind.DisplayHelp = cc in cc
+tells_no_memory (Bad text) k is tells = absurd (tells.1 is)
+
+pub tells_among : (fault : LineFault) (k : ErrorKind) (kinds : Kinds) → (k ≡ kind.OutOfMemory) ⊎ IsAmong k kinds → TellsKind fault k → Tells fault kinds
+tells_among NoMemory k kinds among tells = tt
+tells_among (Help text) k kinds (inl is) tells = let bad : kind.OutOfMemory ≡ kind.DisplayHelp = cc in cc
+tells_among (Help text) k kinds (inr among) tells = subst (λ (x : ErrorKind). IsAmong x kinds) tells among
+tells_among (Bad text) k kinds (inl is) tells = absurd (tells.1 is)
+tells_among (Bad text) k kinds (inr among) tells = inr (k, tells.0, among)
+
+is_free_program : is_simple_and_free program ≡ true
+unfolding clap_on_literals
+is_free_program = refl
+
+-- what is said of an error that clap gives, for the program's command line
+pub tells_kinds : (a : App) (words : List Text) (fault : LineFault) (k : ErrorKind) → a ≡ program
+    → (is_simple_and_free a ≡ true → (k ≡ kind.OutOfMemory) ⊎ IsAmong k (fault_of a words))
+    → TellsKind fault k → Tells fault (fault_of program words)
+tells_kinds a words fault k is fails tells =
+    subst (λ (x : App). Tells fault (fault_of x words)) is (tells_among fault k (fault_of a words) (fails (ap is_simple_and_free is ∙ is_free_program)) tells)

@@ -1,0 +1,39 @@
+-- The command line: which words name a command, and what is said of other words.
+use Rattle.std.specs.Prelude.{◌≡◌, ◌≢◌, ◌⊎◌, ℕ, true, List, [], ◌∷◌, Option, Some, None, if◌then◌else◌, codes, option_map}
+use Rattle.std.specs.Str.{bytes_eq}
+use Rattle.clap.specs.Words.{App, new_app, with_subcommand}
+use Rattle.clap.specs.Simple.{on_top}
+use Rattle.clap.specs.Kinds.{Kinds, IsAmong}
+use Rattle.clap.specs.declared.error.kind.ErrorKind.{ErrorKind}
+use Rattle.clap.specs.declared.error.kind.ErrorKind.TheVariants as kind
+use Rattle.sm_report.specs.declared.command.Command.{Command}
+use Rattle.sm_report.specs.declared.command.Command.TheVariants.{Calls}
+use Rattle.sm_report.specs.declared.command.Word.{Word}
+use Rattle.sm_report.specs.declared.command.Word.TheVariants.{Report}
+use Rattle.sm_report.specs.declared.command.LineFault.{LineFault}
+use Rattle.sm_report.specs.declared.command.LineFault.TheVariants.{NoMemory, Help, Bad}
+
+-- the command with this name
+abbrev pub named : List ℕ → Option Command
+named name = if bytes_eq name (codes "calls") then Some Calls else None
+
+-- what the words ask for: one word alone names a command
+abbrev pub asked_for : List (List ℕ) → Option Word
+asked_for (word ∷ []) = option_map (λ c. Report c) (named word)
+asked_for _ = None
+
+-- the program's command line, as clap reads it
+abbrev pub program : App
+program = with_subcommand (on_top (λ s. record s { no_binary_name = true; subcommand_required = true }) (new_app (codes "smplan"))) (new_app (codes "calls")).top
+
+-- what is said of an error of this kind: help where help was asked for, unless memory ran out
+abbrev pub TellsKind : LineFault → ErrorKind → Type 0
+TellsKind NoMemory k = Unit {0}
+TellsKind (Help text) k = k ≡ kind.DisplayHelp
+TellsKind (Bad text) k = (k ≢ kind.DisplayHelp) × (k ≢ kind.OutOfMemory)
+
+-- what is said of words at which these kinds of error may come, where there may be none at words that name no command
+abbrev pub Tells : LineFault → Kinds → Type 0
+Tells NoMemory kinds = Unit {0}
+Tells (Help text) kinds = IsAmong kind.DisplayHelp kinds
+Tells (Bad text) kinds = (kinds ≡ []) ⊎ ((k : ErrorKind) × (k ≢ kind.DisplayHelp) × IsAmong k kinds)

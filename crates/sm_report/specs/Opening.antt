@@ -1,0 +1,31 @@
+-- The line of a placement that is not opened.
+use Rattle.std.specs.Prelude.{ℕ, List, [], ◌∷◌, codes}
+use Rattle.sm_placement.specs.declared.opening.OpenFault.{OpenFault}
+use Rattle.sm_placement.specs.declared.opening.OpenFault.TheVariants.{NoMemory, TooMany, UnknownName, DoubleCell, BadLead, BadListing, OverRoom, Short, TooManyDown}
+use Rattle.sm_placement.specs.Setup.{Setup}
+use Rattle.sm_report.specs.Lines.{line}
+use Rattle.sm_report.specs.Ending.{server_name, shard_name}
+
+abbrev pub refusal_line : List ℕ → List ℕ
+refusal_line what = line (codes "placement refused: " ∷ what ∷ [])
+
+abbrev pub shard_refusal_line : List ℕ → List ℕ → List ℕ
+shard_refusal_line what shard = line (codes "placement refused: " ∷ what ∷ codes " shard " ∷ shard ∷ [])
+
+abbrev pub server_refusal_line : List ℕ → List ℕ → List ℕ
+server_refusal_line what server = line (codes "placement refused: " ∷ what ∷ codes " server " ∷ server ∷ [])
+
+abbrev pub double_cell_line : List ℕ → List ℕ → List ℕ
+double_cell_line shard server = line (codes "placement refused: 4 DoubleCell shard " ∷ shard ∷ codes " server " ∷ server ∷ [])
+
+-- the line that says why a placement is not opened
+abbrev pub open_fault_line : Setup → OpenFault → List ℕ
+open_fault_line setup NoMemory = refusal_line (codes "1 NoMemory")
+open_fault_line setup TooMany = refusal_line (codes "2 TooMany")
+open_fault_line setup UnknownName = refusal_line (codes "3 UnknownName")
+open_fault_line setup (DoubleCell s v) = double_cell_line (shard_name setup s) (server_name setup v)
+open_fault_line setup (BadLead s) = shard_refusal_line (codes "5 BadLead") (shard_name setup s)
+open_fault_line setup (BadListing s) = shard_refusal_line (codes "6 BadListing") (shard_name setup s)
+open_fault_line setup (OverRoom v) = server_refusal_line (codes "7 OverRoom") (server_name setup v)
+open_fault_line setup (Short s) = shard_refusal_line (codes "8 Short") (shard_name setup s)
+open_fault_line setup TooManyDown = refusal_line (codes "9 TooManyDown")

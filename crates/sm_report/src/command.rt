@@ -1,0 +1,111 @@
+//! The words of the command line.
+ghost use Rattle.std.specs.Prelude.{◌≡◌, ◌≢◌, Some, None, IfOk, IfErr, map};
+ghost use Rattle.clap.specs.Words.{app_of, fault_of, kind_of};
+ghost use Rattle.clap.specs.Walk.{texts};
+ghost use Rattle.sm_report.specs.CommandLine.{named, asked_for, program, Tells, TellsKind};
+
+use clap::error::ErrorKind;
+use clap::{Command as Parser, Error};
+use std::alloc::{AllocError, Global};
+
+/// What is reported.
+#[derive(Clone, Copy, Debug, PartialEq, Eq)]
+pub enum Command {
+    /// The answers to the document's calls, and the placement after them.
+    Calls,
+}
+
+impl Command {
+    /// The command with this name.
+    pub fn named(name: &str) -> Option<Command>
+        ensures { result ≡ named name.now }
+    {
+        if name == "calls" {
+            Some(Command::Calls)
+        } else {
+            None
+        }
+    }
+}
+
+/// What the words after the program's name ask for.
+#[derive(Clone, Copy, Debug, PartialEq, Eq)]
+pub enum Word {
+    Report(Command),
+    Run,
+}
+
+/// Why the words ask for nothing.
+#[derive(Debug, Drop)]
+pub enum LineFault {
+    NoMemory,
+    /// Help was asked for.
+    Help { text: String },
+    /// The words are no command line of the program.
+    Bad { text: String },
+}
+
+/// The command line: one word, the name of a command.
+fn parser<'a>(alloc: Global) -> Result<Parser<'a>, AllocError>
+    ensures { IfOk result (λ p. app_of p ≡ program) }
+{
+    let calls = Parser::new(alloc, "calls").about(
+        "Makes the document's calls, and prints their answers and the placement after them",
+    );
+    Parser::new(alloc, "smplan")
+        .bin_name("smplan")?
+        .about("Reads a placement of shards on standard input, and prints a report of it")
+        .no_binary_name(true)
+        .subcommand_required(true)
+        .subcommand(calls)
+}
+
+/// What an error of the command line tells.
+fn fault_in(alloc: Global, error: &Error) -> LineFault
+    ensures { TellsKind result (kind_of error.now) }
+{
+    let Ok(text) = error.to_string(alloc) else {
+        return LineFault::NoMemory;
+    };
+    match error.kind() {
+        ErrorKind::OutOfMemory => LineFault::NoMemory,
+        ErrorKind::DisplayHelp => LineFault::Help { text },
+        _ => LineFault::Bad { text },
+    }
+}
+
+/// What the words ask for, where they are the name of a command and nothing else.
+fn asked_for(words: &[&str]) -> Option<Word>
+    ensures { result ≡ asked_for (texts words.now) }
+{
+    match words {
+        [word] => Command::named(word).map(Word::Report),
+        _ => None,
+    }
+}
+
+/// What the words after the program's name ask for.
+///
+/// The texts of help and of faults are `clap`'s.
+pub fn command_of(alloc: Global, words: &[&str]) -> Result<Word, LineFault>
+    ensures ok { IfOk result (λ word. asked_for (texts words.now) ≡ Some word) }
+    ensures known { asked_for (texts words.now) ≢ None → IfErr result (λ fault. fault ≡ LineFault.NoMemory) }
+    ensures faults { IfErr result (λ fault. Tells fault (fault_of program (texts words.now))) }
+{
+    let Ok(mut parser) = parser(alloc) else {
+        return Err(LineFault::NoMemory);
+    };
+    if let Err(error) = parser.try_get_matches_from_mut(words) {
+        return Err(fault_in(alloc, &error));
+    }
+    if let Some(word) = asked_for(words) {
+        return Ok(word);
+    }
+    match parser.error(
+        ErrorKind::UnknownArgument,
+        "a command is named by one word, with nothing after it",
+    ) {
+        Ok(error) => Err(fault_in(alloc, &error)),
+        Err(_) => Err(LineFault::NoMemory),
+    }
+}

@@ -1,0 +1,20 @@
+//! The reports of `smplan`: from the bytes that are read to the bytes that are written.
+#![tactic(auto)]
+
+mod answers;
+mod bad_input;
+mod calls;
+mod command;
+mod delivery;
+mod ending;
+mod input;
+mod made;
+mod names;
+mod opening;
+mod reporting;
+mod status;
+
+pub use command::{Command, LineFault, Word, command_of};
+pub use input::{InputFault, take_input};
+pub use reporting::report;
+pub use status::Status;
