@@ -184,10 +184,8 @@ fn reads_everything(rt: HostRuntime) -> Result<(), Fail> {
             },
         ),
     ];
-    match document.calls {
-        Some(read) => assert_eq!(rt; read.as_slice(), calls.as_slice()),
-        None => assert!(rt; false, "no calls"),
-    }
+    let read = document.calls.ok_or("no calls")?;
+    assert_eq!(rt; read.as_slice(), calls.as_slice());
     Ok(())
 }
 
@@ -199,10 +197,8 @@ fn reads_what_is_empty(rt: HostRuntime) -> Result<(), Fail> {
     assert!(rt; document.config.shards().is_empty());
     assert!(rt; document.cells.is_empty());
     assert!(rt; document.listed.is_empty());
-    match document.calls {
-        Some(calls) => assert!(rt; calls.is_empty()),
-        None => assert!(rt; false, "no calls"),
-    }
+    let calls = document.calls.ok_or("no calls")?;
+    assert!(rt; calls.is_empty());
     let blanks = " {\t\"limit\" : 0 ,\r\n\"servers\":[ ],\"shards\":[] } ";
     assert_eq!(rt; fault_of(rt.alloc(), blanks), None);
     let escapes =
