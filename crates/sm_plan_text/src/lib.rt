@@ -13,6 +13,3 @@ mod shard;
 pub use document::{Document, read_document};
 pub use fault::{TextFault, first_is_answered};
 pub use member::Member;
-
-#[cfg(test)]
-mod tests;
