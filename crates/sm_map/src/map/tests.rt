@@ -53,6 +53,15 @@ fn words_stand_for_entries(rt: HostRuntime) {
     }
 }
 
+/// A map whose memory is refused is not opened. `scripts/check-memory` refuses each allocation of this test in turn.
+#[test]
+fn a_map_is_opened_or_not(rt: HostRuntime) {
+    if let Ok((words, mut publisher)) = open_one(rt.alloc()) {
+        let mut pass = words.pass(&mut publisher);
+        assert_eq!(rt; words.look(&mut pass, ShardId::new(0)), entry(0, 0));
+    }
+}
+
 #[test]
 fn passes_see_what_was_stored(rt: HostRuntime) -> Result<(), Fail> {
     let (words, mut publisher) = open_one(rt.alloc())?;

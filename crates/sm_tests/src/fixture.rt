@@ -1,0 +1,231 @@
+//! Small placements, and the calls of a placement with their conditions tested.
+ghost use Rattle.std.specs.Prelude.{◌<◌, length};
+
+use sm_placement::{Config, ConfigFault, OpenFault, Placement, Server, Serving, Shard};
+use sm_server::{Call, Cell, Refusal, Role, ServerId, ShardId};
+use std::alloc::{AllocError, Global};
+use std::process::Abort;
+
+pub const ADD_PRIMARY: Call = Call::Add(Role::Primary);
+
+pub const ADD_SECONDARY: Call = Call::Add(Role::Secondary);
+
+pub const TO_PRIMARY: Call = Call::Change {
+    from: Role::Secondary,
+    to: Role::Primary,
+};
+
+pub const TO_SECONDARY: Call = Call::Change {
+    from: Role::Primary,
+    to: Role::Secondary,
+};
+
+/// A server of a region, by its name and room.
+pub fn server(alloc: Global, name: &str, region: &str, room: u64) -> Result<Server, AllocError> {
+    Ok(Server {
+        name: String::from_str(alloc, name)?,
+        region: String::from_str(alloc, region)?,
+        room,
+    })
+}
+
+/// A shard of spread 1.
+pub fn shard(
+    alloc: Global,
+    name: &str,
+    load: u64,
+    want: u32,
+    cap: u32,
+) -> Result<Shard, AllocError> {
+    Ok(Shard {
+        name: String::from_str(alloc, name)?,
+        load,
+        want,
+        cap,
+        spread: 1,
+    })
+}
+
+/// As many servers with this room.
+pub fn many_servers(alloc: Global, count: u32, room: u64) -> Result<Vec<Server>, AllocError> {
+    let mut servers = Vec::new(alloc);
+    for number in 0..count {
+        let name = format!(in alloc; "server-{number}")?;
+        servers.push(server(alloc, &name, "r1", room)?)?;
+    }
+    Ok(servers)
+}
+
+/// As many shards with this load, want and cap.
+pub fn many_shards(
+    alloc: Global,
+    count: u32,
+    load: u64,
+    want: u32,
+    cap: u32,
+) -> Result<Vec<Shard>, AllocError> {
+    let mut shards = Vec::new(alloc);
+    for number in 0..count {
+        let name = format!(in alloc; "shard-{number}")?;
+        shards.push(shard(alloc, &name, load, want, cap)?)?;
+    }
+    Ok(shards)
+}
+
+/// Three servers with room for 10, 10 and 4; shard 0 has load 4 and wants 2 with a cap of 1, shard 1 has load 6 and
+/// wants 1 with no cap.
+pub fn small_config(alloc: Global) -> Result<Config, ConfigFault> {
+    let servers = [
+        server(alloc, "a", "r1", 10).map_err(|_| ConfigFault::NoMemory)?,
+        server(alloc, "b", "r2", 10).map_err(|_| ConfigFault::NoMemory)?,
+        server(alloc, "c", "r1", 4).map_err(|_| ConfigFault::NoMemory)?,
+    ];
+    let shards = [
+        shard(alloc, "s", 4, 2, 1).map_err(|_| ConfigFault::NoMemory)?,
+        shard(alloc, "t", 6, 1, 0).map_err(|_| ConfigFault::NoMemory)?,
+    ];
+    Config::new(alloc, &servers, &shards)
+}
+
+/// A cell with its ids.
+pub fn named(shard: u32, server: u32, cell: Cell) -> (ShardId, ServerId, Cell) {
+    (ShardId::new(shard), ServerId::new(server), cell)
+}
+
+/// The small placement: shard 0 has its primary at server 0 and a secondary at server 2, shard 1 its primary at
+/// server 1.
+pub fn small_placement(alloc: Global, config: &Config) -> Result<Placement, OpenFault> {
+    let cells = [
+        named(0, 0, Cell::Primary),
+        named(0, 2, Cell::Secondary),
+        named(1, 1, Cell::Primary),
+    ];
+    let listed = [Some(ServerId::new(0)), Some(ServerId::new(1))];
+    Placement::open(alloc, config, &cells, &listed, &[], 1)
+}
+
+/// The id of a server, which has to be there.
+pub fn server_id(rt: &impl Abort, placement: &Placement, server: u32) -> ServerId
+    ensures { result < length placement.now.setup.servers }
+{
+    assert!(rt; server < placement.config().server_count());
+    ServerId::new(server)
+}
+
+/// The id of a shard, which has to be there.
+pub fn shard_id(rt: &impl Abort, placement: &Placement, shard: u32) -> ShardId
+    ensures { result < length placement.now.setup.shards }
+{
+    assert!(rt; shard < placement.config().shard_count());
+    ShardId::new(shard)
+}
+
+/// A call, at ids that have to be there.
+pub fn call(
+    rt: &impl Abort,
+    placement: &mut Placement,
+    server: u32,
+    shard: u32,
+    call: Call,
+) -> Result<(), Refusal> {
+    let server = server_id(rt, placement, server);
+    let shard = shard_id(rt, placement, shard);
+    let count = placement.config().server_count();
+    match &call {
+        Call::PrepareAdd { owner, .. } => {
+            assert!(rt; owner.number() < count);
+            placement.call(server, shard, call)
+        }
+        Call::PrepareDrop { new_owner, .. } => {
+            assert!(rt; new_owner.number() < count);
+            placement.call(server, shard, call)
+        }
+        _ => placement.call(server, shard, call),
+    }
+}
+
+/// A numbered call, at ids that have to be there and under a number of at least 1.
+pub fn call_numbered(
+    rt: &impl Abort,
+    placement: &mut Placement,
+    server: u32,
+    shard: u32,
+    call: Call,
+    number: u64,
+) -> Result<bool, Refusal> {
+    let server = server_id(rt, placement, server);
+    let shard = shard_id(rt, placement, shard);
+    let count = placement.config().server_count();
+    assert!(rt; number >= 1);
+    match &call {
+        Call::PrepareAdd { owner, .. } => {
+            assert!(rt; owner.number() < count);
+            placement.call_numbered(server, shard, call, number)
+        }
+        Call::PrepareDrop { new_owner, .. } => {
+            assert!(rt; new_owner.number() < count);
+            placement.call_numbered(server, shard, call, number)
+        }
+        _ => placement.call_numbered(server, shard, call, number),
+    }
+}
+
+/// The cell of a shard at a server.
+pub fn cell(rt: &impl Abort, placement: &Placement, shard: u32, server: u32) -> Cell {
+    let server = server_id(rt, placement, server);
+    let shard = shard_id(rt, placement, shard);
+    placement.cell(shard, server)
+}
+
+/// The load of a server.
+pub fn load(rt: &impl Abort, placement: &Placement, server: u32) -> u64 {
+    placement.load(server_id(rt, placement, server))
+}
+
+/// The live replicas of a shard.
+pub fn live(rt: &impl Abort, placement: &Placement, shard: u32) -> u32 {
+    placement.live(shard_id(rt, placement, shard))
+}
+
+/// Who serves a shard.
+pub fn serving(rt: &impl Abort, placement: &Placement, shard: u32) -> Serving {
+    placement.serving(shard_id(rt, placement, shard))
+}
+
+/// The published entry of a shard: the listed server's number, and the version.
+pub fn listed(rt: &impl Abort, placement: &Placement, shard: u32) -> (Option<u32>, u64) {
+    let shard = shard_id(rt, placement, shard);
+    let server = match placement.listed(shard) {
+        Some(server) => Some(server.number()),
+        None => None,
+    };
+    (server, placement.version(shard))
+}
+
+/// Publishes an entry for a shard.
+pub fn publish(rt: &impl Abort, placement: &mut Placement, shard: u32, server: Option<u32>) {
+    let shard = shard_id(rt, placement, shard);
+    assert!(rt; placement.version(shard) < 140737488355328);
+    match server {
+        Some(server) => {
+            let server = server_id(rt, placement, server);
+            placement.publish(shard, Some(server));
+        }
+        None => placement.publish(shard, None),
+    }
+}
+
+/// Whether a server is down.
+pub fn is_down(rt: &impl Abort, placement: &Placement, server: u32) -> bool {
+    placement.is_down(server_id(rt, placement, server))
+}
+
+/// Sets a server down, or up.
+pub fn set_down(rt: &impl Abort, placement: &mut Placement, server: u32, down: bool) {
+    let server = server_id(rt, placement, server);
+    if down {
+        placement.set_down(server);
+    } else {
+        placement.set_up(server);
+    }
+}

@@ -1,0 +1,161 @@
+//! Running totals against plain sums, in a large placement with handovers under way.
+use crate::fixture::*;
+use sm_placement::{Config, Placement, Serving};
+use sm_server::{Call, Cell, Refusal, ServerId};
+use std::alloc::{AllocError, Global};
+use std::process::Abort;
+use std::test::Fail;
+
+const SERVERS: u32 = 1024;
+
+const SHARDS: u32 = 4096;
+
+/// Whether a server that has this cell of a shard serves it, by the cell of the server that it is prepared from.
+fn serves(rt: &impl Abort, placement: &Placement, shard: u32, server: u32, has: &Cell) -> bool {
+    match has {
+        Cell::Primary => true,
+        Cell::Prepared { from, number } => match cell(rt, placement, shard, from.number()) {
+            Cell::Forwarding { to, number: under } => to.number() == server && under == *number,
+            _ => false,
+        },
+        _ => false,
+    }
+}
+
+/// Compares the live and serving replicas of a shard with those counted one by one, and adds its load to that of each
+/// server that has something of it.
+fn compare_shard(rt: &impl Abort, placement: &Placement, shard: u32, loads: &mut [u64]) {
+    let mut live_now = 0u32;
+    let mut serving_now = 0u32;
+    for server in 0..SERVERS {
+        let has = cell(rt, placement, shard, server);
+        if has.is_absent() {
+            continue;
+        }
+        if let Some(sum) = loads.get_mut(server as usize) {
+            *sum = sum.saturating_add(u64::from(shard % 7) + 1);
+        }
+        let serves = serves(rt, placement, shard, server, &has);
+        if serves {
+            serving_now = serving_now.saturating_add(1);
+        }
+        if (serves || has == Cell::Secondary) && !is_down(rt, placement, server) {
+            live_now = live_now.saturating_add(1);
+        }
+    }
+    assert_eq!(rt; live(rt, placement, shard), live_now, "live of {shard}");
+    let told = match serving(rt, placement, shard) {
+        Serving::Nobody => 0,
+        Serving::One(_) => 1,
+        Serving::Several(count) => count,
+    };
+    assert_eq!(rt; told, serving_now, "serving of {shard}");
+}
+
+/// Compares every total with its plain sum, made from `cell` and `is_down` alone.
+fn compare(rt: &impl Abort, alloc: Global, placement: &Placement) -> Result<(), AllocError> {
+    let mut loads = vec![in alloc; 0u64; 1024]?;
+    for shard in 0..SHARDS {
+        compare_shard(rt, placement, shard, loads.as_mut_slice());
+    }
+    let mut down = 0u32;
+    for server in 0..SERVERS {
+        let sum = loads.get(server as usize).copied();
+        assert_eq!(rt; sum, Some(load(rt, placement, server)), "load of {server}");
+        if is_down(rt, placement, server) {
+            down = down.saturating_add(1);
+        }
+    }
+    assert_eq!(rt; placement.down_count(), down);
+    Ok(())
+}
+
+/// The calls of a round on one shard: three replicas come, a handover goes part of its way, and some calls are refused.
+fn made(rt: &impl Abort, placement: &mut Placement, round: u32, step: u32) -> Result<(), Refusal> {
+    let shard = round.wrapping_mul(41) % SHARDS;
+    let owner = round.wrapping_mul(7) % 32;
+    let new = (owner + 1) % 32;
+    let third = (owner + 2) % 32;
+    let number = u64::from(round) + 1;
+    let under = if round % 3 == 0 { number + 1 } else { number };
+    let numbered = if round % 4 < 2 {
+        (new, ADD_PRIMARY)
+    } else {
+        (third, Call::Drop)
+    };
+    match step {
+        0 => call(rt, placement, owner, shard, ADD_PRIMARY),
+        1 => call(rt, placement, third, shard, ADD_SECONDARY),
+        2 => {
+            let owner = ServerId::new(owner);
+            call(
+                rt,
+                placement,
+                new,
+                shard,
+                Call::PrepareAdd { owner, number },
+            )
+        }
+        3 => {
+            let new_owner = ServerId::new(new);
+            let forward = Call::PrepareDrop {
+                new_owner,
+                number: under,
+            };
+            call(rt, placement, owner, shard, forward)
+        }
+        4 | 5 => {
+            call_numbered(rt, placement, numbered.0, shard, numbered.1, number)?;
+            Ok(())
+        }
+        6 => match round % 5 {
+            0 => call(rt, placement, owner, shard, Call::Drop),
+            1 => call(rt, placement, third, shard, TO_PRIMARY),
+            2 => call(rt, placement, owner, shard, TO_SECONDARY),
+            _ => call(rt, placement, new, shard, ADD_SECONDARY),
+        },
+        _ => call(rt, placement, third, shard, ADD_SECONDARY),
+    }
+}
+
+fn large_config(rt: &HostRuntime) -> Result<Config, Fail> {
+    let alloc = rt.alloc();
+    let servers = many_servers(alloc, SERVERS, 40)?;
+    let mut shards = many_shards(alloc, SHARDS, 1, 3, 3)?;
+    let mut number = 0u64;
+    for shard in shards.iter_mut() {
+        shard.load = number % 7 + 1;
+        number = number.wrapping_add(1);
+    }
+    Ok(Config::new(alloc, &servers, &shards)?)
+}
+
+#[test]
+fn totals_are_sums(rt: HostRuntime) -> Result<(), Fail> {
+    let alloc = rt.alloc();
+    let config = large_config(&rt)?;
+    let listed = vec![in alloc; None; 4096]?;
+    let mut placement = Placement::open(alloc, &config, &[], &listed, &[], 16)?;
+    let mut calls = 0u32;
+    let mut ok = 0u32;
+    for round in 0..125u32 {
+        let turned = round.wrapping_mul(11) % 32;
+        set_down(&rt, &mut placement, turned, round % 2 == 0);
+        if round % 2 == 1 {
+            set_down(&rt, &mut placement, (turned + 21) % 32, false);
+        }
+        for step in 0..8 {
+            if made(&rt, &mut placement, round, step).is_ok() {
+                ok = ok.wrapping_add(1);
+            }
+            calls = calls.wrapping_add(1);
+            if calls % 100 == 0 {
+                compare(&rt, alloc, &placement)?;
+            }
+        }
+    }
+    assert_eq!(rt; calls, 1000);
+    assert!(rt; ok >= 500, "only {ok} calls were made");
+    assert!(rt; placement.down_count() > 0);
+    Ok(())
+}
