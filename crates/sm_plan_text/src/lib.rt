@@ -9,6 +9,8 @@ mod names;
 mod object;
 mod server;
 mod shard;
+#[cfg(test)]
+mod tests;
 
 pub use document::{Document, read_document};
 pub use fault::{TextFault, first_is_answered};

@@ -1,6 +1,9 @@
 //! The program: one word says what is reported of the document on standard input.
 #![tactic(auto)]
 
+#[cfg(test)]
+mod tests;
+
 use sm_report::{LineFault, Status, Word, command_of, report};
 use std::alloc::{AllocError, Global};
 use std::io::ErrorKind;

@@ -1,0 +1,110 @@
+//! Documents that are as large as they may be, and larger ones.
+use super::fixtures::{fault_of, too_many};
+use crate::Member;
+use std::alloc::{AllocError, Global};
+use std::test::Fail;
+
+/// Adds a text so often, with commas between.
+fn push_times(whole: &mut String, count: u32, text: &str) -> Result<(), AllocError> {
+    for n in 0..count {
+        if n > 0 {
+            whole.push_str(",")?;
+        }
+        whole.push_str(text)?;
+    }
+    Ok(())
+}
+
+/// Adds numbered objects, each with one text before its number and one behind it.
+fn push_numbered(
+    whole: &mut String,
+    count: u32,
+    front: &str,
+    back: &str,
+) -> Result<(), AllocError> {
+    for n in 0..count {
+        if n > 0 {
+            whole.push_str(",")?;
+        }
+        write!(whole, "{front}{n}{back}")?;
+    }
+    Ok(())
+}
+
+/// A document of so many servers and shards without cells.
+fn sized(alloc: Global, servers: u32, shards: u32) -> Result<String, AllocError> {
+    let server_back = r#"","region":"r","room":1}"#;
+    let shard_back = r#"","load":1,"want":0,"cap":0,"spread":0,"cells":[]}"#;
+    let mut whole = String::from_str(alloc, r#"{"limit":1,"servers":["#)?;
+    push_numbered(&mut whole, servers, r#"{"name":"v"#, server_back)?;
+    whole.push_str(r#"],"shards":["#)?;
+    push_numbered(&mut whole, shards, r#"{"name":"s"#, shard_back)?;
+    whole.push_str("]}")?;
+    Ok(whole)
+}
+
+#[test]
+fn counts_servers_and_shards(rt: HostRuntime) -> Result<(), Fail> {
+    let sizes = [
+        (1024, 4096, None),
+        (1025, 1, too_many(Member::Servers)),
+        (1, 4097, too_many(Member::Shards)),
+        (1025, 4097, too_many(Member::Servers)),
+    ];
+    for (servers, shards, fault) in sizes {
+        let text = sized(rt.alloc(), servers, shards)?;
+        assert_eq!(rt;
+            fault_of(rt.alloc(), text.as_str()),
+            fault,
+            "{servers} servers, {shards} shards"
+        );
+    }
+    Ok(())
+}
+
+/// Adds a shard with so many cells.
+fn push_shard(whole: &mut String, name: u32, cells: u32) -> Result<(), AllocError> {
+    write!(
+        whole,
+        r#"{{"name":"{name}","load":0,"want":0,"cap":0,"spread":0,"cells":["#
+    )?;
+    push_times(whole, cells, r#"{"server":"0","state":"secondary"}"#)?;
+    whole.push_str("]}")
+}
+
+/// A server, two shards with so many cells, and so many calls.
+fn filled(alloc: Global, first: u32, second: u32, calls: u32) -> Result<String, AllocError> {
+    let servers = r#"{"limit":0,"servers":[{"name":"0","region":"r","room":1}],"shards":["#;
+    let call = r#"{"call":"drop","shard":"0","server":"0"}"#;
+    let mut whole = String::from_str(alloc, servers)?;
+    push_shard(&mut whole, 0, first)?;
+    whole.push_str(",")?;
+    push_shard(&mut whole, 1, second)?;
+    whole.push_str(r#"],"calls":["#)?;
+    push_times(&mut whole, calls, call)?;
+    whole.push_str("]}")?;
+    Ok(whole)
+}
+
+/// The cells of all shards count together.
+#[test]
+fn counts_cells(rt: HostRuntime) -> Result<(), Fail> {
+    for (second, fault) in [(6, None), (7, too_many(Member::Cells))] {
+        let text = filled(rt.alloc(), 1_048_570, second, 0)?;
+        assert_eq!(rt;
+            fault_of(rt.alloc(), text.as_str()),
+            fault,
+            "{second} cells more"
+        );
+    }
+    Ok(())
+}
+
+#[test]
+fn counts_calls(rt: HostRuntime) -> Result<(), Fail> {
+    for (calls, fault) in [(1_048_576, None), (1_048_577, too_many(Member::Calls))] {
+        let text = filled(rt.alloc(), 0, 0, calls)?;
+        assert_eq!(rt; fault_of(rt.alloc(), text.as_str()), fault, "{calls} calls");
+    }
+    Ok(())
+}

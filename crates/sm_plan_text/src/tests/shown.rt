@@ -1,0 +1,41 @@
+//! How faults are shown.
+use crate::{Member, TextFault, first_is_answered};
+use std::test::Fail;
+
+#[test]
+fn shows_faults(rt: HostRuntime) -> Result<(), Fail> {
+    first_is_answered();
+    let document = Member::Document;
+    let other = Member::Other;
+    let cells = Member::Cells;
+    let number = Member::Number;
+    let faults = [
+        (TextFault::NoMemory, 1, "out of memory"),
+        (TextFault::NotJson, 2, "not a JSON text in UTF-8"),
+        (
+            TextFault::Shape { member: document },
+            3,
+            "`document` is missing or not in its form",
+        ),
+        (
+            TextFault::UnknownName { member: other },
+            4,
+            "`other` names what is not in the document",
+        ),
+        (
+            TextFault::TooMany { member: cells },
+            5,
+            "`cells` has too many entries",
+        ),
+        (
+            TextFault::Number { member: number },
+            6,
+            "`number` is not a whole number within its limit",
+        ),
+    ];
+    for (fault, number, shown) in faults {
+        assert_eq!(rt; fault.number(), number);
+        assert_eq!(rt; format!(in rt.alloc(); "{fault}")?.as_str(), shown);
+    }
+    Ok(())
+}

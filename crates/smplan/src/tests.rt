@@ -1,0 +1,6 @@
+//! Tests of what no contract says.
+mod documents;
+mod ends;
+mod input;
+mod line;
+mod rows;

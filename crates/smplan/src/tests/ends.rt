@@ -1,0 +1,154 @@
+//! Readers and writers that go wrong.
+use super::documents::REFUSED_CALLS;
+use sm_report::{Command, Status, report};
+use std::alloc::Global;
+use std::io::{self, ErrorKind, Read, Write};
+
+/// A reader of so many bytes at a time, each of whose reads is interrupted before it is made.
+#[derive(Drop)]
+struct InterruptedReader<'a> {
+    left: &'a [u8],
+    was_interrupted: bool,
+}
+
+impl Read for InterruptedReader<'_> {
+    fn read(&mut self, buf: &mut [u8]) -> io::Result<usize> {
+        self.was_interrupted = !self.was_interrupted;
+        if self.was_interrupted {
+            return Err(io::Error::from(ErrorKind::Interrupted));
+        }
+        let most = buf.len().min(16);
+        self.left.read(&mut buf[..most])
+    }
+}
+
+/// A reader one of whose reads fails.
+#[derive(Drop)]
+struct FailingReader<'a> {
+    left: &'a [u8],
+    reads: usize,
+    fails_at: usize,
+}
+
+impl Read for FailingReader<'_> {
+    fn read(&mut self, buf: &mut [u8]) -> io::Result<usize> {
+        self.reads = self.reads.wrapping_add(1);
+        if self.reads == self.fails_at {
+            return Err(io::Error::from(ErrorKind::Other));
+        }
+        let most = buf.len().min(16);
+        self.left.read(&mut buf[..most])
+    }
+}
+
+/// How a write goes wrong.
+#[derive(Clone, Copy)]
+enum Fault {
+    Fails,
+    TakesNothing,
+    IsInterrupted,
+}
+
+/// A writer of a few bytes at a time, one of whose writes goes wrong.
+#[derive(Drop)]
+struct FailingWriter {
+    taken: Vec<u8>,
+    most: usize,
+    writes: usize,
+    fails_at: usize,
+    fault: Fault,
+}
+
+impl Write for FailingWriter {
+    fn write(&mut self, buf: &[u8]) -> io::Result<usize> {
+        self.writes = self.writes.wrapping_add(1);
+        if self.writes == self.fails_at {
+            return match self.fault {
+                Fault::Fails => Err(io::Error::from(ErrorKind::Other)),
+                Fault::TakesNothing => Ok(0),
+                Fault::IsInterrupted => Err(io::Error::from(ErrorKind::Interrupted)),
+            };
+        }
+        let most = buf.len().min(self.most);
+        self.taken.write(&buf[..most])
+    }
+
+    fn flush(&mut self) -> io::Result<()> {
+        Ok(())
+    }
+}
+
+fn failing_writer(alloc: Global, most: usize, fails_at: usize, fault: Fault) -> FailingWriter {
+    FailingWriter {
+        taken: Vec::new(alloc),
+        most,
+        writes: 0,
+        fails_at,
+        fault,
+    }
+}
+
+#[test]
+fn reads_again_where_it_is_interrupted(rt: HostRuntime) {
+    let mut reader = InterruptedReader {
+        left: REFUSED_CALLS.document.as_bytes(),
+        was_interrupted: false,
+    };
+    let mut text = Vec::new(rt.alloc());
+    let status = report(rt.alloc(), Command::Calls, &mut reader, &mut text);
+    assert!(rt; text.as_slice() == REFUSED_CALLS.text.as_bytes());
+    assert_eq!(rt; status, Status::Done);
+}
+
+#[test]
+fn writes_nothing_after_a_failed_read(rt: HostRuntime) {
+    let reads = REFUSED_CALLS.document.len() / 16 + 2;
+    for fails_at in 1..=reads {
+        let mut reader = FailingReader {
+            left: REFUSED_CALLS.document.as_bytes(),
+            reads: 0,
+            fails_at,
+        };
+        let mut text = Vec::new(rt.alloc());
+        let status = report(rt.alloc(), Command::Calls, &mut reader, &mut text);
+        assert_eq!(rt; status, Status::ReadFailed, "read {fails_at}");
+        assert!(rt; text.is_empty());
+    }
+}
+
+#[test]
+fn writes_byte_by_byte(rt: HostRuntime) {
+    let mut reader = REFUSED_CALLS.document.as_bytes();
+    let mut writer = failing_writer(rt.alloc(), 1, 0, Fault::Fails);
+    let status = report(rt.alloc(), Command::Calls, &mut reader, &mut writer);
+    assert!(rt; writer.taken.as_slice() == REFUSED_CALLS.text.as_bytes());
+    assert_eq!(rt; status, Status::Done);
+}
+
+/// Each write of the report goes wrong in turn.
+fn ends_at_each_write(rt: &(impl AllocGlobal + std::process::Abort), fault: Fault) {
+    for (before, _) in REFUSED_CALLS.text.as_bytes().chunks(7).enumerate() {
+        let mut reader = REFUSED_CALLS.document.as_bytes();
+        let mut writer = failing_writer(rt.alloc(), 7, before.saturating_add(1), fault);
+        let status = report(rt.alloc(), Command::Calls, &mut reader, &mut writer);
+        assert_eq!(rt; status, Status::WriteFailed, "after {before} writes");
+        let front = writer.taken.as_slice();
+        assert_eq!(rt; front.len(), before.saturating_mul(7));
+        assert!(rt; REFUSED_CALLS.text.as_bytes().starts_with(front));
+    }
+}
+
+#[test]
+fn ends_at_a_failed_write(rt: HostRuntime) {
+    ends_at_each_write(&rt, Fault::Fails);
+}
+
+#[test]
+fn ends_at_a_write_of_nothing(rt: HostRuntime) {
+    ends_at_each_write(&rt, Fault::TakesNothing);
+}
+
+#[test]
+fn ends_at_an_interrupted_write(rt: HostRuntime) {
+    ends_at_each_write(&rt, Fault::IsInterrupted);
+}

@@ -1,0 +1,48 @@
+//! The words of the command line.
+use sm_report::{Command, LineFault, Word, command_of};
+
+#[test]
+fn knows_the_commands(rt: HostRuntime) {
+    let word = command_of(rt.alloc(), &["calls"]);
+    assert!(rt; word.is_ok_and(|word| word == Word::Report(Command::Calls)));
+}
+
+static BAD: [&[&str]; 12] = [
+    &[],
+    &["chat"],
+    &["check"],
+    &["play"],
+    &["plan"],
+    &["run"],
+    &["calls", "calls"],
+    &["calls", "--quiet"],
+    &["calls", "--"],
+    &["--", "calls"],
+    &["--version"],
+    &[""],
+];
+
+#[test]
+fn refuses_other_words(rt: HostRuntime) {
+    for words in &BAD {
+        let told = matches!(command_of(rt.alloc(), *words), Err(LineFault::Bad { .. }));
+        assert!(rt; told, "{words:?}");
+    }
+}
+
+static HELP: [&[&str]; 6] = [
+    &["--help"],
+    &["-h"],
+    &["help"],
+    &["help", "calls"],
+    &["calls", "--help"],
+    &["calls", "-h"],
+];
+
+#[test]
+fn gives_help(rt: HostRuntime) {
+    for words in &HELP {
+        let told = matches!(command_of(rt.alloc(), *words), Err(LineFault::Help { .. }));
+        assert!(rt; told, "{words:?}");
+    }
+}
