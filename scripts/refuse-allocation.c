@@ -1,0 +1,23 @@
+/* Preloaded into a program: refuses the allocation whose number REFUSED_ALLOCATION gives, the first being 1. A byte then goes
+   to file 9. */
+#include <stdlib.h>
+#include <unistd.h>
+
+extern void *__libc_malloc(size_t size);
+extern void *__libc_realloc(void *old, size_t size);
+
+/* Whether this allocation is the one to refuse. */
+static int is_refused(void) {
+  static long made;
+  const char *number = getenv("REFUSED_ALLOCATION");
+  made += 1;
+  return number && made == atol(number) && write(9, "x", 1) == 1;
+}
+
+void *malloc(size_t size) {
+  return is_refused() ? NULL : __libc_malloc(size);
+}
+
+void *realloc(void *old, size_t size) {
+  return is_refused() ? NULL : __libc_realloc(old, size);
+}
