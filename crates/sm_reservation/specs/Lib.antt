@@ -1,0 +1,3 @@
+pub mod Rights
+pub mod Hold
+pub mod Amounts

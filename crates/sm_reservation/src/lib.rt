@@ -1,0 +1,5 @@
+//! Rights: what a stream of a plan may do is what it holds.
+pub mod right;
+
+pub use crate::right::{CellRight, Crown, Key, PlainCell, Room, Short, Spare};
+pub use sm_placement::Lead;
