@@ -1,0 +1,6 @@
+//! Plans as code: instructions, and what each of them does to the rights of the stream that makes it.
+#![tactic(auto)]
+
+mod instruction;
+
+pub use instruction::{Instr, NamedServers, Why, is_call, names};
