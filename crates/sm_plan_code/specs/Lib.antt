@@ -1,1 +1,3 @@
 pub mod Instr
+pub mod After
+pub mod Acts
