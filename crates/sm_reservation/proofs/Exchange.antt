@@ -1,18 +1,19 @@
 -- The law of exchange: where a call changes one cell and the hold of its maker changes with it, what there is of each
 -- right moves as what is held of it does.
-use Rattle.std.proofs.Common.{◌≡◌, ◌≢◌, ℕ, ◌+◌, ◌<◌, false, not, ◌&&◌, ap, arith, inl, inr, Option, Some}
-use Rattle.std.proofs.lemmas.Bool.{cases_eq}
+use Rattle.std.proofs.Common.{◌≡◌, ◌≢◌, ℕ, ◌+◌, ◌<◌, ◌≤◌, ◌∙◌, refl, false, not, ◌&&◌, ap, arith, inl, inr, Option, Some}
+use Rattle.std.proofs.lemmas.Bool.{cases_eq, cases_lt}
 use Rattle.sm_server.specs.declared.call.Cell.{Cell}
+use Rattle.sm_server.specs.declared.call.Cell.TheVariants.{Absent}
 use Rattle.sm_server.specs.Cell.{is_secondary}
 use Rattle.sm_placement.specs.declared.lead.Lead.{Lead}
 use Rattle.sm_placement.specs.Sums.{put, put2, bit}
 use Rattle.sm_placement.specs.Setup.{Sizes}
-use Rattle.sm_placement.specs.Rows.{live_in}
+use Rattle.sm_placement.specs.Rows.{live_in, serves}
 use Rattle.sm_placement.specs.Place.{Place, weight, live_at, set_cell}
 use Rattle.sm_placement.specs.Lead.{Describes, leader}
 use Rattle.sm_placement.proofs.Sums.{sum_apart, put-apart, put2-here, put2-row}
 use Rattle.sm_placement.proofs.Calls.{load_of-put, load_of-apart}
-use Rattle.sm_placement.proofs.Leads.{up_if, secondaries, live_by_lead}
+use Rattle.sm_placement.proofs.Leads.{up_if, secondaries, live_by_lead, leader_serves}
 use Rattle.sm_reservation.specs.Hold.{Hold}
 use Rattle.sm_reservation.specs.Amounts.{Right, OfCell, OfCrown, OfRoom, OfSpare, is_cell, is_crown, count, plain_of, stock, bound}
 use Rattle.sm_reservation.proofs.Changes.{Changed, Changed2, put2_changed, mapped2, count_moves}
@@ -40,6 +41,17 @@ live_at-put c p s v y lead lead' n n' l up d d' w w' =
     let e : secondaries c (set_cell p s v y) s + bit (is_secondary (p.cells s v)) ≡ secondaries c p s + bit (is_secondary y) = secondaries-put c p s v y l up in
     omega arith
 
+-- the server that serves under a lead is one of those that have cells
+pub leader_known : (lead : Lead) (n : ℕ) (row : ℕ → Cell) (servers : ℕ) → Describes lead n row → ((v : ℕ) → servers ≤ v → row v ≡ Absent) → (x : ℕ) → leader lead ≡ Some x → x < servers
+leader_known lead n row servers d out x e = elim (cases_lt x servers) [
+  | inl l ↦ l
+  | inr l ↦ absurd (let serving = (leader_serves lead n row d x e).0 in let plain : serves row x ≡ false = rw (out x l) refl in cc)
+]
+
+-- a cell that changes below the count of servers leaves nothing beyond it
+pub none_beyond-put : (c : Sizes) (p : Place) (s v : ℕ) (y : Cell) → v < c.servers → ((q : ℕ) → c.servers ≤ q → p.cells s q ≡ Absent) → (q : ℕ) → c.servers ≤ q → (set_cell p s v y).cells s q ≡ Absent
+none_beyond-put c p s v y l out q m = put2-row p.cells s v y q (λ e. absurd (omega arith)) ∙ out q m
+
 -- What a call changes in one shard, from the hold h to the hold h': the cell of s at v becomes y, and the lead of s
 -- becomes lead'.
 pub record Moves (c : Sizes) (p : Place) (leads : ℕ → Lead) (h h' : Hold) (s v : ℕ) (y : Cell) (lead' : Lead) (n n' : ℕ) : Type 0 where
@@ -48,8 +60,7 @@ pub record Moves (c : Sizes) (p : Place) (leads : ℕ → Lead) (h h' : Hold) (s
   pub up : p.down v ≡ false
   pub was : Describes (leads s) n (p.cells s)
   pub is : Describes lead' n' ((set_cell p s v y).cells s)
-  pub leader_was : (x : ℕ) → leader (leads s) ≡ Some x → x < c.servers
-  pub leader_is : (x : ℕ) → leader lead' ≡ Some x → x < c.servers
+  pub no_server : (q : ℕ) → c.servers ≤ q → p.cells s q ≡ Absent
   pub right_was : h.cells s v ≡ plain_of (p.cells s v)
   pub right_is : Changed2 h.cells h'.cells s v (plain_of y)
   pub crown_moves : (r : ℕ) (lead : Lead) (l : Option ℕ) →
@@ -73,6 +84,8 @@ exchange c p leads h h' s v y lead' n n' m (OfRoom q) = elim (cases_eq q v) [
   | inr e ↦ let a = load_of-apart c p.cells s v y q e in let b = m.room_moves.apart q e in omega arith
 ]
 exchange c p leads h h' s v y lead' n n' m (OfSpare r) = elim (cases_eq r s) [
-  | inl e ↦ rw e (let a = live_at-put c p s v y (leads s) lead' n n' m.in_servers m.up m.was m.is m.leader_was m.leader_is in let b = m.spare_here in omega arith)
+  | inl e ↦ rw e (let a = live_at-put c p s v y (leads s) lead' n n' m.in_servers m.up m.was m.is
+    (leader_known (leads s) n (p.cells s) c.servers m.was m.no_server)
+    (leader_known lead' n' ((set_cell p s v y).cells s) c.servers m.is (none_beyond-put c p s v y m.in_servers m.no_server)) in let b = m.spare_here in omega arith)
   | inr e ↦ let a = live_at-apart c p s v y r e in let b = m.spare_moves.apart r e in omega arith
 ]
