@@ -1,5 +1,5 @@
 -- The law of effects: each line of the table of rights.
-use Rattle.std.proofs.Common.{◌≡◌, ◌≢◌, ℕ, ◌+◌, ◌<◌, ◌≤◌, Bool, true, false, not, eqb, refl, sym, ap, ◌∙◌, arith, inl, inr, subst, Option, Some, None, Result, Ok, Err}
+use Rattle.std.proofs.Common.{◌≡◌, ◌≢◌, ℕ, ◌+◌, ◌<◌, Bool, true, false, refl, sym, ap, ◌∙◌, arith, inl, inr, subst, Option, Some, None, Ok}
 use Rattle.std.specs.Prelude.{is_some}
 use Rattle.std.proofs.lemmas.Bool.{cases_eq, cases_lt, eqb-true}
 use Rattle.sm_server.specs.declared.call.Cell.{Cell}
@@ -12,10 +12,9 @@ use Rattle.sm_placement.specs.declared.lead.Lead.TheVariants.{Gone, At, Ready, H
 use Rattle.sm_placement.specs.Sums.{put}
 use Rattle.sm_placement.specs.Setup.{Sizes}
 use Rattle.sm_placement.specs.Rows.{IsKnownCall}
-use Rattle.sm_placement.specs.Place.{Place, load_at, set_cell, answer_at, called, publish}
-use Rattle.sm_placement.specs.Layout.{IsPlacement}
+use Rattle.sm_placement.specs.Place.{Place, set_cell, answer_at, called, publish}
 use Rattle.sm_placement.specs.Lead.{Describes, lead_of}
-use Rattle.sm_placement.proofs.Sums.{put-here, put-apart, put2-row, put2-apart}
+use Rattle.sm_placement.proofs.Sums.{put-here, put-apart}
 use Rattle.sm_placement.proofs.Calls.{served_from, called_keeps}
 use Rattle.sm_placement.proofs.LeadOf.{lead_of_is}
 use Rattle.sm_reservation.specs.declared.right.PlainCell.{PlainCell}
@@ -29,7 +28,7 @@ use Rattle.sm_reservation.proofs.Exchange.{exchange}
 use Rattle.sm_plan_code.specs.declared.instruction.Instr.{Instr}
 use Rattle.sm_plan_code.specs.declared.instruction.Instr.TheVariants.{PrepareAdd, PrepareDrop, Add, Drop, Change, Publish, Unlist, Signal, Wait}
 use Rattle.sm_plan_code.specs.Instr.{shard_of, names_of}
-use Rattle.sm_plan_code.specs.After.{Line, after, decided, to_list, listed_of, lead_held, prepare_add_line, prepare_drop_line, add_secondary_line, to_primary_line, to_secondary_line, add_primary_line, drop_held_line, drop_led_line, publish_line, unlist_line}
+use Rattle.sm_plan_code.specs.After.{after, decided, to_list, listed_of, lead_held, prepare_add_line, prepare_drop_line, add_secondary_line, to_primary_line, to_secondary_line, add_primary_line, drop_held_line, drop_led_line, publish_line, unlist_line}
 use Rattle.sm_plan_code.specs.Acts.{acts, moved}
 use Rattle.sm_plan_code.specs.Effects.{IsReachable, IsScene, IsListable, Effect, IsOwn}
 use Rattle.sm_plan_code.proofs.Lines.{passes, crown_tested, crown_led}
@@ -108,7 +107,7 @@ module _ (c : Sizes) (p : Place) (leads : ℕ → Lead) (numbers : ℕ → ℕ) 
       let state = right.1 in
       let room = state.1 in
       ends (Add s v role.Primary) _ h' ok.1 (steady s v (call.Add role.Primary) (Add s v role.Primary) tt refl _
-        (add_gone c p leads numbers h sc s v at (listed_of (h.crowns s)) (crown_led Gone (h.crowns s) q) (tested s v plain.Absent state.0) room.0))
+      (add_gone c p leads numbers h sc s v at (listed_of (h.crowns s)) (crown_led Gone (h.crowns s) q) (tested s v plain.Absent state.0) room.0))
   by_add_primary s v h' at (Some (At u)) q e = cc
   by_add_primary s v h' at (Some (Ready u w)) q e = cc
   by_add_primary s v h' at (Some (Handed u w)) q e = cc
@@ -197,8 +196,8 @@ module _ (c : Sizes) (p : Place) (leads : ℕ → Lead) (numbers : ℕ → ℕ) 
       let d : Describes lead (numbers s) (p.cells s) = subst (λ x. Describes x (numbers s) (p.cells s)) mine.0 (sc.described s) in
       let is : lead_of c.servers (p.cells s) ≡ lead = lead_of_is lead (numbers s) (p.cells s) c.servers d (sc.placement.no_server s) in
       ends (Publish s) _ h' (passes (publish_line s h (Some lead)) h' e).1
-        (lists s lead (listed_of (h.crowns s)) (to_list lead) (Publish s) crown (listable_to_list lead) (λ u f. known d u f)
-          (ap (λ (x : Lead). Some (publish p s (to_list x), numbers)) is))
+      (lists s lead (listed_of (h.crowns s)) (to_list lead) (Publish s) crown (listable_to_list lead) (λ u f. known d u f)
+      (ap (λ (x : Lead). Some (publish p s (to_list x), numbers)) is))
     where
       known : Describes lead (numbers s) (p.cells s) → (u : ℕ) → to_list lead ≡ Some u → u < c.servers
       known d u f = elim (cases_lt u c.servers) [
@@ -210,7 +209,7 @@ module _ (c : Sizes) (p : Place) (leads : ℕ → Lead) (numbers : ℕ → ℕ) 
   by_unlist s h' None q e = cc
   by_unlist s h' (Some lead) q e =
       ends (Unlist s) _ h' (passes (unlist_line s h (Some lead)) h' e).1
-        (lists s lead (listed_of (h.crowns s)) None (Unlist s) (crown_led lead (h.crowns s) q) tt (λ u f. cc) refl)
+      (lists s lead (listed_of (h.crowns s)) None (Unlist s) (crown_led lead (h.crowns s) q) tt (λ u f. cc) refl)
 
   -- the server of a call that the instruction mentions first
   reached : (i : Instr) (s v : ℕ) → IsReachable c p i → shard_of i ≡ Some s → (names_of i).first ≡ Some v → Reaches c p s v
@@ -225,23 +224,23 @@ module _ (c : Sizes) (p : Place) (leads : ℕ → Lead) (numbers : ℕ → ℕ) 
       let state = right.1 in
       let room = state.1 in
       ends (PrepareAdd s v u) _ h' ok.1
-        (by_call c p leads numbers h _ s v (call.PrepareAdd u (numbers s + 1)) (numbers s + 1) (put numbers s (numbers s + 1)) (PrepareAdd s v u) sc
-          (prepare_add c p leads numbers h sc s v u (reached (PrepareAdd s v u) s v at refl refl) (listed_of (h.crowns s)) (crown_tested (At u) (h.crowns s) lead.0) (tested s v plain.Absent state.0) room.0 (numbers s + 1) (omega arith))
-          (at.known u (inr refl)) (put_changed numbers s (numbers s + 1)) refl)
+      (by_call c p leads numbers h _ s v (call.PrepareAdd u (numbers s + 1)) (numbers s + 1) (put numbers s (numbers s + 1)) (PrepareAdd s v u) sc
+      (prepare_add c p leads numbers h sc s v u (reached (PrepareAdd s v u) s v at refl refl) (listed_of (h.crowns s)) (crown_tested (At u) (h.crowns s) lead.0) (tested s v plain.Absent state.0) room.0 (numbers s + 1) (omega arith))
+      (at.known u (inr refl)) (put_changed numbers s (numbers s + 1)) refl)
   effect (PrepareDrop s u v) h' at own e =
       let ok = passes (prepare_drop_line s u v h) h' e in
       let has = ok.0 in
       let lead = has.1 in
       ends (PrepareDrop s u v) _ h' ok.1
-        (steady s u (call.PrepareDrop v (numbers s)) (PrepareDrop s u v) (at.known v (inr refl)) refl _
-          (prepare_drop c p leads numbers h sc s u v (reached (PrepareDrop s u v) s u at refl refl) (at.known v (inr refl)) (at.up v (inr refl)) (listed_of (h.crowns s)) (crown_tested (Ready u v) (h.crowns s) lead.0)))
+      (steady s u (call.PrepareDrop v (numbers s)) (PrepareDrop s u v) (at.known v (inr refl)) refl _
+      (prepare_drop c p leads numbers h sc s u v (reached (PrepareDrop s u v) s u at refl refl) (at.known v (inr refl)) (at.up v (inr refl)) (listed_of (h.crowns s)) (crown_tested (Ready u v) (h.crowns s) lead.0)))
   effect (Add s v role.Secondary) h' at own e =
       let ok = passes (add_secondary_line c s v h) h' e in
       let right = ok.0 in
       let state = right.1 in
       let room = state.1 in
       ends (Add s v role.Secondary) _ h' ok.1 (steady s v (call.Add role.Secondary) (Add s v role.Secondary) tt refl _
-        (add_secondary c p leads numbers h sc s v (reached (Add s v role.Secondary) s v at refl refl) (tested s v plain.Absent state.0) room.0))
+      (add_secondary c p leads numbers h sc s v (reached (Add s v role.Secondary) s v at refl refl) (tested s v plain.Absent state.0) room.0))
   effect (Add s v role.Primary) h' at own e = by_add_primary s v h' (reached (Add s v role.Primary) s v at refl refl) (lead_held (h.crowns s)) refl e
   effect (Drop s v) h' at own e = by_drop s v h' (reached (Drop s v) s v at refl refl) (is_some (h.cells s v)) refl e
   effect (Change s v role.Primary) h' at own e =
@@ -251,14 +250,14 @@ module _ (c : Sizes) (p : Place) (leads : ℕ → Lead) (numbers : ℕ → ℕ) 
       let right = lead.1 in
       let state = right.1 in
       ends (Change s v role.Primary) _ h' ok.1 (steady s v (call.Change role.Secondary role.Primary) (Change s v role.Primary) tt refl _
-        (to_primary c p leads numbers h sc s v (reached (Change s v role.Primary) s v at refl refl) (listed_of (h.crowns s)) (crown_tested Gone (h.crowns s) lead.0) (tested s v plain.Secondary state.0)))
+      (to_primary c p leads numbers h sc s v (reached (Change s v role.Primary) s v at refl refl) (listed_of (h.crowns s)) (crown_tested Gone (h.crowns s) lead.0) (tested s v plain.Secondary state.0)))
   effect (Change s v role.Secondary) h' at own e =
       let ok = passes (to_secondary_line s v h) h' e in
       let has = ok.0 in
       let lead = has.1 in
       let free = lead.1 in
       ends (Change s v role.Secondary) _ h' ok.1 (steady s v (call.Change role.Primary role.Secondary) (Change s v role.Secondary) tt refl _
-        (to_secondary c p leads numbers h sc s v (reached (Change s v role.Secondary) s v at refl refl) (listed_of (h.crowns s)) (crown_tested (At v) (h.crowns s) lead.0) free.0))
+      (to_secondary c p leads numbers h sc s v (reached (Change s v role.Secondary) s v at refl refl) (listed_of (h.crowns s)) (crown_tested (At v) (h.crowns s) lead.0) free.0))
   effect (Publish s) h' at own e = by_publish s h' (lead_held (h.crowns s)) refl e
   effect (Unlist s) h' at own e = by_unlist s h' (lead_held (h.crowns s)) refl e
   effect (Signal k) h' at own e = absurd own

@@ -1,5 +1,5 @@
 -- What the tests of a line say where all of them pass.
-use Rattle.std.proofs.Common.{◌≡◌, ℕ, Bool, true, false, not, refl, ap, ◌∙◌, Option, Some, None, Result, Ok, Err, List, [], ◌∷◌}
+use Rattle.std.proofs.Common.{◌≡◌, ℕ, Bool, true, false, refl, ap, Option, Some, None, Ok, List, [], ◌∷◌}
 use Rattle.sm_placement.specs.declared.lead.Lead.{Lead}
 use Rattle.sm_reservation.specs.Hold.{Hold}
 use Rattle.sm_reservation.proofs.Truths.{same_lead_true}

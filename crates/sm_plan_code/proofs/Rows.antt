@@ -1,5 +1,5 @@
 -- The lines of the table of rights: for each, that the call is served, and what it changes.
-use Rattle.std.proofs.Common.{◌≡◌, ◌≢◌, ℕ, ◌+◌, ◌-◌, ◌<◌, ◌≤◌, Bool, true, false, not, eqb, leb, refl, sym, ap, ◌∙◌, arith, inl, inr, subst, Option, Some, None}
+use Rattle.std.proofs.Common.{◌≡◌, ◌≢◌, ℕ, ◌+◌, ◌-◌, ◌<◌, ◌≤◌, true, false, not, eqb, leb, refl, sym, ◌∙◌, arith, inl, inr, subst, Option, Some, None}
 use Rattle.std.specs.Prelude.{is_none}
 use Rattle.std.proofs.lemmas.Bool.{cases_eq, eq-eqb, leb-true}
 use Rattle.sm_server.specs.declared.call.Cell.{Cell}
@@ -19,7 +19,6 @@ use Rattle.sm_placement.proofs.Sums.{put-here, put-apart, put2-here, put2-row}
 use Rattle.sm_reservation.specs.declared.right.PlainCell.TheVariants as plain
 use Rattle.sm_reservation.specs.Hold.{Hold, with_cell, with_crown, pay_room, get_room, pay_spare, get_spare}
 use Rattle.sm_reservation.specs.Amounts.{OfRoom, same_server}
-use Rattle.sm_reservation.specs.Truth.{IsTrueOf}
 use Rattle.sm_reservation.proofs.Changes.{put2_changed, unchanged}
 use Rattle.sm_reservation.proofs.Truths.{true_cell, no_true_cell, true_crown, absent_from, secondary_from, crown_kept, crown_changed, plain_change}
 use Rattle.sm_reservation.proofs.Exchange.{Moves}

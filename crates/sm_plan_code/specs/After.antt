@@ -1,5 +1,5 @@
 -- The table of rights: what each instruction tests of a hold, and the hold that it leaves.
-use Rattle.std.specs.Prelude.{ℕ, zero, suc, Bool, true, false, not, ◌&&◌, ◌==◌, nat_le, is_some, is_none, Option, Some, None, Result, Ok, Err, List, [], ◌∷◌, slice_get, if◌then◌else◌}
+use Rattle.std.specs.Prelude.{ℕ, zero, suc, Bool, false, not, ◌&&◌, ◌==◌, nat_le, is_some, is_none, Option, Some, None, Result, Ok, Err, List, [], ◌∷◌, slice_get, if◌then◌else◌}
 use Rattle.std.specs.List.{list_all}
 use Rattle.sm_server.specs.declared.call.Role.TheVariants as role
 use Rattle.sm_placement.specs.declared.lead.Lead.{Lead}

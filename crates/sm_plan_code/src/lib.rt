@@ -2,5 +2,7 @@
 #![tactic(auto)]
 
 mod instruction;
+mod law;
 
 pub use instruction::{Instr, NamedServers, Why, is_call, names};
+pub use law::{has_effects, signal_gives, wait_takes};
