@@ -1,5 +1,5 @@
 -- The law of effects: each line of the table of rights.
-use Rattle.std.proofs.Common.{◌≡◌, ◌≢◌, ℕ, ◌+◌, ◌<◌, Bool, true, false, refl, sym, ap, ◌∙◌, arith, inl, inr, subst, Option, Some, None, Ok}
+use Rattle.std.proofs.Common.{◌≡◌, ◌≢◌, ℕ, ◌+◌, ◌<◌, ◌≤◌, Bool, true, false, refl, sym, ap, ◌∙◌, arith, inl, inr, subst, Option, Some, None, Ok}
 use Rattle.std.specs.Prelude.{is_some}
 use Rattle.std.proofs.lemmas.Bool.{cases_eq, cases_lt, eqb-true}
 use Rattle.sm_server.specs.declared.call.Cell.{Cell}
@@ -22,6 +22,7 @@ use Rattle.sm_reservation.specs.declared.right.PlainCell.TheVariants as plain
 use Rattle.sm_reservation.specs.Rights.{Rights}
 use Rattle.sm_reservation.specs.Hold.{Hold, with_crown}
 use Rattle.sm_reservation.specs.Amounts.{Right, OfCell, OfCrown, OfRoom, OfSpare, is_cell, count, stock, bound}
+use Rattle.sm_reservation.specs.Truth.{IsTrueOf}
 use Rattle.sm_reservation.proofs.Changes.{Changed, put_changed, unchanged}
 use Rattle.sm_reservation.proofs.Truths.{is_cell_true, true_crown}
 use Rattle.sm_reservation.proofs.Exchange.{exchange}
@@ -38,24 +39,36 @@ use Rattle.sm_plan_code.proofs.Rows.{Reaches, Goes, add_secondary, prepare_add, 
 answered : (c : Sizes) (p : Place) (leads : ℕ → Lead) (numbers : ℕ → ℕ) (h h' : Hold) (s v : ℕ) (call : Call) (n' : ℕ) (g : Goes c p leads numbers h h' s v call n') → answer_at c p s v call ≡ Ok g.to
 answered c p leads numbers h h' s v call n' g = rw g.moves.up (served_from (p.cells s v) _ (c.load s) call g.to g.led g.room)
 
+-- a true hold that moves as the placement does stays true
+still_true : (c : Sizes) (p p' : Place) (leads leads' : ℕ → Lead) (h h' : Hold) → IsTrueOf c p leads h →
+    ((r : Right) → stock c p' leads' r + bound c p r + count h r ≡ stock c p leads r + bound c p' r + count h' r) → IsTrueOf c p' leads' h'
+still_true c p p' leads leads' h h' was moves = record { rights = λ r. fits (stock c p' leads' r) (bound c p r) (count h r) (stock c p leads r) (bound c p' r) (count h' r) (moves r) (was.rights r) }
+  where
+    fits : (stock' bound held stock bound' held' : ℕ) → stock' + bound + held ≡ stock + bound' + held' → held + bound ≤ stock → held' + bound' ≤ stock'
+    fits stock' bound held stock bound' held' e l = omega arith
+
 -- the effect of an instruction that makes a call which goes
 by_call : (c : Sizes) (p : Place) (leads : ℕ → Lead) (numbers : ℕ → ℕ) (h h' : Hold) (s v : ℕ) (call : Call) (n' : ℕ) (next_numbers : ℕ → ℕ) (i : Instr) →
     IsScene c p leads numbers h → Goes c p leads numbers h h' s v call n' → IsKnownCall c.servers call → Changed numbers next_numbers s n' →
     acts c p numbers i ≡ moved (called c p s v call) next_numbers → Effect c p leads numbers h h' i
 by_call c p leads numbers h h' s v call n' next_numbers i sc g known ch is =
     let answer = answered c p leads numbers h h' s v call n' g in
+    let exchanged = exchange c p leads h h' s v g.to g.lead (numbers s) n' g.moves in
     record {
       next_place = set_cell p s v g.to;
       next_leads = put leads s g.lead;
       next_numbers = next_numbers;
       made = is ∙ rw answer refl;
-      placement = called_keeps c p s v call g.to sc.placement g.moves.in_shards g.moves.in_servers known answer;
+      scene = record {
+        placement = called_keeps c p s v call g.to sc.placement g.moves.in_shards g.moves.in_servers known answer;
+        described = λ r. elim (cases_eq r s) [
+          | inl e ↦ rw e (rw (put-here leads s g.lead s refl, ch.here) g.moves.is)
+          | inr e ↦ rw (put-apart leads s g.lead r e, ch.apart r e, put-apart p.cells s (put (p.cells s) v g.to) r e) (sc.described r)
+        ];
+        truth = still_true c p (set_cell p s v g.to) leads (put leads s g.lead) h h' sc.truth exchanged;
+      };
       down = refl;
-      described = λ r. elim (cases_eq r s) [
-        | inl e ↦ rw e (rw (put-here leads s g.lead s refl, ch.here) g.moves.is)
-        | inr e ↦ rw (put-apart leads s g.lead r e, ch.apart r e, put-apart p.cells s (put (p.cells s) v g.to) r e) (sc.described r)
-      ];
-      exchanged = exchange c p leads h h' s v g.to g.lead (numbers s) n' g.moves;
+      exchanged = exchanged;
       listed = λ r. elim (cases_eq r s) [
         | inl e ↦ rw e (rw (put-here leads s g.lead s refl) g.listable)
         | inr e ↦ rw (put-apart leads s g.lead r e) (λ before. before)
@@ -159,18 +172,21 @@ module _ (c : Sizes) (p : Place) (leads : ℕ → Lead) (numbers : ℕ → ℕ) 
         next_leads = leads;
         next_numbers = numbers;
         made = e;
-        placement = record {
-          no_server = sc.placement.no_server;
-          no_shard = sc.placement.no_shard;
-          known = sc.placement.known;
-          listed = λ r u f. elim (cases_eq r s) [
-            | inl q ↦ known u (sym (put-here p.listed s to r q) ∙ f)
-            | inr q ↦ sc.placement.listed r u (sym (put-apart p.listed s to r q) ∙ f)
-          ];
-          rooms = sc.placement.rooms;
+        scene = record {
+          placement = record {
+            no_server = sc.placement.no_server;
+            no_shard = sc.placement.no_shard;
+            known = sc.placement.known;
+            listed = λ r u f. elim (cases_eq r s) [
+              | inl q ↦ known u (sym (put-here p.listed s to r q) ∙ f)
+              | inr q ↦ sc.placement.listed r u (sym (put-apart p.listed s to r q) ∙ f)
+            ];
+            rooms = sc.placement.rooms;
+          };
+          described = sc.described;
+          truth = still_true c p (publish p s to) leads leads h (with_crown h s lead to) sc.truth (trade mine);
         };
         down = refl;
-        described = sc.described;
         exchanged = trade mine;
         listed = λ r before. elim (cases_eq r s) [
           | inl q ↦ rw (put-here p.listed s to r q) (rw q (rw mine.0 fine))

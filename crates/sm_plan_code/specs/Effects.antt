@@ -46,16 +46,15 @@ IsReady _ = ⊥
 abbrev pub MayHavePassed : Lead → ℕ → ℕ → Type 0
 MayHavePassed lead n m = (m ≤ n) × (IsReady lead → m < n)
 
--- What an instruction leads to, from the hold h to the hold h': its call is served, the new leads describe the new cells
--- under the new numbers, and of each right what there is beside what is bound moves as what is held of it does.
+-- What an instruction leads to, from the hold h to the hold h': its call is served, the stream stands again in a scene,
+-- and of each right what there is beside what is bound moves as what is held of it does.
 pub record Effect (c : Sizes) (p : Place) (leads : ℕ → Lead) (numbers : ℕ → ℕ) (h h' : Hold) (i : Instr) : Type 0 where
   pub next_place : Place
   pub next_leads : ℕ → Lead
   pub next_numbers : ℕ → ℕ
   pub made : acts c p numbers i ≡ Some (next_place, next_numbers)
-  pub placement : IsPlacement c next_place
+  pub scene : IsScene c next_place next_leads next_numbers h'
   pub down : next_place.down ≡ p.down
-  pub described : (s : ℕ) → Describes (next_leads s) (next_numbers s) (next_place.cells s)
   pub exchanged : (r : Right) → stock c next_place next_leads r + bound c p r + count h r ≡ stock c p leads r + bound c next_place r + count h' r
   -- who is listed may still be, and who may have passed a request on may still have
   pub listed : (s : ℕ) → IsListable (leads s) (p.listed s) → IsListable (next_leads s) (next_place.listed s)
