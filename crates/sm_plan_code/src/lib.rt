@@ -3,6 +3,8 @@
 
 mod instruction;
 mod law;
+#[cfg(test)]
+mod tests;
 
 pub use instruction::{Instr, NamedServers, Why, is_call, names};
 pub use law::{has_effects, signal_gives, wait_takes};
