@@ -1,3 +1,4 @@
 pub mod Rights
 pub mod Hold
 pub mod Amounts
+pub mod Short
