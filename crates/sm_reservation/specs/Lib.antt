@@ -2,3 +2,4 @@ pub mod Rights
 pub mod Hold
 pub mod Amounts
 pub mod Short
+pub mod Pool
