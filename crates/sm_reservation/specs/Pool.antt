@@ -1,6 +1,7 @@
 -- A pool: the rights that no grant has, by key.
-use Rattle.std.specs.Prelude.{◌≡◌, ◌≤◌, ◌<◌, ◌-◌, ◌*◌, ◌&&◌, ℕ, List, length, Option, Some, None, nat_lt, if◌then◌else◌}
+use Rattle.std.specs.Prelude.{◌≡◌, ◌≤◌, ◌<◌, ◌-◌, ◌*◌, ◌&&◌, ℕ, List, length, Option, Some, None, nat_lt, ◌==◌, if◌then◌else◌}
 use Rattle.sm_placement.specs.declared.lead.Lead.{Lead}
+use Rattle.sm_placement.specs.Sums.{bit}
 use Rattle.sm_placement.specs.Setup.{Sizes}
 use Rattle.sm_placement.specs.Place.{Place, load_at, live_at}
 use Rattle.sm_placement.specs.Lead.{lead_of}
@@ -26,6 +27,16 @@ pub record IsStocked (k : Stock) : Type 0 where
   pub room : length k.room ≡ k.servers
   pub spare : length k.spare ≡ k.shards
 
+-- two pools are of the same shards and servers
+pub record SameSize (a b : Stock) : Type 0 where
+  pub shards : b.shards ≡ a.shards
+  pub servers : b.servers ≡ a.servers
+
+-- the pool is of a configuration's shards and servers
+pub record HasSize (c : Sizes) (k : Stock) : Type 0 where
+  pub shards : k.shards ≡ c.shards
+  pub servers : k.servers ≡ c.servers
+
 -- the rights that the lists stand for
 unfoldable pub pool_hold : Stock → Hold
 pool_hold k = record {
@@ -45,8 +56,8 @@ pub record IsWithin (shards servers : ℕ) (h : Hold) : Type 0 where
 
 -- All rights true of a placement: a right to each cell that has no part in its shard's lead, each crown, the room
 -- that is free, and the live replicas above the floor.
-abbrev pub rights_of : Sizes → Place → Hold
-rights_of c p = record {
+abbrev pub true_rights : Sizes → Place → Hold
+true_rights c p = record {
   cells = λ s v. if nat_lt s c.shards && nat_lt v c.servers then plain_of (p.cells s v) else None;
   crowns = λ s. if nat_lt s c.shards then Some (lead_of c.servers (p.cells s), p.listed s) else None;
   room = λ v. if nat_lt v c.servers then c.room v - load_at c p v else 0;
@@ -59,3 +70,8 @@ IsKnownRight c (OfCell s v state) = (s < c.shards) × (v < c.servers)
 IsKnownRight c (OfCrown s lead listed) = s < c.shards
 IsKnownRight c (OfRoom v) = v < c.servers
 IsKnownRight c (OfSpare s) = s < c.shards
+
+-- how much one spare replica of a shard adds to a right
+abbrev pub one_spare : ℕ → Right → ℕ
+one_spare shard (OfSpare s) = bit (s == shard)
+one_spare shard _ = 0

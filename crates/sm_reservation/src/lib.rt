@@ -1,6 +1,7 @@
 //! Rights: what a stream of a plan may do is what it holds.
 #![tactic(auto)]
 
+mod opening;
 mod pool;
 pub mod right;
 mod short;

@@ -8,5 +8,5 @@ pub returns-clause-hold : goal.returns-clause-hold
 returns-clause-hold c =
     let e = ap (λ (k : Stock). k.servers) c.self.view_is in
     let n : c.len.result ≡ c.args.self.now.servers = omega arith in
-    cell_put c.args.shard c.args.server (c.number-row.result * c.len.result + c.number-column.result) (Some c.args.state) c.self.invariant c.self.view_is c.requires.shard c.requires.server
+    cell_put c.args.right.shard c.args.right.server (c.number-row.result * c.len.result + c.number-column.result) (Some c.args.right.state) c.self.invariant c.self.view_is c.requires.shard c.requires.server
     (rw (c.number-row.ensures, c.number-column.ensures, n) refl)
