@@ -1,5 +1,13 @@
 //! Rights: what a stream of a plan may do is what it holds.
-pub mod right;
+#![tactic(auto)]
 
+mod order;
+pub mod parcel;
+pub mod right;
+mod rows;
+pub mod stream_id;
+
+pub use crate::parcel::{Lists, Parcel, ParcelFault};
 pub use crate::right::{CellRight, Crown, Key, PlainCell, Room, Short, Spare};
+pub use crate::stream_id::StreamId;
 pub use sm_placement::Lead;

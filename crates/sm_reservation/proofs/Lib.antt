@@ -1,0 +1,6 @@
+pub mod Places
+pub mod RowLemmas
+pub mod AmountLemmas
+pub mod OrderLemmas
+pub mod ElementLemmas
+pub mod DoubleLemmas
