@@ -2,10 +2,16 @@
 #![tactic(auto)]
 
 mod opening;
+mod order;
+pub mod parcel;
 mod pool;
 pub mod right;
+mod rows;
 mod short;
+pub mod stream_id;
 
+pub use crate::parcel::{Lists, Parcel, ParcelFault};
 pub use crate::pool::Pool;
 pub use crate::right::{CellRight, Crown, Key, PlainCell, Room, Short, Spare};
+pub use crate::stream_id::StreamId;
 pub use sm_placement::Lead;
