@@ -4,5 +4,6 @@ pub mod AmountLemmas
 pub mod OrderLemmas
 pub mod ElementLemmas
 pub mod DoubleLemmas
+pub mod ParcelSums
 pub mod PoolLemmas
 pub mod OpeningLemmas

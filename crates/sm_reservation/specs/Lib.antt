@@ -6,5 +6,7 @@ pub mod Key
 pub mod Lists
 pub mod Parcel
 pub mod Fault
+pub mod HoldOf
+pub mod CanJoin
 pub mod Short
 pub mod Pool
