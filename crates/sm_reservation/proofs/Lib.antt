@@ -4,3 +4,4 @@ pub mod AmountLemmas
 pub mod OrderLemmas
 pub mod ElementLemmas
 pub mod DoubleLemmas
+pub mod HoldLemmas

@@ -6,3 +6,6 @@ pub mod Key
 pub mod Lists
 pub mod Parcel
 pub mod Fault
+pub mod HoldOf
+pub mod Kept
+pub mod HoldView

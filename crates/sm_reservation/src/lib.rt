@@ -1,12 +1,14 @@
 //! Rights: what a stream of a plan may do is what it holds.
 #![tactic(auto)]
 
+pub mod hold;
 mod order;
 pub mod parcel;
 pub mod right;
 mod rows;
 pub mod stream_id;
 
+pub use crate::hold::Hold;
 pub use crate::parcel::{Lists, Parcel, ParcelFault};
 pub use crate::right::{CellRight, Crown, Key, PlainCell, Room, Short, Spare};
 pub use crate::stream_id::StreamId;
