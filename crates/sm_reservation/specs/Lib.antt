@@ -7,5 +7,8 @@ pub mod Lists
 pub mod Parcel
 pub mod Fault
 pub mod HoldOf
+pub mod Steps
+pub mod Turns
 pub mod Kept
 pub mod HoldView
+pub mod Short

@@ -2,6 +2,7 @@
 #![tactic(auto)]
 
 pub mod hold;
+mod moves;
 mod order;
 pub mod parcel;
 pub mod right;
