@@ -4,6 +4,7 @@ pub mod AmountLemmas
 pub mod OrderLemmas
 pub mod ElementLemmas
 pub mod DoubleLemmas
+pub mod HoldLemmas
 pub mod ParcelSums
 pub mod PoolLemmas
 pub mod OpeningLemmas

@@ -20,7 +20,7 @@ use Rattle.sm_reservation.specs.Rows.{same, row_at, amount_of, amount_at, Rises}
 use Rattle.sm_reservation.specs.Key.{cell_place, crown_place, room_place, spare_place, IsOrdered}
 use Rattle.sm_reservation.specs.HoldOf.{state_of, crown_of, hold_of}
 use Rattle.sm_reservation.specs.CanJoin.{CanJoin}
-use Rattle.sm_reservation.specs.Short.{cell_short, crown_short, room_short, spare_short, first_of, first_short}
+use Rattle.sm_reservation.specs.Short.{cell_short, crown_short, room_short, spare_short, first_answer, first_short}
 use Rattle.sm_placement.proofs.Sums.{put2-here, put2-row, put2-apart}
 use Rattle.sm_reservation.proofs.Places.{same_here, same_first, same_is}
 use Rattle.sm_reservation.proofs.RowLemmas.{none_after}
@@ -290,10 +290,10 @@ neither None b e = (refl, e)
 neither (Some x) b e = cc
 
 -- a row that is found passes what all rows pass
-found_passes : {T Y : Type 0} (place : T → ℕ × ℕ) (f : T → Option Y) (xs : List T) (q : ℕ × ℕ) (x : T) → first_of f xs ≡ None → row_at place xs q ≡ Some x → (f x ≡ None) × (same (place x) q ≡ true)
+found_passes : {T Y : Type 0} (place : T → ℕ × ℕ) (f : T → Option Y) (xs : List T) (q : ℕ × ℕ) (x : T) → first_answer f xs ≡ None → row_at place xs q ≡ Some x → (f x ≡ None) × (same (place x) q ≡ true)
 found_passes place f [] q x none is = cc
 found_passes place f (y ∷ ys) q x none is =
-    let both = neither (f y) (first_of f ys) none in
+    let both = neither (f y) (first_answer f ys) none in
     elim (cases_Bool (same (place y) q)) [
       | inl e ↦ let d : y ≡ x = (let z = rw e at is in cc) in rw (← d) (both.0, e)
       | inr e ↦ found_passes place f ys q x both.1 (rw e at is)
@@ -368,9 +368,9 @@ crown_is (Some c) lead listed e =
 pub covers : (h : Hold) (p : Rights) → first_short h p ≡ None → Covers h (hold_of p)
 unfolding hold_of
 covers h p none =
-    let d = neither (option_or (option_or (first_of (cell_short h) p.cells) (first_of (crown_short h) p.crowns)) (first_of (room_short h) p.room)) (first_of (spare_short h) p.spare) none in
-    let b = neither (option_or (first_of (cell_short h) p.cells) (first_of (crown_short h) p.crowns)) (first_of (room_short h) p.room) d.0 in
-    let a = neither (first_of (cell_short h) p.cells) (first_of (crown_short h) p.crowns) b.0 in
+    let d = neither (option_or (option_or (first_answer (cell_short h) p.cells) (first_answer (crown_short h) p.crowns)) (first_answer (room_short h) p.room)) (first_answer (spare_short h) p.spare) none in
+    let b = neither (option_or (first_answer (cell_short h) p.cells) (first_answer (crown_short h) p.crowns)) (first_answer (room_short h) p.room) d.0 in
+    let a = neither (first_answer (cell_short h) p.cells) (first_answer (crown_short h) p.crowns) b.0 in
     record {
       cells = λ s v state e. cell (row_at cell_place p.cells (s, v)) s v state refl a.0 e;
       crowns = λ s c e. crown (row_at crown_place p.crowns (s, 0)) s c refl a.1 e;
@@ -378,7 +378,7 @@ covers h p none =
       spare = λ s. spare (row_at spare_place p.spare (s, 0)) s refl d.1;
     }
   where
-    cell : (o : Option CellRight) (s v : ℕ) (state : PlainCell) → row_at cell_place p.cells (s, v) ≡ o → first_of (cell_short h) p.cells ≡ None → state_of o ≡ Some state → h.cells s v ≡ Some state
+    cell : (o : Option CellRight) (s v : ℕ) (state : PlainCell) → row_at cell_place p.cells (s, v) ≡ o → first_answer (cell_short h) p.cells ≡ None → state_of o ≡ Some state → h.cells s v ≡ Some state
     cell None s v state is none e = cc
     cell (Some x) s v state is none e =
         let f = found_passes cell_place (cell_short h) p.cells (s, v) x none is in
@@ -386,7 +386,7 @@ covers h p none =
         let t : is_cell x.state (h.cells x.shard x.server) ≡ true = passes (is_cell x.state (h.cells x.shard x.server)) _ f.0 in
         ap (λ (q : ℕ × ℕ). h.cells q.0 q.1) (sym k) ∙ state_is (h.cells x.shard x.server) x.state t ∙ e
 
-    crown : (o : Option Crown) (s : ℕ) (crown : Lead × Option ℕ) → row_at crown_place p.crowns (s, 0) ≡ o → first_of (crown_short h) p.crowns ≡ None → crown_of o ≡ Some crown → h.crowns s ≡ Some crown
+    crown : (o : Option Crown) (s : ℕ) (crown : Lead × Option ℕ) → row_at crown_place p.crowns (s, 0) ≡ o → first_answer (crown_short h) p.crowns ≡ None → crown_of o ≡ Some crown → h.crowns s ≡ Some crown
     crown None s c is none e = cc
     crown (Some x) s c is none e =
         let f = found_passes crown_place (crown_short h) p.crowns (s, 0) x none is in
@@ -394,7 +394,7 @@ covers h p none =
         let t : is_crown x.lead x.listed (h.crowns x.shard) ≡ true = passes (is_crown x.lead x.listed (h.crowns x.shard)) _ f.0 in
         ap (λ (q : ℕ × ℕ). h.crowns q.0) (sym k) ∙ crown_is (h.crowns x.shard) x.lead x.listed t ∙ e
 
-    room : (o : Option Room) (v : ℕ) → row_at room_place p.room (v, 0) ≡ o → first_of (room_short h) p.room ≡ None → amount_of (λ x. x.amount) (row_at room_place p.room (v, 0)) ≤ h.room v
+    room : (o : Option Room) (v : ℕ) → row_at room_place p.room (v, 0) ≡ o → first_answer (room_short h) p.room ≡ None → amount_of (λ x. x.amount) (row_at room_place p.room (v, 0)) ≤ h.room v
     room None v is none = rw is (omega arith)
     room (Some x) v is none =
         let f = found_passes room_place (room_short h) p.room (v, 0) x none is in
@@ -403,7 +403,7 @@ covers h p none =
         let e : h.room x.server ≡ h.room v = ap h.room k in
         rw is (omega arith)
 
-    spare : (o : Option Spare) (s : ℕ) → row_at spare_place p.spare (s, 0) ≡ o → first_of (spare_short h) p.spare ≡ None → amount_of (λ x. x.amount) (row_at spare_place p.spare (s, 0)) ≤ h.spare s
+    spare : (o : Option Spare) (s : ℕ) → row_at spare_place p.spare (s, 0) ≡ o → first_answer (spare_short h) p.spare ≡ None → amount_of (λ x. x.amount) (row_at spare_place p.spare (s, 0)) ≤ h.spare s
     spare None s is none = rw is (omega arith)
     spare (Some x) s is none =
         let f = found_passes spare_place (spare_short h) p.spare (s, 0) x none is in

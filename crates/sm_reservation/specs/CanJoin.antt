@@ -1,10 +1,8 @@
 -- When two holds can be put together.
-use Rattle.std.specs.Prelude.{◌≡◌, ◌<◌, ◌+◌, ◌^◌, ℕ, Option, Some, None, List, [], ◌∷◌}
+use Rattle.std.specs.Prelude.{◌≡◌, ◌<◌, ◌+◌, ◌^◌, ℕ, Option, Some, None}
 use Rattle.sm_placement.specs.declared.lead.Lead.{Lead}
 use Rattle.sm_reservation.specs.declared.right.PlainCell.{PlainCell}
-use Rattle.sm_reservation.specs.declared.right.Room.{Room}
-use Rattle.sm_reservation.specs.declared.right.Spare.{Spare}
-use Rattle.sm_reservation.specs.Hold.{Hold, get_room, get_spare}
+use Rattle.sm_reservation.specs.Hold.{Hold}
 
 -- no cell right and no crown is in both, and no sum of amounts passes a u64
 pub record CanJoin (h k : Hold) : Type 0 where
@@ -12,12 +10,3 @@ pub record CanJoin (h k : Hold) : Type 0 where
   pub crowns : (s : ℕ) (crown : Lead × Option ℕ) → k.crowns s ≡ Some crown → h.crowns s ≡ None
   pub room : (v : ℕ) → h.room v + k.room v < 2 ^ 64
   pub spare : (s : ℕ) → h.spare s + k.spare s < 2 ^ 64
-
--- each amount fits as well, put in one after the other
-abbrev pub RoomFits : Hold → List Room → Type 0
-RoomFits h [] = Unit {0}
-RoomFits h (x ∷ xs) = (h.room x.server + x.amount < 2 ^ 64) × RoomFits (get_room h x.server x.amount) xs
-
-abbrev pub SpareFits : Hold → List Spare → Type 0
-SpareFits h [] = Unit {0}
-SpareFits h (x ∷ xs) = (h.spare x.shard + x.amount < 2 ^ 64) × SpareFits (get_spare h x.shard x.amount) xs

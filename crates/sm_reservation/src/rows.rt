@@ -1,6 +1,7 @@
 //! Ordered rows in a `Vec`: the row at a place, put in and taken out.
-ghost use Rattle.std.specs.Prelude.{◌≡◌, ℕ, ◌+◌, ◌<◌, ◌≤◌, ◌-◌, ◌==◌, ◌^◌, Some, None, length, vec_len, vec_capacity, if◌then◌else◌, IsSome};
-ghost use Rattle.sm_reservation.specs.Rows.{same, before, row_at, Rises, count_before, amount_at};
+ghost use Rattle.std.specs.Prelude.{◌≡◌, ℕ, ◌+◌, ◌<◌, ◌≤◌, ◌-◌, ◌==◌, ◌^◌, Some, None, length, vec_len, vec_capacity, if◌then◌else◌, IsSome, insert, remove, slice_set};
+ghost use Rattle.sm_reservation.specs.Rows.{same, before, row_at, Rises, count_before, amount_at, HasPositive};
+ghost use Rattle.sm_placement.specs.Sums.{bit};
 
 /// A row of an ordered list, which its place tells apart from the others.
 pub trait Row: Copy {
@@ -55,6 +56,7 @@ pub fn put_row<T: Row>(rows: &mut Vec<T>, row: T)
     ensures order { Rises T.place rows.new.items }
     ensures len { vec_len rows.new ≡ vec_len rows.old + 1 }
     ensures capacity { vec_capacity rows.old ≤ vec_capacity rows.new }
+    ensures items { rows.new.items ≡ insert rows.old.items (count_before T.place (T.place row) rows.old.items) row }
     ensures rows { (q : ℕ × ℕ) → row_at T.place rows.new.items q ≡ (if same (T.place row) q then Some row else row_at T.place rows.old.items q) }
 {
     let i = count_before(rows, row.place());
@@ -68,6 +70,7 @@ pub fn take_row<T: Row>(rows: &mut Vec<T>, place: (u32, u32)) -> T
     ensures order { Rises T.place rows.new.items }
     ensures len { vec_len rows.new + 1 ≡ vec_len rows.old }
     ensures capacity { vec_capacity rows.new ≡ vec_capacity rows.old }
+    ensures items { rows.new.items ≡ remove rows.old.items (count_before T.place place rows.old.items) }
     ensures rows { (q : ℕ × ℕ) → row_at T.place rows.new.items q ≡ (if same place q then None else row_at T.place rows.old.items q) }
 {
     let i = count_before(rows, place);
@@ -80,6 +83,7 @@ pub fn set_row<T: Row>(rows: &mut Vec<T>, row: T)
     ensures order { Rises T.place rows.new.items }
     ensures len { vec_len rows.new ≡ vec_len rows.old }
     ensures capacity { vec_capacity rows.new ≡ vec_capacity rows.old }
+    ensures items { rows.new.items ≡ slice_set rows.old.items (count_before T.place (T.place row) rows.old.items) row }
     ensures rows { (q : ℕ × ℕ) → row_at T.place rows.new.items q ≡ (if same (T.place row) q then Some row else row_at T.place rows.old.items q) }
 {
     let i = count_before(rows, row.place());
@@ -98,14 +102,17 @@ pub trait Amount: Row {
         ensures value { amount result ≡ new };
 }
 
-/// Adds an amount.
+/// Adds an amount to what stands at its place.
 pub fn add_amount<T: Amount>(rows: &mut Vec<T>, row: T)
     requires order { Rises T.place rows.old.items }
-    requires room { row_at T.place rows.old.items (T.place row) ≡ None → vec_len rows.old < vec_capacity rows.old }
+    requires positive { HasPositive T.amount rows.old.items }
+    requires some { 0 < T.amount row }
+    requires room { amount_at T.place T.amount rows.old.items (T.place row) ≡ 0 → vec_len rows.old < vec_capacity rows.old }
     requires fits { amount_at T.place T.amount rows.old.items (T.place row) + T.amount row < 2 ^ 64 }
     ensures order { Rises T.place rows.new.items }
+    ensures positive { HasPositive T.amount rows.new.items }
     ensures capacity { vec_capacity rows.old ≤ vec_capacity rows.new }
-    ensures len { vec_len rows.new ≤ vec_len rows.old + 1 }
+    ensures len { vec_len rows.new ≡ vec_len rows.old + bit (amount_at T.place T.amount rows.old.items (T.place row) == 0) }
     ensures amounts { (q : ℕ × ℕ) → amount_at T.place T.amount rows.new.items q ≡ (if same (T.place row) q then amount_at T.place T.amount rows.old.items (T.place row) + T.amount row else amount_at T.place T.amount rows.old.items q) }
 {
     match row_at(rows, row.place()) {
@@ -114,12 +121,15 @@ pub fn add_amount<T: Amount>(rows: &mut Vec<T>, row: T)
     }
 }
 
-/// Takes an amount away.
+/// Takes an amount away from what stands at its place.
 pub fn sub_amount<T: Amount>(rows: &mut Vec<T>, row: T)
     requires order { Rises T.place rows.old.items }
+    requires positive { HasPositive T.amount rows.old.items }
+    requires some { 0 < T.amount row }
     requires enough { T.amount row ≤ amount_at T.place T.amount rows.old.items (T.place row) }
     ensures order { Rises T.place rows.new.items }
-    ensures len { vec_len rows.new ≤ vec_len rows.old }
+    ensures positive { HasPositive T.amount rows.new.items }
+    ensures len { vec_len rows.new + bit (amount_at T.place T.amount rows.old.items (T.place row) == T.amount row) ≡ vec_len rows.old }
     ensures capacity { vec_capacity rows.new ≡ vec_capacity rows.old }
     ensures amounts { (q : ℕ × ℕ) → amount_at T.place T.amount rows.new.items q ≡ (if same (T.place row) q then amount_at T.place T.amount rows.old.items (T.place row) - T.amount row else amount_at T.place T.amount rows.old.items q) }
 {

@@ -1,7 +1,7 @@
 //! The first key of which there is too little.
 ghost use Rattle.std.specs.Prelude.{◌≡◌};
 ghost use Rattle.sm_reservation.specs.Hold.{Hold};
-ghost use Rattle.sm_reservation.specs.Short.{cell_short, crown_short, room_short, spare_short, first_of, first_short};
+ghost use Rattle.sm_reservation.specs.Short.{cell_short, crown_short, room_short, spare_short, first_answer, first_short};
 
 use crate::right::{CellRight, Crown, Key, PlainCell, Room, Short, Spare};
 use sm_placement::Lead;
@@ -93,7 +93,7 @@ fn spare_short<H: ByKey>(held: &H, spare: &Spare) -> Option<Short>
 
 /// The first right to a cell that is lacking.
 pub(crate) fn first_cell_short<H: ByKey>(held: &H, rights: &[CellRight]) -> Option<Short>
-    ensures { result ≡ first_of (cell_short (H.hold held.now)) rights.now }
+    ensures { result ≡ first_answer (cell_short (H.hold held.now)) rights.now }
 {
     for right in rights {
         if let Some(short) = cell_short(held, right) {
@@ -105,7 +105,7 @@ pub(crate) fn first_cell_short<H: ByKey>(held: &H, rights: &[CellRight]) -> Opti
 
 /// The first crown that is lacking.
 pub(crate) fn first_crown_short<H: ByKey>(held: &H, crowns: &[Crown]) -> Option<Short>
-    ensures { result ≡ first_of (crown_short (H.hold held.now)) crowns.now }
+    ensures { result ≡ first_answer (crown_short (H.hold held.now)) crowns.now }
 {
     for crown in crowns {
         if let Some(short) = crown_short(held, crown) {
@@ -117,7 +117,7 @@ pub(crate) fn first_crown_short<H: ByKey>(held: &H, crowns: &[Crown]) -> Option<
 
 /// The first room that is lacking.
 pub(crate) fn first_room_short<H: ByKey>(held: &H, rooms: &[Room]) -> Option<Short>
-    ensures { result ≡ first_of (room_short (H.hold held.now)) rooms.now }
+    ensures { result ≡ first_answer (room_short (H.hold held.now)) rooms.now }
 {
     for room in rooms {
         if let Some(short) = room_short(held, room) {
@@ -129,7 +129,7 @@ pub(crate) fn first_room_short<H: ByKey>(held: &H, rooms: &[Room]) -> Option<Sho
 
 /// The first spare replicas that are lacking.
 pub(crate) fn first_spare_short<H: ByKey>(held: &H, spares: &[Spare]) -> Option<Short>
-    ensures { result ≡ first_of (spare_short (H.hold held.now)) spares.now }
+    ensures { result ≡ first_answer (spare_short (H.hold held.now)) spares.now }
 {
     for spare in spares {
         if let Some(short) = spare_short(held, spare) {
