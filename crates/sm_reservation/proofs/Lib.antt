@@ -6,5 +6,6 @@ pub mod ElementLemmas
 pub mod DoubleLemmas
 pub mod HoldLemmas
 pub mod ParcelSums
+pub mod ParcelRows
 pub mod PoolLemmas
 pub mod OpeningLemmas
