@@ -1,28 +1,24 @@
 -- All rights true of a placement, as they are put into a pool one after another.
-use Rattle.std.proofs.Common.{◌≡◌, ◌≢◌, ℕ, ◌+◌, ◌-◌, ◌<◌, ◌≤◌, Bool, true, false, refl, sym, ap, ◌∙◌, arith, inl, inr, Option, Some, None}
-use Rattle.std.proofs.Math.Path.{fun_ext}
+use Rattle.std.proofs.Common.{◌≡◌, ◌≢◌, ℕ, ◌<◌, ◌≤◌, Bool, true, false, refl, sym, ap, ◌∙◌, inl, inr, Option, Some}
 use Rattle.std.specs.Option.{option_map_or}
-use Rattle.std.proofs.lemmas.Bool.{cases_eq, cases_lt, lt-ltb, le-ltb}
+use Rattle.std.proofs.lemmas.Bool.{cases_eq, cases_lt}
 use Rattle.sm_server.specs.declared.call.Cell.{Cell}
 use Rattle.sm_server.specs.declared.call.Cell.TheVariants.{Absent}
 use Rattle.sm_placement.specs.declared.lead.Lead.{Lead}
 use Rattle.sm_placement.specs.declared.lead.Lead.TheVariants.{Gone, At, Ready, Handing, Handed}
 use Rattle.sm_placement.specs.declared.placement.Serving.{Serving}
 use Rattle.sm_placement.specs.declared.placement.Serving.TheVariants.{Nobody, One, Several}
-use Rattle.sm_placement.specs.Sums.{put, bit}
+use Rattle.sm_placement.specs.Sums.{bit}
 use Rattle.sm_placement.specs.Setup.{Sizes}
 use Rattle.sm_placement.specs.Rows.{serves, serving_in, serving_of}
-use Rattle.sm_placement.specs.Place.{Place, load_at, live_at}
+use Rattle.sm_placement.specs.Place.{Place}
 use Rattle.sm_placement.specs.Lead.{Describes, IsSettled, is_at_rest, lead_of}
 use Rattle.sm_placement.specs.Opening.{first_below}
-use Rattle.sm_placement.proofs.Sums.{put-here, put-apart, sum_zero, sum_one}
+use Rattle.sm_placement.proofs.Sums.{sum_zero, sum_one}
 use Rattle.sm_placement.proofs.LeadOf.{lead_of_is}
 use Rattle.sm_placement.proofs.Leads.{by_plain, leader_serves, others_dont}
 use Rattle.sm_placement.proofs.Searches.{cases_Option, first_none, first_some}
 use Rattle.sm_placement.proofs.Servings.{serving_none, serving_one}
-use Rattle.sm_reservation.specs.declared.right.PlainCell.{PlainCell}
-use Rattle.sm_reservation.specs.Amounts.{Right, OfCell, OfCrown, OfRoom, OfSpare, plain_of, is_cell, is_crown, count, stock, bound}
-use Rattle.sm_reservation.specs.Pool.{true_rights, IsKnownRight}
 
 -- ---- a function that is filled up from 0
 
@@ -30,79 +26,6 @@ use Rattle.sm_reservation.specs.Pool.{true_rights, IsKnownRight}
 pub record IsDoneTo {A : Type 0} (f g : ℕ → A) (n : ℕ) (none : A) : Type 0 where
   pub done : (k : ℕ) → k < n → f k ≡ g k
   pub rest : (k : ℕ) → n ≤ k → f k ≡ none
-
-pub nothing_done : {A : Type 0} (f g : ℕ → A) (none : A) → ((k : ℕ) → f k ≡ none) → IsDoneTo f g 0 none
-nothing_done f g none h = record { done = λ k l. absurd (omega arith); rest = λ k l. h k }
-
-pub one_done : {A : Type 0} (f new g : ℕ → A) (n : ℕ) (none x : A) → IsDoneTo f g n none → new ≡ put f n x → x ≡ g n → IsDoneTo new g (n + 1) none
-one_done {A} f new g n none x is e d = record {
-  done = λ k l. ap (λ (h : ℕ → A). h k) e ∙ elim (cases_eq k n) [
-    | inl q ↦ put-here f n x k q ∙ d ∙ ap g (sym q)
-    | inr q ↦ put-apart f n x k q ∙ is.done k (omega arith)
-  ];
-  rest = λ k l. ap (λ (h : ℕ → A). h k) e ∙ put-apart f n x k (λ q. absurd (omega arith)) ∙ is.rest k (omega arith);
-}
-
-pub one_passed : {A : Type 0} (f g : ℕ → A) (n : ℕ) (none : A) → IsDoneTo f g n none → g n ≡ none → IsDoneTo f g (n + 1) none
-one_passed f g n none is e = record {
-  done = λ k l. elim (cases_eq k n) [
-    | inl q ↦ ap f q ∙ is.rest n (omega arith) ∙ sym e ∙ ap g (sym q)
-    | inr q ↦ is.done k (omega arith)
-  ];
-  rest = λ k l. is.rest k (omega arith);
-}
-
-pub all_done : {A : Type 0} (f g : ℕ → A) (n : ℕ) (none : A) → IsDoneTo f g n none → ((k : ℕ) → n ≤ k → g k ≡ none) → f ≡ g
-all_done f g n none is h = fun_ext (λ k. elim (cases_lt k n) [
-  | inl l ↦ is.done k l
-  | inr l ↦ is.rest k l ∙ sym (h k l)
-])
-
-pub put_twice : {A : Type 0} (f : ℕ → A) (k : ℕ) (x y : A) → put (put f k x) k y ≡ put f k y
-put_twice f k x y = fun_ext (λ q. elim (cases_eq q k) [
-  | inl d ↦ put-here (put f k x) k y q d ∙ sym (put-here f k y q d)
-  | inr d ↦ put-apart (put f k x) k y q d ∙ put-apart f k x q d ∙ sym (put-apart f k y q d)
-])
-
--- ---- what is put in
-
-pub true_cell : (c : Sizes) (p : Place) (s v : ℕ) → s < c.shards → v < c.servers → (true_rights c p).cells s v ≡ plain_of (p.cells s v)
-true_cell c p s v l m = rw (lt-ltb s c.shards l, lt-ltb v c.servers m) refl
-
-pub no_true_cell : (c : Sizes) (p : Place) (s v : ℕ) → c.servers ≤ v → (true_rights c p).cells s v ≡ None
-no_true_cell c p s v l = elim (cases_lt s c.shards) [
-  | inl m ↦ rw (lt-ltb s c.shards m, le-ltb v c.servers l) refl
-  | inr m ↦ rw (le-ltb s c.shards m) refl
-]
-
-pub no_true_row : (c : Sizes) (p : Place) (s : ℕ) → c.shards ≤ s → (true_rights c p).cells s ≡ (λ v. None)
-no_true_row c p s l = fun_ext (λ v. rw (le-ltb s c.shards l) refl)
-
-pub true_crown : (c : Sizes) (p : Place) (s : ℕ) → s < c.shards → (true_rights c p).crowns s ≡ Some (lead_of c.servers (p.cells s), p.listed s)
-true_crown c p s l = rw (lt-ltb s c.shards l) refl
-
-pub no_true_crown : (c : Sizes) (p : Place) (s : ℕ) → c.shards ≤ s → (true_rights c p).crowns s ≡ None
-no_true_crown c p s l = rw (le-ltb s c.shards l) refl
-
-pub true_room : (c : Sizes) (p : Place) (v : ℕ) → v < c.servers → (true_rights c p).room v ≡ c.room v - load_at c p v
-true_room c p v l = rw (lt-ltb v c.servers l) refl
-
-pub no_true_room : (c : Sizes) (p : Place) (v : ℕ) → c.servers ≤ v → (true_rights c p).room v ≡ 0
-no_true_room c p v l = rw (le-ltb v c.servers l) refl
-
-pub true_spare : (c : Sizes) (p : Place) (s : ℕ) → s < c.shards → (true_rights c p).spare s ≡ live_at c p s - c.floor s
-true_spare c p s l = rw (lt-ltb s c.shards l) refl
-
-pub no_true_spare : (c : Sizes) (p : Place) (s : ℕ) → c.shards ≤ s → (true_rights c p).spare s ≡ 0
-no_true_spare c p s l = rw (le-ltb s c.shards l) refl
-
--- ---- a settled placement has no right elsewhere, and what nobody may use makes up the rest
-
-pub opened_whole : (c : Sizes) (p : Place) → IsSettled c p → (r : Right) → IsKnownRight c r → count (true_rights c p) r + bound c p r ≡ stock c p (λ s. lead_of c.servers (p.cells s)) r
-opened_whole c p is (OfCell s v state) known = let e = ap (λ (o : Option PlainCell). bit (is_cell state o)) (true_cell c p s v known.0 known.1) in omega arith
-opened_whole c p is (OfCrown s lead listed) known = let e = ap (λ (o : Option (Lead × Option ℕ)). bit (is_crown lead listed o)) (true_crown c p s known) in omega arith
-opened_whole c p is (OfRoom v) known = let e = true_room c p v known in let l = is.rooms v known in omega arith
-opened_whole c p is (OfSpare s) known = let e = true_spare c p s known in let l = is.floors s known in omega arith
 
 -- ---- the lead of a settled shard
 

@@ -1,4 +1,4 @@
-use Rattle.std.proofs.Common.{◌≡◌, ◌<◌, drop}
+use Rattle.std.proofs.Common.{◌≡◌, drop}
 use Rattle.sm_reservation.specs.Hold.{minus_spare}
 use Rattle.sm_reservation.specs.Pool.{pool_hold, SameSize}
 use Rattle.sm_reservation.proofs.pool_moves.take_spares.Given as goal
