@@ -1,5 +1,5 @@
 -- Rights as lists: what a parcel says.
-use Rattle.std.specs.Prelude.{ℕ, List, []}
+use Rattle.std.specs.Prelude.{List, []}
 use Rattle.sm_reservation.specs.declared.right.CellRight.{CellRight}
 use Rattle.sm_reservation.specs.declared.right.Crown.{Crown}
 use Rattle.sm_reservation.specs.declared.right.Room.{Room}

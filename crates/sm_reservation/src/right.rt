@@ -1,4 +1,7 @@
 //! The kinds of rights, and their keys.
+ghost use Rattle.std.specs.Prelude.{ℕ};
+
+use crate::rows::{Amount, Row};
 use sm_placement::Lead;
 use sm_server::{ServerId, ShardId};
 
@@ -89,4 +92,66 @@ pub struct Short {
     pub had: u64,
     /// How much was asked for.
     pub asked: u64,
+}
+
+impl Row for CellRight {
+    ghost place = { λ x. (x.shard, x.server) };
+
+    fn place(&self) -> (u32, u32) {
+        (self.shard.number(), self.server.number())
+    }
+}
+
+impl Row for Crown {
+    ghost place = { λ x. (x.shard, 0) };
+
+    fn place(&self) -> (u32, u32) {
+        (self.shard.number(), 0)
+    }
+}
+
+impl Row for Room {
+    ghost place = { λ x. (x.server, 0) };
+
+    fn place(&self) -> (u32, u32) {
+        (self.server.number(), 0)
+    }
+}
+
+impl Row for Spare {
+    ghost place = { λ x. (x.shard, 0) };
+
+    fn place(&self) -> (u32, u32) {
+        (self.shard.number(), 0)
+    }
+}
+
+impl Amount for Room {
+    ghost amount = { λ x. x.amount };
+
+    fn amount(&self) -> u64 {
+        self.amount
+    }
+
+    fn with_amount(&self, new: u64) -> Room {
+        Room {
+            server: self.server,
+            amount: new,
+        }
+    }
+}
+
+impl Amount for Spare {
+    ghost amount = { λ x. x.amount };
+
+    fn amount(&self) -> u64 {
+        self.amount
+    }
+
+    fn with_amount(&self, new: u64) -> Spare {
+        Spare {
+            shard: self.shard,
+            amount: new,
+        }
+    }
 }
