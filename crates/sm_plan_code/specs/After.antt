@@ -9,7 +9,8 @@ use Rattle.sm_reservation.specs.declared.right.PlainCell.{PlainCell}
 use Rattle.sm_reservation.specs.declared.right.PlainCell.TheVariants.{Absent, Secondary}
 use Rattle.sm_reservation.specs.Rights.{Rights}
 use Rattle.sm_reservation.specs.Hold.{Hold, with_cell, with_crown, pay_room, get_room, pay_spare, get_spare, minus, plus}
-use Rattle.sm_reservation.specs.Amounts.{is_cell, is_crown, same_lead, same_server}
+use Rattle.sm_reservation.specs.Amounts.{is_cell, same_lead, same_server}
+use Rattle.sm_reservation.specs.Short.{first_short}
 use Rattle.sm_plan_code.specs.declared.instruction.Instr.{Instr}
 use Rattle.sm_plan_code.specs.declared.instruction.Instr.TheVariants.{PrepareAdd, PrepareDrop, Add, Drop, Change, Publish, Unlist, Signal, Wait}
 use Rattle.sm_plan_code.specs.declared.instruction.Why.{Why}
@@ -71,14 +72,6 @@ has_room h v load = nat_le load (h.room v)
 
 abbrev pub has_spare : Hold → ℕ → Bool
 has_spare h s = nat_le 1 (h.spare s)
-
--- the hold has each right of a parcel, in just that state, and each amount
-abbrev pub carries : Hold → Rights → Bool
-carries h p =
-    list_all (λ x. is_cell x.state (h.cells x.shard x.server)) p.cells
-    && (list_all (λ x. is_crown x.lead x.listed (h.crowns x.shard)) p.crowns
-    && (list_all (λ x. nat_le x.amount (h.room x.server)) p.room
-    && list_all (λ x. nat_le x.amount (h.spare x.shard)) p.spare))
 
 -- the hold has no right to a cell and no crown of the parcel's keys
 abbrev pub is_apart : Hold → Rights → Bool
@@ -179,7 +172,7 @@ unlist_line s h None = refused NoCrown h
 unlist_line s h (Some lead) = record { tests = []; change = with_crown h s lead None }
 
 abbrev pub signal_line : Rights → Hold → Line
-signal_line p h = record { tests = (carries h p, NotCarried) ∷ []; change = minus h p }
+signal_line p h = record { tests = (is_none (first_short h p), NotCarried) ∷ []; change = minus h p }
 
 abbrev pub wait_line : Rights → Hold → Line
 wait_line p h = record { tests = (is_apart h p, Twice) ∷ []; change = plus h p }

@@ -1,5 +1,5 @@
 -- The law of effects: what an instruction leads to where the rights for it are held.
-use Rattle.std.specs.Prelude.{◌≡◌, ◌⊎◌, ◌≢◌, ◌≤◌, ◌<◌, ℕ, ◌+◌, false, Option, Some, None, Ok, IfSome, AllPairs}
+use Rattle.std.specs.Prelude.{◌≡◌, ◌⊎◌, ◌≤◌, ◌<◌, ℕ, ◌+◌, false, Option, Some, None, Ok, IfSome}
 use Rattle.sm_placement.specs.declared.lead.Lead.{Lead}
 use Rattle.sm_placement.specs.declared.lead.Lead.TheVariants.{Gone, At, Ready, Handing, Handed}
 use Rattle.sm_placement.specs.Setup.{Sizes}
@@ -7,8 +7,10 @@ use Rattle.sm_placement.specs.Place.{Place}
 use Rattle.sm_placement.specs.Layout.{IsPlacement}
 use Rattle.sm_placement.specs.Lead.{Describes}
 use Rattle.sm_reservation.specs.Rights.{Rights}
-use Rattle.sm_reservation.specs.Hold.{Hold, no_hold, plus}
+use Rattle.sm_reservation.specs.Hold.{Hold}
 use Rattle.sm_reservation.specs.Amounts.{Right, count, stock, bound}
+use Rattle.sm_reservation.specs.Key.{IsOrdered}
+use Rattle.sm_reservation.specs.HoldOf.{hold_of}
 use Rattle.sm_reservation.specs.Truth.{IsTrueOf}
 use Rattle.sm_plan_code.specs.declared.instruction.Instr.{Instr}
 use Rattle.sm_plan_code.specs.declared.instruction.Instr.TheVariants.{Signal, Wait}
@@ -73,25 +75,14 @@ HasEffects = (c : Sizes) (p : Place) (leads : ℕ → Lead) (numbers : ℕ → �
 
 -- ---- signals
 
--- no two rights of a parcel are of one key
-pub record HasDistinctKeys (p : Rights) : Type 0 where
-  pub cells : AllPairs (λ x y. (x.shard ≢ y.shard) ⊎ (x.server ≢ y.server)) p.cells
-  pub crowns : AllPairs (λ x y. x.shard ≢ y.shard) p.crowns
-  pub room : AllPairs (λ x y. x.server ≢ y.server) p.room
-  pub spare : AllPairs (λ x y. x.shard ≢ y.shard) p.spare
-
--- how much of a right a parcel has
-abbrev pub count_in : Rights → Right → ℕ
-count_in p r = count (plus no_hold p) r
-
--- A signal changes no placement, and its parcel leaves the hold.
+-- A signal changes no placement, and its parcel, whose lists are in order, leaves the hold.
 abbrev pub SignalGives : Type 0
 SignalGives = (c : Sizes) (p : Place) (numbers : ℕ → ℕ) (signals : ℕ → Rights) (h h' : Hold) (k : ℕ) →
-    HasDistinctKeys (signals k) → after c signals (Signal k) h ≡ Ok h' →
-    (acts c p numbers (Signal k) ≡ Some (p, numbers)) × ((r : Right) → count h' r + count_in (signals k) r ≡ count h r)
+    IsOrdered (signals k) → after c signals (Signal k) h ≡ Ok h' →
+    (acts c p numbers (Signal k) ≡ Some (p, numbers)) × ((r : Right) → count h' r + count (hold_of (signals k)) r ≡ count h r)
 
--- A wait changes no placement, and the parcel of its signal comes into the hold.
+-- A wait changes no placement, and the parcel of its signal, whose lists are in order, comes into the hold.
 abbrev pub WaitTakes : Type 0
 WaitTakes = (c : Sizes) (p : Place) (numbers : ℕ → ℕ) (signals : ℕ → Rights) (h h' : Hold) (k : ℕ) →
-    HasDistinctKeys (signals k) → after c signals (Wait k) h ≡ Ok h' →
-    (acts c p numbers (Wait k) ≡ Some (p, numbers)) × ((r : Right) → count h' r ≡ count h r + count_in (signals k) r)
+    IsOrdered (signals k) → after c signals (Wait k) h ≡ Ok h' →
+    (acts c p numbers (Wait k) ≡ Some (p, numbers)) × ((r : Right) → count h' r ≡ count h r + count (hold_of (signals k)) r)
