@@ -91,8 +91,9 @@ to_list (Ready u v) = Some u
 to_list (Handing u v) = Some u
 to_list (Handed u v) = Some v
 
-abbrev pub refused : Why → Hold → Line
-refused why h = record { tests = (false, why) ∷ []; change = h }
+-- the line of an instruction that may not be made
+abbrev pub refused_line : Why → Hold → Line
+refused_line why h = record { tests = (false, why) ∷ []; change = h }
 
 abbrev pub prepare_add_line : Sizes → ℕ → ℕ → ℕ → Hold → Line
 prepare_add_line c s v u h = record {
@@ -114,7 +115,7 @@ add_secondary_line c s v h = record {
 
 -- add as primary, by the crown
 abbrev pub add_primary_line : Sizes → ℕ → ℕ → Hold → Option Lead → Line
-add_primary_line c s v h None = refused NoCrown h
+add_primary_line c s v h None = refused_line NoCrown h
 add_primary_line c s v h (Some (Handing u w)) = record {
   tests = (w == v, WrongLead) ∷ [];
   change = with_lead h s (Handed u v);
@@ -123,7 +124,7 @@ add_primary_line c s v h (Some Gone) = record {
   tests = (has_right h s v, NoRight) ∷ (has_cell h s v Absent, WrongState) ∷ (has_room h v (c.load s), NoRoom) ∷ [];
   change = get_spare (pay_room (with_cell (with_lead h s (At v)) s v None) v (c.load s)) s 1;
 }
-add_primary_line c s v h (Some lead) = refused WrongLead h
+add_primary_line c s v h (Some lead) = refused_line WrongLead h
 
 -- drop, where the right to the cell is held
 abbrev pub drop_held_line : Sizes → ℕ → ℕ → Hold → Line
@@ -134,7 +135,7 @@ drop_held_line c s v h = record {
 
 -- drop, where it isn't, by the crown
 abbrev pub drop_led_line : Sizes → ℕ → ℕ → Hold → Option Lead → Line
-drop_led_line c s v h None = refused NoRight h
+drop_led_line c s v h None = refused_line NoRight h
 drop_led_line c s v h (Some (Handed u w)) = record {
   tests = (u == v, WrongLead) ∷ (is_not_listed h s v, StillListed) ∷ [];
   change = get_room (with_cell (with_lead h s (At w)) s v (Some Absent)) v (c.load s);
@@ -147,7 +148,7 @@ drop_led_line c s v h (Some (At u)) = record {
   tests = (u == v, WrongLead) ∷ (is_unlisted h s, StillListed) ∷ (has_spare h s, NoSpare) ∷ [];
   change = get_room (pay_spare (with_cell (with_lead h s Gone) s v (Some Absent)) s 1) v (c.load s);
 }
-drop_led_line c s v h (Some lead) = refused WrongLead h
+drop_led_line c s v h (Some lead) = refused_line WrongLead h
 
 abbrev pub to_primary_line : ℕ → ℕ → Hold → Line
 to_primary_line s v h = record {
@@ -163,12 +164,12 @@ to_secondary_line s u h = record {
 
 -- publish, by the crown
 abbrev pub publish_line : ℕ → Hold → Option Lead → Line
-publish_line s h None = refused NoCrown h
+publish_line s h None = refused_line NoCrown h
 publish_line s h (Some lead) = record { tests = []; change = with_crown h s lead (to_list lead) }
 
 -- unlist, by the crown
 abbrev pub unlist_line : ℕ → Hold → Option Lead → Line
-unlist_line s h None = refused NoCrown h
+unlist_line s h None = refused_line NoCrown h
 unlist_line s h (Some lead) = record { tests = []; change = with_crown h s lead None }
 
 abbrev pub signal_line : Rights → Hold → Line

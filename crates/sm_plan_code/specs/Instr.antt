@@ -5,16 +5,16 @@ use Rattle.sm_plan_code.specs.declared.instruction.Instr.TheVariants.{PrepareAdd
 use Rattle.sm_plan_code.specs.declared.instruction.NamedServers.{NamedServers}
 
 -- the instruction is a call at a server
-abbrev pub calls : Instr → Bool
-calls (PrepareAdd s v u) = true
-calls (PrepareDrop s u v) = true
-calls (Add s v role) = true
-calls (Drop s v) = true
-calls (Change s v role) = true
-calls (Publish s) = false
-calls (Unlist s) = false
-calls (Signal k) = false
-calls (Wait k) = false
+abbrev pub is_call : Instr → Bool
+is_call (PrepareAdd s v u) = true
+is_call (PrepareDrop s u v) = true
+is_call (Add s v role) = true
+is_call (Drop s v) = true
+is_call (Change s v role) = true
+is_call (Publish s) = false
+is_call (Unlist s) = false
+is_call (Signal k) = false
+is_call (Wait k) = false
 
 -- the servers that it mentions: the one at which the call is made, and the other one of a handover
 abbrev pub names_of : Instr → NamedServers

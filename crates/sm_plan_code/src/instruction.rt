@@ -1,6 +1,6 @@
 //! The instructions of a plan's streams, and why one of them may not be made.
 ghost use Rattle.std.specs.Prelude.{◌≡◌, ◌↔◌, IsTrue};
-ghost use Rattle.sm_plan_code.specs.Instr.{calls, names_of, Mentions};
+ghost use Rattle.sm_plan_code.specs.Instr.{is_call, names_of, Mentions};
 
 use sm_server::{Role, ServerId, ShardId};
 use thiserror::Error;
@@ -113,7 +113,7 @@ impl NamedServers {
 
 /// The instruction is a call at a server.
 pub const fn is_call(instr: &Instr) -> bool
-    ensures { result ≡ calls instr.now }
+    ensures { result ≡ is_call instr.now }
 {
     matches!(
         instr,
