@@ -26,10 +26,12 @@ abbrev pub first_why : List (Bool × Why) → Option Why
 first_why [] = None
 first_why (t ∷ ts) = if t.0 then first_why ts else Some t.1
 
+-- the hold where no test fails
 abbrev pub unless_refused : Option Why → Hold → Result Hold Why
 unless_refused None h = Ok h
 unless_refused (Some why) h = Err why
 
+-- what a line answers
 abbrev pub decided : Line → Result Hold Why
 decided line = unless_refused (first_why line.tests) line.change
 
@@ -43,9 +45,11 @@ has_right h s v = is_some (h.cells s v)
 abbrev pub has_cell : Hold → ℕ → ℕ → PlainCell → Bool
 has_cell h s v state = is_cell state (h.cells s v)
 
+-- there is the crown of the shard
 abbrev pub has_crown : Hold → ℕ → Bool
 has_crown h s = is_some (h.crowns s)
 
+-- a crown has this lead
 abbrev pub leads_as : Lead → Option (Lead × Option ℕ) → Bool
 leads_as lead None = false
 leads_as lead (Some crown) = same_lead lead crown.0
@@ -67,9 +71,11 @@ is_unlisted h s = is_none (listed_of (h.crowns s))
 abbrev pub is_not_listed : Hold → ℕ → ℕ → Bool
 is_not_listed h s v = not (same_server (listed_of (h.crowns s)) (Some v))
 
+-- there is so much room at the server
 abbrev pub has_room : Hold → ℕ → ℕ → Bool
 has_room h v load = nat_le load (h.room v)
 
+-- there is a spare replica of the shard
 abbrev pub has_spare : Hold → ℕ → Bool
 has_spare h s = nat_le 1 (h.spare s)
 

@@ -40,6 +40,7 @@ IsListable (Ready u v) (Some x) = x ≡ u
 IsListable (Handing u v) (Some x) = x ≡ u
 IsListable (Handed u v) (Some x) = (x ≡ u) ⊎ (x ≡ v)
 
+-- a handover is prepared, and its owner does not forward yet
 abbrev pub IsReady : Lead → Type 0
 IsReady (Ready u v) = Unit {0}
 IsReady _ = ⊥
