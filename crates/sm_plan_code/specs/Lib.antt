@@ -1,0 +1,4 @@
+pub mod Instr
+pub mod After
+pub mod Acts
+pub mod Effects

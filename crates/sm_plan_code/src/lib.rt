@@ -1,0 +1,10 @@
+//! Plans as code: instructions, and what each of them does to the rights of the stream that makes it.
+#![tactic(auto)]
+
+mod instruction;
+mod law;
+#[cfg(test)]
+mod tests;
+
+pub use instruction::{Instr, NamedServers, Why, is_call, names};
+pub use law::{has_effects, signal_gives, wait_takes};

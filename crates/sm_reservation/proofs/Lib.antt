@@ -1,0 +1,14 @@
+pub mod Changes
+pub mod Truths
+pub mod Exchange
+pub mod Places
+pub mod RowLemmas
+pub mod AmountLemmas
+pub mod OrderLemmas
+pub mod ElementLemmas
+pub mod DoubleLemmas
+pub mod HoldLemmas
+pub mod ParcelSums
+pub mod ParcelRows
+pub mod PoolLemmas
+pub mod OpeningLemmas

@@ -1,0 +1,22 @@
+use Rattle.std.proofs.Common.{sym, ◌∙◌}
+use Rattle.sm_reservation.specs.Lists.{rights_of}
+use Rattle.sm_reservation.proofs.DoubleLemmas.{once, ordered, lowest_double, parcel_ordered, parcel_positive, parcel_sorted}
+use Rattle.sm_reservation.proofs.parcel.sorted_parcel.Goals as goal
+
+pub returns-in-Some-clause-fault : goal.returns-in-Some-clause-fault
+returns-in-Some-clause-fault c = lowest_double _ _ c.in-Some.key c.in_ok-sorted.ensures (sym c.first_double.ensures ∙ c.in-Some.is)
+
+pub invariant_of-result : goal.invariant_of-result
+invariant_of-result c = record {
+  ordered = parcel_ordered (rights_of c.in_ok-sorted.sorted) _ _ c.drop_empty.ensures c.drop_empty-2.ensures (ordered _ _ c.in_ok-sorted.ensures (sym c.first_double.ensures ∙ c.in_default.is));
+  positive = parcel_positive (rights_of c.in_ok-sorted.sorted) _ _ c.drop_empty.ensures c.drop_empty-2.ensures;
+}
+
+pub returns-clause-sorted : goal.returns-clause-sorted
+returns-clause-sorted c = parcel_sorted _ (rights_of c.in_ok-sorted.sorted) _ _ c.drop_empty.ensures c.drop_empty-2.ensures c.in_ok-sorted.ensures
+
+pub returns-clause-once : goal.returns-clause-once
+returns-clause-once c = once _ _ c.in_ok-sorted.ensures (sym c.first_double.ensures ∙ c.in_default.is)
+
+pub returns-clause-order : goal.returns-clause-order
+returns-clause-order c = parcel_ordered (rights_of c.in_ok-sorted.sorted) _ _ c.drop_empty.ensures c.drop_empty-2.ensures (ordered _ _ c.in_ok-sorted.ensures (sym c.first_double.ensures ∙ c.in_default.is))

@@ -1,0 +1,74 @@
+-- Rights that are kept in lists with room: how many keys the lists take, and how the lists grow and shrink.
+use Rattle.std.specs.Prelude.{◌≡◌, ℕ, ◌+◌, ◌≤◌, None, length, count_by}
+use Rattle.std.specs.List.{AllByRecursion}
+use Rattle.sm_reservation.specs.Rights.{Rights}
+use Rattle.sm_reservation.specs.Hold.{Hold, minus}
+use Rattle.sm_reservation.specs.HoldOf.{hold_of}
+use Rattle.sm_reservation.specs.Turns.{lacks_cell, lacks_crown, lacks_room, lacks_spare, loses_cell, loses_crown, loses_room, loses_spare, RoomFits, SpareFits}
+
+-- rights, and for how many keys each list has room
+pub record Kept : Type 0 where
+  pub rights : Rights
+  pub places : ℕ
+
+-- how many keys each list has
+pub record Sizes : Type 0 where
+  pub cells : ℕ
+  pub crowns : ℕ
+  pub room : ℕ
+  pub spare : ℕ
+
+abbrev pub sizes : Rights → Sizes
+sizes r = record { cells = length r.cells; crowns = length r.crowns; room = length r.room; spare = length r.spare }
+
+-- how many keys of a parcel a hold does not have
+abbrev pub new_keys : Hold → Rights → Sizes
+new_keys h p = record {
+    cells = count_by (lacks_cell h) p.cells;
+    crowns = count_by (lacks_crown h) p.crowns;
+    room = count_by (lacks_room h) p.room;
+    spare = count_by (lacks_spare h) p.spare;
+  }
+
+-- how many keys a hold no longer has once a parcel is taken out
+abbrev pub lost_keys : Hold → Rights → Sizes
+lost_keys h p = record {
+    cells = count_by (loses_cell h) p.cells;
+    crowns = count_by (loses_crown h) p.crowns;
+    room = count_by (loses_room h) p.room;
+    spare = count_by (loses_spare h) p.spare;
+  }
+
+abbrev pub add_sizes : Sizes → Sizes → Sizes
+add_sizes a b = record { cells = a.cells + b.cells; crowns = a.crowns + b.crowns; room = a.room + b.room; spare = a.spare + b.spare }
+
+-- no list has more keys than there is room for
+pub record IsWithin (a : Sizes) (places : ℕ) : Type 0 where
+  pub cells : a.cells ≤ places
+  pub crowns : a.crowns ≤ places
+  pub room : a.room ≤ places
+  pub spare : a.spare ≤ places
+
+-- there is room for the keys of a parcel that are new
+abbrev pub HasPlaces : Kept → Rights → Type 0
+HasPlaces k p = IsWithin (add_sizes (sizes k.rights) (new_keys (hold_of k.rights) p)) k.places
+
+-- the lists have lost the keys that a parcel used up
+pub record IsLess (old new : Kept) (p : Rights) : Type 0 where
+  pub sizes : add_sizes (sizes new.rights) (lost_keys (hold_of old.rights) p) ≡ sizes old.rights
+  pub places : new.places ≡ old.places
+
+-- the lists have gained the keys of a parcel that were new
+pub record IsMore (old new : Kept) (p : Rights) : Type 0 where
+  pub sizes : sizes new.rights ≡ add_sizes (sizes old.rights) (new_keys (hold_of old.rights) p)
+  pub places : new.places ≡ old.places
+
+-- the hold has no cell right and no crown of the parcel
+pub record IsApart (h : Hold) (p : Rights) : Type 0 where
+  pub cells : AllByRecursion (λ x. h.cells x.shard x.server ≡ None) p.cells
+  pub crowns : AllByRecursion (λ x. h.crowns x.shard ≡ None) p.crowns
+
+-- no sum of the parcel and the hold passes u64
+pub record SumsFit (h : Hold) (p : Rights) : Type 0 where
+  pub room : AllByRecursion (RoomFits h) p.room
+  pub spare : AllByRecursion (SpareFits h) p.spare

@@ -1,0 +1,98 @@
+-- Keys of rights: their places in the lists, their order, and how often a key stands.
+use Rattle.std.specs.Prelude.{◌≡◌, ℕ, ◌≤◌, Bool, true, false, nat_lt, count_by, filter, Contains, List, Option}
+use Rattle.std.specs.List.Sorted.{IsPermutation}
+use Rattle.std.specs.Option.{option_map, option_or}
+use Rattle.sm_reservation.specs.declared.right.CellRight.{CellRight}
+use Rattle.sm_reservation.specs.declared.right.Crown.{Crown}
+use Rattle.sm_reservation.specs.declared.right.Room.{Room}
+use Rattle.sm_reservation.specs.declared.right.Spare.{Spare}
+use Rattle.sm_reservation.specs.declared.right.Key.{Key}
+use Rattle.sm_reservation.specs.declared.right.Key.TheVariants as key
+use Rattle.sm_reservation.specs.Rights.{Rights}
+use Rattle.sm_reservation.specs.Rows.{same, before, Rises, Climbs, HasPositive, first_twin}
+
+abbrev pub cell_place : CellRight → ℕ × ℕ
+cell_place x = (x.shard, x.server)
+
+abbrev pub crown_place : Crown → ℕ × ℕ
+crown_place x = (x.shard, 0)
+
+abbrev pub room_place : Room → ℕ × ℕ
+room_place x = (x.server, 0)
+
+abbrev pub spare_place : Spare → ℕ × ℕ
+spare_place x = (x.shard, 0)
+
+-- keys go by their kind, then by shard, then by server
+abbrev pub key_before : Key → Key → Bool
+key_before (key.CellRight s v) (key.CellRight t w) = before (s, v) (t, w)
+key_before (key.CellRight s v) _ = true
+key_before (key.Crown s) (key.CellRight t w) = false
+key_before (key.Crown s) (key.Crown t) = nat_lt s t
+key_before (key.Crown s) _ = true
+key_before (key.Room v) (key.Room w) = nat_lt v w
+key_before (key.Room v) (key.Spare t) = true
+key_before (key.Room v) _ = false
+key_before (key.Spare s) (key.Spare t) = nat_lt s t
+key_before (key.Spare s) _ = false
+
+-- how often a key stands in the four lists
+abbrev pub key_count : Rights → Key → ℕ
+key_count r (key.CellRight s v) = count_by (λ x. same (cell_place x) (s, v)) r.cells
+key_count r (key.Crown s) = count_by (λ x. same (crown_place x) (s, 0)) r.crowns
+key_count r (key.Room v) = count_by (λ x. same (room_place x) (v, 0)) r.room
+key_count r (key.Spare s) = count_by (λ x. same (spare_place x) (s, 0)) r.spare
+
+-- no key stands twice
+abbrev pub IsOnce : Rights → Type 0
+IsOnce r = (k : Key) → key_count r k ≤ 1
+
+-- the key stands twice, and no lower key does
+pub record IsLowestDouble (r : Rights) (k : Key) : Type 0 where
+  pub twice : 2 ≤ key_count r k
+  pub lowest : (j : Key) → key_before j k ≡ true → key_count r j ≤ 1
+
+-- each list rises by its keys
+pub record IsOrdered (r : Rights) : Type 0 where
+  pub cells : Rises cell_place r.cells
+  pub crowns : Rises crown_place r.crowns
+  pub room : Rises room_place r.room
+  pub spare : Rises spare_place r.spare
+
+-- no amount is 0
+pub record IsPositive (r : Rights) : Type 0 where
+  pub room : HasPositive (λ x. x.amount) r.room
+  pub spare : HasPositive (λ x. x.amount) r.spare
+
+-- two lists of the same elements
+abbrev pub SameElements : {T : Type 0} → List T → List T → Type 0
+SameElements {T} xs ys = (x : T) → (Contains xs x → Contains ys x) × (Contains ys x → Contains xs x)
+
+-- the same rights, without amounts of 0
+pub record IsSortedFrom (lists sorted : Rights) : Type 0 where
+  pub cells : SameElements lists.cells sorted.cells
+  pub crowns : SameElements lists.crowns sorted.crowns
+  pub room : SameElements (filter (λ x. nat_lt 0 x.amount) lists.room) sorted.room
+  pub spare : SameElements (filter (λ x. nat_lt 0 x.amount) lists.spare) sorted.spare
+
+-- the second lists are the first ones put in order
+pub record IsInOrder (r s : Rights) : Type 0 where
+  pub cells : IsPermutation r.cells s.cells
+  pub crowns : IsPermutation r.crowns s.crowns
+  pub room : IsPermutation r.room s.room
+  pub spare : IsPermutation r.spare s.spare
+  pub cells_climb : Climbs cell_place s.cells
+  pub crowns_climb : Climbs crown_place s.crowns
+  pub room_climb : Climbs room_place s.room
+  pub spare_climb : Climbs spare_place s.spare
+
+-- the lowest key of two neighbours, where each list is in order
+abbrev pub first_double : Rights → Option Key
+first_double r =
+    option_or
+    (option_or
+    (option_or
+    (option_map (λ p. key.CellRight p.0 p.1) (first_twin cell_place r.cells))
+    (option_map (λ p. key.Crown p.0) (first_twin crown_place r.crowns)))
+    (option_map (λ p. key.Room p.0) (first_twin room_place r.room)))
+    (option_map (λ p. key.Spare p.0) (first_twin spare_place r.spare))

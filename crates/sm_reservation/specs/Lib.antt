@@ -1,0 +1,17 @@
+pub mod Rights
+pub mod Hold
+pub mod Amounts
+pub mod Truth
+pub mod Rows
+pub mod Key
+pub mod Lists
+pub mod Parcel
+pub mod Fault
+pub mod HoldOf
+pub mod CanJoin
+pub mod Steps
+pub mod Turns
+pub mod Kept
+pub mod HoldView
+pub mod Short
+pub mod Pool

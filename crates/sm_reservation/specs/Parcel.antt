@@ -1,0 +1,12 @@
+-- Parcels: what contracts see of them.
+use Rattle.sm_reservation.specs.Rights.{Rights}
+use Rattle.sm_reservation.specs.Key.{IsOrdered, IsPositive}
+use Rattle.sm_reservation.specs.declared.parcel.Parcel.TheInside.{Inside}
+
+-- the four lists
+abbrev pub parcel_of : Inside → Rights
+parcel_of a = record { cells = a.cells.items; crowns = a.crowns.items; room = a.room.items; spare = a.spare.items }
+
+pub record IsParcel (a : Inside) : Type 0 where
+  pub ordered : IsOrdered (parcel_of a)
+  pub positive : IsPositive (parcel_of a)

@@ -1,0 +1,77 @@
+-- Rights put into a hold and taken out of it one after another.
+use Rattle.std.specs.Prelude.{ℕ, ◌+◌, ◌≤◌, ◌<◌, ◌^◌, ◌==◌, ◌&&◌, Bool, nat_lt, is_none, is_some, Some, None}
+use Rattle.sm_reservation.specs.declared.right.CellRight.{CellRight}
+use Rattle.sm_reservation.specs.declared.right.Crown.{Crown}
+use Rattle.sm_reservation.specs.declared.right.Room.{Room}
+use Rattle.sm_reservation.specs.declared.right.Spare.{Spare}
+use Rattle.sm_reservation.specs.Hold.{Hold, with_cell, with_crown, without_crown, pay_room, get_room, pay_spare, get_spare}
+
+-- ---- one right taken out
+
+abbrev pub out_cell : Hold → CellRight → Hold
+out_cell h x = with_cell h x.shard x.server None
+
+abbrev pub out_crown : Hold → Crown → Hold
+out_crown h x = without_crown h x.shard
+
+abbrev pub out_room : Hold → Room → Hold
+out_room h x = pay_room h x.server x.amount
+
+abbrev pub out_spare : Hold → Spare → Hold
+out_spare h x = pay_spare h x.shard x.amount
+
+-- ---- one right put in
+
+abbrev pub in_cell : Hold → CellRight → Hold
+in_cell h x = with_cell h x.shard x.server (Some x.state)
+
+abbrev pub in_crown : Hold → Crown → Hold
+in_crown h x = with_crown h x.shard x.lead x.listed
+
+abbrev pub in_room : Hold → Room → Hold
+in_room h x = get_room h x.server x.amount
+
+abbrev pub in_spare : Hold → Spare → Hold
+in_spare h x = get_spare h x.shard x.amount
+
+-- ---- whether the key is one that the hold does not have, so that it asks for room
+
+abbrev pub lacks_cell : Hold → CellRight → Bool
+lacks_cell h x = is_none (h.cells x.shard x.server)
+
+abbrev pub lacks_crown : Hold → Crown → Bool
+lacks_crown h x = is_none (h.crowns x.shard)
+
+abbrev pub lacks_room : Hold → Room → Bool
+lacks_room h x = nat_lt 0 x.amount && (h.room x.server == 0)
+
+abbrev pub lacks_spare : Hold → Spare → Bool
+lacks_spare h x = nat_lt 0 x.amount && (h.spare x.shard == 0)
+
+-- ---- whether the hold has the key, and no longer has it once the right is taken out
+
+abbrev pub loses_cell : Hold → CellRight → Bool
+loses_cell h x = is_some (h.cells x.shard x.server)
+
+abbrev pub loses_crown : Hold → Crown → Bool
+loses_crown h x = is_some (h.crowns x.shard)
+
+abbrev pub loses_room : Hold → Room → Bool
+loses_room h x = nat_lt 0 x.amount && (h.room x.server == x.amount)
+
+abbrev pub loses_spare : Hold → Spare → Bool
+loses_spare h x = nat_lt 0 x.amount && (h.spare x.shard == x.amount)
+
+-- ---- whether an amount is there, and whether a sum stays a u64
+
+abbrev pub HasRoom : Hold → Room → Type 0
+HasRoom h x = x.amount ≤ h.room x.server
+
+abbrev pub HasSpare : Hold → Spare → Type 0
+HasSpare h x = x.amount ≤ h.spare x.shard
+
+abbrev pub RoomFits : Hold → Room → Type 0
+RoomFits h x = h.room x.server + x.amount < 2 ^ 64
+
+abbrev pub SpareFits : Hold → Spare → Type 0
+SpareFits h x = h.spare x.shard + x.amount < 2 ^ 64

@@ -1,0 +1,202 @@
+#![tactic(auto, unfolding(crate::specs::HoldOf::hold_of))]
+//! Holds: rights that are read and changed by their keys.
+ghost use Rattle.std.specs.Prelude.{◌≡◌, ◌+◌, ◌<◌, ◌≤◌, ◌==◌, ◌&&◌, ◌^◌, None, Some, nat_lt, is_none, is_some, max, IfOk, OnOk, OnErr, length};
+ghost use Rattle.sm_placement.specs.Sums.{bit};
+ghost use Rattle.sm_reservation.specs.Rights.{no_rights};
+ghost use Rattle.sm_reservation.specs.Hold.{with_cell, with_crown, without_crown, get_room, pay_room, get_spare, pay_spare};
+ghost use Rattle.sm_reservation.specs.HoldOf.{hold_of};
+
+use crate::right::{CellRight, Crown, PlainCell, Room, Spare};
+use crate::rows::{Row, add_amount, put_row, row_at, set_row, sub_amount, take_row};
+use sm_placement::Lead;
+use sm_server::{ServerId, ShardId};
+use std::alloc::{AllocError, Global};
+use std::marker::Model;
+
+/// Rights that can be read and edited by their keys, with room for a number of keys in each list.
+///
+/// A hold is a plain value: it says what is held, and nothing is held by having one.
+#[derive(Drop)]
+pub struct Hold {
+    cells: Vec<CellRight>,
+    crowns: Vec<Crown>,
+    room: Vec<Room>,
+    spare: Vec<Spare>,
+    places: usize,
+}
+
+impl Model for Hold {
+    ghost use Rattle.sm_reservation.specs.Kept.{Kept};
+
+    ghost Value = { Kept };
+
+    ghost use Rattle.sm_reservation.specs.HoldView.{kept_of, IsSound};
+
+    ghost view = { kept_of };
+
+    ghost invariant = { IsSound };
+}
+
+impl Hold {
+    /// No rights, with room for `room` keys in each list.
+    pub fn empty(alloc: Global, room: u32) -> Result<Hold, AllocError>
+        ensures { IfOk result (λ hold. hold ≡ record { rights = no_rights; places = room }) }
+    {
+        let places = room as usize;
+        Ok(Hold {
+            cells: Vec::with_capacity(alloc, places)?,
+            crowns: Vec::with_capacity(alloc, places)?,
+            room: Vec::with_capacity(alloc, places)?,
+            spare: Vec::with_capacity(alloc, places)?,
+            places,
+        })
+    }
+
+    /// Raises the room to `room` keys in each list, where it is less.
+    pub fn reserve(&mut self, room: u32) -> Result<(), AllocError>
+        ensures rights { self.new.rights ≡ self.old.rights }
+        ensures ok { OnOk result (self.new.places ≡ max self.old.places room) }
+        ensures err { OnErr result (self.new.places ≡ self.old.places) }
+    {
+        let places = room as usize;
+        if places <= self.places {
+            return Ok(());
+        }
+        self.cells.reserve(places - self.cells.len())?;
+        self.crowns.reserve(places - self.crowns.len())?;
+        self.room.reserve(places - self.room.len())?;
+        self.spare.reserve(places - self.spare.len())?;
+        self.places = places;
+        Ok(())
+    }
+
+    /// The state of a cell to which there is a right.
+    pub fn cell(&self, shard: ShardId, server: ServerId) -> Option<PlainCell>
+        ensures { result ≡ (hold_of self.now.rights).cells shard server }
+    {
+        row_at(&self.cells, (shard.number(), server.number())).map(|right| right.state)
+    }
+
+    /// The lead and the listed server of a shard's crown.
+    pub fn crown(&self, shard: ShardId) -> Option<(Lead, Option<ServerId>)>
+        ensures { result ≡ (hold_of self.now.rights).crowns shard }
+    {
+        row_at(&self.crowns, (shard.number(), 0)).map(|crown| (crown.lead, crown.listed))
+    }
+
+    /// The room of a server.
+    pub fn room(&self, server: ServerId) -> u64
+        ensures { result ≡ (hold_of self.now.rights).room server }
+    {
+        row_at(&self.room, (server.number(), 0)).map_or(0, |room| room.amount)
+    }
+
+    /// The spare replicas of a shard.
+    pub fn spare(&self, shard: ShardId) -> u64
+        ensures { result ≡ (hold_of self.now.rights).spare shard }
+    {
+        row_at(&self.spare, (shard.number(), 0)).map_or(0, |spare| spare.amount)
+    }
+
+    /// Takes the right to a cell out, if there is one.
+    pub fn take_cell(&mut self, shard: ShardId, server: ServerId)
+        ensures rights { hold_of self.new.rights ≡ with_cell (hold_of self.old.rights) shard server None }
+        ensures len { length self.new.rights.cells + bit (is_some ((hold_of self.old.rights).cells shard server)) ≡ length self.old.rights.cells }
+        ensures others { self.new ≡ record self.old { rights = record self.old.rights { cells = self.new.rights.cells } } }
+    {
+        let place = (shard.number(), server.number());
+        if row_at(&self.cells, place).is_some() {
+            let _ = take_row(&mut self.cells, place);
+        }
+    }
+
+    /// Puts the right to a cell in, in place of one to that cell in another state.
+    pub fn put_cell(&mut self, right: CellRight)
+        requires room { (hold_of self.old.rights).cells right.shard right.server ≡ None → length self.old.rights.cells < self.old.places }
+        ensures rights { hold_of self.new.rights ≡ with_cell (hold_of self.old.rights) right.shard right.server (Some right.state) }
+        ensures len { length self.new.rights.cells ≡ length self.old.rights.cells + bit (is_none ((hold_of self.old.rights).cells right.shard right.server)) }
+        ensures others { self.new ≡ record self.old { rights = record self.old.rights { cells = self.new.rights.cells } } }
+    {
+        if row_at(&self.cells, right.place()).is_some() {
+            set_row(&mut self.cells, right);
+        } else {
+            put_row(&mut self.cells, right);
+        }
+    }
+
+    /// Takes a shard's crown out, if there is one.
+    pub fn take_crown(&mut self, shard: ShardId)
+        ensures rights { hold_of self.new.rights ≡ without_crown (hold_of self.old.rights) shard }
+        ensures len { length self.new.rights.crowns + bit (is_some ((hold_of self.old.rights).crowns shard)) ≡ length self.old.rights.crowns }
+        ensures others { self.new ≡ record self.old { rights = record self.old.rights { crowns = self.new.rights.crowns } } }
+    {
+        let place = (shard.number(), 0);
+        if row_at(&self.crowns, place).is_some() {
+            let _ = take_row(&mut self.crowns, place);
+        }
+    }
+
+    /// Puts a crown in, in place of one of that shard.
+    pub fn put_crown(&mut self, crown: Crown)
+        requires room { (hold_of self.old.rights).crowns crown.shard ≡ None → length self.old.rights.crowns < self.old.places }
+        ensures rights { hold_of self.new.rights ≡ with_crown (hold_of self.old.rights) crown.shard crown.lead crown.listed }
+        ensures len { length self.new.rights.crowns ≡ length self.old.rights.crowns + bit (is_none ((hold_of self.old.rights).crowns crown.shard)) }
+        ensures others { self.new ≡ record self.old { rights = record self.old.rights { crowns = self.new.rights.crowns } } }
+    {
+        if row_at(&self.crowns, crown.place()).is_some() {
+            set_row(&mut self.crowns, crown);
+        } else {
+            put_row(&mut self.crowns, crown);
+        }
+    }
+
+    /// Takes room of a server out.
+    pub fn take_room(&mut self, room: Room)
+        requires enough { room.amount ≤ (hold_of self.old.rights).room room.server }
+        ensures rights { hold_of self.new.rights ≡ pay_room (hold_of self.old.rights) room.server room.amount }
+        ensures len { length self.new.rights.room + bit (nat_lt 0 room.amount && ((hold_of self.old.rights).room room.server == room.amount)) ≡ length self.old.rights.room }
+        ensures others { self.new ≡ record self.old { rights = record self.old.rights { room = self.new.rights.room } } }
+    {
+        if room.amount > 0 {
+            sub_amount(&mut self.room, room);
+        }
+    }
+
+    /// Puts room of a server in.
+    pub fn put_room(&mut self, room: Room)
+        requires room { 0 < room.amount → (hold_of self.old.rights).room room.server ≡ 0 → length self.old.rights.room < self.old.places }
+        requires fits { (hold_of self.old.rights).room room.server + room.amount < 2 ^ 64 }
+        ensures rights { hold_of self.new.rights ≡ get_room (hold_of self.old.rights) room.server room.amount }
+        ensures len { length self.new.rights.room ≡ length self.old.rights.room + bit (nat_lt 0 room.amount && ((hold_of self.old.rights).room room.server == 0)) }
+        ensures others { self.new ≡ record self.old { rights = record self.old.rights { room = self.new.rights.room } } }
+    {
+        if room.amount > 0 {
+            add_amount(&mut self.room, room);
+        }
+    }
+
+    /// Takes spare replicas of a shard out.
+    pub fn take_spare(&mut self, spare: Spare)
+        requires enough { spare.amount ≤ (hold_of self.old.rights).spare spare.shard }
+        ensures rights { hold_of self.new.rights ≡ pay_spare (hold_of self.old.rights) spare.shard spare.amount }
+        ensures len { length self.new.rights.spare + bit (nat_lt 0 spare.amount && ((hold_of self.old.rights).spare spare.shard == spare.amount)) ≡ length self.old.rights.spare }
+        ensures others { self.new ≡ record self.old { rights = record self.old.rights { spare = self.new.rights.spare } } }
+    {
+        if spare.amount > 0 {
+            sub_amount(&mut self.spare, spare);
+        }
+    }
+
+    /// Puts spare replicas of a shard in.
+    pub fn put_spare(&mut self, spare: Spare)
+        requires room { 0 < spare.amount → (hold_of self.old.rights).spare spare.shard ≡ 0 → length self.old.rights.spare < self.old.places }
+        requires fits { (hold_of self.old.rights).spare spare.shard + spare.amount < 2 ^ 64 }
+        ensures rights { hold_of self.new.rights ≡ get_spare (hold_of self.old.rights) spare.shard spare.amount }
+        ensures len { length self.new.rights.spare ≡ length self.old.rights.spare + bit (nat_lt 0 spare.amount && ((hold_of self.old.rights).spare spare.shard == 0)) }
+        ensures others { self.new ≡ record self.old { rights = record self.old.rights { spare = self.new.rights.spare } } }
+    {
+        if spare.amount > 0 {
+            add_amount(&mut self.spare, spare);
+        }
+    }
+}

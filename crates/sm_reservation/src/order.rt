@@ -1,0 +1,37 @@
+//! Rows put in order, and rows of one place found among them.
+ghost use Rattle.std.specs.Prelude.{◌≡◌, ◌&&◌, filter, nat_lt, IfOk};
+ghost use Rattle.std.specs.List.Sorted.{IsPermutation};
+ghost use Rattle.sm_reservation.specs.Rows.{same, Climbs, first_twin};
+
+use crate::rows::{Amount, Row, is_same};
+use std::alloc::{AllocError, Global};
+
+/// A copy of the rows in the order of their places.
+pub fn sorted_rows<T: Row>(alloc: Global, rows: &[T]) -> Result<Vec<T>, AllocError>
+    ensures permutation { IfOk result (λ sorted. IsPermutation rows.now sorted.items) }
+    ensures climbs { IfOk result (λ sorted. Climbs T.place sorted.items) }
+{
+    let mut sorted = Vec::from_slice(alloc, rows)?;
+    sorted.sort_by_key(|row| row.place())?;
+    Ok(sorted)
+}
+
+/// The first place that two neighbours share.
+pub fn first_twin<T: Row>(rows: &[T]) -> Option<(u32, u32)>
+    ensures { result ≡ first_twin T.place rows.now }
+{
+    for i in 1..rows.len() {
+        let place = rows[i].place();
+        if is_same(rows[i - 1].place(), place) {
+            return Some(place);
+        }
+    }
+    None
+}
+
+/// Drops the rows whose amount is 0.
+pub fn drop_empty<T: Amount>(rows: &mut Vec<T>)
+    ensures { rows.new.items ≡ filter (λ row. nat_lt 0 (T.amount row)) rows.old.items }
+{
+    rows.retain(|row| row.amount() > 0);
+}

@@ -1,0 +1,183 @@
+//! Parcels: rights in order, each key once.
+ghost use Rattle.std.specs.Prelude.{◌≡◌, IfOk, OnOk, IfErr};
+ghost use Rattle.sm_reservation.specs.Rows.{Rises, HasPositive};
+ghost use Rattle.sm_reservation.specs.Key.{cell_place, crown_place, room_place, spare_place, IsOnce, IsOrdered, IsSortedFrom, IsInOrder, first_double};
+ghost use Rattle.sm_reservation.specs.Lists.{rights_of};
+ghost use Rattle.sm_reservation.specs.Fault.{IsFaultOf};
+
+use crate::order::{drop_empty, first_twin, sorted_rows};
+use crate::right::{CellRight, Crown, Key, Room, Spare};
+use sm_server::{ServerId, ShardId};
+use std::alloc::{AllocError, Global};
+use std::marker::Model;
+use thiserror::Error;
+
+/// Rights of the four kinds, in any order.
+#[derive(Drop)]
+pub struct Lists {
+    /// Rights to cells.
+    pub cells: Vec<CellRight>,
+    /// Crowns.
+    pub crowns: Vec<Crown>,
+    /// Room.
+    pub room: Vec<Room>,
+    /// Spare replicas.
+    pub spare: Vec<Spare>,
+}
+
+/// Why four lists are no parcel.
+#[derive(Clone, Copy, Debug, PartialEq, Eq, Error)]
+pub enum ParcelFault {
+    /// Memory was short.
+    #[error("out of memory")]
+    NoMemory,
+    /// A key stands twice.
+    #[error("a key stands twice")]
+    Double {
+        /// The lowest such key.
+        key: Key,
+    },
+}
+
+impl From<AllocError> for ParcelFault {
+    ghost use Rattle.sm_reservation.specs.declared.parcel.ParcelFault.TheVariants.{NoMemory};
+
+    ghost from_gives = { λ _ fault. fault ≡ NoMemory };
+
+    fn from(_error: AllocError) -> ParcelFault {
+        ParcelFault::NoMemory
+    }
+}
+
+/// Rights to be asked for or handed on: each key once, in the order of the keys, and no amount of 0.
+#[derive(Drop)]
+pub struct Parcel {
+    cells: Vec<CellRight>,
+    crowns: Vec<Crown>,
+    room: Vec<Room>,
+    spare: Vec<Spare>,
+}
+
+impl Model for Parcel {
+    ghost use Rattle.sm_reservation.specs.Rights.{Rights};
+
+    ghost Value = { Rights };
+
+    ghost use Rattle.sm_reservation.specs.Parcel.{parcel_of, IsParcel};
+
+    ghost view = { parcel_of };
+
+    ghost invariant = { IsParcel };
+}
+
+impl Parcel {
+    /// Puts rights in order and leaves out amounts of 0.
+    ///
+    /// A key that stands twice is refused, whatever its amounts, states, leads or listed servers are. The lists come
+    /// back with the fault.
+    pub fn new(alloc: Global, lists: Lists) -> Result<Parcel, (Lists, ParcelFault)>
+        ensures sorted { IfOk result (λ parcel. IsSortedFrom (rights_of lists) parcel) }
+        ensures order { IfOk result (λ parcel. IsOrdered parcel) }
+        ensures once { OnOk result (IsOnce (rights_of lists)) }
+        ensures lists { IfErr result (λ e. e.0 ≡ lists) }
+        ensures fault { IfErr result (λ e. IsFaultOf (rights_of lists) e.1) }
+    {
+        match sorted_parcel(alloc, &lists) {
+            Ok(parcel) => Ok(parcel),
+            Err(fault) => Err((lists, fault)),
+        }
+    }
+
+    /// The rights to cells.
+    pub fn cells(&self) -> &[CellRight]
+        ensures value { result.now ≡ self.now.cells }
+        ensures order { Rises cell_place result.now }
+    {
+        self.cells.as_slice()
+    }
+
+    /// The crowns.
+    pub fn crowns(&self) -> &[Crown]
+        ensures value { result.now ≡ self.now.crowns }
+        ensures order { Rises crown_place result.now }
+    {
+        self.crowns.as_slice()
+    }
+
+    /// The room.
+    pub fn room(&self) -> &[Room]
+        ensures value { result.now ≡ self.now.room }
+        ensures order { Rises room_place result.now }
+        ensures positive { HasPositive (λ x. x.amount) result.now }
+    {
+        self.room.as_slice()
+    }
+
+    /// The spare replicas.
+    pub fn spare(&self) -> &[Spare]
+        ensures value { result.now ≡ self.now.spare }
+        ensures order { Rises spare_place result.now }
+        ensures positive { HasPositive (λ x. x.amount) result.now }
+    {
+        self.spare.as_slice()
+    }
+}
+
+/// The parcel of the rights of four lists.
+fn sorted_parcel(alloc: Global, lists: &Lists) -> Result<Parcel, ParcelFault>
+    ensures sorted { IfOk result (λ parcel. IsSortedFrom (rights_of lists.now) parcel) }
+    ensures once { OnOk result (IsOnce (rights_of lists.now)) }
+    ensures order { IfOk result (λ parcel. IsOrdered parcel) }
+    ensures fault { IfErr result (λ fault. IsFaultOf (rights_of lists.now) fault) }
+{
+    let mut sorted = sorted_lists(alloc, lists)?;
+    if let Some(key) = first_double(&sorted) {
+        return Err(ParcelFault::Double { key });
+    }
+    drop_empty(&mut sorted.room);
+    drop_empty(&mut sorted.spare);
+    let Lists {
+        cells,
+        crowns,
+        room,
+        spare,
+    } = sorted;
+    Ok(Parcel {
+        cells,
+        crowns,
+        room,
+        spare,
+    })
+}
+
+/// Copies of the lists, each in the order of its keys.
+fn sorted_lists(alloc: Global, lists: &Lists) -> Result<Lists, AllocError>
+    ensures { IfOk result (λ sorted. IsInOrder (rights_of lists.now) (rights_of sorted)) }
+{
+    Ok(Lists {
+        cells: sorted_rows(alloc, lists.cells.as_slice())?,
+        crowns: sorted_rows(alloc, lists.crowns.as_slice())?,
+        room: sorted_rows(alloc, lists.room.as_slice())?,
+        spare: sorted_rows(alloc, lists.spare.as_slice())?,
+    })
+}
+
+/// The lowest key that two neighbours in a list share.
+fn first_double(lists: &Lists) -> Option<Key>
+    ensures { result ≡ first_double (rights_of lists.now) }
+{
+    let cell = first_twin(lists.cells.as_slice()).map(|(shard, server)| Key::CellRight {
+        shard: ShardId::new(shard),
+        server: ServerId::new(server),
+    });
+    let crown = first_twin(lists.crowns.as_slice()).map(|(shard, _)| Key::Crown {
+        shard: ShardId::new(shard),
+    });
+    let room = first_twin(lists.room.as_slice()).map(|(server, _)| Key::Room {
+        server: ServerId::new(server),
+    });
+    let spare = first_twin(lists.spare.as_slice()).map(|(shard, _)| Key::Spare {
+        shard: ShardId::new(shard),
+    });
+    cell.or(crown).or(room).or(spare)
+}

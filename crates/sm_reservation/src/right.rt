@@ -1,0 +1,157 @@
+//! The kinds of rights, and their keys.
+ghost use Rattle.std.specs.Prelude.{ℕ};
+
+use crate::rows::{Amount, Row};
+use sm_placement::Lead;
+use sm_server::{ServerId, ShardId};
+
+/// A cell with no part in its shard's lead: there are rights to such cells alone.
+#[derive(Clone, Copy, Debug, PartialEq, Eq)]
+pub enum PlainCell {
+    /// The server has nothing of the shard.
+    Absent,
+    /// The server has a secondary of the shard.
+    Secondary,
+}
+
+/// The right to change one cell, which is as `state` says.
+#[derive(Clone, Copy, Debug, PartialEq, Eq)]
+pub struct CellRight {
+    /// The cell's shard.
+    pub shard: ShardId,
+    /// The cell's server.
+    pub server: ServerId,
+    /// What the cell is.
+    pub state: PlainCell,
+}
+
+/// The right to change a shard's lead and the entry of the published map.
+#[derive(Clone, Copy, Debug, PartialEq, Eq)]
+pub struct Crown {
+    /// The shard.
+    pub shard: ShardId,
+    /// Where the primary stands.
+    pub lead: Lead,
+    /// The server that the published map names.
+    pub listed: Option<ServerId>,
+}
+
+/// Room of a server that its holder may use, in units of load.
+#[derive(Clone, Copy, Debug, PartialEq, Eq)]
+pub struct Room {
+    /// The server.
+    pub server: ServerId,
+    /// How much.
+    pub amount: u64,
+}
+
+/// Live replicas of a shard above its floor, which its holder may take down.
+#[derive(Clone, Copy, Debug, PartialEq, Eq)]
+pub struct Spare {
+    /// The shard.
+    pub shard: ShardId,
+    /// How many.
+    pub amount: u64,
+}
+
+/// What a right is of. Keys go by their kind in this order, then by shard, then by server.
+#[derive(Clone, Copy, Debug, PartialEq, Eq, PartialOrd, Ord)]
+pub enum Key {
+    /// A right to a cell.
+    CellRight {
+        /// The cell's shard.
+        shard: ShardId,
+        /// The cell's server.
+        server: ServerId,
+    },
+    /// A crown.
+    Crown {
+        /// Its shard.
+        shard: ShardId,
+    },
+    /// Room.
+    Room {
+        /// Its server.
+        server: ServerId,
+    },
+    /// Spare replicas.
+    Spare {
+        /// Their shard.
+        shard: ShardId,
+    },
+}
+
+/// A key of which there was too little.
+///
+/// A cell right or a crown that is absent or in another state has `had` 0 and `asked` 1.
+#[derive(Clone, Copy, Debug, PartialEq, Eq)]
+pub struct Short {
+    /// The key.
+    pub key: Key,
+    /// How much there was.
+    pub had: u64,
+    /// How much was asked for.
+    pub asked: u64,
+}
+
+impl Row for CellRight {
+    ghost place = { λ x. (x.shard, x.server) };
+
+    fn place(&self) -> (u32, u32) {
+        (self.shard.number(), self.server.number())
+    }
+}
+
+impl Row for Crown {
+    ghost place = { λ x. (x.shard, 0) };
+
+    fn place(&self) -> (u32, u32) {
+        (self.shard.number(), 0)
+    }
+}
+
+impl Row for Room {
+    ghost place = { λ x. (x.server, 0) };
+
+    fn place(&self) -> (u32, u32) {
+        (self.server.number(), 0)
+    }
+}
+
+impl Row for Spare {
+    ghost place = { λ x. (x.shard, 0) };
+
+    fn place(&self) -> (u32, u32) {
+        (self.shard.number(), 0)
+    }
+}
+
+impl Amount for Room {
+    ghost amount = { λ x. x.amount };
+
+    fn amount(&self) -> u64 {
+        self.amount
+    }
+
+    fn with_amount(&self, new: u64) -> Room {
+        Room {
+            server: self.server,
+            amount: new,
+        }
+    }
+}
+
+impl Amount for Spare {
+    ghost amount = { λ x. x.amount };
+
+    fn amount(&self) -> u64 {
+        self.amount
+    }
+
+    fn with_amount(&self, new: u64) -> Spare {
+        Spare {
+            shard: self.shard,
+            amount: new,
+        }
+    }
+}

@@ -1,0 +1,144 @@
+//! Ordered rows in a `Vec`: the row at a place, put in and taken out.
+ghost use Rattle.std.specs.Prelude.{◌≡◌, ℕ, ◌+◌, ◌<◌, ◌≤◌, ◌-◌, ◌==◌, ◌^◌, Some, None, length, vec_len, vec_capacity, if◌then◌else◌, IsSome, insert, remove, slice_set};
+ghost use Rattle.sm_reservation.specs.Rows.{same, before, row_at, Rises, count_before, amount_at, HasPositive};
+ghost use Rattle.sm_placement.specs.Sums.{bit};
+
+/// A row of an ordered list, which its place tells apart from the others.
+pub trait Row: Copy {
+    ghost place: { Self → ℕ × ℕ };
+
+    fn place(&self) -> (u32, u32)
+        ensures { result ≡ place self.now };
+}
+
+pub fn is_same(a: (u32, u32), b: (u32, u32)) -> bool
+    ensures { result ≡ same a b }
+{
+    a.0 == b.0 && a.1 == b.1
+}
+
+fn is_before(a: (u32, u32), b: (u32, u32)) -> bool
+    ensures { result ≡ before a b }
+{
+    a.0 < b.0 || (a.0 == b.0 && a.1 < b.1)
+}
+
+fn count_before<T: Row>(rows: &[T], place: (u32, u32)) -> usize
+    ensures { result ≡ count_before T.place place rows.now }
+{
+    let mut i = 0;
+    while i < rows.len() && is_before(rows[i].place(), place) {
+        i += 1;
+    }
+    i
+}
+
+pub fn row_at<T: Row>(rows: &[T], place: (u32, u32)) -> Option<T>
+    requires { Rises T.place rows.now }
+    ensures { result ≡ row_at T.place rows.now place }
+{
+    let i = count_before(rows, place);
+    if i >= rows.len() {
+        return None;
+    }
+    let row = rows[i];
+    if is_same(row.place(), place) {
+        Some(row)
+    } else {
+        None
+    }
+}
+
+pub fn put_row<T: Row>(rows: &mut Vec<T>, row: T)
+    requires order { Rises T.place rows.old.items }
+    requires room { vec_len rows.old < vec_capacity rows.old }
+    requires absent { row_at T.place rows.old.items (T.place row) ≡ None }
+    ensures order { Rises T.place rows.new.items }
+    ensures len { vec_len rows.new ≡ vec_len rows.old + 1 }
+    ensures capacity { vec_capacity rows.old ≤ vec_capacity rows.new }
+    ensures items { rows.new.items ≡ insert rows.old.items (count_before T.place (T.place row) rows.old.items) row }
+    ensures rows { (q : ℕ × ℕ) → row_at T.place rows.new.items q ≡ (if same (T.place row) q then Some row else row_at T.place rows.old.items q) }
+{
+    let i = count_before(rows, row.place());
+    rows.insert(i, row).unwrap();
+}
+
+pub fn take_row<T: Row>(rows: &mut Vec<T>, place: (u32, u32)) -> T
+    requires order { Rises T.place rows.old.items }
+    requires present { IsSome (row_at T.place rows.old.items place) }
+    ensures result { row_at T.place rows.old.items place ≡ Some result }
+    ensures order { Rises T.place rows.new.items }
+    ensures len { vec_len rows.new + 1 ≡ vec_len rows.old }
+    ensures capacity { vec_capacity rows.new ≡ vec_capacity rows.old }
+    ensures items { rows.new.items ≡ remove rows.old.items (count_before T.place place rows.old.items) }
+    ensures rows { (q : ℕ × ℕ) → row_at T.place rows.new.items q ≡ (if same place q then None else row_at T.place rows.old.items q) }
+{
+    let i = count_before(rows, place);
+    rows.remove(i)
+}
+
+pub fn set_row<T: Row>(rows: &mut Vec<T>, row: T)
+    requires order { Rises T.place rows.old.items }
+    requires present { IsSome (row_at T.place rows.old.items (T.place row)) }
+    ensures order { Rises T.place rows.new.items }
+    ensures len { vec_len rows.new ≡ vec_len rows.old }
+    ensures capacity { vec_capacity rows.new ≡ vec_capacity rows.old }
+    ensures items { rows.new.items ≡ slice_set rows.old.items (count_before T.place (T.place row) rows.old.items) row }
+    ensures rows { (q : ℕ × ℕ) → row_at T.place rows.new.items q ≡ (if same (T.place row) q then Some row else row_at T.place rows.old.items q) }
+{
+    let i = count_before(rows, row.place());
+    rows[i] = row;
+}
+
+/// A row with an amount.
+pub trait Amount: Row {
+    ghost amount: { Self → ℕ };
+
+    fn amount(&self) -> u64
+        ensures { result ≡ amount self.now };
+
+    fn with_amount(&self, new: u64) -> Self
+        ensures place { Self.place result ≡ Self.place self.now }
+        ensures value { amount result ≡ new };
+}
+
+/// Adds an amount to what stands at its place.
+pub fn add_amount<T: Amount>(rows: &mut Vec<T>, row: T)
+    requires order { Rises T.place rows.old.items }
+    requires positive { HasPositive T.amount rows.old.items }
+    requires some { 0 < T.amount row }
+    requires room { amount_at T.place T.amount rows.old.items (T.place row) ≡ 0 → vec_len rows.old < vec_capacity rows.old }
+    requires fits { amount_at T.place T.amount rows.old.items (T.place row) + T.amount row < 2 ^ 64 }
+    ensures order { Rises T.place rows.new.items }
+    ensures positive { HasPositive T.amount rows.new.items }
+    ensures capacity { vec_capacity rows.old ≤ vec_capacity rows.new }
+    ensures len { vec_len rows.new ≡ vec_len rows.old + bit (amount_at T.place T.amount rows.old.items (T.place row) == 0) }
+    ensures amounts { (q : ℕ × ℕ) → amount_at T.place T.amount rows.new.items q ≡ (if same (T.place row) q then amount_at T.place T.amount rows.old.items (T.place row) + T.amount row else amount_at T.place T.amount rows.old.items q) }
+{
+    match row_at(rows, row.place()) {
+        None => put_row(rows, row),
+        Some(held) => set_row(rows, row.with_amount(held.amount() + row.amount())),
+    }
+}
+
+/// Takes an amount away from what stands at its place.
+pub fn sub_amount<T: Amount>(rows: &mut Vec<T>, row: T)
+    requires order { Rises T.place rows.old.items }
+    requires positive { HasPositive T.amount rows.old.items }
+    requires some { 0 < T.amount row }
+    requires enough { T.amount row ≤ amount_at T.place T.amount rows.old.items (T.place row) }
+    ensures order { Rises T.place rows.new.items }
+    ensures positive { HasPositive T.amount rows.new.items }
+    ensures len { vec_len rows.new + bit (amount_at T.place T.amount rows.old.items (T.place row) == T.amount row) ≡ vec_len rows.old }
+    ensures capacity { vec_capacity rows.new ≡ vec_capacity rows.old }
+    ensures amounts { (q : ℕ × ℕ) → amount_at T.place T.amount rows.new.items q ≡ (if same (T.place row) q then amount_at T.place T.amount rows.old.items (T.place row) - T.amount row else amount_at T.place T.amount rows.old.items q) }
+{
+    if let Some(held) = row_at(rows, row.place()) {
+        let rest = held.amount() - row.amount();
+        if rest == 0 {
+            let _ = take_row(rows, row.place());
+        } else {
+            set_row(rows, row.with_amount(rest));
+        }
+    }
+}
