@@ -1,6 +1,8 @@
 //! The program: one word says what is reported of the document on standard input.
 #![tactic(auto)]
 
+ghost use Rattle.std.specs.Prelude.{◌≡◌, IfOk, map, string_bytes};
+
 #[cfg(test)]
 mod tests;
 
@@ -20,7 +22,9 @@ fn words_of(rt: &HostRuntime) -> io::Result<Vec<String>> {
 }
 
 /// The texts of words.
-fn texts_of<'a>(alloc: Global, words: &'a [String]) -> Result<Vec<&'a str>, AllocError> {
+fn texts_of<'a>(alloc: Global, words: &'a [String]) -> Result<Vec<&'a str>, AllocError>
+    ensures { IfOk result (λ texts. map (λ text. text.now) texts.items ≡ map string_bytes words.now) }
+{
     let mut texts = Vec::new(alloc);
     for word in words {
         texts.push(word.as_str())?;
