@@ -31,7 +31,7 @@ pub record IsScene (c : Sizes) (p : Place) (leads : ℕ → Lead) (numbers : ℕ
   pub described : (s : ℕ) → Describes (leads s) (numbers s) (p.cells s)
   pub truth : IsTrueOf c p leads h
 
--- a server may be listed under a lead: it serves, or it forwards to the one that does
+-- Under a lead nobody is listed, or the server that a publication lists; at Handed also the old owner may still be.
 abbrev pub IsListable : Lead → Option ℕ → Type 0
 IsListable lead None = Unit {0}
 IsListable Gone (Some x) = ⊥
@@ -59,7 +59,7 @@ pub record Effect (c : Sizes) (p : Place) (leads : ℕ → Lead) (numbers : ℕ 
   pub scene : IsScene c next_place next_leads next_numbers h'
   pub down : next_place.down ≡ p.down
   pub exchanged : (r : Right) → stock c next_place next_leads r + bound c p r + count h r ≡ stock c p leads r + bound c next_place r + count h' r
-  -- who is listed may still be, and who may have passed a request on may still have
+  -- who is listed may still be, and a number under which a request may have been passed on stays one
   pub listed : (s : ℕ) → IsListable (leads s) (p.listed s) → IsListable (next_leads s) (next_place.listed s)
   pub passed : (s m : ℕ) → MayHavePassed (leads s) (numbers s) m → MayHavePassed (next_leads s) (next_numbers s) m
 
