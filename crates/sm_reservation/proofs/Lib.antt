@@ -5,3 +5,7 @@ pub mod OrderLemmas
 pub mod ElementLemmas
 pub mod DoubleLemmas
 pub mod HoldLemmas
+pub mod StepLemmas
+pub mod TurnLemmas
+pub mod ShortLemmas
+pub mod ParcelMoves

@@ -7,6 +7,7 @@ mod order;
 pub mod parcel;
 pub mod right;
 mod rows;
+mod short;
 pub mod stream_id;
 
 pub use crate::hold::Hold;
