@@ -14,11 +14,11 @@ use Rattle.sm_reservation.specs.declared.right.Crown.{Crown}
 use Rattle.sm_reservation.specs.declared.right.Room.{Room}
 use Rattle.sm_reservation.specs.declared.right.Spare.{Spare}
 
-same_pair : (s v a b : ℕ) → same (s, v) (a, b) ≡ (eqb a s && eqb b v)
+pub same_pair : (s v a b : ℕ) → same (s, v) (a, b) ≡ (eqb a s && eqb b v)
 same_pair s v a b = grind (arith, nat_tests)
 
 -- a function of pairs changed at one pair
-at_pair : {A : Type 0} (f : ℕ → ℕ → A) (s v : ℕ) (x : A) (a b : ℕ) → put2 f s v x a b ≡ cond (eqb a s && eqb b v) x (f a b)
+pub at_pair : {A : Type 0} (f : ℕ → ℕ → A) (s v : ℕ) (x : A) (a b : ℕ) → put2 f s v x a b ≡ cond (eqb a s && eqb b v) x (f a b)
 at_pair f s v x a b = elim (cases_Bool (eqb a s)) [
     | inl e ↦ elim (cases_Bool (eqb b v)) [
         | inl d ↦ rw (e, d) refl
@@ -40,7 +40,7 @@ cells_put r xs s v o is =
     let f : (λ a b. state_of (row_at cell_place xs (a, b))) ≡ put2 ((hold_of r).cells) s v (state_of o) = fun_ext (λ a. fun_ext (λ b. at a b)) in
     ap (λ g. record (hold_of r) { cells = g }) f
 
-same_front : (s a : ℕ) → same (s, 0) (a, 0) ≡ eqb a s
+pub same_front : (s a : ℕ) → same (s, 0) (a, 0) ≡ eqb a s
 same_front s a = grind (arith, nat_tests)
 
 crown_put : (y : Option Crown) (b : Bool) (o : Option Crown) → crown_of (cond b o y) ≡ cond b (crown_of o) (crown_of y)

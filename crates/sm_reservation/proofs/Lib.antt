@@ -5,6 +5,10 @@ pub mod OrderLemmas
 pub mod ElementLemmas
 pub mod DoubleLemmas
 pub mod HoldLemmas
+pub mod StepLemmas
+pub mod TurnLemmas
+pub mod ShortLemmas
+pub mod ParcelMoves
 pub mod ParcelSums
 pub mod ParcelRows
 pub mod PoolLemmas
