@@ -9,12 +9,15 @@ use Rattle.sm_reservation.specs.declared.right.Spare.{Spare}
 use Rattle.sm_reservation.specs.Rights.{Rights}
 use Rattle.sm_reservation.specs.Hold.{Hold}
 use Rattle.sm_reservation.specs.Rows.{row_at, amount_of, Rises, AllAfter, HasPositive}
-use Rattle.sm_reservation.specs.Key.{cell_place, crown_place, room_place, spare_place, IsOrdered, IsPositive}
+use Rattle.sm_reservation.specs.Key.{cell_place, crown_place, room_place, spare_place}
 use Rattle.sm_reservation.specs.HoldOf.{state_of, crown_of, hold_of}
-use Rattle.sm_reservation.specs.Turns.{RoomFits, SpareFits}
+use Rattle.sm_reservation.specs.Steps.{AllSteps}
+use Rattle.sm_reservation.specs.Turns.{in_room, in_spare, RoomFits, SpareFits}
 use Rattle.sm_reservation.specs.CanJoin.{CanJoin}
-use Rattle.sm_reservation.specs.Pool.{IsWithin}
+use Rattle.sm_reservation.specs.Pool.{IsBelow}
 use Rattle.sm_reservation.proofs.Places.{same_here, before_not_same}
+use Rattle.sm_reservation.proofs.TurnLemmas.{RoomFits-steps, SpareFits-steps}
+use Rattle.sm_reservation.proofs.ParcelMoves.{put-2, put-3, put-room, put-spare}
 
 -- the row is found at its key
 abbrev IsFound : {T : Type 0} → (T → ℕ × ℕ) → List T → T → Type 0
@@ -39,9 +42,9 @@ both place amount ys (x ∷ xs) some all = ((some.0, all.0), both place amount y
 
 -- ---- a parcel of known shards and servers
 
-pub cells_known : (shards servers : ℕ) (p : Rights) → IsOrdered p → IsWithin shards servers (hold_of p) → AllByRecursion (λ x. (x.shard < shards) × (x.server < servers)) p.cells
+pub cells_known : (shards servers : ℕ) (p : Rights) → Rises cell_place p.cells → IsBelow shards servers (hold_of p) → AllByRecursion (λ x. (x.shard < shards) × (x.server < servers)) p.cells
 unfolding hold_of
-cells_known shards servers p o is = all_map (IsFound cell_place p.cells) (λ x. (x.shard < shards) × (x.server < servers)) p.cells (λ x e. (shard x e, server x e)) (all_found cell_place p.cells o.cells)
+cells_known shards servers p o is = all_map (IsFound cell_place p.cells) (λ x. (x.shard < shards) × (x.server < servers)) p.cells (λ x e. (shard x e, server x e)) (all_found cell_place p.cells o)
   where
     shard : (x : CellRight) → IsFound cell_place p.cells x → x.shard < shards
     shard x e = elim (cases_lt x.shard shards) [ inl l ↦ l | inr l ↦ absurd (let z = is.no_shard x.shard x.server l in let y = ap state_of e in cc) ]
@@ -49,17 +52,17 @@ cells_known shards servers p o is = all_map (IsFound cell_place p.cells) (λ x. 
     server : (x : CellRight) → IsFound cell_place p.cells x → x.server < servers
     server x e = elim (cases_lt x.server servers) [ inl l ↦ l | inr l ↦ absurd (let z = is.no_server x.shard x.server l in let y = ap state_of e in cc) ]
 
-pub crowns_known : (shards servers : ℕ) (p : Rights) → IsOrdered p → IsWithin shards servers (hold_of p) → AllByRecursion (λ x. x.shard < shards) p.crowns
+pub crowns_known : (shards servers : ℕ) (p : Rights) → Rises crown_place p.crowns → IsBelow shards servers (hold_of p) → AllByRecursion (λ x. x.shard < shards) p.crowns
 unfolding hold_of
-crowns_known shards servers p o is = all_map (IsFound crown_place p.crowns) (λ x. x.shard < shards) p.crowns shard (all_found crown_place p.crowns o.crowns)
+crowns_known shards servers p o is = all_map (IsFound crown_place p.crowns) (λ x. x.shard < shards) p.crowns shard (all_found crown_place p.crowns o)
   where
     shard : (x : Crown) → IsFound crown_place p.crowns x → x.shard < shards
     shard x e = elim (cases_lt x.shard shards) [ inl l ↦ l | inr l ↦ absurd (let z = is.crowns x.shard l in let y = ap crown_of e in cc) ]
 
-pub rooms_known : (shards servers : ℕ) (p : Rights) → IsOrdered p → IsPositive p → IsWithin shards servers (hold_of p) → AllByRecursion (λ x. x.server < servers) p.room
+pub rooms_known : (shards servers : ℕ) (p : Rights) → Rises room_place p.room → HasPositive (λ x. x.amount) p.room → IsBelow shards servers (hold_of p) → AllByRecursion (λ x. x.server < servers) p.room
 unfolding hold_of
 rooms_known shards servers p o some is =
-    all_map (λ x. (0 < x.amount) × IsFound room_place p.room x) (λ x. x.server < servers) p.room (λ x e. server x e.0 e.1) (both room_place (λ x. x.amount) p.room p.room some.room (all_found room_place p.room o.room))
+    all_map (λ x. (0 < x.amount) × IsFound room_place p.room x) (λ x. x.server < servers) p.room (λ x e. server x e.0 e.1) (both room_place (λ x. x.amount) p.room p.room some (all_found room_place p.room o))
   where
     server : (x : Room) → 0 < x.amount → IsFound room_place p.room x → x.server < servers
     server x l e = elim (cases_lt x.server servers) [
@@ -67,10 +70,10 @@ rooms_known shards servers p o some is =
       | inr m ↦ absurd (let z = is.room x.server m in let y : amount_of (λ (r : Room). r.amount) (row_at room_place p.room (x.server, 0)) ≡ x.amount = ap (amount_of (λ (r : Room). r.amount)) e in omega arith)
     ]
 
-pub spares_known : (shards servers : ℕ) (p : Rights) → IsOrdered p → IsPositive p → IsWithin shards servers (hold_of p) → AllByRecursion (λ x. x.shard < shards) p.spare
+pub spares_known : (shards servers : ℕ) (p : Rights) → Rises spare_place p.spare → HasPositive (λ x. x.amount) p.spare → IsBelow shards servers (hold_of p) → AllByRecursion (λ x. x.shard < shards) p.spare
 unfolding hold_of
 spares_known shards servers p o some is =
-    all_map (λ x. (0 < x.amount) × IsFound spare_place p.spare x) (λ x. x.shard < shards) p.spare (λ x e. shard x e.0 e.1) (both spare_place (λ x. x.amount) p.spare p.spare some.spare (all_found spare_place p.spare o.spare))
+    all_map (λ x. (0 < x.amount) × IsFound spare_place p.spare x) (λ x. x.shard < shards) p.spare (λ x e. shard x e.0 e.1) (both spare_place (λ x. x.amount) p.spare p.spare some (all_found spare_place p.spare o))
   where
     shard : (x : Spare) → 0 < x.amount → IsFound spare_place p.spare x → x.shard < shards
     shard x l e = elim (cases_lt x.shard shards) [
@@ -80,16 +83,27 @@ spares_known shards servers p o some is =
 
 -- ---- a parcel that can be put in
 
-pub rooms_fit : (h : Hold) (p : Rights) → IsOrdered p → CanJoin h (hold_of p) → AllByRecursion (RoomFits h) p.room
+rooms_fit : (h : Hold) (p : Rights) → Rises room_place p.room → CanJoin h (hold_of p) → AllByRecursion (RoomFits h) p.room
 unfolding hold_of
-rooms_fit h p o is = all_map (IsFound room_place p.room) (RoomFits h) p.room fits (all_found room_place p.room o.room)
+rooms_fit h p o is = all_map (IsFound room_place p.room) (RoomFits h) p.room fits (all_found room_place p.room o)
   where
     fits : (x : Room) → IsFound room_place p.room x → h.room x.server + x.amount < 2 ^ 64
     fits x e = let z = is.room x.server in let y : amount_of (λ (r : Room). r.amount) (row_at room_place p.room (x.server, 0)) ≡ x.amount = ap (amount_of (λ (r : Room). r.amount)) e in omega arith
 
-pub spares_fit : (h : Hold) (p : Rights) → IsOrdered p → CanJoin h (hold_of p) → AllByRecursion (SpareFits h) p.spare
+spares_fit : (h : Hold) (p : Rights) → Rises spare_place p.spare → CanJoin h (hold_of p) → AllByRecursion (SpareFits h) p.spare
 unfolding hold_of
-spares_fit h p o is = all_map (IsFound spare_place p.spare) (SpareFits h) p.spare fits (all_found spare_place p.spare o.spare)
+spares_fit h p o is = all_map (IsFound spare_place p.spare) (SpareFits h) p.spare fits (all_found spare_place p.spare o)
   where
     fits : (x : Spare) → IsFound spare_place p.spare x → h.spare x.shard + x.amount < 2 ^ 64
     fits x e = let z = is.spare x.shard in let y : amount_of (λ (r : Spare). r.amount) (row_at spare_place p.spare (x.shard, 0)) ≡ x.amount = ap (amount_of (λ (r : Spare). r.amount)) e in omega arith
+
+-- the amounts fit where they are put in, after the lists before them
+pub rooms_fit_in : (h : Hold) (p : Rights) → Rises room_place p.room → CanJoin h (hold_of p) → AllSteps in_room RoomFits (put-2 h p) p.room
+rooms_fit_in h p o is =
+    let at : AllByRecursion (RoomFits (put-2 h p)) p.room = rw (put-room h p) (rooms_fit h p o is) in
+    RoomFits-steps (put-2 h p) p.room o at
+
+pub spares_fit_in : (h : Hold) (p : Rights) → Rises spare_place p.spare → CanJoin h (hold_of p) → AllSteps in_spare SpareFits (put-3 h p) p.spare
+spares_fit_in h p o is =
+    let at : AllByRecursion (SpareFits (put-3 h p)) p.spare = rw (put-spare h p) (spares_fit h p o is) in
+    SpareFits-steps (put-3 h p) p.spare o at

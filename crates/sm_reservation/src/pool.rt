@@ -1,9 +1,13 @@
 //! The rights that no grant has.
 ghost use Rattle.std.specs.Prelude.{◌≡◌, ◌<◌, ◌≤◌, ◌+◌, ◌*◌, ◌^◌, Some, None, IfOk, IfSome, IfNone};
-ghost use Rattle.sm_reservation.specs.Hold.{no_hold, with_cell, with_crown, without_crown, pay_room, get_room, pay_spare, get_spare};
-ghost use Rattle.sm_reservation.specs.Pool.{pool_hold, IsWithin, SameSize, true_rights, IsKnownRight, one_spare};
+ghost use Rattle.sm_reservation.specs.Hold.{no_hold, minus, plus, with_cell, with_crown, without_crown, pay_room, get_room, pay_spare, get_spare};
+ghost use Rattle.sm_reservation.specs.HoldOf.{hold_of};
+ghost use Rattle.sm_reservation.specs.CanJoin.{CanJoin};
+ghost use Rattle.sm_reservation.specs.Pool.{pool_hold, IsBelow, SameSize, true_rights, IsKnownRight, one_spare};
 
 use crate::opening::{put_cells, put_crowns, put_rooms, put_spares};
+use crate::parcel::Parcel;
+use crate::pool_moves;
 use crate::right::{CellRight, Crown, PlainCell, Room, Spare};
 use crate::short::ByKey;
 use sm_placement::{Lead, Placement};
@@ -75,7 +79,7 @@ impl Pool {
     /// How many shards the pool is of.
     pub fn shard_count(&self) -> usize
         ensures count { result ≡ self.now.shards }
-        ensures within { IsWithin self.now.shards self.now.servers (pool_hold self.now) }
+        ensures within { IsBelow self.now.shards self.now.servers (pool_hold self.now) }
     {
         self.spare.len()
     }
@@ -115,36 +119,21 @@ impl Pool {
     pub fn crown(&self, shard: ShardId) -> Option<(Lead, Option<ServerId>)>
         ensures { result ≡ (pool_hold self.now).crowns shard }
     {
-        let place = shard.number() as usize;
-        if place < self.crowns.len() {
-            self.crowns[place]
-        } else {
-            None
-        }
+        self.crowns.get(shard.number() as usize).copied().flatten()
     }
 
     /// How much room of a server the pool has.
     pub fn room(&self, server: ServerId) -> u64
         ensures { result ≡ (pool_hold self.now).room server }
     {
-        let place = server.number() as usize;
-        if place < self.room.len() {
-            self.room[place]
-        } else {
-            0
-        }
+        self.room.get(server.number() as usize).copied().unwrap_or(0)
     }
 
     /// How many spare replicas of a shard the pool has.
     pub fn spare(&self, shard: ShardId) -> u64
         ensures { result ≡ (pool_hold self.now).spare shard }
     {
-        let place = shard.number() as usize;
-        if place < self.spare.len() {
-            self.spare[place]
-        } else {
-            0
-        }
+        self.spare.get(shard.number() as usize).copied().unwrap_or(0)
     }
 
     /// Takes one spare replica of a shard out, since it goes down.
@@ -166,6 +155,34 @@ impl Pool {
         ensures size { SameSize self.old self.new }
     {
         self.put_spare(Spare { shard, amount: 1 });
+    }
+
+    /// Takes out a parcel's rights, as far as they are there.
+    fn take_parcel(&mut self, parcel: &Parcel)
+        ensures hold { pool_hold self.new ≡ minus (pool_hold self.old) parcel.now }
+        ensures size { SameSize self.old self.new }
+    {
+        pool_moves::take_cells(self, parcel.cells());
+        pool_moves::take_crowns(self, parcel.crowns());
+        pool_moves::take_rooms(self, parcel.room());
+        pool_moves::take_spares(self, parcel.spare());
+    }
+
+    /// Puts in a parcel's rights.
+    fn put_parcel(&mut self, parcel: &Parcel)
+        requires below { IsBelow self.old.shards self.old.servers (hold_of parcel.now) }
+        requires apart { CanJoin (pool_hold self.old) (hold_of parcel.now) }
+        ensures hold { pool_hold self.new ≡ plus (pool_hold self.old) parcel.now }
+        ensures size { SameSize self.old self.new }
+    {
+        let cells = parcel.cells();
+        let crowns = parcel.crowns();
+        let rooms = parcel.room();
+        let spares = parcel.spare();
+        pool_moves::put_cells(self, cells);
+        pool_moves::put_crowns(self, crowns);
+        pool_moves::put_rooms(self, rooms);
+        pool_moves::put_spares(self, spares);
     }
 
     /// Takes out the right to a cell.
