@@ -1,5 +1,5 @@
 -- Each row of a parcel: it is found at its key, so that what a hold says of all keys holds of it.
-use Rattle.std.proofs.Common.{◌≡◌, ℕ, ◌+◌, ◌<◌, ◌^◌, Some, List, [], ◌∷◌, refl, ap, arith, inl, inr}
+use Rattle.std.proofs.Common.{subst, sym, ◌≡◌, ℕ, ◌+◌, ◌<◌, ◌^◌, Some, List, [], ◌∷◌, refl, ap, arith, inl, inr}
 use Rattle.std.specs.List.{AllByRecursion}
 use Rattle.std.proofs.lemmas.Bool.{cases_lt}
 use Rattle.sm_reservation.specs.declared.right.CellRight.{CellRight}
@@ -100,10 +100,10 @@ spares_fit h p o is = all_map (IsFound spare_place p.spare) (SpareFits h) p.spar
 -- the amounts fit where they are put in, after the lists before them
 pub rooms_fit_in : (h : Hold) (p : Rights) → Rises room_place p.room → CanJoin h (hold_of p) → AllSteps in_room RoomFits (put-2 h p) p.room
 rooms_fit_in h p o is =
-    let at : AllByRecursion (RoomFits (put-2 h p)) p.room = rw (put-room h p) (rooms_fit h p o is) in
+    let at : AllByRecursion (RoomFits (put-2 h p)) p.room = subst (λ (f : ℕ → ℕ). AllByRecursion (λ x. f x.server + x.amount < 2 ^ 64) p.room) (sym (put-room h p)) (rooms_fit h p o is) in
     RoomFits-steps (put-2 h p) p.room o at
 
 pub spares_fit_in : (h : Hold) (p : Rights) → Rises spare_place p.spare → CanJoin h (hold_of p) → AllSteps in_spare SpareFits (put-3 h p) p.spare
 spares_fit_in h p o is =
-    let at : AllByRecursion (SpareFits (put-3 h p)) p.spare = rw (put-spare h p) (spares_fit h p o is) in
+    let at : AllByRecursion (SpareFits (put-3 h p)) p.spare = subst (λ (f : ℕ → ℕ). AllByRecursion (λ x. f x.shard + x.amount < 2 ^ 64) p.spare) (sym (put-spare h p)) (spares_fit h p o is) in
     SpareFits-steps (put-3 h p) p.spare o at

@@ -1,5 +1,5 @@
 -- The entry that is read is the shard's.
-use Rattle.std.proofs.Common.{◌≡◌, ◌∙◌, ap, Option}
+use Rattle.std.proofs.Common.{◌∙◌, ap, Option}
 use Rattle.std.specs.Option.{option_flatten}
 use Rattle.std.proofs.Common.{ℕ}
 use Rattle.sm_placement.specs.declared.lead.Lead.{Lead}

@@ -1,5 +1,5 @@
 -- The entry that is read is the server's.
-use Rattle.std.proofs.Common.{◌≡◌, ◌∙◌, ap, Option}
+use Rattle.std.proofs.Common.{◌∙◌, ap, Option}
 use Rattle.std.specs.Option.{unwrap_or}
 use Rattle.std.proofs.Common.{ℕ}
 use Rattle.sm_reservation.proofs.PoolLemmas.{room_got}

@@ -1,5 +1,5 @@
 -- The entry that is read is the shard's.
-use Rattle.std.proofs.Common.{◌≡◌, ◌∙◌, ap, Option}
+use Rattle.std.proofs.Common.{◌∙◌, ap, Option}
 use Rattle.std.specs.Option.{unwrap_or}
 use Rattle.std.proofs.Common.{ℕ}
 use Rattle.sm_reservation.proofs.PoolLemmas.{spare_got}
