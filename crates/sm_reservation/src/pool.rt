@@ -98,8 +98,9 @@ impl Pool {
     {
         let row = shard.number() as usize;
         let column = server.number() as usize;
-        if row < self.spare.len() && column < self.room.len() {
-            Some(row * self.room.len() + column)
+        let servers = self.room.len();
+        if row < self.spare.len() && column < servers {
+            Some(row * servers + column)
         } else {
             None
         }
@@ -126,14 +127,20 @@ impl Pool {
     pub fn room(&self, server: ServerId) -> u64
         ensures { result ≡ (pool_hold self.now).room server }
     {
-        self.room.get(server.number() as usize).copied().unwrap_or(0)
+        self.room
+            .get(server.number() as usize)
+            .copied()
+            .unwrap_or(0)
     }
 
     /// How many spare replicas of a shard the pool has.
     pub fn spare(&self, shard: ShardId) -> u64
         ensures { result ≡ (pool_hold self.now).spare shard }
     {
-        self.spare.get(shard.number() as usize).copied().unwrap_or(0)
+        self.spare
+            .get(shard.number() as usize)
+            .copied()
+            .unwrap_or(0)
     }
 
     /// Takes one spare replica of a shard out, since it goes down.
@@ -202,10 +209,9 @@ impl Pool {
         ensures hold { pool_hold self.new ≡ with_cell (pool_hold self.old) right.shard right.server (Some right.state) }
         ensures size { SameSize self.old self.new }
     {
-        let row = right.shard.number() as usize;
-        let column = right.server.number() as usize;
-        let place = row * self.room.len() + column;
-        self.cells[place] = Some(right.state);
+        if let Some(place) = self.place(right.shard, right.server) {
+            self.cells[place] = Some(right.state);
+        }
     }
 
     /// Takes out a crown.
@@ -214,7 +220,7 @@ impl Pool {
         ensures size { SameSize self.old self.new }
     {
         let place = shard.number() as usize;
-        if place < self.crowns.len() {
+        if place < self.shard_count() {
             self.crowns[place] = None;
         }
     }
@@ -235,7 +241,7 @@ impl Pool {
         ensures size { SameSize self.old self.new }
     {
         let place = room.server.number() as usize;
-        if place < self.room.len() {
+        if place < self.server_count() {
             self.room[place] = self.room[place].saturating_sub(room.amount);
         }
     }
@@ -257,7 +263,7 @@ impl Pool {
         ensures size { SameSize self.old self.new }
     {
         let place = spare.shard.number() as usize;
-        if place < self.spare.len() {
+        if place < self.shard_count() {
             self.spare[place] = self.spare[place].saturating_sub(spare.amount);
         }
     }
