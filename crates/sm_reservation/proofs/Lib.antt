@@ -9,3 +9,5 @@ pub mod StepLemmas
 pub mod TurnLemmas
 pub mod ShortLemmas
 pub mod ParcelMoves
+pub mod ReadLemmas
+pub mod CountLemmas
