@@ -11,3 +11,4 @@ pub mod ShortLemmas
 pub mod ParcelMoves
 pub mod ReadLemmas
 pub mod CountLemmas
+pub mod TradeLemmas

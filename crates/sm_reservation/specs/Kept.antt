@@ -72,3 +72,15 @@ pub record IsApart (h : Hold) (p : Rights) : Type 0 where
 pub record SumsFit (h : Hold) (p : Rights) : Type 0 where
   pub room : AllByRecursion (RoomFits h) p.room
   pub spare : AllByRecursion (SpareFits h) p.spare
+
+-- there is room for the new keys of what is got, once what is given is out
+pub record HasPlacesAfter (k : Kept) (out got : Rights) : Type 0 where
+  pub cells : length k.rights.cells + (new_keys (minus (hold_of k.rights) out) got).cells ≤ k.places + (lost_keys (hold_of k.rights) out).cells
+  pub crowns : length k.rights.crowns + (new_keys (minus (hold_of k.rights) out) got).crowns ≤ k.places + (lost_keys (hold_of k.rights) out).crowns
+  pub room : length k.rights.room + (new_keys (minus (hold_of k.rights) out) got).room ≤ k.places + (lost_keys (hold_of k.rights) out).room
+  pub spare : length k.rights.spare + (new_keys (minus (hold_of k.rights) out) got).spare ≤ k.places + (lost_keys (hold_of k.rights) out).spare
+
+-- the lists have lost the keys that were used up, and gained those that were new
+pub record IsTraded (old new : Kept) (out got : Rights) : Type 0 where
+  pub sizes : add_sizes (sizes new.rights) (lost_keys (hold_of old.rights) out) ≡ add_sizes (sizes old.rights) (new_keys (minus (hold_of old.rights) out) got)
+  pub places : new.places ≡ old.places

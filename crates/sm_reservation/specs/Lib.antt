@@ -12,3 +12,4 @@ pub mod Turns
 pub mod Kept
 pub mod HoldView
 pub mod Short
+pub mod Change

@@ -13,7 +13,7 @@ ghost use Rattle.sm_reservation.specs.HoldOf.{hold_of};
 use crate::moves::{put_rights, take_rights};
 use crate::parcel::Parcel;
 use crate::right::{CellRight, Crown, PlainCell, Room, Short, Spare};
-use crate::rows::{Row, add_amount, put_row, row_at, set_row, sub_amount, take_row};
+use crate::rows::{Row, add_amount, copied_rows, put_row, row_at, set_row, sub_amount, take_row};
 use crate::short::first_short;
 use sm_placement::Lead;
 use sm_server::{ServerId, ShardId};
@@ -55,6 +55,24 @@ impl Hold {
             crowns: Vec::with_capacity(alloc, places)?,
             room: Vec::with_capacity(alloc, places)?,
             spare: Vec::with_capacity(alloc, places)?,
+            places,
+        })
+    }
+
+    /// A parcel's rights.
+    pub fn of_parcel(alloc: Global, parcel: &Parcel) -> Result<Hold, AllocError>
+        ensures { IfOk result (λ hold. hold.rights ≡ parcel.now) }
+    {
+        let cells = parcel.cells();
+        let crowns = parcel.crowns();
+        let room = parcel.room();
+        let spare = parcel.spare();
+        let places = cells.len().max(crowns.len()).max(room.len()).max(spare.len());
+        Ok(Hold {
+            cells: copied_rows(alloc, cells, places)?,
+            crowns: copied_rows(alloc, crowns, places)?,
+            room: copied_rows(alloc, room, places)?,
+            spare: copied_rows(alloc, spare, places)?,
             places,
         })
     }
