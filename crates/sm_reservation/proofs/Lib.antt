@@ -9,6 +9,8 @@ pub mod StepLemmas
 pub mod TurnLemmas
 pub mod ShortLemmas
 pub mod ParcelMoves
-pub mod ReadLemmas
-pub mod CountLemmas
+pub mod ParcelSums
+pub mod ParcelRows
+pub mod PoolLemmas
+pub mod OpeningLemmas
 pub mod TradeLemmas

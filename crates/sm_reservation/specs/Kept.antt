@@ -1,5 +1,5 @@
 -- Rights that are kept in lists with room: how many keys the lists take, and how the lists grow and shrink.
-use Rattle.std.specs.Prelude.{◌≡◌, ℕ, ◌+◌, ◌≤◌, None, length, count_by}
+use Rattle.std.specs.Prelude.{◌≡◌, ℕ, ◌+◌, ◌≤◌, length, count_by}
 use Rattle.std.specs.List.{AllByRecursion}
 use Rattle.sm_reservation.specs.Rights.{Rights}
 use Rattle.sm_reservation.specs.Hold.{Hold, minus}
@@ -24,20 +24,20 @@ sizes r = record { cells = length r.cells; crowns = length r.crowns; room = leng
 -- how many keys of a parcel a hold does not have
 abbrev pub new_keys : Hold → Rights → Sizes
 new_keys h p = record {
-    cells = count_by (lacks_cell h) p.cells;
-    crowns = count_by (lacks_crown h) p.crowns;
-    room = count_by (lacks_room h) p.room;
-    spare = count_by (lacks_spare h) p.spare;
-  }
+  cells = count_by (lacks_cell h) p.cells;
+  crowns = count_by (lacks_crown h) p.crowns;
+  room = count_by (lacks_room h) p.room;
+  spare = count_by (lacks_spare h) p.spare;
+}
 
 -- how many keys a hold no longer has once a parcel is taken out
 abbrev pub lost_keys : Hold → Rights → Sizes
 lost_keys h p = record {
-    cells = count_by (loses_cell h) p.cells;
-    crowns = count_by (loses_crown h) p.crowns;
-    room = count_by (loses_room h) p.room;
-    spare = count_by (loses_spare h) p.spare;
-  }
+  cells = count_by (loses_cell h) p.cells;
+  crowns = count_by (loses_crown h) p.crowns;
+  room = count_by (loses_room h) p.room;
+  spare = count_by (loses_spare h) p.spare;
+}
 
 abbrev pub add_sizes : Sizes → Sizes → Sizes
 add_sizes a b = record { cells = a.cells + b.cells; crowns = a.crowns + b.crowns; room = a.room + b.room; spare = a.spare + b.spare }
@@ -62,11 +62,6 @@ pub record IsLess (old new : Kept) (p : Rights) : Type 0 where
 pub record IsMore (old new : Kept) (p : Rights) : Type 0 where
   pub sizes : sizes new.rights ≡ add_sizes (sizes old.rights) (new_keys (hold_of old.rights) p)
   pub places : new.places ≡ old.places
-
--- the hold has no cell right and no crown of the parcel
-pub record IsApart (h : Hold) (p : Rights) : Type 0 where
-  pub cells : AllByRecursion (λ x. h.cells x.shard x.server ≡ None) p.cells
-  pub crowns : AllByRecursion (λ x. h.crowns x.shard ≡ None) p.crowns
 
 -- no sum of the parcel and the hold passes u64
 pub record SumsFit (h : Hold) (p : Rights) : Type 0 where

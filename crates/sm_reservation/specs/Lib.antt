@@ -7,9 +7,11 @@ pub mod Lists
 pub mod Parcel
 pub mod Fault
 pub mod HoldOf
+pub mod CanJoin
 pub mod Steps
 pub mod Turns
 pub mod Kept
 pub mod HoldView
 pub mod Short
+pub mod Pool
 pub mod Change

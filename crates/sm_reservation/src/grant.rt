@@ -4,7 +4,9 @@ ghost use Rattle.sm_reservation.specs.Rights.{no_rights};
 ghost use Rattle.sm_reservation.specs.Hold.{minus, plus};
 ghost use Rattle.sm_reservation.specs.HoldOf.{hold_of};
 ghost use Rattle.sm_reservation.specs.Amounts.{Right, count};
-ghost use Rattle.sm_reservation.specs.Kept.{IsLess, IsMore, IsTraded, HasPlaces, HasPlacesAfter, IsApart, SumsFit};
+ghost use Rattle.sm_reservation.specs.Kept.{IsLess, IsMore, IsTraded, HasPlaces, HasPlacesAfter};
+ghost use Rattle.sm_reservation.specs.Key.{IsOrdered, lists};
+ghost use Rattle.sm_reservation.specs.CanJoin.{CanJoin};
 ghost use Rattle.sm_reservation.specs.Short.{first_short};
 ghost use Rattle.sm_reservation.specs.Change.{portion_rights};
 
@@ -12,7 +14,7 @@ use crate::change::{Change, Portion};
 use crate::hold::Hold;
 use crate::moves::{put_rights, take_rights};
 use crate::parcel::Parcel;
-use crate::right::{PlainCell, Short};
+use crate::right::{CellRight, Crown, PlainCell, Room, Short, Spare};
 use sm_placement::Lead;
 use sm_server::{ServerId, ShardId};
 use std::alloc::{AllocError, Global};
@@ -108,8 +110,7 @@ impl Grant {
     /// Where there is too little of a key the first such key comes back, and neither grant changes.
     pub fn split(&mut self, into: &mut Grant, parcel: &Parcel) -> Result<(), Short>
         requires room { HasPlaces into.old parcel.now }
-        requires apart { IsApart (hold_of into.old.rights) parcel.now }
-        requires sums { SumsFit (hold_of into.old.rights) parcel.now }
+        requires fits { CanJoin (hold_of into.old.rights) (hold_of parcel.now) }
         ensures short { IfErr result (λ short. first_short (hold_of self.old.rights) parcel.now ≡ Some short) }
         ensures err { OnErr result ((self.new ≡ self.old) × (into.new ≡ into.old)) }
         ensures enough { OnOk result (first_short (hold_of self.old.rights) parcel.now ≡ None) }
@@ -123,56 +124,95 @@ impl Grant {
             return Err(short);
         }
         self.hold.take(parcel);
-        into.hold.put(parcel);
+        join_parcel(&mut into.hold, parcel);
         Ok(())
     }
 
     /// Takes all rights of another grant in.
     pub fn join(&mut self, grant: Grant)
         requires room { HasPlaces self.old grant.rights }
-        requires apart { IsApart (hold_of self.old.rights) grant.rights }
-        requires sums { SumsFit (hold_of self.old.rights) grant.rights }
+        requires fits { CanJoin (hold_of self.old.rights) (hold_of grant.rights) }
         ensures rights { hold_of self.new.rights ≡ plus (hold_of self.old.rights) grant.rights }
         ensures kept { (r : Right) → count (hold_of self.new.rights) r ≡ count (hold_of self.old.rights) r + count (hold_of grant.rights) r }
         ensures more { IsMore self.old self.new grant.rights }
     {
         let hold = grant.into_hold();
-        put_rights(&mut self.hold, hold.cells(), hold.crowns(), hold.rooms(), hold.spares());
+        join_rights(
+            &mut self.hold,
+            hold.cells(),
+            hold.crowns(),
+            hold.rooms(),
+            hold.spares(),
+        );
     }
 
     /// Gives a parcel's rights up for those of another, beside the call that pays for it.
     pub fn trade(&mut self, out: &Parcel, got: &Parcel)
         requires held { first_short (hold_of self.old.rights) out.now ≡ None }
-        requires apart { IsApart (minus (hold_of self.old.rights) out.now) got.now }
-        requires sums { SumsFit (minus (hold_of self.old.rights) out.now) got.now }
+        requires fits { CanJoin (minus (hold_of self.old.rights) out.now) (hold_of got.now) }
         requires room { HasPlacesAfter self.old out.now got.now }
         ensures rights { hold_of self.new.rights ≡ plus (minus (hold_of self.old.rights) out.now) got.now }
         ensures changed { (r : Right) → count (hold_of self.new.rights) r + count (hold_of out.now) r ≡ count (hold_of self.old.rights) r + count (hold_of got.now) r }
         ensures sizes { IsTraded self.old self.new out.now got.now }
     {
         self.hold.take(out);
-        self.hold.put(got);
+        join_parcel(&mut self.hold, got);
     }
 
     /// Gives the rights of a small change up for those that it gets, beside the call that pays for it.
     pub fn exchange(&mut self, change: &Change)
         requires held { first_short (hold_of self.old.rights) (portion_rights change.now.out) ≡ None }
-        requires apart { IsApart (minus (hold_of self.old.rights) (portion_rights change.now.out)) (portion_rights change.now.got) }
-        requires sums { SumsFit (minus (hold_of self.old.rights) (portion_rights change.now.out)) (portion_rights change.now.got) }
+        requires fits { CanJoin (minus (hold_of self.old.rights) (portion_rights change.now.out)) (hold_of (portion_rights change.now.got)) }
         requires room { HasPlacesAfter self.old (portion_rights change.now.out) (portion_rights change.now.got) }
         ensures rights { hold_of self.new.rights ≡ plus (minus (hold_of self.old.rights) (portion_rights change.now.out)) (portion_rights change.now.got) }
         ensures changed { (r : Right) → count (hold_of self.new.rights) r + count (hold_of (portion_rights change.now.out)) r ≡ count (hold_of self.old.rights) r + count (hold_of (portion_rights change.now.got)) r }
         ensures sizes { IsTraded self.old self.new (portion_rights change.now.out) (portion_rights change.now.got) }
     {
         take_portion(&mut self.hold, &change.out);
-        put_portion(&mut self.hold, &change.got);
+        join_portion(&mut self.hold, &change.got);
     }
+}
+
+/// Puts rights of the four kinds in beside those that are there.
+fn join_rights(
+    hold: &mut Hold,
+    cells: &[CellRight],
+    crowns: &[Crown],
+    rooms: &[Room],
+    spares: &[Spare],
+)
+    requires order { IsOrdered (lists cells.now crowns.now rooms.now spares.now) }
+    requires room { HasPlaces hold.old (lists cells.now crowns.now rooms.now spares.now) }
+    requires fits { CanJoin (hold_of hold.old.rights) (hold_of (lists cells.now crowns.now rooms.now spares.now)) }
+    ensures rights { hold_of hold.new.rights ≡ plus (hold_of hold.old.rights) (lists cells.now crowns.now rooms.now spares.now) }
+    ensures sums { (r : Right) → count (hold_of hold.new.rights) r ≡ count (hold_of hold.old.rights) r + count (hold_of (lists cells.now crowns.now rooms.now spares.now)) r }
+    ensures more { IsMore hold.old hold.new (lists cells.now crowns.now rooms.now spares.now) }
+{
+    put_rights(hold, cells, crowns, rooms, spares);
+}
+
+/// Puts a parcel's rights in beside those that are there.
+fn join_parcel(hold: &mut Hold, parcel: &Parcel)
+    requires room { HasPlaces hold.old parcel.now }
+    requires fits { CanJoin (hold_of hold.old.rights) (hold_of parcel.now) }
+    ensures rights { hold_of hold.new.rights ≡ plus (hold_of hold.old.rights) parcel.now }
+    ensures sums { (r : Right) → count (hold_of hold.new.rights) r ≡ count (hold_of hold.old.rights) r + count (hold_of parcel.now) r }
+    ensures more { IsMore hold.old hold.new parcel.now }
+{
+    join_rights(
+        hold,
+        parcel.cells(),
+        parcel.crowns(),
+        parcel.room(),
+        parcel.spare(),
+    );
 }
 
 /// Takes a portion's rights out.
 fn take_portion(hold: &mut Hold, portion: &Portion)
     requires held { first_short (hold_of hold.old.rights) (portion_rights portion.now) ≡ None }
     ensures rights { hold_of hold.new.rights ≡ minus (hold_of hold.old.rights) (portion_rights portion.now) }
+    ensures sums { (r : Right) → count (hold_of hold.new.rights) r + count (hold_of (portion_rights portion.now)) r ≡ count (hold_of hold.old.rights) r }
     ensures less { IsLess hold.old hold.new (portion_rights portion.now) }
 {
     let cells = portion.cell.as_slice();
@@ -182,16 +222,17 @@ fn take_portion(hold: &mut Hold, portion: &Portion)
     take_rights(hold, cells, crowns, rooms, spares);
 }
 
-/// Puts a portion's rights in.
-fn put_portion(hold: &mut Hold, portion: &Portion)
+/// Puts a portion's rights in beside those that are there.
+fn join_portion(hold: &mut Hold, portion: &Portion)
     requires room { HasPlaces hold.old (portion_rights portion.now) }
-    requires sums { SumsFit (hold_of hold.old.rights) (portion_rights portion.now) }
+    requires fits { CanJoin (hold_of hold.old.rights) (hold_of (portion_rights portion.now)) }
     ensures rights { hold_of hold.new.rights ≡ plus (hold_of hold.old.rights) (portion_rights portion.now) }
+    ensures sums { (r : Right) → count (hold_of hold.new.rights) r ≡ count (hold_of hold.old.rights) r + count (hold_of (portion_rights portion.now)) r }
     ensures more { IsMore hold.old hold.new (portion_rights portion.now) }
 {
     let cells = portion.cell.as_slice();
     let crowns = portion.crown.as_slice();
     let rooms = portion.room.as_slice();
     let spares = portion.spare.as_slice();
-    put_rights(hold, cells, crowns, rooms, spares);
+    join_rights(hold, cells, crowns, rooms, spares);
 }

@@ -1,32 +1,72 @@
-//! The first key of a parcel that a hold is short of.
+//! The first key of which there is too little.
 ghost use Rattle.std.specs.Prelude.{◌≡◌};
-ghost use Rattle.sm_reservation.specs.HoldOf.{hold_of};
+ghost use Rattle.sm_reservation.specs.Hold.{Hold};
 ghost use Rattle.sm_reservation.specs.Short.{cell_short, crown_short, room_short, spare_short, first_answer, first_short};
 
-use crate::hold::Hold;
+use crate::hold;
 use crate::parcel::Parcel;
-use crate::right::{CellRight, Crown, Key, Room, Short, Spare};
+use crate::right::{CellRight, Crown, Key, PlainCell, Room, Short, Spare};
+use sm_placement::Lead;
+use sm_server::{ServerId, ShardId};
 
-/// The first key of a parcel of which there is too little in a hold.
-pub fn first_short(hold: &Hold, parcel: &Parcel) -> Option<Short>
-    ensures { result ≡ first_short (hold_of hold.now.rights) parcel.now }
-{
-    if let Some(short) = first_cell_short(hold, parcel.cells()) {
-        return Some(short);
-    }
-    if let Some(short) = first_crown_short(hold, parcel.crowns()) {
-        return Some(short);
-    }
-    if let Some(short) = first_room_short(hold, parcel.room()) {
-        return Some(short);
-    }
-    first_spare_short(hold, parcel.spare())
+/// Rights that are read by their keys.
+pub(crate) trait ByKey {
+    ghost hold: { Self → Hold };
+
+    /// The state of the cell, where there is a right to it.
+    fn cell_of(&self, shard: ShardId, server: ServerId) -> Option<PlainCell>
+        ensures { result ≡ (hold self.now).cells shard server };
+
+    /// The lead and the listed server, where there is the shard's crown.
+    fn crown_of(&self, shard: ShardId) -> Option<(Lead, Option<ServerId>)>
+        ensures { result ≡ (hold self.now).crowns shard };
+
+    /// How much room of a server there is.
+    fn room_of(&self, server: ServerId) -> u64
+        ensures { result ≡ (hold self.now).room server };
+
+    /// How many spare replicas of a shard there are.
+    fn spare_of(&self, shard: ShardId) -> u64
+        ensures { result ≡ (hold self.now).spare shard };
 }
 
-fn cell_short(hold: &Hold, right: &CellRight) -> Option<Short>
-    ensures { result ≡ cell_short (hold_of hold.now.rights) right.now }
+impl ByKey for hold::Hold {
+    ghost use Rattle.sm_reservation.specs.HoldOf.{hold_of};
+
+    ghost hold = { λ h. hold_of h.rights };
+
+    fn cell_of(&self, shard: ShardId, server: ServerId) -> Option<PlainCell> {
+        self.cell(shard, server)
+    }
+
+    fn crown_of(&self, shard: ShardId) -> Option<(Lead, Option<ServerId>)> {
+        self.crown(shard)
+    }
+
+    fn room_of(&self, server: ServerId) -> u64 {
+        self.room(server)
+    }
+
+    fn spare_of(&self, shard: ShardId) -> u64 {
+        self.spare(shard)
+    }
+}
+
+/// The first key of a parcel of which there is too little.
+pub(crate) fn first_short<H: ByKey>(held: &H, parcel: &Parcel) -> Option<Short>
+    ensures { result ≡ first_short (H.hold held.now) parcel.now }
 {
-    if hold.cell(right.shard, right.server) == Some(right.state) {
+    first_cell_short(held, parcel.cells())
+        .or(first_crown_short(held, parcel.crowns()))
+        .or(first_room_short(held, parcel.room()))
+        .or(first_spare_short(held, parcel.spare()))
+}
+
+/// What is lacking of a right to a cell.
+fn cell_short<H: ByKey>(held: &H, right: &CellRight) -> Option<Short>
+    ensures { result ≡ cell_short (H.hold held.now) right.now }
+{
+    if held.cell_of(right.shard, right.server) == Some(right.state) {
         return None;
     }
     Some(Short {
@@ -39,10 +79,11 @@ fn cell_short(hold: &Hold, right: &CellRight) -> Option<Short>
     })
 }
 
-fn crown_short(hold: &Hold, crown: &Crown) -> Option<Short>
-    ensures { result ≡ crown_short (hold_of hold.now.rights) crown.now }
+/// What is lacking of a crown.
+fn crown_short<H: ByKey>(held: &H, crown: &Crown) -> Option<Short>
+    ensures { result ≡ crown_short (H.hold held.now) crown.now }
 {
-    if hold.crown(crown.shard) == Some((crown.lead, crown.listed)) {
+    if held.crown_of(crown.shard) == Some((crown.lead, crown.listed)) {
         return None;
     }
     Some(Short {
@@ -52,10 +93,11 @@ fn crown_short(hold: &Hold, crown: &Crown) -> Option<Short>
     })
 }
 
-fn room_short(hold: &Hold, room: &Room) -> Option<Short>
-    ensures { result ≡ room_short (hold_of hold.now.rights) room.now }
+/// What is lacking of room.
+fn room_short<H: ByKey>(held: &H, room: &Room) -> Option<Short>
+    ensures { result ≡ room_short (H.hold held.now) room.now }
 {
-    let had = hold.room(room.server);
+    let had = held.room_of(room.server);
     if room.amount <= had {
         return None;
     }
@@ -68,10 +110,11 @@ fn room_short(hold: &Hold, room: &Room) -> Option<Short>
     })
 }
 
-fn spare_short(hold: &Hold, spare: &Spare) -> Option<Short>
-    ensures { result ≡ spare_short (hold_of hold.now.rights) spare.now }
+/// What is lacking of spare replicas.
+fn spare_short<H: ByKey>(held: &H, spare: &Spare) -> Option<Short>
+    ensures { result ≡ spare_short (H.hold held.now) spare.now }
 {
-    let had = hold.spare(spare.shard);
+    let had = held.spare_of(spare.shard);
     if spare.amount <= had {
         return None;
     }
@@ -82,44 +125,48 @@ fn spare_short(hold: &Hold, spare: &Spare) -> Option<Short>
     })
 }
 
-fn first_cell_short(hold: &Hold, rights: &[CellRight]) -> Option<Short>
-    ensures { result ≡ first_answer (cell_short (hold_of hold.now.rights)) rights.now }
+/// The first right to a cell that is lacking.
+fn first_cell_short<H: ByKey>(held: &H, rights: &[CellRight]) -> Option<Short>
+    ensures { result ≡ first_answer (cell_short (H.hold held.now)) rights.now }
 {
     for right in rights {
-        if let Some(short) = cell_short(hold, right) {
+        if let Some(short) = cell_short(held, right) {
             return Some(short);
         }
     }
     None
 }
 
-fn first_crown_short(hold: &Hold, crowns: &[Crown]) -> Option<Short>
-    ensures { result ≡ first_answer (crown_short (hold_of hold.now.rights)) crowns.now }
+/// The first crown that is lacking.
+fn first_crown_short<H: ByKey>(held: &H, crowns: &[Crown]) -> Option<Short>
+    ensures { result ≡ first_answer (crown_short (H.hold held.now)) crowns.now }
 {
     for crown in crowns {
-        if let Some(short) = crown_short(hold, crown) {
+        if let Some(short) = crown_short(held, crown) {
             return Some(short);
         }
     }
     None
 }
 
-fn first_room_short(hold: &Hold, rooms: &[Room]) -> Option<Short>
-    ensures { result ≡ first_answer (room_short (hold_of hold.now.rights)) rooms.now }
+/// The first room that is lacking.
+fn first_room_short<H: ByKey>(held: &H, rooms: &[Room]) -> Option<Short>
+    ensures { result ≡ first_answer (room_short (H.hold held.now)) rooms.now }
 {
     for room in rooms {
-        if let Some(short) = room_short(hold, room) {
+        if let Some(short) = room_short(held, room) {
             return Some(short);
         }
     }
     None
 }
 
-fn first_spare_short(hold: &Hold, spares: &[Spare]) -> Option<Short>
-    ensures { result ≡ first_answer (spare_short (hold_of hold.now.rights)) spares.now }
+/// The first spare replicas that are lacking.
+fn first_spare_short<H: ByKey>(held: &H, spares: &[Spare]) -> Option<Short>
+    ensures { result ≡ first_answer (spare_short (H.hold held.now)) spares.now }
 {
     for spare in spares {
-        if let Some(short) = spare_short(hold, spare) {
+        if let Some(short) = spare_short(held, spare) {
             return Some(short);
         }
     }

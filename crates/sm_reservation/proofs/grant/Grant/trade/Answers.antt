@@ -1,11 +1,7 @@
-use Rattle.std.proofs.Common.{◌≡◌, None, sym, ◌∙◌}
-use Rattle.sm_reservation.specs.HoldOf.{hold_of}
-use Rattle.sm_reservation.specs.Short.{first_short}
-use Rattle.sm_reservation.proofs.TradeLemmas.{moved, traded, places_after, sizes_after}
+use Rattle.sm_reservation.proofs.TradeLemmas.{places_after}
 use Rattle.sm_reservation.proofs.grant.Grant.trade.Goals as goal
 
-pub put-requires-clause-room : goal.put-requires-clause-room
-put-requires-clause-room c = ?
-
-pub returns-clause-changed : goal.returns-clause-changed
-returns-clause-changed c = ?
+pub join_parcel-requires-clause-room : goal.join_parcel-requires-clause-room
+join_parcel-requires-clause-room c =
+    let room = rw (← c.self.view_is) at c.requires.room in
+    places_after c.self.inside.hold c.take.new.self _ _ c.take.ensures.less c.take.ensures.rights room

@@ -1,0 +1,462 @@
+-- A parcel's rights taken out of a hold and put into one: what is left, and how much there is then of each right.
+use Rattle.std.proofs.Common.{◌≡◌, ◌≢◌, ℕ, ◌+◌, ◌-◌, ◌≤◌, Bool, true, false, ◌&&◌, cond, eqb, leb, Option, Some, None, List, [], ◌∷◌, refl, sym, ap, ◌∙◌, arith, inl, inr, ◌⊎◌}
+use Rattle.std.proofs.Math.Path.{fun_ext}
+use Rattle.std.specs.Option.{option_or}
+use Rattle.std.proofs.lemmas.Bool.Decides.{nat_tests}
+use Rattle.std.proofs.lemmas.Bool.{cases_Bool, cases_eq, leb-true, eqb-true}
+use Rattle.sm_placement.specs.declared.lead.Lead.{Lead}
+use Rattle.sm_placement.specs.declared.lead.Lead.TheVariants.{Gone, At, Ready, Handing, Handed}
+use Rattle.sm_placement.specs.Sums.{put, put2, bit}
+use Rattle.sm_reservation.specs.declared.right.PlainCell.{PlainCell}
+use Rattle.sm_reservation.specs.declared.right.PlainCell.TheVariants.{Absent, Secondary}
+use Rattle.sm_reservation.specs.declared.right.CellRight.{CellRight}
+use Rattle.sm_reservation.specs.declared.right.Crown.{Crown}
+use Rattle.sm_reservation.specs.declared.right.Room.{Room}
+use Rattle.sm_reservation.specs.declared.right.Spare.{Spare}
+use Rattle.sm_reservation.specs.Rights.{Rights}
+use Rattle.sm_reservation.specs.Hold.{Hold, no_hold, with_cell, with_crown, without_crown, pay_room, get_room, pay_spare, get_spare, minus_cells, minus_crowns, minus_room, minus_spare, plus_cells, plus_crowns, plus_room, plus_spare, minus, plus}
+use Rattle.sm_reservation.specs.Amounts.{Right, OfCell, OfCrown, OfRoom, OfSpare, is_cell, is_crown, same_server, same_lead, count}
+use Rattle.sm_reservation.specs.Rows.{same, row_at, amount_of, amount_at, Rises}
+use Rattle.sm_reservation.specs.Key.{cell_place, crown_place, room_place, spare_place, IsOrdered}
+use Rattle.sm_reservation.specs.HoldOf.{state_of, crown_of, hold_of}
+use Rattle.sm_reservation.specs.CanJoin.{CanJoin}
+use Rattle.sm_reservation.specs.Short.{cell_short, crown_short, room_short, spare_short, first_answer, first_short}
+use Rattle.sm_placement.proofs.Sums.{put2-here, put2-row, put2-apart}
+use Rattle.sm_reservation.proofs.Places.{same_here, same_first, same_is}
+use Rattle.sm_reservation.proofs.RowLemmas.{none_after}
+
+-- ---- one list at a time: what the others say stays
+
+pub cells_alone : (h : Hold) (xs : List CellRight) → minus_cells h xs ≡ record h { cells = (minus_cells h xs).cells }
+cells_alone h [] = refl
+cells_alone h (x ∷ xs) = cells_alone (with_cell h x.shard x.server None) xs
+
+pub crowns_alone : (h : Hold) (xs : List Crown) → minus_crowns h xs ≡ record h { crowns = (minus_crowns h xs).crowns }
+crowns_alone h [] = refl
+crowns_alone h (x ∷ xs) = crowns_alone (without_crown h x.shard) xs
+
+pub room_alone : (h : Hold) (xs : List Room) → minus_room h xs ≡ record h { room = (minus_room h xs).room }
+room_alone h [] = refl
+room_alone h (x ∷ xs) = room_alone (pay_room h x.server x.amount) xs
+
+pub spare_alone : (h : Hold) (xs : List Spare) → minus_spare h xs ≡ record h { spare = (minus_spare h xs).spare }
+spare_alone h [] = refl
+spare_alone h (x ∷ xs) = spare_alone (pay_spare h x.shard x.amount) xs
+
+pub more_cells_alone : (h : Hold) (xs : List CellRight) → plus_cells h xs ≡ record h { cells = (plus_cells h xs).cells }
+more_cells_alone h [] = refl
+more_cells_alone h (x ∷ xs) = more_cells_alone (with_cell h x.shard x.server (Some x.state)) xs
+
+pub more_crowns_alone : (h : Hold) (xs : List Crown) → plus_crowns h xs ≡ record h { crowns = (plus_crowns h xs).crowns }
+more_crowns_alone h [] = refl
+more_crowns_alone h (x ∷ xs) = more_crowns_alone (with_crown h x.shard x.lead x.listed) xs
+
+pub more_room_alone : (h : Hold) (xs : List Room) → plus_room h xs ≡ record h { room = (plus_room h xs).room }
+more_room_alone h [] = refl
+more_room_alone h (x ∷ xs) = more_room_alone (get_room h x.server x.amount) xs
+
+pub more_spare_alone : (h : Hold) (xs : List Spare) → plus_spare h xs ≡ record h { spare = (plus_spare h xs).spare }
+more_spare_alone h [] = refl
+more_spare_alone h (x ∷ xs) = more_spare_alone (get_spare h x.shard x.amount) xs
+
+-- ---- what a list says at a key is taken out there, and put in there
+
+-- what is left where something is taken out
+abbrev pub left : {A B : Type 0} → Option A → Option B → Option B
+left None o = o
+left (Some x) o = None
+
+left_none : {A B : Type 0} (o : Option A) → left {A = A} {B = B} o None ≡ None
+left_none None = refl
+left_none (Some x) = refl
+
+-- an edited function, by the test of places
+eqb_sym : (k q : ℕ) → eqb k q ≡ eqb q k
+eqb_sym k q = grind (arith, nat_tests)
+
+apart_second : (s w v : ℕ) → w ≢ v → same (s, v) (s, w) ≡ false
+apart_second s w v d = grind (arith, nat_tests)
+
+apart_first : (t w s v : ℕ) → t ≢ s → same (s, v) (t, w) ≡ false
+apart_first t w s v d = grind (arith, nat_tests)
+
+put_at : {A : Type 0} (f : ℕ → A) (k : ℕ) (x : A) (q : ℕ) → put f k x q ≡ cond (same (k, 0) (q, 0)) x (f q)
+put_at f k x q = rw (same_first k q, eqb_sym k q) refl
+
+put2_at : {A : Type 0} (f : ℕ → ℕ → A) (s v : ℕ) (x : A) (t w : ℕ) → put2 f s v x t w ≡ cond (same (s, v) (t, w)) x (f t w)
+put2_at f s v x t w = elim (cases_eq t s) [
+  | inl d ↦ elim (cases_eq w v) [
+    | inl e ↦ rw (d, e, same_here (s, v)) (put2-here f s v x)
+    | inr e ↦ rw (d, apart_second s w v e) (put2-row f s v x w e)
+  ]
+  | inr d ↦ rw (apart_first t w s v d) (put2-apart f s v x t w d)
+]
+
+pub minus_cells_at : (h : Hold) (xs : List CellRight) (s v : ℕ) → (minus_cells h xs).cells s v ≡ left (state_of (row_at cell_place xs (s, v))) (h.cells s v)
+minus_cells_at h [] s v = refl
+minus_cells_at h (x ∷ xs) s v =
+    let rest = minus_cells_at (with_cell h x.shard x.server None) xs s v in
+    let here = put2_at h.cells x.shard x.server None s v in
+    elim (cases_Bool (same (cell_place x) (s, v))) [
+      | inl e ↦ rest ∙ ap (λ (o : Option PlainCell). left (state_of (row_at cell_place xs (s, v))) o) (rw e at here) ∙ left_none (state_of (row_at cell_place xs (s, v))) ∙ rw e refl
+      | inr e ↦ rest ∙ ap (λ (o : Option PlainCell). left (state_of (row_at cell_place xs (s, v))) o) (rw e at here) ∙ rw e refl
+    ]
+
+pub minus_crowns_at : (h : Hold) (xs : List Crown) (s : ℕ) → (minus_crowns h xs).crowns s ≡ left (crown_of (row_at crown_place xs (s, 0))) (h.crowns s)
+minus_crowns_at h [] s = refl
+minus_crowns_at h (x ∷ xs) s =
+    let rest = minus_crowns_at (without_crown h x.shard) xs s in
+    let here = put_at h.crowns x.shard None s in
+    elim (cases_Bool (same (crown_place x) (s, 0))) [
+      | inl e ↦ rest ∙ ap (λ (o : Option (Lead × Option ℕ)). left (crown_of (row_at crown_place xs (s, 0))) o) (rw e at here) ∙ left_none (crown_of (row_at crown_place xs (s, 0))) ∙ rw e refl
+      | inr e ↦ rest ∙ ap (λ (o : Option (Lead × Option ℕ)). left (crown_of (row_at crown_place xs (s, 0))) o) (rw e at here) ∙ rw e refl
+    ]
+
+pub minus_room_at : (h : Hold) (xs : List Room) (v : ℕ) → Rises room_place xs → (minus_room h xs).room v ≡ h.room v - amount_at room_place (λ x. x.amount) xs (v, 0)
+minus_room_at h [] v r = omega arith
+minus_room_at h (x ∷ xs) v r =
+    let rest = minus_room_at (pay_room h x.server x.amount) xs v r.1 in
+    let here = put_at h.room x.server (h.room x.server - x.amount) v in
+    elim (cases_Bool (same (room_place x) (v, 0))) [
+      | inl e ↦
+          let none : amount_at room_place (λ y. y.amount) xs (v, 0) ≡ 0 = ap (amount_of (λ (y : Room). y.amount)) (none_after room_place (room_place x) (v, 0) xs r.0 e) in
+          let first : amount_at room_place (λ y. y.amount) (x ∷ xs) (v, 0) ≡ x.amount = rw e refl in
+          let there = rw e at here in
+          let k : x.server ≡ v = ap (λ (q : ℕ × ℕ). q.0) (same_is (room_place x) (v, 0) e) in
+          let same_room : h.room x.server ≡ h.room v = ap h.room k in
+          omega arith
+      | inr e ↦
+          let later : amount_at room_place (λ y. y.amount) (x ∷ xs) (v, 0) ≡ amount_at room_place (λ y. y.amount) xs (v, 0) = rw e refl in
+          let there = rw e at here in
+          omega arith
+    ]
+
+pub minus_spare_at : (h : Hold) (xs : List Spare) (s : ℕ) → Rises spare_place xs → (minus_spare h xs).spare s ≡ h.spare s - amount_at spare_place (λ x. x.amount) xs (s, 0)
+minus_spare_at h [] s r = omega arith
+minus_spare_at h (x ∷ xs) s r =
+    let rest = minus_spare_at (pay_spare h x.shard x.amount) xs s r.1 in
+    let here = put_at h.spare x.shard (h.spare x.shard - x.amount) s in
+    elim (cases_Bool (same (spare_place x) (s, 0))) [
+      | inl e ↦
+          let none : amount_at spare_place (λ y. y.amount) xs (s, 0) ≡ 0 = ap (amount_of (λ (y : Spare). y.amount)) (none_after spare_place (spare_place x) (s, 0) xs r.0 e) in
+          let first : amount_at spare_place (λ y. y.amount) (x ∷ xs) (s, 0) ≡ x.amount = rw e refl in
+          let there = rw e at here in
+          let k : x.shard ≡ s = ap (λ (q : ℕ × ℕ). q.0) (same_is (spare_place x) (s, 0) e) in
+          let same_spare : h.spare x.shard ≡ h.spare s = ap h.spare k in
+          omega arith
+      | inr e ↦
+          let later : amount_at spare_place (λ y. y.amount) (x ∷ xs) (s, 0) ≡ amount_at spare_place (λ y. y.amount) xs (s, 0) = rw e refl in
+          let there = rw e at here in
+          omega arith
+    ]
+
+pub plus_cells_at : (h : Hold) (xs : List CellRight) (s v : ℕ) → Rises cell_place xs → (plus_cells h xs).cells s v ≡ option_or (state_of (row_at cell_place xs (s, v))) (h.cells s v)
+plus_cells_at h [] s v r = refl
+plus_cells_at h (x ∷ xs) s v r =
+    let rest = plus_cells_at (with_cell h x.shard x.server (Some x.state)) xs s v r.1 in
+    let here = put2_at h.cells x.shard x.server (Some x.state) s v in
+    elim (cases_Bool (same (cell_place x) (s, v))) [
+      | inl e ↦ rest ∙ ap (λ (o : Option CellRight). option_or (state_of o) ((with_cell h x.shard x.server (Some x.state)).cells s v)) (none_after cell_place (cell_place x) (s, v) xs r.0 e) ∙ rw e at here ∙ rw e refl
+      | inr e ↦ rest ∙ ap (λ (o : Option PlainCell). option_or (state_of (row_at cell_place xs (s, v))) o) (rw e at here) ∙ rw e refl
+    ]
+
+pub plus_crowns_at : (h : Hold) (xs : List Crown) (s : ℕ) → Rises crown_place xs → (plus_crowns h xs).crowns s ≡ option_or (crown_of (row_at crown_place xs (s, 0))) (h.crowns s)
+plus_crowns_at h [] s r = refl
+plus_crowns_at h (x ∷ xs) s r =
+    let rest = plus_crowns_at (with_crown h x.shard x.lead x.listed) xs s r.1 in
+    let here = put_at h.crowns x.shard (Some (x.lead, x.listed)) s in
+    elim (cases_Bool (same (crown_place x) (s, 0))) [
+      | inl e ↦ rest ∙ ap (λ (o : Option Crown). option_or (crown_of o) ((with_crown h x.shard x.lead x.listed).crowns s)) (none_after crown_place (crown_place x) (s, 0) xs r.0 e) ∙ rw e at here ∙ rw e refl
+      | inr e ↦ rest ∙ ap (λ (o : Option (Lead × Option ℕ)). option_or (crown_of (row_at crown_place xs (s, 0))) o) (rw e at here) ∙ rw e refl
+    ]
+
+pub plus_room_at : (h : Hold) (xs : List Room) (v : ℕ) → Rises room_place xs → (plus_room h xs).room v ≡ h.room v + amount_at room_place (λ x. x.amount) xs (v, 0)
+plus_room_at h [] v r = omega arith
+plus_room_at h (x ∷ xs) v r =
+    let rest = plus_room_at (get_room h x.server x.amount) xs v r.1 in
+    let here = put_at h.room x.server (h.room x.server + x.amount) v in
+    elim (cases_Bool (same (room_place x) (v, 0))) [
+      | inl e ↦
+          let none : amount_at room_place (λ y. y.amount) xs (v, 0) ≡ 0 = ap (amount_of (λ (y : Room). y.amount)) (none_after room_place (room_place x) (v, 0) xs r.0 e) in
+          let first : amount_at room_place (λ y. y.amount) (x ∷ xs) (v, 0) ≡ x.amount = rw e refl in
+          let there = rw e at here in
+          let k : x.server ≡ v = ap (λ (q : ℕ × ℕ). q.0) (same_is (room_place x) (v, 0) e) in
+          let same_room : h.room x.server ≡ h.room v = ap h.room k in
+          omega arith
+      | inr e ↦
+          let later : amount_at room_place (λ y. y.amount) (x ∷ xs) (v, 0) ≡ amount_at room_place (λ y. y.amount) xs (v, 0) = rw e refl in
+          let there = rw e at here in
+          omega arith
+    ]
+
+pub plus_spare_at : (h : Hold) (xs : List Spare) (s : ℕ) → Rises spare_place xs → (plus_spare h xs).spare s ≡ h.spare s + amount_at spare_place (λ x. x.amount) xs (s, 0)
+plus_spare_at h [] s r = omega arith
+plus_spare_at h (x ∷ xs) s r =
+    let rest = plus_spare_at (get_spare h x.shard x.amount) xs s r.1 in
+    let here = put_at h.spare x.shard (h.spare x.shard + x.amount) s in
+    elim (cases_Bool (same (spare_place x) (s, 0))) [
+      | inl e ↦
+          let none : amount_at spare_place (λ y. y.amount) xs (s, 0) ≡ 0 = ap (amount_of (λ (y : Spare). y.amount)) (none_after spare_place (spare_place x) (s, 0) xs r.0 e) in
+          let first : amount_at spare_place (λ y. y.amount) (x ∷ xs) (s, 0) ≡ x.amount = rw e refl in
+          let there = rw e at here in
+          let k : x.shard ≡ s = ap (λ (q : ℕ × ℕ). q.0) (same_is (spare_place x) (s, 0) e) in
+          let same_spare : h.spare x.shard ≡ h.spare s = ap h.spare k in
+          omega arith
+      | inr e ↦
+          let later : amount_at spare_place (λ y. y.amount) (x ∷ xs) (s, 0) ≡ amount_at spare_place (λ y. y.amount) xs (s, 0) = rw e refl in
+          let there = rw e at here in
+          omega arith
+    ]
+
+-- ---- a whole parcel
+
+-- one hold taken out of another, and put into it
+abbrev pub parted : Hold → Hold → Hold
+parted h k = record {
+  cells = λ s v. left (k.cells s v) (h.cells s v);
+  crowns = λ s. left (k.crowns s) (h.crowns s);
+  room = λ v. h.room v - k.room v;
+  spare = λ s. h.spare s - k.spare s;
+}
+
+abbrev pub joined : Hold → Hold → Hold
+joined h k = record {
+  cells = λ s v. option_or (k.cells s v) (h.cells s v);
+  crowns = λ s. option_or (k.crowns s) (h.crowns s);
+  room = λ v. h.room v + k.room v;
+  spare = λ s. h.spare s + k.spare s;
+}
+
+same_hold : (h k : Hold) → ((s v : ℕ) → h.cells s v ≡ k.cells s v) → ((s : ℕ) → h.crowns s ≡ k.crowns s) → ((v : ℕ) → h.room v ≡ k.room v) → ((s : ℕ) → h.spare s ≡ k.spare s) → h ≡ k
+same_hold h k a b c d =
+    ap (λ (f : ℕ → ℕ → Option PlainCell). record h { cells = f }) (fun_ext (λ s. fun_ext (λ v. a s v)))
+    ∙ ap (λ (f : ℕ → Option (Lead × Option ℕ)). record h { cells = k.cells; crowns = f }) (fun_ext b)
+    ∙ ap (λ (f : ℕ → ℕ). record k { room = f; spare = h.spare }) (fun_ext c)
+    ∙ ap (λ (f : ℕ → ℕ). record k { spare = f }) (fun_ext d)
+
+pub minus_is : (h : Hold) (p : Rights) → IsOrdered p → minus h p ≡ parted h (hold_of p)
+unfolding hold_of
+minus_is h p o =
+    let a = minus_cells h p.cells in
+    let b = minus_crowns a p.crowns in
+    let d = minus_room b p.room in
+    let ae = cells_alone h p.cells in
+    let be = crowns_alone a p.crowns in
+    let de = room_alone b p.room in
+    let ee = spare_alone d p.spare in
+    same_hold (minus h p) (parted h (hold_of p))
+    (λ s v. ap (λ (k : Hold). k.cells s v) ee ∙ ap (λ (k : Hold). k.cells s v) de ∙ ap (λ (k : Hold). k.cells s v) be ∙ minus_cells_at h p.cells s v)
+    (λ s. ap (λ (k : Hold). k.crowns s) ee ∙ ap (λ (k : Hold). k.crowns s) de ∙ minus_crowns_at a p.crowns s ∙ ap (λ (k : Hold). left (crown_of (row_at crown_place p.crowns (s, 0))) (k.crowns s)) ae)
+    (λ v. ap (λ (k : Hold). k.room v) ee ∙ minus_room_at b p.room v o.room ∙ ap (λ (n : ℕ). n - amount_at room_place (λ x. x.amount) p.room (v, 0)) (ap (λ (k : Hold). k.room v) be ∙ ap (λ (k : Hold). k.room v) ae))
+    (λ s. minus_spare_at d p.spare s o.spare ∙ ap (λ (n : ℕ). n - amount_at spare_place (λ x. x.amount) p.spare (s, 0)) (ap (λ (k : Hold). k.spare s) de ∙ ap (λ (k : Hold). k.spare s) be ∙ ap (λ (k : Hold). k.spare s) ae))
+
+pub plus_is : (h : Hold) (p : Rights) → IsOrdered p → plus h p ≡ joined h (hold_of p)
+unfolding hold_of
+plus_is h p o =
+    let a = plus_cells h p.cells in
+    let b = plus_crowns a p.crowns in
+    let d = plus_room b p.room in
+    let ae = more_cells_alone h p.cells in
+    let be = more_crowns_alone a p.crowns in
+    let de = more_room_alone b p.room in
+    let ee = more_spare_alone d p.spare in
+    same_hold (plus h p) (joined h (hold_of p))
+    (λ s v. ap (λ (k : Hold). k.cells s v) ee ∙ ap (λ (k : Hold). k.cells s v) de ∙ ap (λ (k : Hold). k.cells s v) be ∙ plus_cells_at h p.cells s v o.cells)
+    (λ s. ap (λ (k : Hold). k.crowns s) ee ∙ ap (λ (k : Hold). k.crowns s) de ∙ plus_crowns_at a p.crowns s o.crowns ∙ ap (λ (k : Hold). option_or (crown_of (row_at crown_place p.crowns (s, 0))) (k.crowns s)) ae)
+    (λ v. ap (λ (k : Hold). k.room v) ee ∙ plus_room_at b p.room v o.room ∙ ap (λ (n : ℕ). n + amount_at room_place (λ x. x.amount) p.room (v, 0)) (ap (λ (k : Hold). k.room v) be ∙ ap (λ (k : Hold). k.room v) ae))
+    (λ s. plus_spare_at d p.spare s o.spare ∙ ap (λ (n : ℕ). n + amount_at spare_place (λ x. x.amount) p.spare (s, 0)) (ap (λ (k : Hold). k.spare s) de ∙ ap (λ (k : Hold). k.spare s) be ∙ ap (λ (k : Hold). k.spare s) ae))
+
+-- a parcel put where there is nothing
+pub plus_none : (p : Rights) → IsOrdered p → plus no_hold p ≡ hold_of p
+plus_none p o =
+    plus_is no_hold p o
+    ∙ same_hold (joined no_hold (hold_of p)) (hold_of p) (λ s v. or_none ((hold_of p).cells s v)) (λ s. or_none ((hold_of p).crowns s)) (λ v. omega arith) (λ s. omega arith)
+  where
+    or_none : {A : Type 0} (o : Option A) → option_or o None ≡ o
+    or_none None = refl
+    or_none (Some x) = refl
+
+-- ---- what isn't short is there
+
+pub record Covers (h k : Hold) : Type 0 where
+  pub cells : (s v : ℕ) (state : PlainCell) → k.cells s v ≡ Some state → h.cells s v ≡ Some state
+  pub crowns : (s : ℕ) (crown : Lead × Option ℕ) → k.crowns s ≡ Some crown → h.crowns s ≡ Some crown
+  pub room : (v : ℕ) → k.room v ≤ h.room v
+  pub spare : (s : ℕ) → k.spare s ≤ h.spare s
+
+-- no test gives an answer
+neither : {X : Type 0} (a b : Option X) → option_or a b ≡ None → (a ≡ None) × (b ≡ None)
+neither None b e = (refl, e)
+neither (Some x) b e = cc
+
+-- a row that is found passes what all rows pass
+found_passes : {T Y : Type 0} (place : T → ℕ × ℕ) (f : T → Option Y) (xs : List T) (q : ℕ × ℕ) (x : T) → first_answer f xs ≡ None → row_at place xs q ≡ Some x → (f x ≡ None) × (same (place x) q ≡ true)
+found_passes place f [] q x none is = cc
+found_passes place f (y ∷ ys) q x none is =
+    let both = neither (f y) (first_answer f ys) none in
+    elim (cases_Bool (same (place y) q)) [
+      | inl e ↦ let d : y ≡ x = (let z = rw e at is in cc) in rw (← d) (both.0, e)
+      | inr e ↦ found_passes place f ys q x both.1 (rw e at is)
+    ]
+
+state_is : (o : Option PlainCell) (state : PlainCell) → is_cell state o ≡ true → o ≡ Some state
+state_is (Some Absent) Absent e = refl
+state_is (Some Secondary) Secondary e = refl
+state_is (Some Absent) Secondary e = cc
+state_is (Some Secondary) Absent e = cc
+state_is None Absent e = cc
+state_is None Secondary e = cc
+
+both_true : (a b : Bool) → (a && b) ≡ true → (a ≡ true) × (b ≡ true)
+both_true true b e = (refl, e)
+both_true false b e = cc
+
+both_are : (f : ℕ → ℕ → Lead) (x y u v : ℕ) → (eqb x u && eqb y v) ≡ true → f x y ≡ f u v
+both_are f x y u v e =
+    let both = both_true (eqb x u) (eqb y v) e in
+    let a : x ≡ u = eqb-true x u both.0 in
+    let b : y ≡ v = eqb-true y v both.1 in
+    rw (a, b) refl
+
+-- what a test lets through has passed it
+passes : {Y : Type 0} (b : Bool) (y : Y) → cond b None (Some y) ≡ None → b ≡ true
+passes true y e = refl
+passes false y e = cc
+
+server_is : (a b : Option ℕ) → same_server a b ≡ true → a ≡ b
+server_is None None e = refl
+server_is (Some x) (Some y) e = ap Some (eqb-true x y e)
+server_is None (Some y) e = cc
+server_is (Some x) None e = cc
+
+lead_is : (a b : Lead) → same_lead a b ≡ true → a ≡ b
+lead_is Gone Gone e = refl
+lead_is Gone (At u) e = cc
+lead_is Gone (Ready u v) e = cc
+lead_is Gone (Handing u v) e = cc
+lead_is Gone (Handed u v) e = cc
+lead_is (At x) (At u) e = ap At (eqb-true x u e)
+lead_is (At x) Gone e = cc
+lead_is (At x) (Ready u v) e = cc
+lead_is (At x) (Handing u v) e = cc
+lead_is (At x) (Handed u v) e = cc
+lead_is (Ready x y) (Ready u v) e = both_are Ready x y u v e
+lead_is (Ready x y) Gone e = cc
+lead_is (Ready x y) (At u) e = cc
+lead_is (Ready x y) (Handing u v) e = cc
+lead_is (Ready x y) (Handed u v) e = cc
+lead_is (Handing x y) (Handing u v) e = both_are Handing x y u v e
+lead_is (Handing x y) Gone e = cc
+lead_is (Handing x y) (At u) e = cc
+lead_is (Handing x y) (Ready u v) e = cc
+lead_is (Handing x y) (Handed u v) e = cc
+lead_is (Handed x y) (Handed u v) e = both_are Handed x y u v e
+lead_is (Handed x y) Gone e = cc
+lead_is (Handed x y) (At u) e = cc
+lead_is (Handed x y) (Ready u v) e = cc
+lead_is (Handed x y) (Handing u v) e = cc
+
+crown_is : (o : Option (Lead × Option ℕ)) (lead : Lead) (listed : Option ℕ) → is_crown lead listed o ≡ true → o ≡ Some (lead, listed)
+crown_is None lead listed e = cc
+crown_is (Some c) lead listed e =
+    let both = both_true (same_lead lead c.0) (same_server listed c.1) e in
+    let a : lead ≡ c.0 = lead_is lead c.0 both.0 in
+    let b : listed ≡ c.1 = server_is listed c.1 both.1 in
+    rw (a, b) refl
+
+-- a hold of which nothing of a parcel is short has all of it
+pub covers : (h : Hold) (p : Rights) → first_short h p ≡ None → Covers h (hold_of p)
+unfolding hold_of
+covers h p none =
+    let d = neither (option_or (option_or (first_answer (cell_short h) p.cells) (first_answer (crown_short h) p.crowns)) (first_answer (room_short h) p.room)) (first_answer (spare_short h) p.spare) none in
+    let b = neither (option_or (first_answer (cell_short h) p.cells) (first_answer (crown_short h) p.crowns)) (first_answer (room_short h) p.room) d.0 in
+    let a = neither (first_answer (cell_short h) p.cells) (first_answer (crown_short h) p.crowns) b.0 in
+    record {
+      cells = λ s v state e. cell (row_at cell_place p.cells (s, v)) s v state refl a.0 e;
+      crowns = λ s c e. crown (row_at crown_place p.crowns (s, 0)) s c refl a.1 e;
+      room = λ v. room (row_at room_place p.room (v, 0)) v refl b.1;
+      spare = λ s. spare (row_at spare_place p.spare (s, 0)) s refl d.1;
+    }
+  where
+    cell : (o : Option CellRight) (s v : ℕ) (state : PlainCell) → row_at cell_place p.cells (s, v) ≡ o → first_answer (cell_short h) p.cells ≡ None → state_of o ≡ Some state → h.cells s v ≡ Some state
+    cell None s v state is none e = cc
+    cell (Some x) s v state is none e =
+        let f = found_passes cell_place (cell_short h) p.cells (s, v) x none is in
+        let k = same_is (cell_place x) (s, v) f.1 in
+        let t : is_cell x.state (h.cells x.shard x.server) ≡ true = passes (is_cell x.state (h.cells x.shard x.server)) _ f.0 in
+        ap (λ (q : ℕ × ℕ). h.cells q.0 q.1) (sym k) ∙ state_is (h.cells x.shard x.server) x.state t ∙ e
+
+    crown : (o : Option Crown) (s : ℕ) (crown : Lead × Option ℕ) → row_at crown_place p.crowns (s, 0) ≡ o → first_answer (crown_short h) p.crowns ≡ None → crown_of o ≡ Some crown → h.crowns s ≡ Some crown
+    crown None s c is none e = cc
+    crown (Some x) s c is none e =
+        let f = found_passes crown_place (crown_short h) p.crowns (s, 0) x none is in
+        let k = same_is (crown_place x) (s, 0) f.1 in
+        let t : is_crown x.lead x.listed (h.crowns x.shard) ≡ true = passes (is_crown x.lead x.listed (h.crowns x.shard)) _ f.0 in
+        ap (λ (q : ℕ × ℕ). h.crowns q.0) (sym k) ∙ crown_is (h.crowns x.shard) x.lead x.listed t ∙ e
+
+    room : (o : Option Room) (v : ℕ) → row_at room_place p.room (v, 0) ≡ o → first_answer (room_short h) p.room ≡ None → amount_of (λ x. x.amount) (row_at room_place p.room (v, 0)) ≤ h.room v
+    room None v is none = rw is (omega arith)
+    room (Some x) v is none =
+        let f = found_passes room_place (room_short h) p.room (v, 0) x none is in
+        let k : x.server ≡ v = ap (λ (q : ℕ × ℕ). q.0) (same_is (room_place x) (v, 0) f.1) in
+        let t : x.amount ≤ h.room x.server = leb-true x.amount (h.room x.server) (passes (leb x.amount (h.room x.server)) _ f.0) in
+        let e : h.room x.server ≡ h.room v = ap h.room k in
+        rw is (omega arith)
+
+    spare : (o : Option Spare) (s : ℕ) → row_at spare_place p.spare (s, 0) ≡ o → first_answer (spare_short h) p.spare ≡ None → amount_of (λ x. x.amount) (row_at spare_place p.spare (s, 0)) ≤ h.spare s
+    spare None s is none = rw is (omega arith)
+    spare (Some x) s is none =
+        let f = found_passes spare_place (spare_short h) p.spare (s, 0) x none is in
+        let k : x.shard ≡ s = ap (λ (q : ℕ × ℕ). q.0) (same_is (spare_place x) (s, 0) f.1) in
+        let t : x.amount ≤ h.spare x.shard = leb-true x.amount (h.spare x.shard) (passes (leb x.amount (h.spare x.shard)) _ f.0) in
+        let e : h.spare x.shard ≡ h.spare s = ap h.spare k in
+        rw is (omega arith)
+
+-- ---- how much there is of each right
+
+cases_of : {A : Type 0} (o : Option A) → (o ≡ None) ⊎ ((x : A) × (o ≡ Some x))
+cases_of None = inl refl
+cases_of (Some x) = inr (x, refl)
+
+no_cell : (state : PlainCell) → bit (is_cell state None) ≡ 0
+no_cell Absent = refl
+no_cell Secondary = refl
+
+parted_count : (h k : Hold) → Covers h k → (r : Right) → count (parted h k) r + count k r ≡ count h r
+parted_count h k c (OfCell s v state) = let z = no_cell state in elim (cases_of (k.cells s v)) [
+  | inl e ↦ rw e (omega arith)
+  | inr e ↦ rw (e.1, c.cells s v e.0 e.1) (omega arith)
+]
+parted_count h k c (OfCrown s lead listed) = elim (cases_of (k.crowns s)) [
+  | inl e ↦ rw e (omega arith)
+  | inr e ↦ rw (e.1, c.crowns s e.0 e.1) (omega arith)
+]
+parted_count h k c (OfRoom v) = let l = c.room v in omega arith
+parted_count h k c (OfSpare s) = let l = c.spare s in omega arith
+
+joined_count : (h k : Hold) → CanJoin h k → (r : Right) → count (joined h k) r ≡ count h r + count k r
+joined_count h k c (OfCell s v state) = let z = no_cell state in elim (cases_of (k.cells s v)) [
+  | inl e ↦ rw e (omega arith)
+  | inr e ↦ rw (e.1, c.cells s v e.0 e.1) (omega arith)
+]
+joined_count h k c (OfCrown s lead listed) = elim (cases_of (k.crowns s)) [
+  | inl e ↦ rw e (omega arith)
+  | inr e ↦ rw (e.1, c.crowns s e.0 e.1) (omega arith)
+]
+joined_count h k c (OfRoom v) = refl
+joined_count h k c (OfSpare s) = refl
+
+-- what a parcel takes out is what it says
+pub minus_count : (h : Hold) (p : Rights) → IsOrdered p → first_short h p ≡ None → (r : Right) → count (minus h p) r + count (hold_of p) r ≡ count h r
+minus_count h p o none r = ap (λ (k : Hold). count k r + count (hold_of p) r) (minus_is h p o) ∙ parted_count h (hold_of p) (covers h p none) r
+
+-- what a parcel puts in is what it says
+pub plus_count : (h : Hold) (p : Rights) → IsOrdered p → CanJoin h (hold_of p) → (r : Right) → count (plus h p) r ≡ count h r + count (hold_of p) r
+plus_count h p o c r = ap (λ (k : Hold). count k r) (plus_is h p o) ∙ joined_count h (hold_of p) c r
+
+-- what goes from one hold to another is in one of them before and after
+pub moved_count : (h g : Hold) (p : Rights) → IsOrdered p → first_short h p ≡ None → CanJoin g (hold_of p) → (r : Right) → count (minus h p) r + count (plus g p) r ≡ count h r + count g r
+moved_count h g p o none c r =
+    let a = minus_count h p o none r in
+    let b = plus_count g p o c r in
+    omega arith

@@ -1,0 +1,120 @@
+-- A pool's lists: what is read in them by key, and what a write makes of the rights in them.
+use Rattle.std.proofs.Common.{◌≡◌, ℕ, ◌+◌, ◌*◌, ◌-◌, ◌<◌, ◌≤◌, length, set, get_or, replicate, refl, sym, ap, subst, ◌∙◌, arith, inl, inr, Option, None}
+use Rattle.std.proofs.Math.Path.{fun_ext}
+use Rattle.std.proofs.lemmas.Bool.{cases_eq, cases_lt}
+use Rattle.sm_placement.specs.declared.lead.Lead.{Lead}
+use Rattle.sm_placement.specs.Sums.{put, put2}
+use Rattle.sm_placement.specs.Layout.{grid_of, entries_of}
+use Rattle.sm_placement.proofs.Sums.{put-here, put-apart}
+use Rattle.sm_placement.proofs.GridLemmas.{grid_of-beside, grid_of-below, grid_of-empty, grid_of-read, grid_of-set, place_within, entries_of-past, entries_of-set, entries_of-empty, entries_of-read}
+use Rattle.sm_reservation.specs.declared.right.PlainCell.{PlainCell}
+use Rattle.sm_reservation.specs.Hold.{Hold, no_hold, with_cell, without_crown, pay_room, pay_spare}
+use Rattle.sm_reservation.specs.Pool.{Stock, IsStocked, IsWithin, pool_hold}
+
+-- ---- a function that is put where it is anyway
+
+pub put_same : {A : Type 0} (f : ℕ → A) (k : ℕ) (x : A) → f k ≡ x → f ≡ put f k x
+put_same f k x e = fun_ext (λ q. elim (cases_eq q k) [
+  | inl d ↦ ap f d ∙ e ∙ sym (put-here f k x q d)
+  | inr d ↦ sym (put-apart f k x q d)
+])
+
+pub put2_same : {A : Type 0} (f : ℕ → ℕ → A) (s v : ℕ) (x : A) → f s v ≡ x → f ≡ put2 f s v x
+put2_same f s v x e = put_same f s (put (f s) v x) (put_same (f s) v x e)
+
+-- ---- what every pool keeps
+
+pub stocked_within : (k : Stock) → IsStocked k → IsWithin k.shards k.servers (pool_hold k)
+unfolding pool_hold
+stocked_within k h = record {
+  no_shard = λ s v l. grid_of-below k.servers k.shards None k.cells s v h.cells l;
+  no_server = λ s v l. grid_of-beside k.servers None k.cells s v l;
+  crowns = λ s l. entries_of-past None k.crowns s (omega (arith, h.crowns));
+  room = λ v l. entries_of-past 0 k.room v (omega (arith, h.room));
+  spare = λ s l. entries_of-past 0 k.spare s (omega (arith, h.spare));
+}
+
+pub stocked_now : {k now : Stock} → IsStocked k → k ≡ now → IsStocked now
+stocked_now {k} {now} h e = subst (λ (n : Stock). IsStocked n) e h
+
+-- ---- reads
+
+pub cell_read : {k now : Stock} (s v : ℕ) (x : Option PlainCell) → IsStocked k → k ≡ now → s < now.shards → v < now.servers → x ≡ get_or k.cells (s * now.servers + v) x → x ≡ (pool_hold now).cells s v
+unfolding pool_hold
+cell_read {k} {now} s v x h e = subst (λ (n : Stock). s < n.shards → v < n.servers → x ≡ get_or k.cells (s * n.servers + v) x → x ≡ (pool_hold n).cells s v) e
+    (λ l m r. grid_of-read k.servers k.shards None k.cells s v x h.cells l m r)
+
+pub crown_read : {k now : Stock} (s : ℕ) (x : Option (Lead × Option ℕ)) → IsStocked k → k ≡ now → s < length k.crowns → x ≡ get_or k.crowns s x → x ≡ (pool_hold now).crowns s
+unfolding pool_hold
+crown_read {k} {now} s x h e l r = subst (λ (n : Stock). x ≡ (pool_hold n).crowns s) e (entries_of-read None k.crowns s (length k.crowns) x refl l r)
+
+pub room_read : {k now : Stock} (v x : ℕ) → IsStocked k → k ≡ now → v < length k.room → x ≡ get_or k.room v x → x ≡ (pool_hold now).room v
+unfolding pool_hold
+room_read {k} {now} v x h e l r = subst (λ (n : Stock). x ≡ (pool_hold n).room v) e (entries_of-read 0 k.room v (length k.room) x refl l r)
+
+pub spare_read : {k now : Stock} (s x : ℕ) → IsStocked k → k ≡ now → s < length k.spare → x ≡ get_or k.spare s x → x ≡ (pool_hold now).spare s
+unfolding pool_hold
+spare_read {k} {now} s x h e l r = subst (λ (n : Stock). x ≡ (pool_hold n).spare s) e (entries_of-read 0 k.spare s (length k.spare) x refl l r)
+
+-- no right is of a pair that isn't known
+pub cell_unknown : (shards servers : ℕ) (h : Hold) (s v : ℕ) → IsWithin shards servers h → (s < shards → servers ≤ v) → h.cells s v ≡ None
+cell_unknown shards servers h s v is out = elim (cases_lt s shards) [
+  | inl l ↦ is.no_server s v (out l)
+  | inr l ↦ is.no_shard s v l
+]
+
+-- ---- one entry written. `now` is the pool as its callers see it, `place` the entry's place in the list
+
+pub cell_put : {k now : Stock} (s v place : ℕ) (o : Option PlainCell) → IsStocked k → k ≡ now → s < now.shards → v < now.servers → place ≡ s * now.servers + v →
+    pool_hold (record k { cells = set k.cells place o }) ≡ with_cell (pool_hold now) s v o
+unfolding pool_hold
+cell_put {k} {now} s v place o h e = subst (λ (n : Stock). s < n.shards → v < n.servers → place ≡ s * n.servers + v → pool_hold (record k { cells = set k.cells place o }) ≡ with_cell (pool_hold n) s v o) e
+    (λ l m d. ap (λ (f : ℕ → ℕ → Option PlainCell). record (pool_hold k) { cells = f })
+    (ap (λ (i : ℕ). grid_of k.servers None (set k.cells i o)) d ∙ grid_of-set k.servers None k.cells s v o m (place_within k.cells k.servers k.shards s v h.cells l m)))
+
+pub crown_put : {k now : Stock} (s place : ℕ) (o : Option (Lead × Option ℕ)) → k ≡ now → place ≡ s → place < length k.crowns →
+    pool_hold (record k { crowns = set k.crowns place o }) ≡ record (pool_hold now) { crowns = put (pool_hold now).crowns s o }
+unfolding pool_hold
+crown_put {k} {now} s place o e d l = subst (λ (n : Stock). pool_hold (record k { crowns = set k.crowns place o }) ≡ record (pool_hold n) { crowns = put (pool_hold n).crowns s o }) e
+    (ap (λ (f : ℕ → Option (Lead × Option ℕ)). record (pool_hold k) { crowns = f })
+    (entries_of-set None k.crowns place o l ∙ ap (λ (i : ℕ). put (entries_of None k.crowns) i o) d))
+
+pub room_put : {k now : Stock} (n v place x y : ℕ) → k ≡ now → n ≡ k.servers → place ≡ v → place < length k.room → x ≡ y →
+    pool_hold (record k { servers = n; room = set k.room place x }) ≡ record (pool_hold now) { room = put (pool_hold now).room v y }
+unfolding pool_hold
+room_put {k} {now} n v place x y e m d l f = subst (λ (w : Stock). pool_hold (record k { servers = n; room = set k.room place x }) ≡ record (pool_hold w) { room = put (pool_hold w).room v y }) e
+    (ap (λ (i : ℕ). record (pool_hold k) { cells = grid_of i None k.cells; room = entries_of 0 (set k.room place x) }) m
+    ∙ ap (λ (g : ℕ → ℕ). record (pool_hold k) { room = g })
+    (entries_of-set 0 k.room place x l ∙ ap (λ (i : ℕ). put (entries_of 0 k.room) i x) d ∙ ap (λ (z : ℕ). put (entries_of 0 k.room) v z) f))
+
+pub spare_put : {k now : Stock} (n s place x y : ℕ) → k ≡ now → place ≡ s → place < length k.spare → x ≡ y →
+    pool_hold (record k { shards = n; spare = set k.spare place x }) ≡ record (pool_hold now) { spare = put (pool_hold now).spare s y }
+unfolding pool_hold
+spare_put {k} {now} n s place x y e d l f = subst (λ (w : Stock). pool_hold (record k { shards = n; spare = set k.spare place x }) ≡ record (pool_hold w) { spare = put (pool_hold w).spare s y }) e
+    (ap (λ (g : ℕ → ℕ). record (pool_hold k) { spare = g })
+    (entries_of-set 0 k.spare place x l ∙ ap (λ (i : ℕ). put (entries_of 0 k.spare) i x) d ∙ ap (λ (z : ℕ). put (entries_of 0 k.spare) s z) f))
+
+-- ---- what isn't there is taken out
+
+pub no_cell : (h : Hold) (s v : ℕ) → h.cells s v ≡ None → h ≡ with_cell h s v None
+no_cell h s v e = ap (λ (f : ℕ → ℕ → Option PlainCell). record h { cells = f }) (put2_same h.cells s v None e)
+
+pub no_crown : (h : Hold) (s : ℕ) → h.crowns s ≡ None → h ≡ without_crown h s
+no_crown h s e = ap (λ (f : ℕ → Option (Lead × Option ℕ)). record h { crowns = f }) (put_same h.crowns s None e)
+
+pub no_room : (h : Hold) (v n : ℕ) → h.room v ≡ 0 → h ≡ pay_room h v n
+no_room h v n e = ap (λ (f : ℕ → ℕ). record h { room = f }) (put_same h.room v (h.room v - n) (omega arith))
+
+pub no_spare : (h : Hold) (s n : ℕ) → h.spare s ≡ 0 → h ≡ pay_spare h s n
+no_spare h s n e = ap (λ (f : ℕ → ℕ). record h { spare = f }) (put_same h.spare s (h.spare s - n) (omega arith))
+
+-- ---- a pool with nothing in it
+
+pub hold-empty : (a b shards servers n : ℕ) →
+    pool_hold (record { shards = a; servers = b; cells = replicate n None; crowns = replicate shards None; room = replicate servers 0; spare = replicate shards 0 }) ≡ no_hold
+unfolding pool_hold
+hold-empty a b shards servers n =
+    ap (λ (f : ℕ → ℕ → Option PlainCell). record { cells = f; crowns = entries_of None (replicate shards None); room = entries_of 0 (replicate servers 0); spare = entries_of 0 (replicate shards 0) }) (grid_of-empty b None n)
+    ∙ ap (λ (f : ℕ → Option (Lead × Option ℕ)). record no_hold { crowns = f; room = entries_of 0 (replicate servers 0); spare = entries_of 0 (replicate shards 0) }) (entries_of-empty None shards)
+    ∙ ap (λ (f : ℕ → ℕ). record no_hold { room = f; spare = entries_of 0 (replicate shards 0) }) (entries_of-empty 0 servers)
+    ∙ ap (λ (f : ℕ → ℕ). record no_hold { spare = f }) (entries_of-empty 0 shards)

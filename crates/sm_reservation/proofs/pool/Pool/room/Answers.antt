@@ -1,0 +1,12 @@
+-- The entry that is read is the server's.
+use Rattle.std.proofs.Common.{◌≤◌, sym, arith}
+use Rattle.sm_reservation.proofs.PoolLemmas.{room_read, stocked_within, stocked_now}
+use Rattle.sm_reservation.proofs.pool.Pool.room.Goals as goal
+
+pub returns-then-place-len : goal.returns-then-place-len
+returns-then-place-len c = room_read c.args.server c.index.result.now c.self.invariant c.self.view_is (omega arith) (rw (← c.number-place.ensures) c.index.ensures)
+
+pub returns-else-place-len : goal.returns-else-place-len
+returns-else-place-len c =
+    let l : c.args.self.now.servers ≤ c.args.server = rw (← c.self.view_is) (omega arith) in
+    sym ((stocked_within c.args.self.now (stocked_now c.self.invariant c.self.view_is)).room c.args.server l)

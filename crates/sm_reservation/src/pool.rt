@@ -1,0 +1,280 @@
+//! The rights that no grant has.
+ghost use Rattle.std.specs.Prelude.{◌≡◌, ◌<◌, ◌≤◌, ◌+◌, ◌*◌, ◌^◌, Some, None, IfOk, IfSome, IfNone};
+ghost use Rattle.sm_reservation.specs.Hold.{no_hold, with_cell, with_crown, without_crown, pay_room, get_room, pay_spare, get_spare};
+ghost use Rattle.sm_reservation.specs.Pool.{pool_hold, IsWithin, SameSize, true_rights, IsKnownRight, one_spare};
+
+use crate::opening::{put_cells, put_crowns, put_rooms, put_spares};
+use crate::right::{CellRight, Crown, PlainCell, Room, Spare};
+use crate::short::ByKey;
+use sm_placement::{Lead, Placement};
+use sm_server::{ServerId, ShardId};
+use std::alloc::{AllocError, Global};
+use std::marker::Model;
+
+/// The rights that no grant has.
+#[derive(Drop)]
+pub struct Pool {
+    cells: Vec<Option<PlainCell>>,
+    crowns: Vec<Option<(Lead, Option<ServerId>)>>,
+    room: Vec<u64>,
+    spare: Vec<u64>,
+}
+
+impl Model for Pool {
+    ghost use Rattle.std.specs.Prelude.{length};
+    ghost use Rattle.sm_reservation.specs.Pool.{Stock, IsStocked};
+
+    ghost Value = { Stock };
+
+    ghost view = { λ p. record { shards = length p.spare.items; servers = length p.room.items; cells = p.cells.items; crowns = p.crowns.items; room = p.room.items; spare = p.spare.items } };
+
+    ghost invariant = { λ p. IsStocked (record { shards = length p.spare.items; servers = length p.room.items; cells = p.cells.items; crowns = p.crowns.items; room = p.room.items; spare = p.spare.items }) };
+}
+
+impl Pool {
+    ghost use Rattle.std.specs.Prelude.{length};
+    ghost use Rattle.sm_placement.specs.Setup.{sizes_of};
+    ghost use Rattle.sm_placement.specs.Lead.{IsSettled, lead_of};
+    ghost use Rattle.sm_placement.specs.Layout.{place_of};
+    ghost use Rattle.sm_reservation.specs.Amounts.{Right, count, bound, stock};
+
+    /// A pool of so many shards and servers with nothing in it.
+    fn empty(alloc: Global, shards: u32, servers: u32) -> Result<Pool, AllocError>
+        ensures hold { IfOk result (λ pool. pool_hold pool ≡ no_hold) }
+        ensures shards { IfOk result (λ pool. pool.shards ≡ shards) }
+        ensures servers { IfOk result (λ pool. pool.servers ≡ servers) }
+    {
+        let rows = shards as usize;
+        let columns = servers as usize;
+        Ok(Pool {
+            cells: vec![in alloc; None; rows * columns]?,
+            crowns: vec![in alloc; None; rows]?,
+            room: vec![in alloc; 0; columns]?,
+            spare: vec![in alloc; 0; rows]?,
+        })
+    }
+
+    /// A pool of all rights true of a placement.
+    pub fn open(alloc: Global, placement: &Placement) -> Result<Pool, AllocError>
+        requires { IsSettled (sizes_of placement.now.setup) (place_of placement.now) }
+        ensures rights { IfOk result (λ pool. pool_hold pool ≡ true_rights (sizes_of placement.now.setup) (place_of placement.now)) }
+        ensures shards { IfOk result (λ pool. pool.shards ≡ length placement.now.setup.shards) }
+        ensures servers { IfOk result (λ pool. pool.servers ≡ length placement.now.setup.servers) }
+        ensures whole { let c = sizes_of placement.now.setup in let p = place_of placement.now in IfOk result (λ pool. (r : Right) → IsKnownRight c r → count (pool_hold pool) r + bound c p r ≡ stock c p (λ s. lead_of c.servers (p.cells s)) r) }
+    {
+        let shards = placement.config().shard_count();
+        let servers = placement.config().server_count();
+        let mut pool = Pool::empty(alloc, shards, servers)?;
+        put_cells(&mut pool, placement);
+        put_crowns(&mut pool, placement);
+        put_rooms(&mut pool, placement);
+        put_spares(&mut pool, placement);
+        Ok(pool)
+    }
+
+    /// How many shards the pool is of.
+    pub fn shard_count(&self) -> usize
+        ensures count { result ≡ self.now.shards }
+        ensures within { IsWithin self.now.shards self.now.servers (pool_hold self.now) }
+    {
+        self.spare.len()
+    }
+
+    /// How many servers the pool is of.
+    pub fn server_count(&self) -> usize
+        ensures { result ≡ self.now.servers }
+    {
+        self.room.len()
+    }
+
+    /// The place of a pair in the list of cells.
+    fn place(&self, shard: ShardId, server: ServerId) -> Option<usize>
+        ensures known { IfSome result (λ place. (shard < self.now.shards) × (server < self.now.servers) × (place ≡ shard * self.now.servers + server)) }
+        ensures unknown { IfNone result (shard < self.now.shards → self.now.servers ≤ server) }
+    {
+        let row = shard.number() as usize;
+        let column = server.number() as usize;
+        if row < self.spare.len() && column < self.room.len() {
+            Some(row * self.room.len() + column)
+        } else {
+            None
+        }
+    }
+
+    /// The state of a cell to which the pool has the right.
+    pub fn cell_right(&self, shard: ShardId, server: ServerId) -> Option<PlainCell>
+        ensures { result ≡ (pool_hold self.now).cells shard server }
+    {
+        match self.place(shard, server) {
+            Some(place) => self.cells[place],
+            None => None,
+        }
+    }
+
+    /// The lead and the listed server of a shard whose crown the pool has.
+    pub fn crown(&self, shard: ShardId) -> Option<(Lead, Option<ServerId>)>
+        ensures { result ≡ (pool_hold self.now).crowns shard }
+    {
+        let place = shard.number() as usize;
+        if place < self.crowns.len() {
+            self.crowns[place]
+        } else {
+            None
+        }
+    }
+
+    /// How much room of a server the pool has.
+    pub fn room(&self, server: ServerId) -> u64
+        ensures { result ≡ (pool_hold self.now).room server }
+    {
+        let place = server.number() as usize;
+        if place < self.room.len() {
+            self.room[place]
+        } else {
+            0
+        }
+    }
+
+    /// How many spare replicas of a shard the pool has.
+    pub fn spare(&self, shard: ShardId) -> u64
+        ensures { result ≡ (pool_hold self.now).spare shard }
+    {
+        let place = shard.number() as usize;
+        if place < self.spare.len() {
+            self.spare[place]
+        } else {
+            0
+        }
+    }
+
+    /// Takes one spare replica of a shard out, since it goes down.
+    pub fn less(&mut self, shard: ShardId)
+        requires { 1 ≤ (pool_hold self.old).spare shard }
+        ensures hold { pool_hold self.new ≡ pay_spare (pool_hold self.old) shard 1 }
+        ensures sums { (r : Right) → count (pool_hold self.new) r + one_spare shard r ≡ count (pool_hold self.old) r }
+        ensures size { SameSize self.old self.new }
+    {
+        self.take_spare(Spare { shard, amount: 1 });
+    }
+
+    /// Puts one spare replica of a shard in, since it is up again.
+    pub fn more(&mut self, shard: ShardId)
+        requires shard { shard < self.old.shards }
+        requires fits { (pool_hold self.old).spare shard + 1 < 2 ^ 64 }
+        ensures hold { pool_hold self.new ≡ get_spare (pool_hold self.old) shard 1 }
+        ensures sums { (r : Right) → count (pool_hold self.new) r ≡ count (pool_hold self.old) r + one_spare shard r }
+        ensures size { SameSize self.old self.new }
+    {
+        self.put_spare(Spare { shard, amount: 1 });
+    }
+
+    /// Takes out the right to a cell.
+    pub(crate) fn take_cell(&mut self, shard: ShardId, server: ServerId)
+        ensures hold { pool_hold self.new ≡ with_cell (pool_hold self.old) shard server None }
+        ensures size { SameSize self.old self.new }
+    {
+        if let Some(place) = self.place(shard, server) {
+            self.cells[place] = None;
+        }
+    }
+
+    /// Puts in the right to a cell.
+    pub(crate) fn put_cell(&mut self, right: CellRight)
+        requires shard { right.shard < self.old.shards }
+        requires server { right.server < self.old.servers }
+        ensures hold { pool_hold self.new ≡ with_cell (pool_hold self.old) right.shard right.server (Some right.state) }
+        ensures size { SameSize self.old self.new }
+    {
+        let row = right.shard.number() as usize;
+        let column = right.server.number() as usize;
+        let place = row * self.room.len() + column;
+        self.cells[place] = Some(right.state);
+    }
+
+    /// Takes out a crown.
+    pub(crate) fn take_crown(&mut self, shard: ShardId)
+        ensures hold { pool_hold self.new ≡ without_crown (pool_hold self.old) shard }
+        ensures size { SameSize self.old self.new }
+    {
+        let place = shard.number() as usize;
+        if place < self.crowns.len() {
+            self.crowns[place] = None;
+        }
+    }
+
+    /// Puts in a crown.
+    pub(crate) fn put_crown(&mut self, crown: Crown)
+        requires { crown.shard < self.old.shards }
+        ensures hold { pool_hold self.new ≡ with_crown (pool_hold self.old) crown.shard crown.lead crown.listed }
+        ensures size { SameSize self.old self.new }
+    {
+        let place = crown.shard.number() as usize;
+        self.crowns[place] = Some((crown.lead, crown.listed));
+    }
+
+    /// Takes out room.
+    pub(crate) fn take_room(&mut self, room: Room)
+        ensures hold { pool_hold self.new ≡ pay_room (pool_hold self.old) room.server room.amount }
+        ensures size { SameSize self.old self.new }
+    {
+        let place = room.server.number() as usize;
+        if place < self.room.len() {
+            self.room[place] = self.room[place].saturating_sub(room.amount);
+        }
+    }
+
+    /// Puts in room.
+    pub(crate) fn put_room(&mut self, room: Room)
+        requires server { room.server < self.old.servers }
+        requires fits { (pool_hold self.old).room room.server + room.amount < 2 ^ 64 }
+        ensures hold { pool_hold self.new ≡ get_room (pool_hold self.old) room.server room.amount }
+        ensures size { SameSize self.old self.new }
+    {
+        let place = room.server.number() as usize;
+        self.room[place] += room.amount;
+    }
+
+    /// Takes out spare replicas.
+    pub(crate) fn take_spare(&mut self, spare: Spare)
+        ensures hold { pool_hold self.new ≡ pay_spare (pool_hold self.old) spare.shard spare.amount }
+        ensures size { SameSize self.old self.new }
+    {
+        let place = spare.shard.number() as usize;
+        if place < self.spare.len() {
+            self.spare[place] = self.spare[place].saturating_sub(spare.amount);
+        }
+    }
+
+    /// Puts in spare replicas.
+    pub(crate) fn put_spare(&mut self, spare: Spare)
+        requires shard { spare.shard < self.old.shards }
+        requires fits { (pool_hold self.old).spare spare.shard + spare.amount < 2 ^ 64 }
+        ensures hold { pool_hold self.new ≡ get_spare (pool_hold self.old) spare.shard spare.amount }
+        ensures size { SameSize self.old self.new }
+    {
+        let place = spare.shard.number() as usize;
+        self.spare[place] += spare.amount;
+    }
+}
+
+impl ByKey for Pool {
+    ghost use Rattle.sm_reservation.specs.Pool.{pool_hold};
+
+    ghost hold = { pool_hold };
+
+    fn cell_of(&self, shard: ShardId, server: ServerId) -> Option<PlainCell> {
+        self.cell_right(shard, server)
+    }
+
+    fn crown_of(&self, shard: ShardId) -> Option<(Lead, Option<ServerId>)> {
+        self.crown(shard)
+    }
+
+    fn room_of(&self, server: ServerId) -> u64 {
+        self.room(server)
+    }
+
+    fn spare_of(&self, shard: ShardId) -> u64 {
+        self.spare(shard)
+    }
+}
