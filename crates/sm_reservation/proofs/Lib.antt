@@ -13,3 +13,4 @@ pub mod ParcelSums
 pub mod ParcelRows
 pub mod PoolLemmas
 pub mod OpeningLemmas
+pub mod TradeLemmas

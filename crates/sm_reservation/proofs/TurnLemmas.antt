@@ -1,11 +1,11 @@
 -- What one kind of rights leaves as it is, and keys that are apart.
-use Rattle.std.proofs.Common.{◌≡◌, ℕ, ◌≤◌, ◌<◌, ◌+◌, ◌^◌, ◌-◌, ◌&&◌, nat_lt, ◌==◌, Bool, true, false, cond, eqb, Option, Some, None, is_some, is_none, List, [], ◌∷◌, refl, sym, ◌∙◌, ap, arith}
+use Rattle.std.proofs.Common.{◌≡◌, ℕ, ◌+◌, ◌-◌, ◌&&◌, nat_lt, ◌==◌, true, false, eqb, Some, None, is_some, is_none, List, refl, ◌∙◌, ap, arith}
 use Rattle.std.specs.List.{count_by, AllByRecursion}
 use Rattle.std.proofs.lemmas.Bool.Decides.{nat_tests}
 use Rattle.sm_placement.specs.Sums.{put, put2}
 use Rattle.sm_reservation.specs.Rows.{before, Rises}
 use Rattle.sm_reservation.specs.Key.{cell_place, crown_place, room_place, spare_place}
-use Rattle.sm_reservation.specs.Hold.{Hold, minus_cells, minus_crowns, minus_room, minus_spare, plus_cells, plus_crowns, plus_room, plus_spare}
+use Rattle.sm_reservation.specs.Hold.{Hold}
 use Rattle.sm_reservation.specs.Steps.{count_steps, AllSteps}
 use Rattle.sm_reservation.specs.Turns.{out_cell, out_crown, out_room, out_spare, in_cell, in_crown, in_room, in_spare, lacks_cell, lacks_crown, lacks_room, lacks_spare, loses_cell, loses_crown, loses_room, loses_spare, HasRoom, HasSpare, RoomFits, SpareFits}
 use Rattle.sm_reservation.specs.declared.right.CellRight.{CellRight}
@@ -14,40 +14,6 @@ use Rattle.sm_reservation.specs.declared.right.Room.{Room}
 use Rattle.sm_reservation.specs.declared.right.Spare.{Spare}
 use Rattle.sm_reservation.proofs.HoldLemmas.{at_pair}
 use Rattle.sm_reservation.proofs.StepLemmas.{steps_count, all_steps}
-
--- ---- each list changes its own kind alone
-
-pub only-minus_cells : (h : Hold) (xs : List CellRight) → minus_cells h xs ≡ record h { cells = (minus_cells h xs).cells }
-only-minus_cells h [] = refl
-only-minus_cells h (x ∷ xs) = only-minus_cells (out_cell h x) xs
-
-pub only-minus_crowns : (h : Hold) (xs : List Crown) → minus_crowns h xs ≡ record h { crowns = (minus_crowns h xs).crowns }
-only-minus_crowns h [] = refl
-only-minus_crowns h (x ∷ xs) = only-minus_crowns (out_crown h x) xs
-
-pub only-minus_room : (h : Hold) (xs : List Room) → minus_room h xs ≡ record h { room = (minus_room h xs).room }
-only-minus_room h [] = refl
-only-minus_room h (x ∷ xs) = only-minus_room (out_room h x) xs
-
-pub only-minus_spare : (h : Hold) (xs : List Spare) → minus_spare h xs ≡ record h { spare = (minus_spare h xs).spare }
-only-minus_spare h [] = refl
-only-minus_spare h (x ∷ xs) = only-minus_spare (out_spare h x) xs
-
-pub only-plus_cells : (h : Hold) (xs : List CellRight) → plus_cells h xs ≡ record h { cells = (plus_cells h xs).cells }
-only-plus_cells h [] = refl
-only-plus_cells h (x ∷ xs) = only-plus_cells (in_cell h x) xs
-
-pub only-plus_crowns : (h : Hold) (xs : List Crown) → plus_crowns h xs ≡ record h { crowns = (plus_crowns h xs).crowns }
-only-plus_crowns h [] = refl
-only-plus_crowns h (x ∷ xs) = only-plus_crowns (in_crown h x) xs
-
-pub only-plus_room : (h : Hold) (xs : List Room) → plus_room h xs ≡ record h { room = (plus_room h xs).room }
-only-plus_room h [] = refl
-only-plus_room h (x ∷ xs) = only-plus_room (in_room h x) xs
-
-pub only-plus_spare : (h : Hold) (xs : List Spare) → plus_spare h xs ≡ record h { spare = (plus_spare h xs).spare }
-only-plus_spare h [] = refl
-only-plus_spare h (x ∷ xs) = only-plus_spare (in_spare h x) xs
 
 -- ---- what a later key reads
 

@@ -14,3 +14,4 @@ pub mod Kept
 pub mod HoldView
 pub mod Short
 pub mod Pool
+pub mod Change

@@ -8,12 +8,13 @@ ghost use Rattle.sm_reservation.specs.Key.{cell_place, crown_place, room_place, 
 ghost use Rattle.sm_reservation.specs.Short.{first_short};
 ghost use Rattle.sm_reservation.specs.Kept.{IsLess, IsMore, HasPlaces, SumsFit};
 ghost use Rattle.sm_reservation.specs.Hold.{minus, plus, with_cell, with_crown, without_crown, get_room, pay_room, get_spare, pay_spare};
+ghost use Rattle.sm_reservation.specs.Amounts.{Right, count};
 ghost use Rattle.sm_reservation.specs.HoldOf.{hold_of};
 
 use crate::moves::{put_rights, take_rights};
 use crate::parcel::Parcel;
 use crate::right::{CellRight, Crown, PlainCell, Room, Short, Spare};
-use crate::rows::{Row, add_amount, put_row, row_at, set_row, sub_amount, take_row};
+use crate::rows::{Row, add_amount, copied_rows, put_row, row_at, set_row, sub_amount, take_row};
 use crate::short::first_short;
 use sm_placement::Lead;
 use sm_server::{ServerId, ShardId};
@@ -55,6 +56,28 @@ impl Hold {
             crowns: Vec::with_capacity(alloc, places)?,
             room: Vec::with_capacity(alloc, places)?,
             spare: Vec::with_capacity(alloc, places)?,
+            places,
+        })
+    }
+
+    /// A parcel's rights.
+    pub fn of_parcel(alloc: Global, parcel: &Parcel) -> Result<Hold, AllocError>
+        ensures { IfOk result (λ hold. hold.rights ≡ parcel.now) }
+    {
+        let cells = parcel.cells();
+        let crowns = parcel.crowns();
+        let room = parcel.room();
+        let spare = parcel.spare();
+        let places = cells
+            .len()
+            .max(crowns.len())
+            .max(room.len())
+            .max(spare.len());
+        Ok(Hold {
+            cells: copied_rows(alloc, cells, places)?,
+            crowns: copied_rows(alloc, crowns, places)?,
+            room: copied_rows(alloc, room, places)?,
+            spare: copied_rows(alloc, spare, places)?,
             places,
         })
     }
@@ -252,9 +275,16 @@ impl Hold {
     pub fn take(&mut self, parcel: &Parcel)
         requires held { first_short (hold_of self.old.rights) parcel.now ≡ None }
         ensures rights { hold_of self.new.rights ≡ minus (hold_of self.old.rights) parcel.now }
+        ensures sums { (r : Right) → count (hold_of self.new.rights) r + count (hold_of parcel.now) r ≡ count (hold_of self.old.rights) r }
         ensures less { IsLess self.old self.new parcel.now }
     {
-        take_rights(self, parcel.cells(), parcel.crowns(), parcel.room(), parcel.spare());
+        take_rights(
+            self,
+            parcel.cells(),
+            parcel.crowns(),
+            parcel.room(),
+            parcel.spare(),
+        );
     }
 
     /// Puts a parcel's rights in.
@@ -266,7 +296,13 @@ impl Hold {
         ensures rights { hold_of self.new.rights ≡ plus (hold_of self.old.rights) parcel.now }
         ensures more { IsMore self.old self.new parcel.now }
     {
-        put_rights(self, parcel.cells(), parcel.crowns(), parcel.room(), parcel.spare());
+        put_rights(
+            self,
+            parcel.cells(),
+            parcel.crowns(),
+            parcel.room(),
+            parcel.spare(),
+        );
     }
 
     /// The rights as a parcel.

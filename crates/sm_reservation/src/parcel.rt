@@ -89,7 +89,12 @@ impl Parcel {
     }
 
     /// The parcel of lists that are in order, with no amount of 0.
-    pub(crate) fn of_ordered(cells: Vec<CellRight>, crowns: Vec<Crown>, room: Vec<Room>, spare: Vec<Spare>) -> Parcel
+    pub(crate) fn of_ordered(
+        cells: Vec<CellRight>,
+        crowns: Vec<Crown>,
+        room: Vec<Room>,
+        spare: Vec<Spare>,
+    ) -> Parcel
         requires ordered { IsOrdered (rights_in cells.items crowns.items room.items spare.items) }
         requires positive { IsPositive (rights_in cells.items crowns.items room.items spare.items) }
         ensures { result ≡ rights_in cells.items crowns.items room.items spare.items }

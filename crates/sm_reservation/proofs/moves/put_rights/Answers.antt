@@ -1,7 +1,5 @@
-use Rattle.std.proofs.Common.{◌≡◌, ℕ, ◌+◌, length, ap, arith}
+use Rattle.std.proofs.Common.{length, ap, arith}
 use Rattle.sm_reservation.specs.Key.{lists}
-use Rattle.sm_reservation.specs.Rights.{Rights}
-use Rattle.sm_reservation.specs.Hold.{Hold}
 use Rattle.sm_reservation.specs.HoldOf.{hold_of}
 use Rattle.sm_reservation.proofs.ParcelMoves.{same_sizes, put_counts, put_rooms, put_spares}
 use Rattle.sm_reservation.proofs.moves.put_rights.Goals as goal

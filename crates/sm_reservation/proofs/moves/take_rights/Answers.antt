@@ -1,10 +1,9 @@
-use Rattle.std.proofs.Common.{◌≡◌, ℕ, ◌+◌, length, ap, arith}
+use Rattle.std.proofs.Common.{length, ap, arith}
 use Rattle.sm_reservation.specs.Key.{lists}
-use Rattle.sm_reservation.specs.Rights.{Rights}
-use Rattle.sm_reservation.specs.Hold.{Hold}
 use Rattle.sm_reservation.specs.HoldOf.{hold_of}
 use Rattle.sm_reservation.proofs.ShortLemmas.{has_all}
 use Rattle.sm_reservation.proofs.ParcelMoves.{same_sizes, take_counts, take_rooms, take_spares}
+use Rattle.sm_reservation.proofs.ParcelSums.{minus_count}
 use Rattle.sm_reservation.proofs.moves.take_rights.Goals as goal
 
 pub take_rooms-requires : goal.take_rooms-requires
@@ -39,3 +38,8 @@ returns-clause-less c =
       sizes = same_sizes (omega (arith, n.cells, c.take_cells.ensures.len)) (omega (arith, n.crowns, crowns-len)) (omega (arith, n.room, room-len)) (omega (arith, n.spare, spare-len));
       places = omega arith;
     }
+
+pub returns-clause-sums : goal.returns-clause-sums
+returns-clause-sums c r =
+    let all = rw (c.take_rooms.ensures.rights, c.take_crowns.ensures.rights, c.take_cells.ensures.rights) at c.take_spares.ensures.rights in
+    rw all (minus_count (hold_of c.args.hold.now.rights) (lists c.args.cells.now c.args.crowns.now c.args.rooms.now c.args.spares.now) c.requires.order c.requires.held r)
