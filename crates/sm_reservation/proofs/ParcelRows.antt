@@ -9,7 +9,7 @@ use Rattle.sm_reservation.specs.declared.right.Spare.{Spare}
 use Rattle.sm_reservation.specs.Rights.{Rights}
 use Rattle.sm_reservation.specs.Hold.{Hold}
 use Rattle.sm_reservation.specs.Rows.{row_at, amount_of, Rises, AllAfter, HasPositive}
-use Rattle.sm_reservation.specs.Key.{cell_place, crown_place, room_place, spare_place}
+use Rattle.sm_reservation.specs.Key.{cell_place, crown_place, room_place, spare_place, IsOrdered}
 use Rattle.sm_reservation.specs.HoldOf.{state_of, crown_of, hold_of}
 use Rattle.sm_reservation.specs.Steps.{AllSteps}
 use Rattle.sm_reservation.specs.Turns.{in_room, in_spare, RoomFits, SpareFits}
@@ -18,6 +18,16 @@ use Rattle.sm_reservation.specs.Pool.{IsBelow}
 use Rattle.sm_reservation.proofs.Places.{same_here, before_not_same}
 use Rattle.sm_reservation.proofs.TurnLemmas.{RoomFits-steps, SpareFits-steps}
 use Rattle.sm_reservation.proofs.ParcelMoves.{put-2, put-3, put-room, put-spare}
+
+-- lists in order make an ordered parcel
+pub ordered_by : (p : Rights) (cells : List CellRight) (crowns : List Crown) (room : List Room) (spare : List Spare) → cells ≡ p.cells → crowns ≡ p.crowns → room ≡ p.room → spare ≡ p.spare →
+    Rises cell_place cells → Rises crown_place crowns → Rises room_place room → Rises spare_place spare → IsOrdered p
+ordered_by p cells crowns room spare a b c d e f g h = record {
+  cells = subst (λ (xs : List CellRight). Rises cell_place xs) a e;
+  crowns = subst (λ (xs : List Crown). Rises crown_place xs) b f;
+  room = subst (λ (xs : List Room). Rises room_place xs) c g;
+  spare = subst (λ (xs : List Spare). Rises spare_place xs) d h;
+}
 
 -- the row is found at its key
 abbrev IsFound : {T : Type 0} → (T → ℕ × ℕ) → List T → T → Type 0
@@ -83,27 +93,27 @@ spares_known shards servers p o some is =
 
 -- ---- a parcel that can be put in
 
-rooms_fit : (h : Hold) (p : Rights) → Rises room_place p.room → CanJoin h (hold_of p) → AllByRecursion (RoomFits h) p.room
+pub rooms_fit : (h : Hold) (p : Rights) → IsOrdered p → CanJoin h (hold_of p) → AllByRecursion (RoomFits h) p.room
 unfolding hold_of
-rooms_fit h p o is = all_map (IsFound room_place p.room) (RoomFits h) p.room fits (all_found room_place p.room o)
+rooms_fit h p o is = all_map (IsFound room_place p.room) (RoomFits h) p.room fits (all_found room_place p.room o.room)
   where
     fits : (x : Room) → IsFound room_place p.room x → h.room x.server + x.amount < 2 ^ 64
     fits x e = let z = is.room x.server in let y : amount_of (λ (r : Room). r.amount) (row_at room_place p.room (x.server, 0)) ≡ x.amount = ap (amount_of (λ (r : Room). r.amount)) e in omega arith
 
-spares_fit : (h : Hold) (p : Rights) → Rises spare_place p.spare → CanJoin h (hold_of p) → AllByRecursion (SpareFits h) p.spare
+pub spares_fit : (h : Hold) (p : Rights) → IsOrdered p → CanJoin h (hold_of p) → AllByRecursion (SpareFits h) p.spare
 unfolding hold_of
-spares_fit h p o is = all_map (IsFound spare_place p.spare) (SpareFits h) p.spare fits (all_found spare_place p.spare o)
+spares_fit h p o is = all_map (IsFound spare_place p.spare) (SpareFits h) p.spare fits (all_found spare_place p.spare o.spare)
   where
     fits : (x : Spare) → IsFound spare_place p.spare x → h.spare x.shard + x.amount < 2 ^ 64
     fits x e = let z = is.spare x.shard in let y : amount_of (λ (r : Spare). r.amount) (row_at spare_place p.spare (x.shard, 0)) ≡ x.amount = ap (amount_of (λ (r : Spare). r.amount)) e in omega arith
 
 -- the amounts fit where they are put in, after the lists before them
-pub rooms_fit_in : (h : Hold) (p : Rights) → Rises room_place p.room → CanJoin h (hold_of p) → AllSteps in_room RoomFits (put-2 h p) p.room
+pub rooms_fit_in : (h : Hold) (p : Rights) → IsOrdered p → CanJoin h (hold_of p) → AllSteps in_room RoomFits (put-2 h p) p.room
 rooms_fit_in h p o is =
     let at : AllByRecursion (RoomFits (put-2 h p)) p.room = subst (λ (f : ℕ → ℕ). AllByRecursion (λ x. f x.server + x.amount < 2 ^ 64) p.room) (sym (put-room h p)) (rooms_fit h p o is) in
-    RoomFits-steps (put-2 h p) p.room o at
+    RoomFits-steps (put-2 h p) p.room o.room at
 
-pub spares_fit_in : (h : Hold) (p : Rights) → Rises spare_place p.spare → CanJoin h (hold_of p) → AllSteps in_spare SpareFits (put-3 h p) p.spare
+pub spares_fit_in : (h : Hold) (p : Rights) → IsOrdered p → CanJoin h (hold_of p) → AllSteps in_spare SpareFits (put-3 h p) p.spare
 spares_fit_in h p o is =
     let at : AllByRecursion (SpareFits (put-3 h p)) p.spare = subst (λ (f : ℕ → ℕ). AllByRecursion (λ x. f x.shard + x.amount < 2 ^ 64) p.spare) (sym (put-spare h p)) (spares_fit h p o is) in
-    SpareFits-steps (put-3 h p) p.spare o at
+    SpareFits-steps (put-3 h p) p.spare o.spare at

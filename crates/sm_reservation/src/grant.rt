@@ -146,6 +146,17 @@ impl Grant {
         );
     }
 
+    /// Puts in a parcel's rights, which come out of a pool.
+    pub(crate) fn put(&mut self, parcel: &Parcel)
+        requires room { HasPlaces self.old parcel.now }
+        requires fits { CanJoin (hold_of self.old.rights) (hold_of parcel.now) }
+        ensures rights { hold_of self.new.rights ≡ plus (hold_of self.old.rights) parcel.now }
+        ensures sums { (r : Right) → count (hold_of self.new.rights) r ≡ count (hold_of self.old.rights) r + count (hold_of parcel.now) r }
+        ensures more { IsMore self.old self.new parcel.now }
+    {
+        join_parcel(&mut self.hold, parcel);
+    }
+
     /// Gives a parcel's rights up for those of another, beside the call that pays for it.
     pub fn trade(&mut self, out: &Parcel, got: &Parcel)
         requires held { first_short (hold_of self.old.rights) out.now ≡ None }

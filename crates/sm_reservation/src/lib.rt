@@ -19,7 +19,7 @@ pub use crate::change::{Change, Portion};
 pub use crate::grant::Grant;
 pub use crate::hold::Hold;
 pub use crate::parcel::{Lists, Parcel, ParcelFault};
-pub use crate::pool::Pool;
+pub use crate::pool::{Pool, TakeFault};
 pub use crate::right::{CellRight, Crown, Key, PlainCell, Room, Short, Spare};
 pub use crate::stream_id::StreamId;
 pub use sm_placement::Lead;

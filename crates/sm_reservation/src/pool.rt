@@ -1,19 +1,46 @@
 //! The rights that no grant has.
-ghost use Rattle.std.specs.Prelude.{◌≡◌, ◌<◌, ◌≤◌, ◌+◌, ◌*◌, ◌^◌, Some, None, IfOk, IfSome, IfNone};
+ghost use Rattle.std.specs.Prelude.{◌≡◌, ◌≢◌, ◌<◌, ◌≤◌, ◌+◌, ◌*◌, ◌^◌, Some, None, IfOk, OnOk, IfErr, OnErr, IfSome, IfNone};
 ghost use Rattle.sm_reservation.specs.Hold.{no_hold, minus, plus, with_cell, with_crown, without_crown, pay_room, get_room, pay_spare, get_spare};
 ghost use Rattle.sm_reservation.specs.HoldOf.{hold_of};
+ghost use Rattle.std.specs.Option.{option_map};
+ghost use Rattle.sm_reservation.specs.Kept.{HasPlaces, IsMore};
+ghost use Rattle.sm_reservation.specs.Short.{first_short};
 ghost use Rattle.sm_reservation.specs.CanJoin.{CanJoin};
 ghost use Rattle.sm_reservation.specs.Pool.{pool_hold, IsBelow, SameSize, true_rights, IsKnownRight, one_spare};
 
+use crate::grant::Grant;
+use crate::hold::Hold;
 use crate::opening::{put_cells, put_crowns, put_rooms, put_spares};
 use crate::parcel::Parcel;
 use crate::pool_moves;
-use crate::right::{CellRight, Crown, PlainCell, Room, Spare};
-use crate::short::ByKey;
+use crate::right::{CellRight, Crown, PlainCell, Room, Short, Spare};
+use crate::short::{ByKey, first_short};
 use sm_placement::{Lead, Placement};
 use sm_server::{ServerId, ShardId};
 use std::alloc::{AllocError, Global};
 use std::marker::Model;
+use thiserror::Error;
+
+/// Why a pool gives no grant.
+#[derive(Clone, Copy, Debug, PartialEq, Eq, Error)]
+pub enum TakeFault {
+    /// Memory was short.
+    #[error("out of memory")]
+    NoMemory,
+    /// There is too little of a key.
+    #[error("too little of a key in the pool")]
+    Short(Short),
+}
+
+impl From<AllocError> for TakeFault {
+    ghost use Rattle.sm_reservation.specs.declared.pool.TakeFault.TheVariants.{NoMemory};
+
+    ghost from_gives = { λ _ fault. fault ≡ NoMemory };
+
+    fn from(_error: AllocError) -> TakeFault {
+        TakeFault::NoMemory
+    }
+}
 
 /// The rights that no grant has.
 #[derive(Drop)]
@@ -164,9 +191,66 @@ impl Pool {
         self.put_spare(Spare { shard, amount: 1 });
     }
 
-    /// Takes out a parcel's rights, as far as they are there.
+    /// Takes a parcel's rights out of the pool.
+    ///
+    /// `Short` names the first key of which the pool has too little. At a fault the pool is as it was.
+    pub fn take(&mut self, alloc: Global, parcel: &Parcel) -> Result<Grant, TakeFault>
+        ensures enough { OnOk result (first_short (pool_hold self.old) parcel.now ≡ None) }
+        ensures taken { OnOk result (pool_hold self.new ≡ minus (pool_hold self.old) parcel.now) }
+        ensures given { IfOk result (λ grant. grant.rights ≡ parcel.now) }
+        ensures kept { IfOk result (λ grant. (r : Right) → count (pool_hold self.new) r + count (hold_of grant.rights) r ≡ count (pool_hold self.old) r) }
+        ensures refused { IfErr result (λ why. why ≢ TakeFault.NoMemory → option_map TakeFault.Short (first_short (pool_hold self.old) parcel.now) ≡ Some why) }
+        ensures err { OnErr result (self.new ≡ self.old) }
+        ensures size { SameSize self.old self.new }
+    {
+        if let Some(short) = first_short(self, parcel) {
+            return Err(TakeFault::Short(short));
+        }
+        let hold = Hold::of_parcel(alloc, parcel)?;
+        self.take_parcel(parcel);
+        Ok(Grant::of_hold(hold))
+    }
+
+    /// Takes a parcel's rights out of the pool into a grant that is there. Takes no memory.
+    ///
+    /// Where the pool has too little of a key the first such key comes back, and neither changes.
+    pub fn fill(&mut self, grant: &mut Grant, parcel: &Parcel) -> Result<(), Short>
+        requires room { HasPlaces grant.old parcel.now }
+        requires fits { CanJoin (hold_of grant.old.rights) (hold_of parcel.now) }
+        ensures enough { OnOk result (first_short (pool_hold self.old) parcel.now ≡ None) }
+        ensures taken { OnOk result (pool_hold self.new ≡ minus (pool_hold self.old) parcel.now) }
+        ensures given { OnOk result (hold_of grant.new.rights ≡ plus (hold_of grant.old.rights) parcel.now) }
+        ensures kept { OnOk result ((r : Right) → count (pool_hold self.new) r + count (hold_of grant.new.rights) r ≡ count (pool_hold self.old) r + count (hold_of grant.old.rights) r) }
+        ensures more { OnOk result (IsMore grant.old grant.new parcel.now) }
+        ensures short { IfErr result (λ short. first_short (pool_hold self.old) parcel.now ≡ Some short) }
+        ensures err { OnErr result ((self.new ≡ self.old) × (grant.new ≡ grant.old)) }
+        ensures size { SameSize self.old self.new }
+    {
+        if let Some(short) = first_short(self, parcel) {
+            return Err(short);
+        }
+        self.take_parcel(parcel);
+        grant.put(parcel);
+        Ok(())
+    }
+
+    /// Takes all rights of a grant back. Takes no memory.
+    pub fn give_back(&mut self, grant: Grant)
+        requires below { IsBelow self.old.shards self.old.servers (hold_of grant.rights) }
+        requires fits { CanJoin (pool_hold self.old) (hold_of grant.rights) }
+        ensures hold { pool_hold self.new ≡ plus (pool_hold self.old) grant.rights }
+        ensures kept { (r : Right) → count (pool_hold self.new) r ≡ count (pool_hold self.old) r + count (hold_of grant.rights) r }
+        ensures size { SameSize self.old self.new }
+    {
+        let parcel = grant.into_hold().into_parcel();
+        self.put_parcel(&parcel);
+    }
+
+    /// Takes out a parcel's rights.
     fn take_parcel(&mut self, parcel: &Parcel)
+        requires { first_short (pool_hold self.old) parcel.now ≡ None }
         ensures hold { pool_hold self.new ≡ minus (pool_hold self.old) parcel.now }
+        ensures sums { (r : Right) → count (pool_hold self.new) r + count (hold_of parcel.now) r ≡ count (pool_hold self.old) r }
         ensures size { SameSize self.old self.new }
     {
         pool_moves::take_cells(self, parcel.cells());
@@ -178,8 +262,9 @@ impl Pool {
     /// Puts in a parcel's rights.
     fn put_parcel(&mut self, parcel: &Parcel)
         requires below { IsBelow self.old.shards self.old.servers (hold_of parcel.now) }
-        requires apart { CanJoin (pool_hold self.old) (hold_of parcel.now) }
+        requires fits { CanJoin (pool_hold self.old) (hold_of parcel.now) }
         ensures hold { pool_hold self.new ≡ plus (pool_hold self.old) parcel.now }
+        ensures sums { (r : Right) → count (pool_hold self.new) r ≡ count (pool_hold self.old) r + count (hold_of parcel.now) r }
         ensures size { SameSize self.old self.new }
     {
         let cells = parcel.cells();
