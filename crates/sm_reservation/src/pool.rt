@@ -1,10 +1,10 @@
 //! The rights that no grant has.
-ghost use Rattle.std.specs.Prelude.{◌≡◌, ◌≢◌, ◌<◌, ◌≤◌, ◌+◌, ◌*◌, ◌^◌, Some, None, IfOk, OnOk, IfErr, OnErr, IfSome, IfNone};
+ghost use Rattle.std.specs.Prelude.{◌≡◌, ◌<◌, ◌≤◌, ◌+◌, ◌*◌, ◌^◌, Some, None, IfOk, OnOk, IfErr, OnErr, IfSome, IfNone};
 ghost use Rattle.sm_reservation.specs.Hold.{no_hold, minus, plus, with_cell, with_crown, without_crown, pay_room, get_room, pay_spare, get_spare};
 ghost use Rattle.sm_reservation.specs.HoldOf.{hold_of};
-ghost use Rattle.std.specs.Option.{option_map};
 ghost use Rattle.sm_reservation.specs.Kept.{HasPlaces, IsMore};
 ghost use Rattle.sm_reservation.specs.Short.{first_short};
+ghost use Rattle.sm_reservation.specs.TakeFault.{short_of};
 ghost use Rattle.sm_reservation.specs.CanJoin.{CanJoin};
 ghost use Rattle.sm_reservation.specs.Pool.{pool_hold, IsBelow, SameSize, true_rights, IsKnownRight, one_spare};
 
@@ -193,13 +193,14 @@ impl Pool {
 
     /// Takes a parcel's rights out of the pool.
     ///
-    /// `Short` names the first key of which the pool has too little. At a fault the pool is as it was.
+    /// Where the pool has too little of a key the fault is the first such key, whether or not there is memory. At a
+    /// fault the pool is as it was.
     pub fn take(&mut self, alloc: Global, parcel: &Parcel) -> Result<Grant, TakeFault>
         ensures enough { OnOk result (first_short (pool_hold self.old) parcel.now ≡ None) }
         ensures taken { OnOk result (pool_hold self.new ≡ minus (pool_hold self.old) parcel.now) }
         ensures given { IfOk result (λ grant. grant.rights ≡ parcel.now) }
         ensures kept { IfOk result (λ grant. (r : Right) → count (pool_hold self.new) r + count (hold_of grant.rights) r ≡ count (pool_hold self.old) r) }
-        ensures refused { IfErr result (λ why. why ≢ TakeFault.NoMemory → option_map TakeFault.Short (first_short (pool_hold self.old) parcel.now) ≡ Some why) }
+        ensures refused { IfErr result (λ why. first_short (pool_hold self.old) parcel.now ≡ short_of why) }
         ensures err { OnErr result (self.new ≡ self.old) }
         ensures size { SameSize self.old self.new }
     {
