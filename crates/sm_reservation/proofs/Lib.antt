@@ -14,3 +14,4 @@ pub mod ParcelRows
 pub mod PoolLemmas
 pub mod OpeningLemmas
 pub mod TradeLemmas
+pub mod Conserved

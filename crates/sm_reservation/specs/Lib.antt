@@ -15,3 +15,4 @@ pub mod HoldView
 pub mod Short
 pub mod Pool
 pub mod Change
+pub mod Conservation

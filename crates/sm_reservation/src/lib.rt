@@ -2,6 +2,7 @@
 #![tactic(auto)]
 
 pub mod change;
+pub mod conservation;
 pub mod grant;
 pub mod hold;
 mod moves;
@@ -16,6 +17,7 @@ mod short;
 pub mod stream_id;
 
 pub use crate::change::{Change, Portion};
+pub use crate::conservation::{rights_add_up, rights_stay_at_one_place};
 pub use crate::grant::Grant;
 pub use crate::hold::Hold;
 pub use crate::parcel::{Lists, Parcel, ParcelFault};
