@@ -16,3 +16,4 @@ pub mod Short
 pub mod Pool
 pub mod Change
 pub mod Conservation
+pub mod TakeFault

@@ -147,27 +147,24 @@ impl Pool {
     pub fn crown(&self, shard: ShardId) -> Option<(Lead, Option<ServerId>)>
         ensures { result ≡ (pool_hold self.now).crowns shard }
     {
-        self.crowns.get(shard.number() as usize).copied().flatten()
+        let place = shard.number() as usize;
+        self.crowns.get(place).copied().flatten()
     }
 
     /// How much room of a server the pool has.
     pub fn room(&self, server: ServerId) -> u64
         ensures { result ≡ (pool_hold self.now).room server }
     {
-        self.room
-            .get(server.number() as usize)
-            .copied()
-            .unwrap_or(0)
+        let place = server.number() as usize;
+        self.room.get(place).copied().unwrap_or(0)
     }
 
     /// How many spare replicas of a shard the pool has.
     pub fn spare(&self, shard: ShardId) -> u64
         ensures { result ≡ (pool_hold self.now).spare shard }
     {
-        self.spare
-            .get(shard.number() as usize)
-            .copied()
-            .unwrap_or(0)
+        let place = shard.number() as usize;
+        self.spare.get(place).copied().unwrap_or(0)
     }
 
     /// Takes one spare replica of a shard out, since it goes down.
