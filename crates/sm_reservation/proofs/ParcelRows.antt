@@ -1,7 +1,9 @@
 -- Each row of a parcel: it is found at its key, so that what a hold says of all keys holds of it.
-use Rattle.std.proofs.Common.{subst, sym, ◌≡◌, ℕ, ◌+◌, ◌<◌, ◌^◌, Some, List, [], ◌∷◌, refl, ap, arith, inl, inr}
+use Rattle.std.proofs.Common.{subst, sym, ◌≡◌, ℕ, ◌+◌, ◌<◌, ◌^◌, Some, List, [], ◌∷◌, refl, ap, arith, inl, inr, None, Option}
 use Rattle.std.specs.List.{AllByRecursion}
 use Rattle.std.proofs.lemmas.Bool.{cases_lt}
+use Rattle.sm_placement.specs.declared.lead.Lead.{Lead}
+use Rattle.sm_reservation.specs.declared.right.PlainCell.{PlainCell}
 use Rattle.sm_reservation.specs.declared.right.CellRight.{CellRight}
 use Rattle.sm_reservation.specs.declared.right.Crown.{Crown}
 use Rattle.sm_reservation.specs.declared.right.Room.{Room}
@@ -15,6 +17,7 @@ use Rattle.sm_reservation.specs.Steps.{AllSteps}
 use Rattle.sm_reservation.specs.Turns.{in_room, in_spare, RoomFits, SpareFits}
 use Rattle.sm_reservation.specs.CanJoin.{CanJoin}
 use Rattle.sm_reservation.specs.Pool.{IsBelow}
+use Rattle.sm_reservation.proofs.ParcelSums.{Covers}
 use Rattle.sm_reservation.proofs.Places.{same_here, before_not_same}
 use Rattle.sm_reservation.proofs.TurnLemmas.{RoomFits-steps, SpareFits-steps}
 use Rattle.sm_reservation.proofs.ParcelMoves.{put-2, put-3, put-room, put-spare}
@@ -90,6 +93,24 @@ spares_known shards servers p o some is =
       | inl m ↦ m
       | inr m ↦ absurd (let z = is.spare x.shard m in let y : amount_of (λ (r : Spare). r.amount) (row_at spare_place p.spare (x.shard, 0)) ≡ x.amount = ap (amount_of (λ (r : Spare). r.amount)) e in omega arith)
     ]
+
+-- what a hold has all of is of known shards and servers, as the hold is
+pub covered_below : (shards servers : ℕ) (h k : Hold) → IsBelow shards servers h → Covers h k → IsBelow shards servers k
+covered_below shards servers h k is c = record {
+  no_shard = λ s v l. cell (k.cells s v) s v refl (is.no_shard s v l);
+  no_server = λ s v l. cell (k.cells s v) s v refl (is.no_server s v l);
+  crowns = λ s l. crown (k.crowns s) s refl (is.crowns s l);
+  room = λ v l. let a = is.room v l in let b = c.room v in omega arith;
+  spare = λ s l. let a = is.spare s l in let b = c.spare s in omega arith;
+}
+  where
+    cell : (o : Option PlainCell) (s v : ℕ) → k.cells s v ≡ o → h.cells s v ≡ None → k.cells s v ≡ None
+    cell None s v e none = e
+    cell (Some state) s v e none = absurd (let z = c.cells s v state e in cc)
+
+    crown : (o : Option (Lead × Option ℕ)) (s : ℕ) → k.crowns s ≡ o → h.crowns s ≡ None → k.crowns s ≡ None
+    crown None s e none = e
+    crown (Some x) s e none = absurd (let z = c.crowns s x e in cc)
 
 -- ---- a parcel that can be put in
 

@@ -1,5 +1,6 @@
 //! The rights that no grant has.
-ghost use Rattle.std.specs.Prelude.{◌≡◌, ◌<◌, ◌≤◌, ◌+◌, ◌*◌, ◌^◌, Some, None, IfOk, OnOk, IfErr, OnErr, IfSome, IfNone};
+ghost use Rattle.std.specs.Prelude.{ℕ, ◌≡◌, ◌<◌, ◌≤◌, ◌+◌, ◌*◌, ◌^◌, Some, None, IfOk, OnOk, IfErr, OnErr, IfSome, IfNone};
+ghost use Rattle.sm_placement.specs.Layout.{entries_of};
 ghost use Rattle.sm_reservation.specs.Hold.{no_hold, minus, plus, with_cell, with_crown, without_crown, pay_room, get_room, pay_spare, get_spare};
 ghost use Rattle.sm_reservation.specs.HoldOf.{hold_of};
 ghost use Rattle.sm_reservation.specs.Kept.{HasPlaces, IsMore};
@@ -60,6 +61,12 @@ impl Model for Pool {
     ghost view = { λ p. record { shards = length p.spare.items; servers = length p.room.items; cells = p.cells.items; crowns = p.crowns.items; room = p.room.items; spare = p.spare.items } };
 
     ghost invariant = { λ p. IsStocked (record { shards = length p.spare.items; servers = length p.room.items; cells = p.cells.items; crowns = p.crowns.items; room = p.room.items; spare = p.spare.items }) };
+}
+
+/// A law: no entry of a list is above what a u64 holds.
+fn entries_fit(entries: &[u64])
+    ensures { (k : ℕ) → entries_of 0 entries.now k < 2 ^ 64 }
+{
 }
 
 impl Pool {
@@ -197,6 +204,8 @@ impl Pool {
         ensures taken { OnOk result (pool_hold self.new ≡ minus (pool_hold self.old) parcel.now) }
         ensures given { IfOk result (λ grant. grant.rights ≡ parcel.now) }
         ensures kept { IfOk result (λ grant. (r : Right) → count (pool_hold self.new) r + count (hold_of grant.rights) r ≡ count (pool_hold self.old) r) }
+        ensures below { IfOk result (λ grant. IsBelow self.new.shards self.new.servers (hold_of grant.rights)) }
+        ensures fits { IfOk result (λ grant. CanJoin (pool_hold self.new) (hold_of grant.rights)) }
         ensures refused { IfErr result (λ why. first_short (pool_hold self.old) parcel.now ≡ short_of why) }
         ensures err { OnErr result (self.new ≡ self.old) }
         ensures size { SameSize self.old self.new }
@@ -244,13 +253,26 @@ impl Pool {
         self.put_parcel(&parcel);
     }
 
+    /// A law: no amount is above what a u64 holds.
+    fn amounts_fit(&self)
+        ensures room { (v : ℕ) → (pool_hold self.now).room v < 2 ^ 64 }
+        ensures spare { (s : ℕ) → (pool_hold self.now).spare s < 2 ^ 64 }
+    {
+        entries_fit(&self.room);
+        entries_fit(&self.spare);
+    }
+
     /// Takes out a parcel's rights.
     fn take_parcel(&mut self, parcel: &Parcel)
         requires { first_short (pool_hold self.old) parcel.now ≡ None }
         ensures hold { pool_hold self.new ≡ minus (pool_hold self.old) parcel.now }
         ensures sums { (r : Right) → count (pool_hold self.new) r + count (hold_of parcel.now) r ≡ count (pool_hold self.old) r }
+        ensures below { IsBelow self.new.shards self.new.servers (hold_of parcel.now) }
+        ensures fits { CanJoin (pool_hold self.new) (hold_of parcel.now) }
         ensures size { SameSize self.old self.new }
     {
+        self.amounts_fit();
+        let _ = self.shard_count();
         pool_moves::take_cells(self, parcel.cells());
         pool_moves::take_crowns(self, parcel.crowns());
         pool_moves::take_rooms(self, parcel.room());
