@@ -3,6 +3,7 @@
 
 pub mod change;
 pub mod conservation;
+mod fits;
 pub mod grant;
 pub mod hold;
 mod moves;
