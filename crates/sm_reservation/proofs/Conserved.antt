@@ -1,7 +1,6 @@
 -- What each call keeps: an amount that moves with the rights.
-use Rattle.std.proofs.Common.{◌≡◌, ◌≢◌, ℕ, ◌+◌, ◌≤◌, ◌<◌, Option, Some, None, is_some, IsSome, List, [], ◌∷◌, refl, sym, ◌∙◌, ap, arith, inl, inr}
+use Rattle.std.proofs.Common.{◌≡◌, ◌≢◌, ℕ, ◌+◌, ◌≤◌, Option, Some, None, is_some, IsSome, List, [], ◌∷◌, refl, ◌∙◌, ap, arith}
 use Rattle.std.specs.Option.{option_or}
-use Rattle.sm_placement.specs.declared.lead.Lead.{Lead}
 use Rattle.sm_placement.specs.Sums.{put, bit, sum_below}
 use Rattle.sm_placement.proofs.Sums.{put-here, put-apart, sum_apart, sum_two_apart}
 use Rattle.sm_reservation.specs.Rights.{Rights}
@@ -11,8 +10,8 @@ use Rattle.sm_reservation.specs.HoldOf.{hold_of}
 use Rattle.sm_reservation.specs.Amounts.{Right, count}
 use Rattle.sm_reservation.specs.CanJoin.{CanJoin}
 use Rattle.sm_reservation.specs.Short.{first_short}
-use Rattle.sm_reservation.specs.Conservation.{Move, Moves, Trades, after, CanMake, CanMakeAll, after_all, total, given_up, gained, cell_holders, crown_holders, IsAtOnePlace, IsFresh, AllFresh}
-use Rattle.sm_reservation.proofs.ParcelSums.{left, parted, joined, Covers, covers, minus_is, plus_is, minus_count, plus_count}
+use Rattle.sm_reservation.specs.Conservation.{Move, Moves, Trades, after, CanMake, CanMakeAll, after_all, total, given_up, gained, cell_holders, crown_holders, IsAtOnePlace, AllFresh}
+use Rattle.sm_reservation.proofs.ParcelSums.{left, covers, minus_is, plus_is, minus_count, plus_count}
 
 -- an amount of a hold that parcels take out and put in as they say
 pub record IsCarried (f : Hold → ℕ) : Type 0 where

@@ -15,3 +15,4 @@ pub mod PoolLemmas
 pub mod OpeningLemmas
 pub mod TradeLemmas
 pub mod Conserved
+pub mod FitLemmas

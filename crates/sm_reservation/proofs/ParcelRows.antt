@@ -33,18 +33,18 @@ ordered_by p cells crowns room spare a b c d e f g h = record {
 }
 
 -- the row is found at its key
-abbrev IsFound : {T : Type 0} → (T → ℕ × ℕ) → List T → T → Type 0
+abbrev pub IsFound : {T : Type 0} → (T → ℕ × ℕ) → List T → T → Type 0
 IsFound place xs x = row_at place xs (place x) ≡ Some x
 
 found_behind : {T : Type 0} (place : T → ℕ × ℕ) (x : T) (xs ys : List T) → AllAfter place (place x) ys → AllByRecursion (IsFound place xs) ys → AllByRecursion (IsFound place (x ∷ xs)) ys
 found_behind place x xs [] after all = tt
 found_behind place x xs (y ∷ ys) after all = (rw (before_not_same (place x) (place y) after.0) all.0, found_behind place x xs ys after.1 all.1)
 
-all_found : {T : Type 0} (place : T → ℕ × ℕ) (xs : List T) → Rises place xs → AllByRecursion (IsFound place xs) xs
+pub all_found : {T : Type 0} (place : T → ℕ × ℕ) (xs : List T) → Rises place xs → AllByRecursion (IsFound place xs) xs
 all_found place [] r = tt
 all_found place (x ∷ xs) r = (rw (same_here (place x)) refl, found_behind place x xs xs r.0 (all_found place xs r.1))
 
-all_map : {T : Type 0} (P Q : T → Type 0) (xs : List T) → ((x : T) → P x → Q x) → AllByRecursion P xs → AllByRecursion Q xs
+pub all_map : {T : Type 0} (P Q : T → Type 0) (xs : List T) → ((x : T) → P x → Q x) → AllByRecursion P xs → AllByRecursion Q xs
 all_map P Q [] h all = tt
 all_map P Q (x ∷ xs) h all = (h x all.0, all_map P Q xs h all.1)
 

@@ -1,16 +1,19 @@
 #![tactic(auto, unfolding(crate::specs::HoldOf::hold_of))]
 //! Holds: rights that are read and changed by their keys.
-ghost use Rattle.std.specs.Prelude.{◌≡◌, ◌+◌, ◌<◌, ◌≤◌, ◌==◌, ◌&&◌, ◌^◌, None, Some, nat_lt, is_none, is_some, max, IfOk, OnOk, OnErr, length};
+ghost use Rattle.std.specs.Prelude.{◌≡◌, ◌↔◌, IsTrue, ◌+◌, ◌<◌, ◌≤◌, ◌==◌, ◌&&◌, ◌^◌, None, Some, nat_lt, is_none, is_some, max, IfOk, OnOk, OnErr, length};
 ghost use Rattle.sm_placement.specs.Sums.{bit};
 ghost use Rattle.sm_reservation.specs.Rights.{no_rights};
+ghost use Rattle.std.specs.List.{AllByRecursion};
 ghost use Rattle.sm_reservation.specs.Rows.{Rises, HasPositive};
 ghost use Rattle.sm_reservation.specs.Key.{cell_place, crown_place, room_place, spare_place};
+ghost use Rattle.sm_reservation.specs.CanJoin.{CanJoin};
 ghost use Rattle.sm_reservation.specs.Short.{first_short};
-ghost use Rattle.sm_reservation.specs.Kept.{IsLess, IsMore, HasPlaces, SumsFit};
+ghost use Rattle.sm_reservation.specs.Kept.{IsLess, IsMore, HasPlaces, SumsFit, IsWithin, sizes};
 ghost use Rattle.sm_reservation.specs.Hold.{minus, plus, with_cell, with_crown, without_crown, get_room, pay_room, get_spare, pay_spare};
 ghost use Rattle.sm_reservation.specs.Amounts.{Right, count};
 ghost use Rattle.sm_reservation.specs.HoldOf.{hold_of};
 
+use crate::fits::{can_join, has_places};
 use crate::moves::{put_rights, take_rights};
 use crate::parcel::Parcel;
 use crate::right::{CellRight, Crown, PlainCell, Room, Short, Spare};
@@ -251,6 +254,7 @@ impl Hold {
         ensures value { result.now ≡ self.now.rights.room }
         ensures order { Rises room_place result.now }
         ensures positive { HasPositive (λ x. x.amount) result.now }
+        ensures bounded { AllByRecursion (λ x. x.amount < 2 ^ 64) result.now }
     {
         self.room.as_slice()
     }
@@ -260,6 +264,7 @@ impl Hold {
         ensures value { result.now ≡ self.now.rights.spare }
         ensures order { Rises spare_place result.now }
         ensures positive { HasPositive (λ x. x.amount) result.now }
+        ensures bounded { AllByRecursion (λ x. x.amount < 2 ^ 64) result.now }
     {
         self.spare.as_slice()
     }
@@ -269,6 +274,29 @@ impl Hold {
         ensures { result ≡ first_short (hold_of self.now.rights) parcel.now }
     {
         first_short(self, parcel)
+    }
+
+    /// Whether a parcel can be put beside what is here: no cell right and no crown would stand twice, and no sum would
+    /// pass u64.
+    pub fn can_join(&self, parcel: &Parcel) -> bool
+        ensures { IsTrue result ↔ CanJoin (hold_of self.now.rights) (hold_of parcel.now) }
+    {
+        can_join(self, parcel)
+    }
+
+    /// Whether there is room for the keys of a parcel that are new here.
+    pub fn has_places(&self, parcel: &Parcel) -> bool
+        ensures { IsTrue result ↔ HasPlaces self.now parcel.now }
+    {
+        has_places(self, parcel)
+    }
+
+    /// For how many keys each list has room.
+    pub fn places(&self) -> usize
+        ensures places { result ≡ self.now.places }
+        ensures within { IsWithin (sizes self.now.rights) result }
+    {
+        self.places
     }
 
     /// Takes a parcel's rights out.

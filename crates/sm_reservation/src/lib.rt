@@ -3,6 +3,7 @@
 
 pub mod change;
 pub mod conservation;
+mod fits;
 pub mod grant;
 pub mod hold;
 mod moves;
@@ -15,6 +16,8 @@ pub mod right;
 mod rows;
 mod short;
 pub mod stream_id;
+#[cfg(test)]
+mod tests;
 
 pub use crate::change::{Change, Portion};
 pub use crate::conservation::{rights_add_up, rights_stay_at_one_place};
