@@ -1,7 +1,7 @@
 -- Amounts after an edit.
 use Rattle.std.proofs.Common.{◌≡◌, ℕ, zero, suc, ◌<◌, arith, false, cond, Option, Some, IsSome, List, [], ◌∷◌, set, refl, inl, inr}
 use Rattle.std.specs.Prelude.{◌==◌}
-use Rattle.std.specs.List.{insert, remove}
+use Rattle.std.specs.List.{insert, remove, All, AllByRecursion}
 use Rattle.sm_placement.specs.Sums.{bit}
 use Rattle.std.proofs.lemmas.Bool.{cases_Bool}
 use Rattle.std.proofs.lemmas.Bool.Decides.{nat_tests}
@@ -39,9 +39,31 @@ positive_remove amount (suc i) (x ∷ xs) h = (h.0, positive_remove amount i xs 
 pub positive_at : {T : Type 0} (place : T → ℕ × ℕ) (amount : T → ℕ) (k : ℕ × ℕ) (xs : List T) (v : T) → HasPositive amount xs → row_at place xs k ≡ Some v → 0 < amount v
 positive_at place amount k [] v h e = cc
 positive_at place amount k (x ∷ xs) v h e = elim (cases_Bool (same (place x) k)) [
-    | inl s ↦ let f = rw s at e in let it : x ≡ v = cc in rw (← it) h.0
-    | inr s ↦ positive_at place amount k xs v h.1 (rw s at e)
-  ]
+  | inl s ↦ let f = rw s at e in let it : x ≡ v = cc in rw (← it) h.0
+  | inr s ↦ positive_at place amount k xs v h.1 (rw s at e)
+]
 
 pub bit_positive : (n : ℕ) → 0 < n → bit (n == 0) ≡ 0
 bit_positive n p = let apart : (n == 0) ≡ false = grind (arith, nat_tests) in rw apart refl
+
+-- ---- what holds of all rows, after an edit
+
+pub all_insert : {T : Type 0} (P : T → Type 0) (i : ℕ) (y : T) (xs : List T) → AllByRecursion P xs → P y → AllByRecursion P (insert xs i y)
+all_insert P zero y xs h p = (p, h)
+all_insert P (suc i) y [] h p = (p, tt)
+all_insert P (suc i) y (x ∷ xs) h p = (h.0, all_insert P i y xs h.1 p)
+
+pub all_set : {T : Type 0} (P : T → Type 0) (i : ℕ) (y : T) (xs : List T) → AllByRecursion P xs → P y → AllByRecursion P (set xs i y)
+all_set P i y [] h p = tt
+all_set P zero y (x ∷ xs) h p = (p, h.1)
+all_set P (suc i) y (x ∷ xs) h p = (h.0, all_set P i y xs h.1 p)
+
+pub all_remove : {T : Type 0} (P : T → Type 0) (i : ℕ) (xs : List T) → AllByRecursion P xs → AllByRecursion P (remove xs i)
+all_remove P zero [] h = tt
+all_remove P (suc i) [] h = tt
+all_remove P zero (x ∷ xs) h = h.1
+all_remove P (suc i) (x ∷ xs) h = (h.0, all_remove P i xs h.1)
+
+pub each_of : {T : Type 0} (P : T → Type 0) (xs : List T) → All P xs → AllByRecursion P xs
+each_of P [] h = tt
+each_of P (x ∷ xs) h = (h 0 x (omega arith), each_of P xs (λ k d l. h (suc k) d (omega arith)))

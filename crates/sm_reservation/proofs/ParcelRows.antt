@@ -1,7 +1,9 @@
 -- Each row of a parcel: it is found at its key, so that what a hold says of all keys holds of it.
-use Rattle.std.proofs.Common.{◌≡◌, ℕ, ◌+◌, ◌<◌, ◌^◌, Some, List, [], ◌∷◌, refl, ap, arith, inl, inr}
+use Rattle.std.proofs.Common.{subst, sym, ◌≡◌, ℕ, ◌+◌, ◌<◌, ◌^◌, Some, List, [], ◌∷◌, refl, ap, arith, inl, inr, None, Option}
 use Rattle.std.specs.List.{AllByRecursion}
 use Rattle.std.proofs.lemmas.Bool.{cases_lt}
+use Rattle.sm_placement.specs.declared.lead.Lead.{Lead}
+use Rattle.sm_reservation.specs.declared.right.PlainCell.{PlainCell}
 use Rattle.sm_reservation.specs.declared.right.CellRight.{CellRight}
 use Rattle.sm_reservation.specs.declared.right.Crown.{Crown}
 use Rattle.sm_reservation.specs.declared.right.Room.{Room}
@@ -9,26 +11,40 @@ use Rattle.sm_reservation.specs.declared.right.Spare.{Spare}
 use Rattle.sm_reservation.specs.Rights.{Rights}
 use Rattle.sm_reservation.specs.Hold.{Hold}
 use Rattle.sm_reservation.specs.Rows.{row_at, amount_of, Rises, AllAfter, HasPositive}
-use Rattle.sm_reservation.specs.Key.{cell_place, crown_place, room_place, spare_place, IsOrdered, IsPositive}
+use Rattle.sm_reservation.specs.Key.{cell_place, crown_place, room_place, spare_place, IsOrdered}
 use Rattle.sm_reservation.specs.HoldOf.{state_of, crown_of, hold_of}
-use Rattle.sm_reservation.specs.Turns.{RoomFits, SpareFits}
+use Rattle.sm_reservation.specs.Steps.{AllSteps}
+use Rattle.sm_reservation.specs.Turns.{in_room, in_spare, RoomFits, SpareFits}
 use Rattle.sm_reservation.specs.CanJoin.{CanJoin}
-use Rattle.sm_reservation.specs.Pool.{IsWithin}
+use Rattle.sm_reservation.specs.Pool.{IsBelow}
+use Rattle.sm_reservation.proofs.ParcelSums.{Covers}
 use Rattle.sm_reservation.proofs.Places.{same_here, before_not_same}
+use Rattle.sm_reservation.proofs.TurnLemmas.{RoomFits-steps, SpareFits-steps}
+use Rattle.sm_reservation.proofs.ParcelMoves.{put-2, put-3, put-room, put-spare}
+
+-- lists in order make an ordered parcel
+pub ordered_by : (p : Rights) (cells : List CellRight) (crowns : List Crown) (room : List Room) (spare : List Spare) → cells ≡ p.cells → crowns ≡ p.crowns → room ≡ p.room → spare ≡ p.spare →
+    Rises cell_place cells → Rises crown_place crowns → Rises room_place room → Rises spare_place spare → IsOrdered p
+ordered_by p cells crowns room spare a b c d e f g h = record {
+  cells = subst (λ (xs : List CellRight). Rises cell_place xs) a e;
+  crowns = subst (λ (xs : List Crown). Rises crown_place xs) b f;
+  room = subst (λ (xs : List Room). Rises room_place xs) c g;
+  spare = subst (λ (xs : List Spare). Rises spare_place xs) d h;
+}
 
 -- the row is found at its key
-abbrev IsFound : {T : Type 0} → (T → ℕ × ℕ) → List T → T → Type 0
+abbrev pub IsFound : {T : Type 0} → (T → ℕ × ℕ) → List T → T → Type 0
 IsFound place xs x = row_at place xs (place x) ≡ Some x
 
 found_behind : {T : Type 0} (place : T → ℕ × ℕ) (x : T) (xs ys : List T) → AllAfter place (place x) ys → AllByRecursion (IsFound place xs) ys → AllByRecursion (IsFound place (x ∷ xs)) ys
 found_behind place x xs [] after all = tt
 found_behind place x xs (y ∷ ys) after all = (rw (before_not_same (place x) (place y) after.0) all.0, found_behind place x xs ys after.1 all.1)
 
-all_found : {T : Type 0} (place : T → ℕ × ℕ) (xs : List T) → Rises place xs → AllByRecursion (IsFound place xs) xs
+pub all_found : {T : Type 0} (place : T → ℕ × ℕ) (xs : List T) → Rises place xs → AllByRecursion (IsFound place xs) xs
 all_found place [] r = tt
 all_found place (x ∷ xs) r = (rw (same_here (place x)) refl, found_behind place x xs xs r.0 (all_found place xs r.1))
 
-all_map : {T : Type 0} (P Q : T → Type 0) (xs : List T) → ((x : T) → P x → Q x) → AllByRecursion P xs → AllByRecursion Q xs
+pub all_map : {T : Type 0} (P Q : T → Type 0) (xs : List T) → ((x : T) → P x → Q x) → AllByRecursion P xs → AllByRecursion Q xs
 all_map P Q [] h all = tt
 all_map P Q (x ∷ xs) h all = (h x all.0, all_map P Q xs h all.1)
 
@@ -39,9 +55,9 @@ both place amount ys (x ∷ xs) some all = ((some.0, all.0), both place amount y
 
 -- ---- a parcel of known shards and servers
 
-pub cells_known : (shards servers : ℕ) (p : Rights) → IsOrdered p → IsWithin shards servers (hold_of p) → AllByRecursion (λ x. (x.shard < shards) × (x.server < servers)) p.cells
+pub cells_known : (shards servers : ℕ) (p : Rights) → Rises cell_place p.cells → IsBelow shards servers (hold_of p) → AllByRecursion (λ x. (x.shard < shards) × (x.server < servers)) p.cells
 unfolding hold_of
-cells_known shards servers p o is = all_map (IsFound cell_place p.cells) (λ x. (x.shard < shards) × (x.server < servers)) p.cells (λ x e. (shard x e, server x e)) (all_found cell_place p.cells o.cells)
+cells_known shards servers p o is = all_map (IsFound cell_place p.cells) (λ x. (x.shard < shards) × (x.server < servers)) p.cells (λ x e. (shard x e, server x e)) (all_found cell_place p.cells o)
   where
     shard : (x : CellRight) → IsFound cell_place p.cells x → x.shard < shards
     shard x e = elim (cases_lt x.shard shards) [ inl l ↦ l | inr l ↦ absurd (let z = is.no_shard x.shard x.server l in let y = ap state_of e in cc) ]
@@ -49,17 +65,17 @@ cells_known shards servers p o is = all_map (IsFound cell_place p.cells) (λ x. 
     server : (x : CellRight) → IsFound cell_place p.cells x → x.server < servers
     server x e = elim (cases_lt x.server servers) [ inl l ↦ l | inr l ↦ absurd (let z = is.no_server x.shard x.server l in let y = ap state_of e in cc) ]
 
-pub crowns_known : (shards servers : ℕ) (p : Rights) → IsOrdered p → IsWithin shards servers (hold_of p) → AllByRecursion (λ x. x.shard < shards) p.crowns
+pub crowns_known : (shards servers : ℕ) (p : Rights) → Rises crown_place p.crowns → IsBelow shards servers (hold_of p) → AllByRecursion (λ x. x.shard < shards) p.crowns
 unfolding hold_of
-crowns_known shards servers p o is = all_map (IsFound crown_place p.crowns) (λ x. x.shard < shards) p.crowns shard (all_found crown_place p.crowns o.crowns)
+crowns_known shards servers p o is = all_map (IsFound crown_place p.crowns) (λ x. x.shard < shards) p.crowns shard (all_found crown_place p.crowns o)
   where
     shard : (x : Crown) → IsFound crown_place p.crowns x → x.shard < shards
     shard x e = elim (cases_lt x.shard shards) [ inl l ↦ l | inr l ↦ absurd (let z = is.crowns x.shard l in let y = ap crown_of e in cc) ]
 
-pub rooms_known : (shards servers : ℕ) (p : Rights) → IsOrdered p → IsPositive p → IsWithin shards servers (hold_of p) → AllByRecursion (λ x. x.server < servers) p.room
+pub rooms_known : (shards servers : ℕ) (p : Rights) → Rises room_place p.room → HasPositive (λ x. x.amount) p.room → IsBelow shards servers (hold_of p) → AllByRecursion (λ x. x.server < servers) p.room
 unfolding hold_of
 rooms_known shards servers p o some is =
-    all_map (λ x. (0 < x.amount) × IsFound room_place p.room x) (λ x. x.server < servers) p.room (λ x e. server x e.0 e.1) (both room_place (λ x. x.amount) p.room p.room some.room (all_found room_place p.room o.room))
+    all_map (λ x. (0 < x.amount) × IsFound room_place p.room x) (λ x. x.server < servers) p.room (λ x e. server x e.0 e.1) (both room_place (λ x. x.amount) p.room p.room some (all_found room_place p.room o))
   where
     server : (x : Room) → 0 < x.amount → IsFound room_place p.room x → x.server < servers
     server x l e = elim (cases_lt x.server servers) [
@@ -67,16 +83,34 @@ rooms_known shards servers p o some is =
       | inr m ↦ absurd (let z = is.room x.server m in let y : amount_of (λ (r : Room). r.amount) (row_at room_place p.room (x.server, 0)) ≡ x.amount = ap (amount_of (λ (r : Room). r.amount)) e in omega arith)
     ]
 
-pub spares_known : (shards servers : ℕ) (p : Rights) → IsOrdered p → IsPositive p → IsWithin shards servers (hold_of p) → AllByRecursion (λ x. x.shard < shards) p.spare
+pub spares_known : (shards servers : ℕ) (p : Rights) → Rises spare_place p.spare → HasPositive (λ x. x.amount) p.spare → IsBelow shards servers (hold_of p) → AllByRecursion (λ x. x.shard < shards) p.spare
 unfolding hold_of
 spares_known shards servers p o some is =
-    all_map (λ x. (0 < x.amount) × IsFound spare_place p.spare x) (λ x. x.shard < shards) p.spare (λ x e. shard x e.0 e.1) (both spare_place (λ x. x.amount) p.spare p.spare some.spare (all_found spare_place p.spare o.spare))
+    all_map (λ x. (0 < x.amount) × IsFound spare_place p.spare x) (λ x. x.shard < shards) p.spare (λ x e. shard x e.0 e.1) (both spare_place (λ x. x.amount) p.spare p.spare some (all_found spare_place p.spare o))
   where
     shard : (x : Spare) → 0 < x.amount → IsFound spare_place p.spare x → x.shard < shards
     shard x l e = elim (cases_lt x.shard shards) [
       | inl m ↦ m
       | inr m ↦ absurd (let z = is.spare x.shard m in let y : amount_of (λ (r : Spare). r.amount) (row_at spare_place p.spare (x.shard, 0)) ≡ x.amount = ap (amount_of (λ (r : Spare). r.amount)) e in omega arith)
     ]
+
+-- what a hold has all of is of known shards and servers, as the hold is
+pub covered_below : (shards servers : ℕ) (h k : Hold) → IsBelow shards servers h → Covers h k → IsBelow shards servers k
+covered_below shards servers h k is c = record {
+  no_shard = λ s v l. cell (k.cells s v) s v refl (is.no_shard s v l);
+  no_server = λ s v l. cell (k.cells s v) s v refl (is.no_server s v l);
+  crowns = λ s l. crown (k.crowns s) s refl (is.crowns s l);
+  room = λ v l. let a = is.room v l in let b = c.room v in omega arith;
+  spare = λ s l. let a = is.spare s l in let b = c.spare s in omega arith;
+}
+  where
+    cell : (o : Option PlainCell) (s v : ℕ) → k.cells s v ≡ o → h.cells s v ≡ None → k.cells s v ≡ None
+    cell None s v e none = e
+    cell (Some state) s v e none = absurd (let z = c.cells s v state e in cc)
+
+    crown : (o : Option (Lead × Option ℕ)) (s : ℕ) → k.crowns s ≡ o → h.crowns s ≡ None → k.crowns s ≡ None
+    crown None s e none = e
+    crown (Some x) s e none = absurd (let z = c.crowns s x e in cc)
 
 -- ---- a parcel that can be put in
 
@@ -93,3 +127,14 @@ spares_fit h p o is = all_map (IsFound spare_place p.spare) (SpareFits h) p.spar
   where
     fits : (x : Spare) → IsFound spare_place p.spare x → h.spare x.shard + x.amount < 2 ^ 64
     fits x e = let z = is.spare x.shard in let y : amount_of (λ (r : Spare). r.amount) (row_at spare_place p.spare (x.shard, 0)) ≡ x.amount = ap (amount_of (λ (r : Spare). r.amount)) e in omega arith
+
+-- the amounts fit where they are put in, after the lists before them
+pub rooms_fit_in : (h : Hold) (p : Rights) → IsOrdered p → CanJoin h (hold_of p) → AllSteps in_room RoomFits (put-2 h p) p.room
+rooms_fit_in h p o is =
+    let at : AllByRecursion (RoomFits (put-2 h p)) p.room = subst (λ (f : ℕ → ℕ). AllByRecursion (λ x. f x.server + x.amount < 2 ^ 64) p.room) (sym (put-room h p)) (rooms_fit h p o is) in
+    RoomFits-steps (put-2 h p) p.room o.room at
+
+pub spares_fit_in : (h : Hold) (p : Rights) → IsOrdered p → CanJoin h (hold_of p) → AllSteps in_spare SpareFits (put-3 h p) p.spare
+spares_fit_in h p o is =
+    let at : AllByRecursion (SpareFits (put-3 h p)) p.spare = subst (λ (f : ℕ → ℕ). AllByRecursion (λ x. f x.shard + x.amount < 2 ^ 64) p.spare) (sym (put-spare h p)) (spares_fit h p o is) in
+    SpareFits-steps (put-3 h p) p.spare o.spare at

@@ -1,5 +1,5 @@
 -- A parcel's rights taken out of a hold and put into one: what is left, and how much there is then of each right.
-use Rattle.std.proofs.Common.{◌≡◌, ◌≢◌, ℕ, ◌+◌, ◌-◌, ◌≤◌, Bool, true, false, ◌&&◌, cond, eqb, leb, Option, Some, None, List, [], ◌∷◌, refl, sym, ap, ◌∙◌, arith, inl, inr, ◌⊎◌}
+use Rattle.std.proofs.Common.{◌≡◌, ◌≢◌, ℕ, ◌+◌, ◌-◌, ◌≤◌, Bool, true, false, ◌&&◌, cond, eqb, leb, Option, Some, None, List, [], ◌∷◌, refl, sym, ap, ◌∙◌, arith, inl, inr, ◌⊎◌, subst, ◌<◌, ◌^◌}
 use Rattle.std.proofs.Math.Path.{fun_ext}
 use Rattle.std.specs.Option.{option_or}
 use Rattle.std.proofs.lemmas.Bool.Decides.{nat_tests}
@@ -460,3 +460,14 @@ moved_count h g p o none c r =
     let a = minus_count h p o none r in
     let b = plus_count g p o c r in
     omega arith
+
+-- what was taken out can be put back
+pub minus_joins : (h : Hold) (p : Rights) → IsOrdered p → first_short h p ≡ None → ((v : ℕ) → h.room v < 2 ^ 64) → ((s : ℕ) → h.spare s < 2 ^ 64) → CanJoin (minus h p) (hold_of p)
+minus_joins h p o none room spare =
+    let c = covers h p none in
+    subst (λ (k : Hold). CanJoin k (hold_of p)) (sym (minus_is h p o)) (record {
+      cells = λ s v state e. rw e refl;
+      crowns = λ s crown e. rw e refl;
+      room = λ v. let a = room v in let b = c.room v in omega arith;
+      spare = λ s. let a = spare s in let b = c.spare s in omega arith;
+    })

@@ -1,15 +1,17 @@
 -- A pool's lists: what is read in them by key, and what a write makes of the rights in them.
-use Rattle.std.proofs.Common.{◌≡◌, ℕ, ◌+◌, ◌*◌, ◌-◌, ◌<◌, ◌≤◌, length, set, get_or, replicate, refl, sym, ap, subst, ◌∙◌, arith, inl, inr, Option, None}
+use Rattle.std.proofs.Common.{◌≡◌, ℕ, ◌+◌, ◌*◌, ◌-◌, ◌<◌, ◌≤◌, length, set, get_or, replicate, refl, sym, ap, subst, ◌∙◌, arith, inl, inr, Option, None, Bor, List, Some}
 use Rattle.std.proofs.Math.Path.{fun_ext}
+use Rattle.std.specs.Slice.{IsItemAt}
+use Rattle.std.specs.Option.{option_copied, option_flatten, option_map, unwrap_or}
 use Rattle.std.proofs.lemmas.Bool.{cases_eq, cases_lt}
 use Rattle.sm_placement.specs.declared.lead.Lead.{Lead}
 use Rattle.sm_placement.specs.Sums.{put, put2}
 use Rattle.sm_placement.specs.Layout.{grid_of, entries_of}
 use Rattle.sm_placement.proofs.Sums.{put-here, put-apart}
-use Rattle.sm_placement.proofs.GridLemmas.{grid_of-beside, grid_of-below, grid_of-empty, grid_of-read, grid_of-set, place_within, entries_of-past, entries_of-set, entries_of-empty, entries_of-read}
+use Rattle.sm_placement.proofs.GridLemmas.{grid_of-beside, grid_of-below, grid_of-empty, grid_of-read, grid_of-set, place_within, entries_of-past, entries_of-set, entries_of-empty, entries_of-read, entries_of-is}
 use Rattle.sm_reservation.specs.declared.right.PlainCell.{PlainCell}
 use Rattle.sm_reservation.specs.Hold.{Hold, no_hold, with_cell, without_crown, pay_room, pay_spare}
-use Rattle.sm_reservation.specs.Pool.{Stock, IsStocked, IsWithin, pool_hold}
+use Rattle.sm_reservation.specs.Pool.{Stock, IsStocked, IsBelow, pool_hold}
 
 -- ---- a function that is put where it is anyway
 
@@ -24,7 +26,7 @@ put2_same f s v x e = put_same f s (put (f s) v x) (put_same (f s) v x e)
 
 -- ---- what every pool keeps
 
-pub stocked_within : (k : Stock) → IsStocked k → IsWithin k.shards k.servers (pool_hold k)
+pub stocked_within : (k : Stock) → IsStocked k → IsBelow k.shards k.servers (pool_hold k)
 unfolding pool_hold
 stocked_within k h = record {
   no_shard = λ s v l. grid_of-below k.servers k.shards None k.cells s v h.cells l;
@@ -44,10 +46,6 @@ unfolding pool_hold
 cell_read {k} {now} s v x h e = subst (λ (n : Stock). s < n.shards → v < n.servers → x ≡ get_or k.cells (s * n.servers + v) x → x ≡ (pool_hold n).cells s v) e
     (λ l m r. grid_of-read k.servers k.shards None k.cells s v x h.cells l m r)
 
-pub crown_read : {k now : Stock} (s : ℕ) (x : Option (Lead × Option ℕ)) → IsStocked k → k ≡ now → s < length k.crowns → x ≡ get_or k.crowns s x → x ≡ (pool_hold now).crowns s
-unfolding pool_hold
-crown_read {k} {now} s x h e l r = subst (λ (n : Stock). x ≡ (pool_hold n).crowns s) e (entries_of-read None k.crowns s (length k.crowns) x refl l r)
-
 pub room_read : {k now : Stock} (v x : ℕ) → IsStocked k → k ≡ now → v < length k.room → x ≡ get_or k.room v x → x ≡ (pool_hold now).room v
 unfolding pool_hold
 room_read {k} {now} v x h e l r = subst (λ (n : Stock). x ≡ (pool_hold n).room v) e (entries_of-read 0 k.room v (length k.room) x refl l r)
@@ -56,8 +54,32 @@ pub spare_read : {k now : Stock} (s x : ℕ) → IsStocked k → k ≡ now → s
 unfolding pool_hold
 spare_read {k} {now} s x h e l r = subst (λ (n : Stock). x ≡ (pool_hold n).spare s) e (entries_of-read 0 k.spare s (length k.spare) x refl l r)
 
+-- what `get` finds in a list of entries
+entry_got : {A : Type 0} (none : A) (xs : List A) (k : ℕ) (r : Option (Bor A)) → IsItemAt xs k r → unwrap_or (option_copied r) none ≡ entries_of none xs k
+entry_got {A} none xs k r item = ap (λ (o : Option A). unwrap_or o none) (copied_is r) ∙ item.4 (omega arith) none ∙ sym (entries_of-is none xs k)
+  where
+    copied_is : (r : Option (Bor A)) → option_copied r ≡ option_map (λ x. x.now) r
+    copied_is None = refl
+    copied_is (Some x) = refl
+
+flatten_is : {A : Type 0} (o : Option (Option A)) → option_flatten o ≡ unwrap_or o None
+flatten_is None = refl
+flatten_is (Some o) = refl
+
+pub crown_got : {k now : Stock} (s : ℕ) (r : Option (Bor (Option (Lead × Option ℕ)))) → k ≡ now → IsItemAt k.crowns s r → option_flatten (option_copied r) ≡ (pool_hold now).crowns s
+unfolding pool_hold
+crown_got {k} {now} s r e item = flatten_is (option_copied r) ∙ entry_got None k.crowns s r item ∙ ap (λ (n : Stock). (pool_hold n).crowns s) e
+
+pub room_got : {k now : Stock} (v : ℕ) (r : Option (Bor ℕ)) → k ≡ now → IsItemAt k.room v r → unwrap_or (option_copied r) 0 ≡ (pool_hold now).room v
+unfolding pool_hold
+room_got {k} {now} v r e item = entry_got 0 k.room v r item ∙ ap (λ (n : Stock). (pool_hold n).room v) e
+
+pub spare_got : {k now : Stock} (s : ℕ) (r : Option (Bor ℕ)) → k ≡ now → IsItemAt k.spare s r → unwrap_or (option_copied r) 0 ≡ (pool_hold now).spare s
+unfolding pool_hold
+spare_got {k} {now} s r e item = entry_got 0 k.spare s r item ∙ ap (λ (n : Stock). (pool_hold n).spare s) e
+
 -- no right is of a pair that isn't known
-pub cell_unknown : (shards servers : ℕ) (h : Hold) (s v : ℕ) → IsWithin shards servers h → (s < shards → servers ≤ v) → h.cells s v ≡ None
+pub cell_unknown : (shards servers : ℕ) (h : Hold) (s v : ℕ) → IsBelow shards servers h → (s < shards → servers ≤ v) → h.cells s v ≡ None
 cell_unknown shards servers h s v is out = elim (cases_lt s shards) [
   | inl l ↦ is.no_server s v (out l)
   | inr l ↦ is.no_shard s v l

@@ -1,6 +1,7 @@
 -- Keys of rights: their places in the lists, their order, and how often a key stands.
-use Rattle.std.specs.Prelude.{◌≡◌, ℕ, ◌≤◌, Bool, true, false, nat_lt, count_by, filter, Contains, List, Option}
+use Rattle.std.specs.Prelude.{◌≡◌, ℕ, ◌≤◌, ◌<◌, ◌^◌, Bool, true, false, nat_lt, count_by, filter, Contains, List, Option}
 use Rattle.std.specs.List.Sorted.{IsPermutation}
+use Rattle.std.specs.List.{AllByRecursion}
 use Rattle.std.specs.Option.{option_map, option_or}
 use Rattle.sm_reservation.specs.declared.right.CellRight.{CellRight}
 use Rattle.sm_reservation.specs.declared.right.Crown.{Crown}
@@ -52,6 +53,10 @@ pub record IsLowestDouble (r : Rights) (k : Key) : Type 0 where
   pub twice : 2 ≤ key_count r k
   pub lowest : (j : Key) → key_before j k ≡ true → key_count r j ≤ 1
 
+-- rights of the four kinds
+abbrev pub lists : List CellRight → List Crown → List Room → List Spare → Rights
+lists cells crowns room spare = record { cells = cells; crowns = crowns; room = room; spare = spare }
+
 -- each list rises by its keys
 pub record IsOrdered (r : Rights) : Type 0 where
   pub cells : Rises cell_place r.cells
@@ -63,6 +68,11 @@ pub record IsOrdered (r : Rights) : Type 0 where
 pub record IsPositive (r : Rights) : Type 0 where
   pub room : HasPositive (λ x. x.amount) r.room
   pub spare : HasPositive (λ x. x.amount) r.spare
+
+-- each amount is a u64
+pub record AreU64 (r : Rights) : Type 0 where
+  pub room : AllByRecursion (λ x. x.amount < 2 ^ 64) r.room
+  pub spare : AllByRecursion (λ x. x.amount < 2 ^ 64) r.spare
 
 -- two lists of the same elements
 abbrev pub SameElements : {T : Type 0} → List T → List T → Type 0

@@ -15,3 +15,6 @@ pub mod Kept
 pub mod HoldView
 pub mod Short
 pub mod Pool
+pub mod Change
+pub mod Conservation
+pub mod TakeFault

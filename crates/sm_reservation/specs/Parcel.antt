@@ -1,6 +1,6 @@
 -- Parcels: what contracts see of them.
 use Rattle.sm_reservation.specs.Rights.{Rights}
-use Rattle.sm_reservation.specs.Key.{IsOrdered, IsPositive}
+use Rattle.sm_reservation.specs.Key.{IsOrdered, IsPositive, AreU64}
 use Rattle.sm_reservation.specs.declared.parcel.Parcel.TheInside.{Inside}
 
 -- the four lists
@@ -10,3 +10,4 @@ parcel_of a = record { cells = a.cells.items; crowns = a.crowns.items; room = a.
 pub record IsParcel (a : Inside) : Type 0 where
   pub ordered : IsOrdered (parcel_of a)
   pub positive : IsPositive (parcel_of a)
+  pub bounded : AreU64 (parcel_of a)

@@ -47,7 +47,7 @@ pool_hold k = record {
 }
 
 -- all rights are of known shards and servers: those below these numbers
-pub record IsWithin (shards servers : ℕ) (h : Hold) : Type 0 where
+pub record IsBelow (shards servers : ℕ) (h : Hold) : Type 0 where
   pub no_shard : (s v : ℕ) → shards ≤ s → h.cells s v ≡ None
   pub no_server : (s v : ℕ) → servers ≤ v → h.cells s v ≡ None
   pub crowns : (s : ℕ) → shards ≤ s → h.crowns s ≡ None

@@ -1,6 +1,10 @@
 //! Rights: what a stream of a plan may do is what it holds.
 #![tactic(auto)]
 
+pub mod change;
+pub mod conservation;
+mod fits;
+pub mod grant;
 pub mod hold;
 mod moves;
 mod opening;
@@ -12,10 +16,15 @@ pub mod right;
 mod rows;
 mod short;
 pub mod stream_id;
+#[cfg(test)]
+mod tests;
 
+pub use crate::change::{Change, Portion};
+pub use crate::conservation::{rights_add_up, rights_stay_at_one_place};
+pub use crate::grant::Grant;
 pub use crate::hold::Hold;
 pub use crate::parcel::{Lists, Parcel, ParcelFault};
-pub use crate::pool::Pool;
+pub use crate::pool::{Pool, TakeFault};
 pub use crate::right::{CellRight, Crown, Key, PlainCell, Room, Short, Spare};
 pub use crate::stream_id::StreamId;
 pub use sm_placement::Lead;

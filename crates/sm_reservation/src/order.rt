@@ -1,5 +1,6 @@
 //! Rows put in order, and rows of one place found among them.
-ghost use Rattle.std.specs.Prelude.{◌≡◌, ◌&&◌, filter, nat_lt, IfOk};
+ghost use Rattle.std.specs.Prelude.{◌≡◌, ◌&&◌, ◌<◌, ◌^◌, filter, nat_lt, IfOk};
+ghost use Rattle.std.specs.List.{AllByRecursion};
 ghost use Rattle.std.specs.List.Sorted.{IsPermutation};
 ghost use Rattle.sm_reservation.specs.Rows.{same, Climbs, first_twin};
 
@@ -31,7 +32,8 @@ pub fn first_twin<T: Row>(rows: &[T]) -> Option<(u32, u32)>
 
 /// Drops the rows whose amount is 0.
 pub fn drop_empty<T: Amount>(rows: &mut Vec<T>)
-    ensures { rows.new.items ≡ filter (λ row. nat_lt 0 (T.amount row)) rows.old.items }
+    ensures kept { rows.new.items ≡ filter (λ row. nat_lt 0 (T.amount row)) rows.old.items }
+    ensures bounded { AllByRecursion (λ row. T.amount row < 2 ^ 64) rows.new.items }
 {
     rows.retain(|row| row.amount() > 0);
 }

@@ -1,7 +1,8 @@
 //! Parcels: rights in order, each key once.
-ghost use Rattle.std.specs.Prelude.{◌≡◌, IfOk, OnOk, IfErr};
+ghost use Rattle.std.specs.Prelude.{◌≡◌, ◌<◌, ◌^◌, IfOk, OnOk, IfErr};
+ghost use Rattle.std.specs.List.{AllByRecursion};
 ghost use Rattle.sm_reservation.specs.Rows.{Rises, HasPositive};
-ghost use Rattle.sm_reservation.specs.Key.{cell_place, crown_place, room_place, spare_place, IsOnce, IsOrdered, IsSortedFrom, IsInOrder, first_double};
+ghost use Rattle.sm_reservation.specs.Key.{cell_place, crown_place, room_place, spare_place, IsOnce, IsOrdered, IsPositive, AreU64, IsSortedFrom, IsInOrder, first_double, lists as rights_in};
 ghost use Rattle.sm_reservation.specs.Lists.{rights_of};
 ghost use Rattle.sm_reservation.specs.Fault.{IsFaultOf};
 
@@ -88,6 +89,26 @@ impl Parcel {
         }
     }
 
+    /// The parcel of lists that are in order, with no amount of 0.
+    pub(crate) fn of_ordered(
+        cells: Vec<CellRight>,
+        crowns: Vec<Crown>,
+        room: Vec<Room>,
+        spare: Vec<Spare>,
+    ) -> Parcel
+        requires ordered { IsOrdered (rights_in cells.items crowns.items room.items spare.items) }
+        requires positive { IsPositive (rights_in cells.items crowns.items room.items spare.items) }
+        requires bounded { AreU64 (rights_in cells.items crowns.items room.items spare.items) }
+        ensures { result ≡ rights_in cells.items crowns.items room.items spare.items }
+    {
+        Parcel {
+            cells,
+            crowns,
+            room,
+            spare,
+        }
+    }
+
     /// The rights to cells.
     pub fn cells(&self) -> &[CellRight]
         ensures value { result.now ≡ self.now.cells }
@@ -109,6 +130,7 @@ impl Parcel {
         ensures value { result.now ≡ self.now.room }
         ensures order { Rises room_place result.now }
         ensures positive { HasPositive (λ x. x.amount) result.now }
+        ensures bounded { AllByRecursion (λ x. x.amount < 2 ^ 64) result.now }
     {
         self.room.as_slice()
     }
@@ -118,6 +140,7 @@ impl Parcel {
         ensures value { result.now ≡ self.now.spare }
         ensures order { Rises spare_place result.now }
         ensures positive { HasPositive (λ x. x.amount) result.now }
+        ensures bounded { AllByRecursion (λ x. x.amount < 2 ^ 64) result.now }
     {
         self.spare.as_slice()
     }

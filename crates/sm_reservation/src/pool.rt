@@ -1,15 +1,47 @@
 //! The rights that no grant has.
-ghost use Rattle.std.specs.Prelude.{◌≡◌, ◌<◌, ◌≤◌, ◌+◌, ◌*◌, ◌^◌, Some, None, IfOk, IfSome, IfNone};
-ghost use Rattle.sm_reservation.specs.Hold.{no_hold, with_cell, with_crown, without_crown, pay_room, get_room, pay_spare, get_spare};
-ghost use Rattle.sm_reservation.specs.Pool.{pool_hold, IsWithin, SameSize, true_rights, IsKnownRight, one_spare};
+ghost use Rattle.std.specs.Prelude.{ℕ, ◌≡◌, ◌<◌, ◌≤◌, ◌+◌, ◌*◌, ◌^◌, Some, None, IfOk, OnOk, IfErr, OnErr, IfSome, IfNone};
+ghost use Rattle.sm_placement.specs.Layout.{entries_of};
+ghost use Rattle.sm_reservation.specs.Hold.{no_hold, minus, plus, with_cell, with_crown, without_crown, pay_room, get_room, pay_spare, get_spare};
+ghost use Rattle.sm_reservation.specs.HoldOf.{hold_of};
+ghost use Rattle.sm_reservation.specs.Kept.{HasPlaces, IsMore};
+ghost use Rattle.sm_reservation.specs.Short.{first_short};
+ghost use Rattle.sm_reservation.specs.TakeFault.{short_of};
+ghost use Rattle.sm_reservation.specs.CanJoin.{CanJoin};
+ghost use Rattle.sm_reservation.specs.Pool.{pool_hold, IsBelow, SameSize, true_rights, IsKnownRight, one_spare};
 
+use crate::grant::Grant;
+use crate::hold::Hold;
 use crate::opening::{put_cells, put_crowns, put_rooms, put_spares};
-use crate::right::{CellRight, Crown, PlainCell, Room, Spare};
-use crate::short::ByKey;
+use crate::parcel::Parcel;
+use crate::pool_moves;
+use crate::right::{CellRight, Crown, PlainCell, Room, Short, Spare};
+use crate::short::{ByKey, first_short};
 use sm_placement::{Lead, Placement};
 use sm_server::{ServerId, ShardId};
 use std::alloc::{AllocError, Global};
 use std::marker::Model;
+use thiserror::Error;
+
+/// Why a pool gives no grant.
+#[derive(Clone, Copy, Debug, PartialEq, Eq, Error)]
+pub enum TakeFault {
+    /// Memory was short.
+    #[error("out of memory")]
+    NoMemory,
+    /// There is too little of a key.
+    #[error("too little of a key in the pool")]
+    Short(Short),
+}
+
+impl From<AllocError> for TakeFault {
+    ghost use Rattle.sm_reservation.specs.declared.pool.TakeFault.TheVariants.{NoMemory};
+
+    ghost from_gives = { λ _ fault. fault ≡ NoMemory };
+
+    fn from(_error: AllocError) -> TakeFault {
+        TakeFault::NoMemory
+    }
+}
 
 /// The rights that no grant has.
 #[derive(Drop)]
@@ -29,6 +61,12 @@ impl Model for Pool {
     ghost view = { λ p. record { shards = length p.spare.items; servers = length p.room.items; cells = p.cells.items; crowns = p.crowns.items; room = p.room.items; spare = p.spare.items } };
 
     ghost invariant = { λ p. IsStocked (record { shards = length p.spare.items; servers = length p.room.items; cells = p.cells.items; crowns = p.crowns.items; room = p.room.items; spare = p.spare.items }) };
+}
+
+/// A law: no entry of a list is above what a u64 holds.
+fn entries_fit(entries: &[u64])
+    ensures { (k : ℕ) → entries_of 0 entries.now k < 2 ^ 64 }
+{
 }
 
 impl Pool {
@@ -75,7 +113,7 @@ impl Pool {
     /// How many shards the pool is of.
     pub fn shard_count(&self) -> usize
         ensures count { result ≡ self.now.shards }
-        ensures within { IsWithin self.now.shards self.now.servers (pool_hold self.now) }
+        ensures within { IsBelow self.now.shards self.now.servers (pool_hold self.now) }
     {
         self.spare.len()
     }
@@ -94,8 +132,9 @@ impl Pool {
     {
         let row = shard.number() as usize;
         let column = server.number() as usize;
-        if row < self.spare.len() && column < self.room.len() {
-            Some(row * self.room.len() + column)
+        let servers = self.room.len();
+        if row < self.spare.len() && column < servers {
+            Some(row * servers + column)
         } else {
             None
         }
@@ -116,11 +155,7 @@ impl Pool {
         ensures { result ≡ (pool_hold self.now).crowns shard }
     {
         let place = shard.number() as usize;
-        if place < self.crowns.len() {
-            self.crowns[place]
-        } else {
-            None
-        }
+        self.crowns.get(place).copied().flatten()
     }
 
     /// How much room of a server the pool has.
@@ -128,11 +163,7 @@ impl Pool {
         ensures { result ≡ (pool_hold self.now).room server }
     {
         let place = server.number() as usize;
-        if place < self.room.len() {
-            self.room[place]
-        } else {
-            0
-        }
+        self.room.get(place).copied().unwrap_or(0)
     }
 
     /// How many spare replicas of a shard the pool has.
@@ -140,11 +171,7 @@ impl Pool {
         ensures { result ≡ (pool_hold self.now).spare shard }
     {
         let place = shard.number() as usize;
-        if place < self.spare.len() {
-            self.spare[place]
-        } else {
-            0
-        }
+        self.spare.get(place).copied().unwrap_or(0)
     }
 
     /// Takes one spare replica of a shard out, since it goes down.
@@ -168,6 +195,108 @@ impl Pool {
         self.put_spare(Spare { shard, amount: 1 });
     }
 
+    /// Takes a parcel's rights out of the pool.
+    ///
+    /// Where the pool has too little of a key the fault is the first such key, whether or not there is memory. At a
+    /// fault the pool is as it was.
+    pub fn take(&mut self, alloc: Global, parcel: &Parcel) -> Result<Grant, TakeFault>
+        ensures enough { OnOk result (first_short (pool_hold self.old) parcel.now ≡ None) }
+        ensures taken { OnOk result (pool_hold self.new ≡ minus (pool_hold self.old) parcel.now) }
+        ensures given { IfOk result (λ grant. grant.rights ≡ parcel.now) }
+        ensures kept { IfOk result (λ grant. (r : Right) → count (pool_hold self.new) r + count (hold_of grant.rights) r ≡ count (pool_hold self.old) r) }
+        ensures below { IfOk result (λ grant. IsBelow self.new.shards self.new.servers (hold_of grant.rights)) }
+        ensures fits { IfOk result (λ grant. CanJoin (pool_hold self.new) (hold_of grant.rights)) }
+        ensures refused { IfErr result (λ why. first_short (pool_hold self.old) parcel.now ≡ short_of why) }
+        ensures err { OnErr result (self.new ≡ self.old) }
+        ensures size { SameSize self.old self.new }
+    {
+        if let Some(short) = first_short(self, parcel) {
+            return Err(TakeFault::Short(short));
+        }
+        let hold = Hold::of_parcel(alloc, parcel)?;
+        self.take_parcel(parcel);
+        Ok(Grant::of_hold(hold))
+    }
+
+    /// Takes a parcel's rights out of the pool into a grant that is there. Takes no memory.
+    ///
+    /// Where the pool has too little of a key the first such key comes back, and neither changes.
+    pub fn fill(&mut self, grant: &mut Grant, parcel: &Parcel) -> Result<(), Short>
+        requires room { HasPlaces grant.old parcel.now }
+        requires fits { CanJoin (hold_of grant.old.rights) (hold_of parcel.now) }
+        ensures enough { OnOk result (first_short (pool_hold self.old) parcel.now ≡ None) }
+        ensures taken { OnOk result (pool_hold self.new ≡ minus (pool_hold self.old) parcel.now) }
+        ensures given { OnOk result (hold_of grant.new.rights ≡ plus (hold_of grant.old.rights) parcel.now) }
+        ensures kept { OnOk result ((r : Right) → count (pool_hold self.new) r + count (hold_of grant.new.rights) r ≡ count (pool_hold self.old) r + count (hold_of grant.old.rights) r) }
+        ensures more { OnOk result (IsMore grant.old grant.new parcel.now) }
+        ensures short { IfErr result (λ short. first_short (pool_hold self.old) parcel.now ≡ Some short) }
+        ensures err { OnErr result ((self.new ≡ self.old) × (grant.new ≡ grant.old)) }
+        ensures size { SameSize self.old self.new }
+    {
+        if let Some(short) = first_short(self, parcel) {
+            return Err(short);
+        }
+        self.take_parcel(parcel);
+        grant.put(parcel);
+        Ok(())
+    }
+
+    /// Takes all rights of a grant back. Takes no memory.
+    pub fn give_back(&mut self, grant: Grant)
+        requires below { IsBelow self.old.shards self.old.servers (hold_of grant.rights) }
+        requires fits { CanJoin (pool_hold self.old) (hold_of grant.rights) }
+        ensures hold { pool_hold self.new ≡ plus (pool_hold self.old) grant.rights }
+        ensures kept { (r : Right) → count (pool_hold self.new) r ≡ count (pool_hold self.old) r + count (hold_of grant.rights) r }
+        ensures size { SameSize self.old self.new }
+    {
+        let parcel = grant.into_hold().into_parcel();
+        self.put_parcel(&parcel);
+    }
+
+    /// A law: no amount is above what a u64 holds.
+    fn amounts_fit(&self)
+        ensures room { (v : ℕ) → (pool_hold self.now).room v < 2 ^ 64 }
+        ensures spare { (s : ℕ) → (pool_hold self.now).spare s < 2 ^ 64 }
+    {
+        entries_fit(&self.room);
+        entries_fit(&self.spare);
+    }
+
+    /// Takes out a parcel's rights.
+    fn take_parcel(&mut self, parcel: &Parcel)
+        requires { first_short (pool_hold self.old) parcel.now ≡ None }
+        ensures hold { pool_hold self.new ≡ minus (pool_hold self.old) parcel.now }
+        ensures sums { (r : Right) → count (pool_hold self.new) r + count (hold_of parcel.now) r ≡ count (pool_hold self.old) r }
+        ensures below { IsBelow self.new.shards self.new.servers (hold_of parcel.now) }
+        ensures fits { CanJoin (pool_hold self.new) (hold_of parcel.now) }
+        ensures size { SameSize self.old self.new }
+    {
+        self.amounts_fit();
+        let _ = self.shard_count();
+        pool_moves::take_cells(self, parcel.cells());
+        pool_moves::take_crowns(self, parcel.crowns());
+        pool_moves::take_rooms(self, parcel.room());
+        pool_moves::take_spares(self, parcel.spare());
+    }
+
+    /// Puts in a parcel's rights.
+    fn put_parcel(&mut self, parcel: &Parcel)
+        requires below { IsBelow self.old.shards self.old.servers (hold_of parcel.now) }
+        requires fits { CanJoin (pool_hold self.old) (hold_of parcel.now) }
+        ensures hold { pool_hold self.new ≡ plus (pool_hold self.old) parcel.now }
+        ensures sums { (r : Right) → count (pool_hold self.new) r ≡ count (pool_hold self.old) r + count (hold_of parcel.now) r }
+        ensures size { SameSize self.old self.new }
+    {
+        let cells = parcel.cells();
+        let crowns = parcel.crowns();
+        let rooms = parcel.room();
+        let spares = parcel.spare();
+        pool_moves::put_cells(self, cells);
+        pool_moves::put_crowns(self, crowns);
+        pool_moves::put_rooms(self, rooms);
+        pool_moves::put_spares(self, spares);
+    }
+
     /// Takes out the right to a cell.
     pub(crate) fn take_cell(&mut self, shard: ShardId, server: ServerId)
         ensures hold { pool_hold self.new ≡ with_cell (pool_hold self.old) shard server None }
@@ -185,10 +314,9 @@ impl Pool {
         ensures hold { pool_hold self.new ≡ with_cell (pool_hold self.old) right.shard right.server (Some right.state) }
         ensures size { SameSize self.old self.new }
     {
-        let row = right.shard.number() as usize;
-        let column = right.server.number() as usize;
-        let place = row * self.room.len() + column;
-        self.cells[place] = Some(right.state);
+        if let Some(place) = self.place(right.shard, right.server) {
+            self.cells[place] = Some(right.state);
+        }
     }
 
     /// Takes out a crown.
@@ -197,7 +325,7 @@ impl Pool {
         ensures size { SameSize self.old self.new }
     {
         let place = shard.number() as usize;
-        if place < self.crowns.len() {
+        if place < self.shard_count() {
             self.crowns[place] = None;
         }
     }
@@ -218,7 +346,7 @@ impl Pool {
         ensures size { SameSize self.old self.new }
     {
         let place = room.server.number() as usize;
-        if place < self.room.len() {
+        if place < self.server_count() {
             self.room[place] = self.room[place].saturating_sub(room.amount);
         }
     }
@@ -240,7 +368,7 @@ impl Pool {
         ensures size { SameSize self.old self.new }
     {
         let place = spare.shard.number() as usize;
-        if place < self.spare.len() {
+        if place < self.shard_count() {
             self.spare[place] = self.spare[place].saturating_sub(spare.amount);
         }
     }

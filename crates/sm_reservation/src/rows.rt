@@ -1,7 +1,10 @@
 //! Ordered rows in a `Vec`: the row at a place, put in and taken out.
-ghost use Rattle.std.specs.Prelude.{◌≡◌, ℕ, ◌+◌, ◌<◌, ◌≤◌, ◌-◌, ◌==◌, ◌^◌, Some, None, length, vec_len, vec_capacity, if◌then◌else◌, IsSome, insert, remove, slice_set};
+ghost use Rattle.std.specs.Prelude.{◌≡◌, IfOk, ℕ, ◌+◌, ◌<◌, ◌≤◌, ◌-◌, ◌==◌, ◌^◌, Some, None, length, vec_len, vec_capacity, if◌then◌else◌, IsSome, insert, remove, slice_set};
 ghost use Rattle.sm_reservation.specs.Rows.{same, before, row_at, Rises, count_before, amount_at, HasPositive};
+ghost use Rattle.std.specs.List.{AllByRecursion};
 ghost use Rattle.sm_placement.specs.Sums.{bit};
+
+use std::alloc::{AllocError, Global};
 
 /// A row of an ordered list, which its place tells apart from the others.
 pub trait Row: Copy {
@@ -90,6 +93,18 @@ pub fn set_row<T: Row>(rows: &mut Vec<T>, row: T)
     rows[i] = row;
 }
 
+/// A copy of the rows, with room for a number of rows in all.
+pub fn copied_rows<T: Row>(alloc: Global, rows: &[T], places: usize) -> Result<Vec<T>, AllocError>
+    requires { length rows.now ≤ places }
+    ensures items { IfOk result (λ copy. copy.items ≡ rows.now) }
+    ensures len { IfOk result (λ copy. vec_len copy ≡ length rows.now) }
+    ensures capacity { IfOk result (λ copy. places ≤ vec_capacity copy) }
+{
+    let mut copy = Vec::with_capacity(alloc, places)?;
+    copy.extend_from_slice(rows)?;
+    Ok(copy)
+}
+
 /// A row with an amount.
 pub trait Amount: Row {
     ghost amount: { Self → ℕ };
@@ -106,11 +121,13 @@ pub trait Amount: Row {
 pub fn add_amount<T: Amount>(rows: &mut Vec<T>, row: T)
     requires order { Rises T.place rows.old.items }
     requires positive { HasPositive T.amount rows.old.items }
+    requires bounded { AllByRecursion (λ x. T.amount x < 2 ^ 64) rows.old.items }
     requires some { 0 < T.amount row }
     requires room { amount_at T.place T.amount rows.old.items (T.place row) ≡ 0 → vec_len rows.old < vec_capacity rows.old }
     requires fits { amount_at T.place T.amount rows.old.items (T.place row) + T.amount row < 2 ^ 64 }
     ensures order { Rises T.place rows.new.items }
     ensures positive { HasPositive T.amount rows.new.items }
+    ensures bounded { AllByRecursion (λ x. T.amount x < 2 ^ 64) rows.new.items }
     ensures capacity { vec_capacity rows.old ≤ vec_capacity rows.new }
     ensures len { vec_len rows.new ≡ vec_len rows.old + bit (amount_at T.place T.amount rows.old.items (T.place row) == 0) }
     ensures amounts { (q : ℕ × ℕ) → amount_at T.place T.amount rows.new.items q ≡ (if same (T.place row) q then amount_at T.place T.amount rows.old.items (T.place row) + T.amount row else amount_at T.place T.amount rows.old.items q) }
@@ -125,10 +142,12 @@ pub fn add_amount<T: Amount>(rows: &mut Vec<T>, row: T)
 pub fn sub_amount<T: Amount>(rows: &mut Vec<T>, row: T)
     requires order { Rises T.place rows.old.items }
     requires positive { HasPositive T.amount rows.old.items }
+    requires bounded { AllByRecursion (λ x. T.amount x < 2 ^ 64) rows.old.items }
     requires some { 0 < T.amount row }
     requires enough { T.amount row ≤ amount_at T.place T.amount rows.old.items (T.place row) }
     ensures order { Rises T.place rows.new.items }
     ensures positive { HasPositive T.amount rows.new.items }
+    ensures bounded { AllByRecursion (λ x. T.amount x < 2 ^ 64) rows.new.items }
     ensures len { vec_len rows.new + bit (amount_at T.place T.amount rows.old.items (T.place row) == T.amount row) ≡ vec_len rows.old }
     ensures capacity { vec_capacity rows.new ≡ vec_capacity rows.old }
     ensures amounts { (q : ℕ × ℕ) → amount_at T.place T.amount rows.new.items q ≡ (if same (T.place row) q then amount_at T.place T.amount rows.old.items (T.place row) - T.amount row else amount_at T.place T.amount rows.old.items q) }

@@ -8,15 +8,16 @@ returns-in-Some-clause-fault c = lowest_double _ _ c.in-Some.key c.in_ok-sorted.
 
 pub invariant_of-result : goal.invariant_of-result
 invariant_of-result c = record {
-  ordered = parcel_ordered (rights_of c.in_ok-sorted.sorted) _ _ c.drop_empty.ensures c.drop_empty-2.ensures (ordered _ _ c.in_ok-sorted.ensures (sym c.first_double.ensures ∙ c.in_default.is));
-  positive = parcel_positive (rights_of c.in_ok-sorted.sorted) _ _ c.drop_empty.ensures c.drop_empty-2.ensures;
+  ordered = parcel_ordered (rights_of c.in_ok-sorted.sorted) _ _ c.drop_empty.ensures.kept c.drop_empty-2.ensures.kept (ordered _ _ c.in_ok-sorted.ensures (sym c.first_double.ensures ∙ c.in_default.is));
+  positive = parcel_positive (rights_of c.in_ok-sorted.sorted) _ _ c.drop_empty.ensures.kept c.drop_empty-2.ensures.kept;
+  bounded = record { room = c.drop_empty.ensures.bounded; spare = c.drop_empty-2.ensures.bounded };
 }
 
 pub returns-clause-sorted : goal.returns-clause-sorted
-returns-clause-sorted c = parcel_sorted _ (rights_of c.in_ok-sorted.sorted) _ _ c.drop_empty.ensures c.drop_empty-2.ensures c.in_ok-sorted.ensures
+returns-clause-sorted c = parcel_sorted _ (rights_of c.in_ok-sorted.sorted) _ _ c.drop_empty.ensures.kept c.drop_empty-2.ensures.kept c.in_ok-sorted.ensures
 
 pub returns-clause-once : goal.returns-clause-once
 returns-clause-once c = once _ _ c.in_ok-sorted.ensures (sym c.first_double.ensures ∙ c.in_default.is)
 
 pub returns-clause-order : goal.returns-clause-order
-returns-clause-order c = parcel_ordered (rights_of c.in_ok-sorted.sorted) _ _ c.drop_empty.ensures c.drop_empty-2.ensures (ordered _ _ c.in_ok-sorted.ensures (sym c.first_double.ensures ∙ c.in_default.is))
+returns-clause-order c = parcel_ordered (rights_of c.in_ok-sorted.sorted) _ _ c.drop_empty.ensures.kept c.drop_empty-2.ensures.kept (ordered _ _ c.in_ok-sorted.ensures (sym c.first_double.ensures ∙ c.in_default.is))

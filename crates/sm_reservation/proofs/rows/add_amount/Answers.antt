@@ -1,6 +1,6 @@
-use Rattle.std.proofs.Common.{◌≡◌, ◌+◌, Some, refl, sym, arith}
+use Rattle.std.proofs.Common.{◌<◌, ◌^◌, ◌≡◌, ◌+◌, Some, refl, sym, arith}
 use Rattle.sm_reservation.specs.Rows.{row_at}
-use Rattle.sm_reservation.proofs.AmountLemmas.{present_at, amount_put, positive_at, positive_insert, positive_set, bit_positive}
+use Rattle.sm_reservation.proofs.AmountLemmas.{present_at, amount_put, positive_at, positive_insert, positive_set, bit_positive, all_insert, all_set}
 use Rattle.sm_reservation.proofs.rows.add_amount.Goals as goal
 
 pub set_row-requires-clause-present : goal.set_row-requires-clause-present
@@ -22,3 +22,12 @@ pub returns-in-Some-clause-len : goal.returns-in-Some-clause-len
 returns-in-Some-clause-len g c =
     let e : row_at g.T.Row.place c.args.rows.now.items (g.T.Row.place c.args.row) ≡ Some c.in-Some.held = rw (← c.deref.ensures.value, ← c.place.ensures) (sym c.in-Some.ensures) in
     rw (e, bit_positive _ (positive_at g.T.Row.place g.T.Amount.amount _ _ _ c.requires.positive e)) (omega arith)
+
+pub returns-in-None-clause-bounded : goal.returns-in-None-clause-bounded
+returns-in-None-clause-bounded g c = rw c.put_row.ensures.items (all_insert (λ x. g.T.Amount.amount x < 2 ^ 64) _ c.args.row _ c.requires.bounded (omega arith))
+
+pub returns-in-Some-clause-bounded : goal.returns-in-Some-clause-bounded
+returns-in-Some-clause-bounded g c =
+    let e : row_at g.T.Row.place c.args.rows.now.items (g.T.Row.place c.args.row) ≡ Some c.in-Some.held = rw (← c.deref.ensures.value, ← c.place.ensures) (sym c.in-Some.ensures) in
+    let fits = rw e at c.requires.fits in
+    rw c.set_row.ensures.items (all_set (λ x. g.T.Amount.amount x < 2 ^ 64) _ _ _ c.requires.bounded (omega arith))

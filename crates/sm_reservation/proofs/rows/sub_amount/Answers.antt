@@ -1,6 +1,6 @@
-use Rattle.std.proofs.Common.{◌≡◌, ◌-◌, Some, refl, sym, arith}
+use Rattle.std.proofs.Common.{◌<◌, ◌^◌, ◌≡◌, ◌-◌, Some, refl, sym, arith}
 use Rattle.sm_reservation.specs.Rows.{row_at}
-use Rattle.sm_reservation.proofs.AmountLemmas.{present_at, amount_put, positive_set, positive_remove}
+use Rattle.sm_reservation.proofs.AmountLemmas.{present_at, amount_put, positive_set, positive_remove, all_set, all_remove}
 use Rattle.sm_reservation.proofs.rows.sub_amount.Goals as goal
 
 pub set_row-requires-clause-present : goal.set_row-requires-clause-present
@@ -17,3 +17,9 @@ returns-then-rest-eq0-clause-positive g c = rw c.take_row.ensures.items (positiv
 
 pub returns-else-rest-eq0-clause-positive : goal.returns-else-rest-eq0-clause-positive
 returns-else-rest-eq0-clause-positive g c = rw c.set_row.ensures.items (positive_set g.T.Amount.amount _ _ _ c.requires.positive (omega arith))
+
+pub returns-then-rest-eq0-clause-bounded : goal.returns-then-rest-eq0-clause-bounded
+returns-then-rest-eq0-clause-bounded g c = rw c.take_row.ensures.items (all_remove (λ x. g.T.Amount.amount x < 2 ^ 64) _ _ c.requires.bounded)
+
+pub returns-else-rest-eq0-clause-bounded : goal.returns-else-rest-eq0-clause-bounded
+returns-else-rest-eq0-clause-bounded g c = rw c.set_row.ensures.items (all_set (λ x. g.T.Amount.amount x < 2 ^ 64) _ _ _ c.requires.bounded (omega arith))

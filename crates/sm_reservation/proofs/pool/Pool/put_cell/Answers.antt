@@ -1,12 +1,12 @@
--- The place that is written is the pair's.
-use Rattle.std.proofs.Common.{◌≡◌, ◌+◌, ◌*◌, Some, refl, ap, arith}
-use Rattle.sm_reservation.specs.Pool.{Stock}
+-- The place that is written is the pair's, and the pair is known.
+use Rattle.std.proofs.Common.{◌≤◌, Some, arith}
 use Rattle.sm_reservation.proofs.PoolLemmas.{cell_put}
 use Rattle.sm_reservation.proofs.pool.Pool.put_cell.Goals as goal
 
-pub returns-clause-hold : goal.returns-clause-hold
-returns-clause-hold c =
-    let e = ap (λ (k : Stock). k.servers) c.self.view_is in
-    let n : c.len.result ≡ c.args.self.now.servers = omega arith in
-    cell_put c.args.right.shard c.args.right.server (c.number-row.result * c.len.result + c.number-column.result) (Some c.args.right.state) c.self.invariant c.self.view_is c.requires.shard c.requires.server
-    (rw (c.number-row.ensures, c.number-column.ensures, n) refl)
+pub returns-in-Some-clause-hold : goal.returns-in-Some-clause-hold
+returns-in-Some-clause-hold c =
+    let known = c.in-Some.ensures.known in
+    cell_put c.args.right.shard c.args.right.server c.in-Some.place (Some c.args.right.state) c.self.invariant c.self.view_is known.0 known.1 known.2
+
+pub returns-in_default-clause-hold : goal.returns-in_default-clause-hold
+returns-in_default-clause-hold c = absurd (let l : c.args.self.now.servers ≤ c.args.right.server = c.in_default.ensures.unknown c.requires.shard in omega (arith, c.requires.server))

@@ -1,12 +1,11 @@
 -- The entry that is read is the server's.
-use Rattle.std.proofs.Common.{◌≤◌, sym, arith}
-use Rattle.sm_reservation.proofs.PoolLemmas.{room_read, stocked_within, stocked_now}
+use Rattle.std.proofs.Common.{◌∙◌, ap, Option}
+use Rattle.std.specs.Option.{unwrap_or}
+use Rattle.std.proofs.Common.{ℕ}
+use Rattle.sm_reservation.proofs.PoolLemmas.{room_got}
 use Rattle.sm_reservation.proofs.pool.Pool.room.Goals as goal
 
-pub returns-then-place-len : goal.returns-then-place-len
-returns-then-place-len c = room_read c.args.server c.index.result.now c.self.invariant c.self.view_is (omega arith) (rw (← c.number-place.ensures) c.index.ensures)
-
-pub returns-else-place-len : goal.returns-else-place-len
-returns-else-place-len c =
-    let l : c.args.self.now.servers ≤ c.args.server = rw (← c.self.view_is) (omega arith) in
-    sym ((stocked_within c.args.self.now (stocked_now c.self.invariant c.self.view_is)).room c.args.server l)
+pub returns : goal.returns
+returns c =
+    c.unwrap_or.ensures ∙ ap (λ (o : Option ℕ). unwrap_or o 0) c.copied.ensures
+    ∙ room_got c.args.server c.get.result c.self.view_is (rw (← c.number-place.ensures, ← c.deref.ensures.value) c.get.ensures.lookup)

@@ -1,12 +1,11 @@
 -- The entry that is read is the shard's.
-use Rattle.std.proofs.Common.{◌≤◌, sym, arith}
-use Rattle.sm_reservation.proofs.PoolLemmas.{spare_read, stocked_within, stocked_now}
+use Rattle.std.proofs.Common.{◌∙◌, ap, Option}
+use Rattle.std.specs.Option.{unwrap_or}
+use Rattle.std.proofs.Common.{ℕ}
+use Rattle.sm_reservation.proofs.PoolLemmas.{spare_got}
 use Rattle.sm_reservation.proofs.pool.Pool.spare.Goals as goal
 
-pub returns-then-place-len : goal.returns-then-place-len
-returns-then-place-len c = spare_read c.args.shard c.index.result.now c.self.invariant c.self.view_is (omega arith) (rw (← c.number-place.ensures) c.index.ensures)
-
-pub returns-else-place-len : goal.returns-else-place-len
-returns-else-place-len c =
-    let l : c.args.self.now.shards ≤ c.args.shard = rw (← c.self.view_is) (omega arith) in
-    sym ((stocked_within c.args.self.now (stocked_now c.self.invariant c.self.view_is)).spare c.args.shard l)
+pub returns : goal.returns
+returns c =
+    c.unwrap_or.ensures ∙ ap (λ (o : Option ℕ). unwrap_or o 0) c.copied.ensures
+    ∙ spare_got c.args.shard c.get.result c.self.view_is (rw (← c.number-place.ensures, ← c.deref.ensures.value) c.get.ensures.lookup)
