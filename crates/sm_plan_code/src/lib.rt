@@ -2,10 +2,14 @@
 #![tactic(auto)]
 
 mod fits;
+#[cfg(test)]
+mod fits_tests;
 mod instruction;
 mod law;
 mod limits;
 mod plan;
+#[cfg(test)]
+mod plan_tests;
 #[cfg(test)]
 mod tests;
 
