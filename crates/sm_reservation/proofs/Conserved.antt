@@ -8,7 +8,7 @@ use Rattle.sm_reservation.specs.Key.{IsOrdered}
 use Rattle.sm_reservation.specs.Hold.{Hold, minus, plus}
 use Rattle.sm_reservation.specs.HoldOf.{hold_of}
 use Rattle.sm_reservation.specs.Amounts.{Right, count}
-use Rattle.sm_reservation.specs.CanJoin.{CanJoin}
+use Rattle.sm_reservation.specs.CanJoin.{AreApart}
 use Rattle.sm_reservation.specs.Short.{first_short}
 use Rattle.sm_reservation.specs.Conservation.{Move, Moves, Trades, after, CanMake, CanMakeAll, after_all, total, given_up, gained, cell_holders, crown_holders, IsAtOnePlace, AllFresh}
 use Rattle.sm_reservation.proofs.ParcelSums.{left, covers, minus_is, plus_is, minus_count, plus_count}
@@ -16,7 +16,7 @@ use Rattle.sm_reservation.proofs.ParcelSums.{left, covers, minus_is, plus_is, mi
 -- an amount of a hold that parcels take out and put in as they say
 pub record IsCarried (f : Hold → ℕ) : Type 0 where
   pub out : (h : Hold) (p : Rights) → IsOrdered p → first_short h p ≡ None → f (minus h p) + f (hold_of p) ≡ f h
-  pub into : (h : Hold) (p : Rights) → IsOrdered p → CanJoin h (hold_of p) → f (plus h p) ≡ f h + f (hold_of p)
+  pub into : (h : Hold) (p : Rights) → IsOrdered p → AreApart h (hold_of p) → f (plus h p) ≡ f h + f (hold_of p)
 
 moved_sum : (f : Hold → ℕ) → IsCarried f → (n : ℕ) (b : ℕ → Hold) (i j : ℕ) (p : Rights) → CanMake n b (Moves i j p) → sum_below n (λ k. f (after b (Moves i j p) k)) ≡ sum_below n (λ k. f (b k))
 moved_sum f c n b i j p can =

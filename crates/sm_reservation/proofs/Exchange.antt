@@ -85,7 +85,7 @@ exchange c p leads h h' s v y lead' n n' m (OfRoom q) = elim (cases_eq q v) [
 ]
 exchange c p leads h h' s v y lead' n n' m (OfSpare r) = elim (cases_eq r s) [
   | inl e ↦ rw e (let a = live_at-put c p s v y (leads s) lead' n n' m.in_servers m.up m.was m.is
-    (leader_known (leads s) n (p.cells s) c.servers m.was m.no_server)
-    (leader_known lead' n' ((set_cell p s v y).cells s) c.servers m.is (none_beyond-put c p s v y m.in_servers m.no_server)) in let b = m.spare_here in omega arith)
+      (leader_known (leads s) n (p.cells s) c.servers m.was m.no_server)
+      (leader_known lead' n' ((set_cell p s v y).cells s) c.servers m.is (none_beyond-put c p s v y m.in_servers m.no_server)) in let b = m.spare_here in omega arith)
   | inr e ↦ let a = live_at-apart c p s v y r e in let b = m.spare_moves.apart r e in omega arith
 ]

@@ -19,7 +19,7 @@ use Rattle.sm_reservation.specs.Amounts.{Right, OfCell, OfCrown, OfRoom, OfSpare
 use Rattle.sm_reservation.specs.Rows.{same, row_at, amount_of, amount_at, Rises}
 use Rattle.sm_reservation.specs.Key.{cell_place, crown_place, room_place, spare_place, IsOrdered}
 use Rattle.sm_reservation.specs.HoldOf.{state_of, crown_of, hold_of}
-use Rattle.sm_reservation.specs.CanJoin.{CanJoin}
+use Rattle.sm_reservation.specs.CanJoin.{CanJoin, AreApart}
 use Rattle.sm_reservation.specs.Short.{cell_short, crown_short, room_short, spare_short, first_answer, first_short}
 use Rattle.sm_placement.proofs.Sums.{put2-here, put2-row, put2-apart}
 use Rattle.sm_reservation.proofs.Places.{same_here, same_first, same_is}
@@ -434,7 +434,7 @@ parted_count h k c (OfCrown s lead listed) = elim (cases_of (k.crowns s)) [
 parted_count h k c (OfRoom v) = let l = c.room v in omega arith
 parted_count h k c (OfSpare s) = let l = c.spare s in omega arith
 
-joined_count : (h k : Hold) → CanJoin h k → (r : Right) → count (joined h k) r ≡ count h r + count k r
+joined_count : (h k : Hold) → AreApart h k → (r : Right) → count (joined h k) r ≡ count h r + count k r
 joined_count h k c (OfCell s v state) = let z = no_cell state in elim (cases_of (k.cells s v)) [
   | inl e ↦ rw e (omega arith)
   | inr e ↦ rw (e.1, c.cells s v e.0 e.1) (omega arith)
@@ -450,15 +450,19 @@ joined_count h k c (OfSpare s) = refl
 pub minus_count : (h : Hold) (p : Rights) → IsOrdered p → first_short h p ≡ None → (r : Right) → count (minus h p) r + count (hold_of p) r ≡ count h r
 minus_count h p o none r = ap (λ (k : Hold). count k r + count (hold_of p) r) (minus_is h p o) ∙ parted_count h (hold_of p) (covers h p none) r
 
+-- what can be joined is apart
+pub apart_of : (h k : Hold) → CanJoin h k → AreApart h k
+apart_of h k c = record { cells = c.cells; crowns = c.crowns }
+
 -- what a parcel puts in is what it says
-pub plus_count : (h : Hold) (p : Rights) → IsOrdered p → CanJoin h (hold_of p) → (r : Right) → count (plus h p) r ≡ count h r + count (hold_of p) r
+pub plus_count : (h : Hold) (p : Rights) → IsOrdered p → AreApart h (hold_of p) → (r : Right) → count (plus h p) r ≡ count h r + count (hold_of p) r
 plus_count h p o c r = ap (λ (k : Hold). count k r) (plus_is h p o) ∙ joined_count h (hold_of p) c r
 
 -- what goes from one hold to another is in one of them before and after
 pub moved_count : (h g : Hold) (p : Rights) → IsOrdered p → first_short h p ≡ None → CanJoin g (hold_of p) → (r : Right) → count (minus h p) r + count (plus g p) r ≡ count h r + count g r
 moved_count h g p o none c r =
     let a = minus_count h p o none r in
-    let b = plus_count g p o c r in
+    let b = plus_count g p o (apart_of g (hold_of p) c) r in
     omega arith
 
 -- what was taken out can be put back

@@ -7,7 +7,7 @@ use Rattle.sm_reservation.specs.Key.{IsOrdered}
 use Rattle.sm_reservation.specs.Hold.{Hold, minus, plus}
 use Rattle.sm_reservation.specs.HoldOf.{hold_of}
 use Rattle.sm_reservation.specs.Amounts.{Right, count}
-use Rattle.sm_reservation.specs.CanJoin.{CanJoin}
+use Rattle.sm_reservation.specs.CanJoin.{AreApart}
 use Rattle.sm_reservation.specs.Short.{first_short}
 
 -- what one call does
@@ -22,10 +22,10 @@ abbrev pub after : (ℕ → Hold) → Move → ℕ → Hold
 after b (Moves i j p) = put (put b i (minus (b i) p)) j (plus (b j) p)
 after b (Trades i p q) = put b i (plus (minus (b i) p) q)
 
--- the conditions of a call, at the first n places
+-- the conditions of a call, at the first n places, but for those on memory and on sums
 abbrev pub CanMake : ℕ → (ℕ → Hold) → Move → Type 0
-CanMake n b (Moves i j p) = (i < n) × (j < n) × (i ≢ j) × IsOrdered p × (first_short (b i) p ≡ None) × CanJoin (b j) (hold_of p)
-CanMake n b (Trades i p q) = (i < n) × IsOrdered p × IsOrdered q × (first_short (b i) p ≡ None) × CanJoin (minus (b i) p) (hold_of q)
+CanMake n b (Moves i j p) = (i < n) × (j < n) × (i ≢ j) × IsOrdered p × (first_short (b i) p ≡ None) × AreApart (b j) (hold_of p)
+CanMake n b (Trades i p q) = (i < n) × IsOrdered p × IsOrdered q × (first_short (b i) p ≡ None) × AreApart (minus (b i) p) (hold_of q)
 
 abbrev pub after_all : (ℕ → Hold) → List Move → ℕ → Hold
 after_all b [] = b

@@ -1,5 +1,5 @@
 -- Rights that are kept in lists with room: how many keys the lists take, and how the lists grow and shrink.
-use Rattle.std.specs.Prelude.{◌≡◌, ℕ, ◌+◌, ◌≤◌, length, count_by}
+use Rattle.std.specs.Prelude.{◌≡◌, ℕ, ◌+◌, ◌≤◌, length, max, count_by}
 use Rattle.std.specs.List.{AllByRecursion}
 use Rattle.sm_reservation.specs.Rights.{Rights}
 use Rattle.sm_reservation.specs.Hold.{Hold, minus}
@@ -20,6 +20,10 @@ pub record Sizes : Type 0 where
 
 abbrev pub sizes : Rights → Sizes
 sizes r = record { cells = length r.cells; crowns = length r.crowns; room = length r.room; spare = length r.spare }
+
+-- how many keys the longest list has
+abbrev pub most_keys : Rights → ℕ
+most_keys r = max (max (max (length r.cells) (length r.crowns)) (length r.room)) (length r.spare)
 
 -- how many keys of a parcel a hold does not have
 abbrev pub new_keys : Hold → Rights → Sizes

@@ -8,7 +8,7 @@ ghost use Rattle.sm_reservation.specs.Rows.{Rises, HasPositive};
 ghost use Rattle.sm_reservation.specs.Key.{cell_place, crown_place, room_place, spare_place};
 ghost use Rattle.sm_reservation.specs.CanJoin.{CanJoin};
 ghost use Rattle.sm_reservation.specs.Short.{first_short};
-ghost use Rattle.sm_reservation.specs.Kept.{IsLess, IsMore, HasPlaces, SumsFit, IsWithin, sizes};
+ghost use Rattle.sm_reservation.specs.Kept.{IsLess, IsMore, HasPlaces, most_keys, SumsFit, IsWithin, sizes};
 ghost use Rattle.sm_reservation.specs.Hold.{minus, plus, with_cell, with_crown, without_crown, get_room, pay_room, get_spare, pay_spare};
 ghost use Rattle.sm_reservation.specs.Amounts.{Right, count};
 ghost use Rattle.sm_reservation.specs.HoldOf.{hold_of};
@@ -65,7 +65,8 @@ impl Hold {
 
     /// A parcel's rights.
     pub fn of_parcel(alloc: Global, parcel: &Parcel) -> Result<Hold, AllocError>
-        ensures { IfOk result (λ hold. hold.rights ≡ parcel.now) }
+        ensures rights { IfOk result (λ hold. hold.rights ≡ parcel.now) }
+        ensures places { IfOk result (λ hold. hold.places ≡ most_keys parcel.now) }
     {
         let cells = parcel.cells();
         let crowns = parcel.crowns();

@@ -3,7 +3,7 @@ ghost use Rattle.std.specs.Prelude.{ℕ, ◌≡◌, ◌<◌, ◌≤◌, ◌+◌,
 ghost use Rattle.sm_placement.specs.Layout.{entries_of};
 ghost use Rattle.sm_reservation.specs.Hold.{no_hold, minus, plus, with_cell, with_crown, without_crown, pay_room, get_room, pay_spare, get_spare};
 ghost use Rattle.sm_reservation.specs.HoldOf.{hold_of};
-ghost use Rattle.sm_reservation.specs.Kept.{HasPlaces, IsMore};
+ghost use Rattle.sm_reservation.specs.Kept.{HasPlaces, most_keys, IsMore};
 ghost use Rattle.sm_reservation.specs.Short.{first_short};
 ghost use Rattle.sm_reservation.specs.TakeFault.{short_of};
 ghost use Rattle.sm_reservation.specs.CanJoin.{CanJoin};
@@ -66,8 +66,7 @@ impl Model for Pool {
 /// A law: no entry of a list is above what a u64 holds.
 fn entries_fit(entries: &[u64])
     ensures { (k : ℕ) → entries_of 0 entries.now k < 2 ^ 64 }
-{
-}
+{}
 
 impl Pool {
     ghost use Rattle.std.specs.Prelude.{length};
@@ -203,6 +202,7 @@ impl Pool {
         ensures enough { OnOk result (first_short (pool_hold self.old) parcel.now ≡ None) }
         ensures taken { OnOk result (pool_hold self.new ≡ minus (pool_hold self.old) parcel.now) }
         ensures given { IfOk result (λ grant. grant.rights ≡ parcel.now) }
+        ensures places { IfOk result (λ grant. grant.places ≡ most_keys parcel.now) }
         ensures kept { IfOk result (λ grant. (r : Right) → count (pool_hold self.new) r + count (hold_of grant.rights) r ≡ count (pool_hold self.old) r) }
         ensures below { IfOk result (λ grant. IsBelow self.new.shards self.new.servers (hold_of grant.rights)) }
         ensures fits { IfOk result (λ grant. CanJoin (pool_hold self.new) (hold_of grant.rights)) }

@@ -279,7 +279,10 @@ fn a_hold_is_edited_by_key(rt: HostRuntime) -> Result<(), Fail> {
     hold.put_room(room(1, 4));
     hold.put_room(room(1, 3));
     hold.put_spare(spare(2, 1));
-    assert_eq!(rt; hold.cell(ShardId::new(0), ServerId::new(1)), Some(PlainCell::Secondary));
+    assert_eq!(rt;
+        hold.cell(ShardId::new(0), ServerId::new(1)),
+        Some(PlainCell::Secondary)
+    );
     assert_eq!(rt; hold.cell(ShardId::new(0), ServerId::new(0)), None);
     assert!(rt; hold.crown(ShardId::new(2)) == Some((Lead::Gone, None)));
     assert!(rt; hold.crown(ShardId::new(1)).is_none());
@@ -324,8 +327,22 @@ fn test_split(
     from: &mut Grant,
     into: &mut Grant,
 ) -> Result<(), AllocError> {
-    let first = parcel(rt, alloc, &[cell(0, 1, PlainCell::Absent)], &[], &[room(1, 3)], &[])?;
-    let second = parcel(rt, alloc, &[cell(0, 2, PlainCell::Absent)], &[], &[room(1, 1)], &[])?;
+    let first = parcel(
+        rt,
+        alloc,
+        &[cell(0, 1, PlainCell::Absent)],
+        &[],
+        &[room(1, 3)],
+        &[],
+    )?;
+    let second = parcel(
+        rt,
+        alloc,
+        &[cell(0, 2, PlainCell::Absent)],
+        &[],
+        &[room(1, 1)],
+        &[],
+    )?;
     let third = parcel(rt, alloc, &[], &[], &[room(2, 2)], &[])?;
     assert_eq!(rt; split(rt, from, into, &first), Ok(()));
     assert!(rt; !into.hold().can_join(&first));

@@ -3,7 +3,8 @@ use Rattle.std.proofs.Common.{◌≡◌, ◌∙◌, ap, refl}
 use Rattle.sm_reservation.specs.Hold.{Hold, plus}
 use Rattle.sm_reservation.specs.Amounts.{count}
 use Rattle.sm_reservation.specs.Pool.{pool_hold}
-use Rattle.sm_reservation.proofs.ParcelSums.{plus_count}
+use Rattle.sm_reservation.proofs.ParcelSums.{plus_count, apart_of}
+use Rattle.sm_reservation.specs.HoldOf.{hold_of}
 use Rattle.sm_reservation.proofs.ParcelRows.{ordered_by, cells_known, crowns_known, rooms_known, spares_known, rooms_fit_in, spares_fit_in}
 use Rattle.sm_reservation.proofs.pool.Pool.put_parcel.Goals as goal
 
@@ -48,4 +49,4 @@ pub returns-clause-sums : goal.returns-clause-sums
 returns-clause-sums c r =
     let p = c.args.parcel.now in
     let e : pool_hold c.put_spares.new.pool ≡ plus (pool_hold c.args.self.now) p = rw (c.put_spares.ensures.hold, c.put_rooms.ensures.hold, c.put_crowns.ensures.hold, c.put_cells.ensures.hold, c.cells-cells.ensures.value, c.crowns-crowns.ensures.value, c.room-rooms.ensures.value, c.spare-spares.ensures.value) refl in
-    ap (λ (h : Hold). count h r) e ∙ plus_count (pool_hold c.args.self.now) p (ordered_by p _ _ _ _ c.cells-cells.ensures.value c.crowns-crowns.ensures.value c.room-rooms.ensures.value c.spare-spares.ensures.value c.cells-cells.ensures.order c.crowns-crowns.ensures.order c.room-rooms.ensures.order c.spare-spares.ensures.order) c.requires.fits r
+    ap (λ (h : Hold). count h r) e ∙ plus_count (pool_hold c.args.self.now) p (ordered_by p _ _ _ _ c.cells-cells.ensures.value c.crowns-crowns.ensures.value c.room-rooms.ensures.value c.spare-spares.ensures.value c.cells-cells.ensures.order c.crowns-crowns.ensures.order c.room-rooms.ensures.order c.spare-spares.ensures.order) (apart_of (pool_hold c.args.self.now) (hold_of p) c.requires.fits) r
