@@ -105,155 +105,112 @@ fn test_rights(
     Ok(())
 }
 
+fn prepare_add(shard: ShardId, server: ServerId, owner: ServerId) -> Instr {
+    Instr::PrepareAdd {
+        shard,
+        server,
+        owner,
+    }
+}
+
+fn prepare_drop(shard: ShardId, server: ServerId, new_owner: ServerId) -> Instr {
+    Instr::PrepareDrop {
+        shard,
+        server,
+        new_owner,
+    }
+}
+
+fn add(shard: ShardId, server: ServerId) -> Instr {
+    Instr::Add {
+        shard,
+        server,
+        role: Role::Primary,
+    }
+}
+
+fn change(shard: ShardId, server: ServerId) -> Instr {
+    Instr::Change {
+        shard,
+        server,
+        to: Role::Secondary,
+    }
+}
+
+/// Whether a plan that makes one of the instructions is of the configuration.
+fn test_code(
+    rt: &impl Abort,
+    alloc: Global,
+    instructions: &[Instr],
+    fits: bool,
+) -> Result<(), AllocError> {
+    let config = config(alloc)?;
+    for instr in instructions {
+        let plan = plan_of_code(alloc, *instr)?;
+        assert_eq!(rt; plan.fits(&config), fits);
+    }
+    Ok(())
+}
+
 #[test]
-fn instructions(rt: HostRuntime) -> Result<(), Fail> {
-    let alloc = rt.alloc();
+fn instructions_within(rt: HostRuntime) -> Result<(), Fail> {
+    let Ids { shard, server, .. } = ends();
+    let instructions = [
+        prepare_add(shard, server, server),
+        prepare_drop(shard, server, server),
+        add(shard, server),
+        Instr::Drop { shard, server },
+        change(shard, server),
+        Instr::Publish { shard },
+        Instr::Unlist { shard },
+        Instr::Signal { signal: 0 },
+        Instr::Wait { signal: 0 },
+    ];
+    test_code(&rt, rt.alloc(), &instructions, true)?;
+    Ok(())
+}
+
+#[test]
+fn instructions_without_shard(rt: HostRuntime) -> Result<(), Fail> {
+    let Ids {
+        server,
+        no_shard: shard,
+        ..
+    } = ends();
+    let instructions = [
+        prepare_add(shard, server, server),
+        prepare_drop(shard, server, server),
+        add(shard, server),
+        Instr::Drop { shard, server },
+        change(shard, server),
+        Instr::Publish { shard },
+        Instr::Unlist { shard },
+    ];
+    test_code(&rt, rt.alloc(), &instructions, false)?;
+    Ok(())
+}
+
+#[test]
+fn instructions_without_server(rt: HostRuntime) -> Result<(), Fail> {
     let Ids {
         shard,
         server,
-        no_shard,
         no_server,
+        ..
     } = ends();
-    let config = config(alloc)?;
     let instructions = [
-        (
-            Instr::PrepareAdd {
-                shard,
-                server,
-                owner: server,
-            },
-            true,
-        ),
-        (
-            Instr::PrepareAdd {
-                shard: no_shard,
-                server,
-                owner: server,
-            },
-            false,
-        ),
-        (
-            Instr::PrepareAdd {
-                shard,
-                server: no_server,
-                owner: server,
-            },
-            false,
-        ),
-        (
-            Instr::PrepareAdd {
-                shard,
-                server,
-                owner: no_server,
-            },
-            false,
-        ),
-        (
-            Instr::PrepareDrop {
-                shard,
-                server,
-                new_owner: server,
-            },
-            true,
-        ),
-        (
-            Instr::PrepareDrop {
-                shard: no_shard,
-                server,
-                new_owner: server,
-            },
-            false,
-        ),
-        (
-            Instr::PrepareDrop {
-                shard,
-                server: no_server,
-                new_owner: server,
-            },
-            false,
-        ),
-        (
-            Instr::PrepareDrop {
-                shard,
-                server,
-                new_owner: no_server,
-            },
-            false,
-        ),
-        (
-            Instr::Add {
-                shard,
-                server,
-                role: Role::Primary,
-            },
-            true,
-        ),
-        (
-            Instr::Add {
-                shard: no_shard,
-                server,
-                role: Role::Primary,
-            },
-            false,
-        ),
-        (
-            Instr::Add {
-                shard,
-                server: no_server,
-                role: Role::Secondary,
-            },
-            false,
-        ),
-        (Instr::Drop { shard, server }, true),
-        (
-            Instr::Drop {
-                shard: no_shard,
-                server,
-            },
-            false,
-        ),
-        (
-            Instr::Drop {
-                shard,
-                server: no_server,
-            },
-            false,
-        ),
-        (
-            Instr::Change {
-                shard,
-                server,
-                to: Role::Primary,
-            },
-            true,
-        ),
-        (
-            Instr::Change {
-                shard: no_shard,
-                server,
-                to: Role::Primary,
-            },
-            false,
-        ),
-        (
-            Instr::Change {
-                shard,
-                server: no_server,
-                to: Role::Secondary,
-            },
-            false,
-        ),
-        (Instr::Publish { shard }, true),
-        (Instr::Publish { shard: no_shard }, false),
-        (Instr::Unlist { shard }, true),
-        (Instr::Unlist { shard: no_shard }, false),
-        (Instr::Signal { signal: 0 }, true),
-        (Instr::Wait { signal: 0 }, true),
+        prepare_add(shard, no_server, server),
+        prepare_add(shard, server, no_server),
+        prepare_drop(shard, no_server, server),
+        prepare_drop(shard, server, no_server),
+        add(shard, no_server),
+        Instr::Drop {
+            shard,
+            server: no_server,
+        },
+        change(shard, no_server),
     ];
-    for (instr, fits) in &instructions {
-        let plan = plan_of_code(alloc, *instr)?;
-        assert_eq!(rt; plan.fits(&config), *fits);
-    }
+    test_code(&rt, rt.alloc(), &instructions, false)?;
     Ok(())
 }
 
