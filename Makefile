@@ -16,7 +16,7 @@ test:
 	scripts/check-examples
 	scripts/check-command-line
 	scripts/check-memory
-	scripts/check-memory-tests sm_tests sm_map
+	scripts/check-memory-tests sm_tests sm_reservation sm_map
 	scripts/refused-programs
 
 bench: build
