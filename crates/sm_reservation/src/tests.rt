@@ -1,4 +1,6 @@
 //! Parcels, holds and grants by example, with each expected value written out by hand.
+mod pools;
+
 use crate::{
     CellRight, Crown, Grant, Hold, Key, Lead, Lists, Parcel, ParcelFault, PlainCell, Room, Short,
     Spare, StreamId, rights_add_up, rights_stay_at_one_place,
