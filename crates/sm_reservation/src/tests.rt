@@ -1,4 +1,6 @@
 //! Parcels, holds and grants by example, with each expected value written out by hand.
+ghost use Rattle.std.specs.Prelude.{◌≡◌};
+
 mod pools;
 
 use crate::{
@@ -61,119 +63,123 @@ fn lists(
 
 /// The parcel of these rights, in which no key stands twice.
 fn parcel(
-    rt: &impl Abort,
     alloc: Global,
     cells: &[CellRight],
     crowns: &[Crown],
     room: &[Room],
     spare: &[Spare],
 ) -> Result<Parcel, AllocError> {
-    match Parcel::new(alloc, lists(alloc, cells, crowns, room, spare)?) {
-        Ok(parcel) => Ok(parcel),
-        Err((_, fault)) => {
-            assert_eq!(rt; fault, ParcelFault::NoMemory);
-            Err(AllocError)
-        }
-    }
+    let lists = lists(alloc, cells, crowns, room, spare)?;
+    Parcel::new(alloc, lists).ok().ok_or(AllocError)
+}
+
+/// Asserts that a parcel is these lists.
+fn assert_parcel(rt: &impl Abort, parcel: &Parcel, want: &Lists) {
+    assert!(rt; parcel.cells() == want.cells.as_slice());
+    assert!(rt; parcel.crowns() == want.crowns.as_slice());
+    assert!(rt; parcel.room() == want.room.as_slice());
+    assert!(rt; parcel.spare() == want.spare.as_slice());
 }
 
 #[test]
 fn a_parcel_is_in_order_without_zeros(rt: HostRuntime) -> Result<(), Fail> {
     let alloc = rt.alloc();
-    let a = cell(0, 2, PlainCell::Secondary);
-    let b = cell(1, 0, PlainCell::Absent);
-    let c = cell(1, 1, PlainCell::Absent);
-    let d = crown(0, at(1), Some(ServerId::new(1)));
-    let e = crown(3, Lead::Gone, None);
-    let parcel = parcel(
-        &rt,
+    let given = parcel(
         alloc,
-        &[c, a, b],
-        &[e, d],
+        &[
+            cell(1, 1, PlainCell::Absent),
+            cell(0, 2, PlainCell::Secondary),
+            cell(1, 0, PlainCell::Absent),
+        ],
+        &[crown(3, Lead::Gone, None), crown(0, at(1), None)],
         &[room(2, 0), room(1, 4), room(0, 7)],
         &[spare(5, 1), spare(4, 0), spare(0, 2)],
     )?;
-    assert!(rt; parcel.cells() == [a, b, c].as_slice());
-    assert!(rt; parcel.crowns() == [d, e].as_slice());
-    assert!(rt; parcel.room() == [room(0, 7), room(1, 4)].as_slice());
-    assert!(rt; parcel.spare() == [spare(0, 2), spare(5, 1)].as_slice());
+    let want = lists(
+        alloc,
+        &[
+            cell(0, 2, PlainCell::Secondary),
+            cell(1, 0, PlainCell::Absent),
+            cell(1, 1, PlainCell::Absent),
+        ],
+        &[crown(0, at(1), None), crown(3, Lead::Gone, None)],
+        &[room(0, 7), room(1, 4)],
+        &[spare(0, 2), spare(5, 1)],
+    )?;
+    assert_parcel(&rt, &given, &want);
     Ok(())
 }
 
-/// Asserts that the four lists are refused with a key, and that they come back.
-fn test_double(
-    rt: &impl Abort,
-    alloc: Global,
-    cells: &[CellRight],
-    crowns: &[Crown],
-    room: &[Room],
-    spare: &[Spare],
-    key: Key,
-) -> Result<(), AllocError> {
-    match Parcel::new(alloc, lists(alloc, cells, crowns, room, spare)?) {
+/// Asserts that the lists are refused with a key, and that they come back.
+fn test_double(rt: &impl Abort, alloc: Global, lists: Lists, want: &Lists, key: Key) {
+    let outcome = Parcel::new(alloc, lists);
+    match &outcome {
         Ok(_) => assert!(rt; false, "{key:?}"),
-        Err((lists, fault)) => {
-            assert_eq!(rt; fault, ParcelFault::Double { key });
-            assert!(rt; lists.cells.as_slice() == cells, "{key:?}");
-            assert!(rt; lists.crowns.as_slice() == crowns, "{key:?}");
-            assert!(rt; lists.room.as_slice() == room, "{key:?}");
-            assert!(rt; lists.spare.as_slice() == spare, "{key:?}");
+        Err(refused) => {
+            assert_eq!(rt; refused.1, ParcelFault::Double { key });
+            assert!(rt; refused.0.cells == want.cells, "{key:?}");
+            assert!(rt; refused.0.crowns == want.crowns, "{key:?}");
+            assert!(rt; refused.0.room == want.room, "{key:?}");
+            assert!(rt; refused.0.spare == want.spare, "{key:?}");
         }
     }
-    Ok(())
+}
+
+/// Lists in which the cells of one key have two states, the crowns of one key two leads, and one of two amounts is 0;
+/// from the kind with this number on.
+fn doubled_lists(alloc: Global, from: u32) -> Result<Lists, AllocError> {
+    let mut lists = lists(
+        alloc,
+        &[
+            cell(2, 1, PlainCell::Absent),
+            cell(2, 0, PlainCell::Absent),
+            cell(2, 1, PlainCell::Secondary),
+            cell(1, 9, PlainCell::Absent),
+            cell(1, 9, PlainCell::Absent),
+        ],
+        &[
+            crown(4, Lead::Gone, None),
+            crown(2, at(0), None),
+            crown(2, at(1), None),
+        ],
+        &[room(3, 5), room(1, 2), room(3, 0)],
+        &[spare(0, 0), spare(6, 1), spare(0, 0)],
+    )?;
+    if from > 0 {
+        lists.cells.clear();
+    }
+    if from > 1 {
+        lists.crowns.clear();
+    }
+    if from > 2 {
+        lists.room.clear();
+    }
+    Ok(lists)
 }
 
 #[test]
-fn a_key_that_stands_twice_is_refused(rt: HostRuntime) -> Result<(), Fail> {
+fn the_lowest_key_that_stands_twice_is_refused(rt: HostRuntime) -> Result<(), Fail> {
     let alloc = rt.alloc();
-    let cells = [
-        cell(2, 1, PlainCell::Absent),
-        cell(1, 3, PlainCell::Secondary),
-        cell(2, 1, PlainCell::Secondary),
-        cell(1, 4, PlainCell::Absent),
+    let keys = [
+        Key::CellRight {
+            shard: ShardId::new(1),
+            server: ServerId::new(9),
+        },
+        Key::Crown {
+            shard: ShardId::new(2),
+        },
+        Key::Room {
+            server: ServerId::new(3),
+        },
+        Key::Spare {
+            shard: ShardId::new(0),
+        },
     ];
-    let crowns = [
-        crown(4, Lead::Gone, None),
-        crown(2, at(0), None),
-        crown(2, at(1), None),
-    ];
-    let rooms = [room(3, 5), room(1, 2), room(3, 0)];
-    let spares = [spare(0, 0), spare(6, 1), spare(0, 0)];
-    let cell_key = Key::CellRight {
-        shard: ShardId::new(2),
-        server: ServerId::new(1),
-    };
-    let crown_key = Key::Crown {
-        shard: ShardId::new(2),
-    };
-    let room_key = Key::Room {
-        server: ServerId::new(3),
-    };
-    let spare_key = Key::Spare {
-        shard: ShardId::new(0),
-    };
-    test_double(&rt, alloc, &cells, &crowns, &rooms, &spares, cell_key)?;
-    test_double(&rt, alloc, &[], &crowns, &rooms, &spares, crown_key)?;
-    test_double(&rt, alloc, &[], &[], &rooms, &spares, room_key)?;
-    test_double(&rt, alloc, &[], &[], &[], &spares, spare_key)?;
-    Ok(())
-}
-
-#[test]
-fn the_lowest_of_two_doubles_is_named(rt: HostRuntime) -> Result<(), Fail> {
-    let alloc = rt.alloc();
-    let cells = [
-        cell(2, 0, PlainCell::Absent),
-        cell(1, 9, PlainCell::Absent),
-        cell(2, 0, PlainCell::Absent),
-        cell(1, 9, PlainCell::Absent),
-        cell(1, 7, PlainCell::Absent),
-    ];
-    let key = Key::CellRight {
-        shard: ShardId::new(1),
-        server: ServerId::new(9),
-    };
-    test_double(&rt, alloc, &cells, &[], &[], &[], key)?;
+    for from in 0..4 {
+        let given = doubled_lists(alloc, from)?;
+        let want = doubled_lists(alloc, from)?;
+        test_double(&rt, alloc, given, &want, keys[from as usize]);
+    }
     Ok(())
 }
 
@@ -208,9 +214,8 @@ fn keys_go_by_kind_then_shard_then_server(rt: HostRuntime) {
 }
 
 /// A hold with the rights of a handover: a crown, a cell and room.
-fn worked_hold(rt: &impl Abort, alloc: Global) -> Result<Hold, AllocError> {
+fn worked_hold(alloc: Global) -> Result<Hold, AllocError> {
     let parcel = parcel(
-        rt,
         alloc,
         &[cell(0, 1, PlainCell::Absent)],
         &[crown(0, at(0), Some(ServerId::new(0)))],
@@ -220,82 +225,77 @@ fn worked_hold(rt: &impl Abort, alloc: Global) -> Result<Hold, AllocError> {
     Hold::of_parcel(alloc, &parcel)
 }
 
+fn test_short(rt: &impl Abort, hold: &Hold, asked: &Parcel, key: Key, had: u64, amount: u64) {
+    let short = Short {
+        key,
+        had,
+        asked: amount,
+    };
+    assert_eq!(rt; hold.first_short(asked), Some(short));
+}
+
 #[test]
 fn a_hold_names_the_first_key_that_is_short(rt: HostRuntime) -> Result<(), Fail> {
     let alloc = rt.alloc();
-    let hold = worked_hold(&rt, alloc)?;
-    let other_state = cell(0, 1, PlainCell::Secondary);
-    let other_lead = crown(0, at(1), Some(ServerId::new(0)));
-    let other_listed = crown(0, at(0), None);
-    let cell_key = Key::CellRight {
-        shard: ShardId::new(0),
-        server: ServerId::new(1),
-    };
-    let crown_key = Key::Crown {
-        shard: ShardId::new(0),
-    };
-    let asked = parcel(&rt, alloc, &[other_state], &[other_lead], &[], &[])?;
-    let short = Short {
-        key: cell_key,
-        had: 0,
-        asked: 1,
-    };
-    assert_eq!(rt; hold.first_short(&asked), Some(short));
-    for crown in [other_lead, other_listed] {
-        let asked = parcel(&rt, alloc, &[], &[crown], &[], &[])?;
-        let short = Short {
-            key: crown_key,
-            had: 0,
-            asked: 1,
-        };
-        assert_eq!(rt; hold.first_short(&asked), Some(short));
-    }
-    let asked = parcel(&rt, alloc, &[], &[], &[room(1, 5)], &[spare(0, 1)])?;
-    let short = Short {
-        key: Key::Room {
-            server: ServerId::new(1),
-        },
-        had: 4,
-        asked: 5,
-    };
-    assert_eq!(rt; hold.first_short(&asked), Some(short));
-    let asked = parcel(&rt, alloc, &[], &[], &[room(1, 4)], &[spare(7, 2)])?;
-    let short = Short {
-        key: Key::Spare {
-            shard: ShardId::new(7),
-        },
-        had: 0,
-        asked: 2,
-    };
-    assert_eq!(rt; hold.first_short(&asked), Some(short));
+    let hold = worked_hold(alloc)?;
+    let shard = ShardId::new(0);
+    let server = ServerId::new(1);
+    let other_state = [cell(0, 1, PlainCell::Secondary)];
+    let other_lead = [crown(0, at(1), Some(ServerId::new(0)))];
+    let other_listed = [crown(0, at(0), None)];
+    let asked = parcel(alloc, &other_state, &other_lead, &[], &[])?;
+    test_short(&rt, &hold, &asked, Key::CellRight { shard, server }, 0, 1);
+    let asked = parcel(alloc, &[], &other_lead, &[], &[])?;
+    test_short(&rt, &hold, &asked, Key::Crown { shard }, 0, 1);
+    let asked = parcel(alloc, &[], &other_listed, &[], &[])?;
+    test_short(&rt, &hold, &asked, Key::Crown { shard }, 0, 1);
+    let asked = parcel(alloc, &[], &[], &[room(1, 5)], &[spare(0, 1)])?;
+    test_short(&rt, &hold, &asked, Key::Room { server }, 4, 5);
+    let asked = parcel(alloc, &[], &[], &[room(1, 4)], &[spare(0, 2)])?;
+    test_short(&rt, &hold, &asked, Key::Spare { shard }, 0, 2);
     Ok(())
+}
+
+/// Puts room in, where there is a place for it.
+fn put_room(rt: &impl Abort, hold: &mut Hold, room: Room) {
+    assert!(rt; hold.room(room.server) <= u64::MAX - room.amount);
+    if hold.room(room.server) == 0 {
+        assert!(rt; hold.rooms().len() < hold.places());
+    }
+    hold.put_room(room);
+}
+
+/// Takes room out, where there is as much.
+fn take_room(rt: &impl Abort, hold: &mut Hold, room: Room) {
+    assert!(rt; room.amount <= hold.room(room.server));
+    hold.take_room(room);
+}
+
+/// Puts a cell right in, where there is a place for it.
+fn put_cell(rt: &impl Abort, hold: &mut Hold, right: CellRight) {
+    if hold.cell(right.shard, right.server).is_none() {
+        assert!(rt; hold.cells().len() < hold.places());
+    }
+    hold.put_cell(right);
 }
 
 #[test]
 fn a_hold_is_edited_by_key(rt: HostRuntime) -> Result<(), Fail> {
     let alloc = rt.alloc();
     let mut hold = Hold::empty(alloc, 1)?;
-    hold.put_cell(cell(0, 1, PlainCell::Absent));
-    hold.put_cell(cell(0, 1, PlainCell::Secondary));
-    hold.put_crown(crown(2, Lead::Gone, None));
-    hold.put_room(room(1, 4));
-    hold.put_room(room(1, 3));
-    hold.put_spare(spare(2, 1));
-    assert_eq!(rt; hold.cell(ShardId::new(0), ServerId::new(1)), Some(PlainCell::Secondary));
-    assert_eq!(rt; hold.cell(ShardId::new(0), ServerId::new(0)), None);
-    assert!(rt; hold.crown(ShardId::new(2)) == Some((Lead::Gone, None)));
-    assert!(rt; hold.crown(ShardId::new(1)).is_none());
-    assert_eq!(rt; hold.room(ServerId::new(1)), 7);
-    assert_eq!(rt; hold.spare(ShardId::new(2)), 1);
-    hold.take_room(room(1, 6));
-    hold.take_spare(spare(2, 1));
-    hold.take_crown(ShardId::new(2));
+    put_cell(&rt, &mut hold, cell(0, 1, PlainCell::Absent));
+    put_cell(&rt, &mut hold, cell(0, 1, PlainCell::Secondary));
+    put_room(&rt, &mut hold, room(1, 4));
+    put_room(&rt, &mut hold, room(1, 3));
+    put_room(&rt, &mut hold, room(1, 0));
+    take_room(&rt, &mut hold, room(1, 6));
     hold.take_cell(ShardId::new(5), ServerId::new(5));
-    let parcel = hold.into_parcel();
-    assert!(rt; parcel.cells() == [cell(0, 1, PlainCell::Secondary)].as_slice());
-    assert!(rt; parcel.crowns().is_empty());
-    assert!(rt; parcel.room() == [room(1, 1)].as_slice());
-    assert!(rt; parcel.spare().is_empty());
+    let right = hold.cell(ShardId::new(0), ServerId::new(1));
+    assert_eq!(rt; right, Some(PlainCell::Secondary));
+    let given = hold.into_parcel();
+    let cells = [cell(0, 1, PlainCell::Secondary)];
+    let want = lists(alloc, &cells, &[], &[room(1, 1)], &[])?;
+    assert_parcel(&rt, &given, &want);
     Ok(())
 }
 
@@ -311,13 +311,10 @@ fn split(
     from.split(into, parcel)
 }
 
-/// Puts a spent grant's rights side by side with those of a parcel.
-fn assert_holds(rt: &impl Abort, grant: Grant, want: &Parcel) {
-    let had = grant.into_hold().into_parcel();
-    assert!(rt; had.cells() == want.cells());
-    assert!(rt; had.crowns() == want.crowns());
-    assert!(rt; had.room() == want.room());
-    assert!(rt; had.spare() == want.spare());
+/// Spends a grant, whose rights are to be these.
+fn assert_spent(rt: &impl Abort, grant: Grant, want: &Lists) {
+    let parcel = grant.into_hold().into_parcel();
+    assert_parcel(rt, &parcel, want);
 }
 
 fn test_split(
@@ -326,16 +323,16 @@ fn test_split(
     from: &mut Grant,
     into: &mut Grant,
 ) -> Result<(), AllocError> {
-    let first = parcel(rt, alloc, &[cell(0, 1, PlainCell::Absent)], &[], &[room(1, 3)], &[])?;
-    let second = parcel(rt, alloc, &[cell(0, 2, PlainCell::Absent)], &[], &[room(1, 1)], &[])?;
-    let third = parcel(rt, alloc, &[], &[], &[room(2, 2)], &[])?;
+    let first = [cell(0, 1, PlainCell::Absent)];
+    let second = [cell(0, 2, PlainCell::Absent)];
+    let first = parcel(alloc, &first, &[], &[room(1, 3)], &[])?;
+    let second = parcel(alloc, &second, &[], &[room(1, 1)], &[])?;
+    let third = parcel(alloc, &[], &[], &[room(2, 2)], &[])?;
     assert_eq!(rt; split(rt, from, into, &first), Ok(()));
     assert!(rt; !into.hold().can_join(&first));
     assert!(rt; !into.hold().has_places(&second));
     into.reserve(2)?;
     assert_eq!(rt; split(rt, from, into, &second), Ok(()));
-    assert_eq!(rt; from.room(ServerId::new(1)), 0);
-    assert_eq!(rt; into.room(ServerId::new(1)), 4);
     let short = Short {
         key: Key::Room {
             server: ServerId::new(2),
@@ -344,27 +341,97 @@ fn test_split(
         asked: 2,
     };
     assert_eq!(rt; split(rt, from, into, &third), Err(short));
-    assert_eq!(rt; into.room(ServerId::new(2)), 0);
     Ok(())
 }
 
-/// Rooms of one key are filled, and a key that is there asks for none.
+/// A grant is filled to its room, and a key that is there asks for none.
 #[test]
 fn a_grant_is_filled_to_its_room(rt: HostRuntime) -> Result<(), Fail> {
     let alloc = rt.alloc();
     let cells = [cell(0, 1, PlainCell::Absent), cell(0, 2, PlainCell::Absent)];
     let crowns = [crown(0, at(0), Some(ServerId::new(0)))];
-    let all = parcel(&rt, alloc, &cells, &crowns, &[room(1, 4)], &[])?;
-    let left = parcel(&rt, alloc, &[], &crowns, &[], &[])?;
-    let taken = parcel(&rt, alloc, &cells, &[], &[room(1, 4)], &[])?;
+    let all = parcel(alloc, &cells, &crowns, &[room(1, 4)], &[])?;
+    let left = lists(alloc, &[], &crowns, &[], &[])?;
+    let taken = lists(alloc, &cells, &[], &[room(1, 4)], &[])?;
     let hold = Hold::of_parcel(alloc, &all)?;
     let mut into = Grant::empty(alloc, 1)?;
     let mut from = Grant::of_hold(hold);
     let outcome = test_split(&rt, alloc, &mut from, &mut into);
-    assert_holds(&rt, from, &left);
-    assert_holds(&rt, into, &taken);
+    assert_spent(&rt, from, &left);
+    assert_spent(&rt, into, &taken);
     outcome?;
     Ok(())
+}
+
+/// Joins a grant of these rights to another, where the conditions are met.
+fn join(rt: &impl Abort, into: &mut Grant, grant: Grant, rights: &Parcel)
+    requires { grant.rights ≡ rights.now }
+{
+    assert!(rt; into.hold().can_join(rights));
+    assert!(rt; into.hold().has_places(rights));
+    into.join(grant);
+}
+
+/// A grant takes all rights of another in.
+#[test]
+fn grants_are_joined(rt: HostRuntime) -> Result<(), Fail> {
+    let alloc = rt.alloc();
+    let cells = [cell(0, 1, PlainCell::Absent)];
+    let crowns = [crown(0, Lead::Gone, None)];
+    let all = parcel(alloc, &cells, &crowns, &[room(1, 4)], &[spare(2, 1)])?;
+    let want = lists(alloc, &cells, &crowns, &[room(1, 4)], &[spare(2, 1)])?;
+    let hold = Hold::of_parcel(alloc, &all)?;
+    let mut into = Grant::empty(alloc, 1)?;
+    join(&rt, &mut into, Grant::of_hold(hold), &all);
+    assert_spent(&rt, into, &want);
+    Ok(())
+}
+
+/// Where an allocation is refused, `new` says so and gives the lists back.
+#[test]
+fn a_parcel_is_made_or_not(rt: HostRuntime) {
+    let alloc = rt.alloc();
+    let cells = [
+        cell(0, 1, PlainCell::Absent),
+        cell(0, 0, PlainCell::Secondary),
+    ];
+    let crowns = [crown(0, Lead::Gone, None)];
+    let (Ok(given), Ok(want)) = (
+        lists(alloc, &cells, &crowns, &[room(1, 4)], &[spare(2, 1)]),
+        lists(alloc, &cells, &crowns, &[room(1, 4)], &[spare(2, 1)]),
+    ) else {
+        return;
+    };
+    let outcome = Parcel::new(alloc, given);
+    match &outcome {
+        Ok(parcel) => assert_eq!(rt; parcel.cells().len(), 2),
+        Err(refused) => {
+            assert_eq!(rt; refused.1, ParcelFault::NoMemory);
+            assert!(rt; refused.0.cells == want.cells);
+            assert!(rt; refused.0.crowns == want.crowns);
+            assert!(rt; refused.0.room == want.room);
+            assert!(rt; refused.0.spare == want.spare);
+        }
+    }
+}
+
+/// Where an allocation is refused, a grant keeps its rights and its room.
+#[test]
+fn a_grant_gets_room_or_not(rt: HostRuntime) {
+    let alloc = rt.alloc();
+    if let Ok(hold) = worked_hold(alloc) {
+        let mut grant = Grant::of_hold(hold);
+        let outcome = grant.reserve(40);
+        let places = grant.hold().places();
+        assert_eq!(rt; grant.room(ServerId::new(1)), 4);
+        assert!(rt; grant.crown(ShardId::new(0)).is_some());
+        let _ = grant.into_hold();
+        assert_eq!(rt; places, if outcome.is_ok() { 40 } else { 1 });
+    }
+    if let Ok(grant) = Grant::empty(alloc, 3) {
+        assert_eq!(rt; grant.hold().places(), 3);
+        let _ = grant.into_hold();
+    }
 }
 
 #[test]

@@ -1,5 +1,5 @@
 use Rattle.std.proofs.Common.{◌<◌, ◌^◌, ◌≡◌, ◌+◌, Some, refl, sym, arith}
-use Rattle.sm_reservation.specs.Rows.{row_at}
+use Rattle.sm_reservation.specs.Rows.{count_before, row_at}
 use Rattle.sm_reservation.proofs.AmountLemmas.{present_at, amount_put, positive_at, positive_insert, positive_set, bit_positive, all_insert, all_set}
 use Rattle.sm_reservation.proofs.rows.add_amount.Goals as goal
 
@@ -30,4 +30,4 @@ pub returns-in-Some-clause-bounded : goal.returns-in-Some-clause-bounded
 returns-in-Some-clause-bounded g c =
     let e : row_at g.T.Row.place c.args.rows.now.items (g.T.Row.place c.args.row) ≡ Some c.in-Some.held = rw (← c.deref.ensures.value, ← c.place.ensures) (sym c.in-Some.ensures) in
     let fits = rw e at c.requires.fits in
-    rw c.set_row.ensures.items (all_set (λ x. g.T.Amount.amount x < 2 ^ 64) _ _ _ c.requires.bounded (omega arith))
+    rw c.set_row.ensures.items (all_set (λ x. g.T.Amount.amount x < 2 ^ 64) (count_before g.T.Row.place (g.T.Row.place c.with_amount.result) c.args.rows.now.items) _ _ c.requires.bounded (omega arith))
