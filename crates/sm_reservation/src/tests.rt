@@ -1,6 +1,8 @@
 //! Parcels, holds and grants by example, with each expected value written out by hand.
 ghost use Rattle.std.specs.Prelude.{◌≡◌};
 
+mod pools;
+
 use crate::{
     CellRight, Crown, Grant, Hold, Key, Lead, Lists, Parcel, ParcelFault, PlainCell, Room, Short,
     Spare, StreamId, rights_add_up, rights_stay_at_one_place,
