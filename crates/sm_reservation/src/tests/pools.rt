@@ -96,7 +96,6 @@ fn a_pool_opens_with_all_that_is_free(rt: HostRuntime) -> Result<(), Fail> {
 /// What a handover of shard 0 from server 0 to server 1 asks for: the crown, the cell and room.
 fn handover(rt: &impl Abort, alloc: Global) -> Result<Parcel, AllocError> {
     parcel(
-        rt,
         alloc,
         &[cell(0, 1, PlainCell::Absent)],
         &[crown(0, at(0), Some(ServerId::new(0)))],
@@ -157,7 +156,6 @@ fn missing(key: Key) -> Short {
 /// Asserts that a right to a secondary's cell is refused, before what else is short.
 fn test_cell(rt: &impl Abort, alloc: Global, pool: &mut Pool, shard: u32, server: u32) -> Result<(), AllocError> {
     let asked = parcel(
-        rt,
         alloc,
         &[cell(1, 0, PlainCell::Absent), cell(shard, server, PlainCell::Secondary)],
         &[crown(0, at(0), None)],
@@ -185,7 +183,7 @@ fn cells_that_are_not_so_are_short(rt: HostRuntime) -> Result<(), Fail> {
 
 /// Asserts that a crown is refused, before what else is short.
 fn test_crown(rt: &impl Abort, alloc: Global, pool: &mut Pool, other: Crown) -> Result<(), AllocError> {
-    let asked = parcel(rt, alloc, &[], &[other], &[room(1, 5)], &[])?;
+    let asked = parcel(alloc, &[], &[other], &[room(1, 5)], &[])?;
     assert_refused(rt, alloc, pool, &asked, missing(Key::Crown { shard: other.shard }));
     Ok(())
 }
@@ -205,7 +203,7 @@ fn amounts_that_are_not_there_are_short(rt: HostRuntime) -> Result<(), Fail> {
     let alloc = rt.alloc();
     let mut pool = worked_pool(&rt, alloc)?;
     for (server, had, amount) in [(1, 4, 5), (2, 0, 1), (3, 0, 1)] {
-        let asked = parcel(&rt, alloc, &[], &[], &[room(0, 6), room(server, amount)], &[spare(1, 1)])?;
+        let asked = parcel(alloc, &[], &[], &[room(0, 6), room(server, amount)], &[spare(1, 1)])?;
         let key = Key::Room {
             server: ServerId::new(server),
         };
@@ -217,7 +215,7 @@ fn amounts_that_are_not_there_are_short(rt: HostRuntime) -> Result<(), Fail> {
         assert_refused(&rt, alloc, &mut pool, &asked, short);
     }
     for (shard, had, amount) in [(0, 1, 2), (1, 0, 1), (2, 0, 1)] {
-        let asked = parcel(&rt, alloc, &[], &[], &[room(0, 6)], &[spare(shard, amount)])?;
+        let asked = parcel(alloc, &[], &[], &[room(0, 6)], &[spare(shard, amount)])?;
         let key = Key::Spare {
             shard: ShardId::new(shard),
         };
@@ -240,7 +238,7 @@ fn fill(rt: &impl Abort, pool: &mut Pool, grant: &mut Grant, asked: &Parcel) -> 
 
 fn test_fill(rt: &impl Abort, alloc: Global, pool: &mut Pool, grant: &mut Grant) -> Result<(), AllocError> {
     let asked = handover(rt, alloc)?;
-    let more = parcel(rt, alloc, &[], &[], &[room(1, 1)], &[])?;
+    let more = parcel(alloc, &[], &[], &[room(1, 1)], &[])?;
     assert_eq!(rt; fill(rt, pool, grant, &asked), Ok(()));
     assert_handed_out(rt, pool);
     let short = Short {
