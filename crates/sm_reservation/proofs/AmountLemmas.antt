@@ -39,9 +39,9 @@ positive_remove amount (suc i) (x ∷ xs) h = (h.0, positive_remove amount i xs 
 pub positive_at : {T : Type 0} (place : T → ℕ × ℕ) (amount : T → ℕ) (k : ℕ × ℕ) (xs : List T) (v : T) → HasPositive amount xs → row_at place xs k ≡ Some v → 0 < amount v
 positive_at place amount k [] v h e = cc
 positive_at place amount k (x ∷ xs) v h e = elim (cases_Bool (same (place x) k)) [
-    | inl s ↦ let f = rw s at e in let it : x ≡ v = cc in rw (← it) h.0
-    | inr s ↦ positive_at place amount k xs v h.1 (rw s at e)
-  ]
+  | inl s ↦ let f = rw s at e in let it : x ≡ v = cc in rw (← it) h.0
+  | inr s ↦ positive_at place amount k xs v h.1 (rw s at e)
+]
 
 pub bit_positive : (n : ℕ) → 0 < n → bit (n == 0) ≡ 0
 bit_positive n p = let apart : (n == 0) ≡ false = grind (arith, nat_tests) in rw apart refl

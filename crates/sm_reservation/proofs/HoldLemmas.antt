@@ -14,18 +14,18 @@ use Rattle.sm_reservation.specs.declared.right.Crown.{Crown}
 use Rattle.sm_reservation.specs.declared.right.Room.{Room}
 use Rattle.sm_reservation.specs.declared.right.Spare.{Spare}
 
-same_pair : (s v a b : ℕ) → same (s, v) (a, b) ≡ (eqb a s && eqb b v)
+pub same_pair : (s v a b : ℕ) → same (s, v) (a, b) ≡ (eqb a s && eqb b v)
 same_pair s v a b = grind (arith, nat_tests)
 
 -- a function of pairs changed at one pair
-at_pair : {A : Type 0} (f : ℕ → ℕ → A) (s v : ℕ) (x : A) (a b : ℕ) → put2 f s v x a b ≡ cond (eqb a s && eqb b v) x (f a b)
+pub at_pair : {A : Type 0} (f : ℕ → ℕ → A) (s v : ℕ) (x : A) (a b : ℕ) → put2 f s v x a b ≡ cond (eqb a s && eqb b v) x (f a b)
 at_pair f s v x a b = elim (cases_Bool (eqb a s)) [
-    | inl e ↦ elim (cases_Bool (eqb b v)) [
-        | inl d ↦ rw (e, d) refl
-        | inr d ↦ let it : a ≡ s = eqb-true a s e in rw (e, d, it) refl
-      ]
-    | inr e ↦ rw e refl
+  | inl e ↦ elim (cases_Bool (eqb b v)) [
+    | inl d ↦ rw (e, d) refl
+    | inr d ↦ let it : a ≡ s = eqb-true a s e in rw (e, d, it) refl
   ]
+  | inr e ↦ rw e refl
+]
 
 state_put : (y : Option CellRight) (b : Bool) (o : Option CellRight) → state_of (cond b o y) ≡ cond b (state_of o) (state_of y)
 state_put y true o = refl
@@ -36,11 +36,11 @@ pub cells_put : (r : Rights) (xs : List CellRight) (s v : ℕ) (o : Option CellR
 unfolding hold_of
 cells_put r xs s v o is =
     let at : (a b : ℕ) → state_of (row_at cell_place xs (a, b)) ≡ put2 ((hold_of r).cells) s v (state_of o) a b = λ a b.
-        ap state_of (is (a, b)) ∙ state_put (row_at cell_place r.cells (a, b)) (same (s, v) (a, b)) o ∙ rw (same_pair s v a b) (sym (at_pair ((hold_of r).cells) s v (state_of o) a b)) in
+    ap state_of (is (a, b)) ∙ state_put (row_at cell_place r.cells (a, b)) (same (s, v) (a, b)) o ∙ rw (same_pair s v a b) (sym (at_pair ((hold_of r).cells) s v (state_of o) a b)) in
     let f : (λ a b. state_of (row_at cell_place xs (a, b))) ≡ put2 ((hold_of r).cells) s v (state_of o) = fun_ext (λ a. fun_ext (λ b. at a b)) in
     ap (λ g. record (hold_of r) { cells = g }) f
 
-same_front : (s a : ℕ) → same (s, 0) (a, 0) ≡ eqb a s
+pub same_front : (s a : ℕ) → same (s, 0) (a, 0) ≡ eqb a s
 same_front s a = grind (arith, nat_tests)
 
 crown_put : (y : Option Crown) (b : Bool) (o : Option Crown) → crown_of (cond b o y) ≡ cond b (crown_of o) (crown_of y)
@@ -52,7 +52,7 @@ pub crowns_put : (r : Rights) (xs : List Crown) (s : ℕ) (o : Option Crown) →
 unfolding hold_of
 crowns_put r xs s o is =
     let at : (a : ℕ) → crown_of (row_at crown_place xs (a, 0)) ≡ put ((hold_of r).crowns) s (crown_of o) a = λ a.
-        ap crown_of (is (a, 0)) ∙ crown_put (row_at crown_place r.crowns (a, 0)) (same (s, 0) (a, 0)) o ∙ rw (same_front s a) refl in
+    ap crown_of (is (a, 0)) ∙ crown_put (row_at crown_place r.crowns (a, 0)) (same (s, 0) (a, 0)) o ∙ rw (same_front s a) refl in
     let f : (λ a. crown_of (row_at crown_place xs (a, 0))) ≡ put ((hold_of r).crowns) s (crown_of o) = fun_ext (λ a. at a) in
     ap (λ g. record (hold_of r) { crowns = g }) f
 

@@ -8,7 +8,12 @@ pub mod OrderLemmas
 pub mod ElementLemmas
 pub mod DoubleLemmas
 pub mod HoldLemmas
+pub mod StepLemmas
+pub mod TurnLemmas
+pub mod ShortLemmas
+pub mod ParcelMoves
 pub mod ParcelSums
 pub mod ParcelRows
 pub mod PoolLemmas
 pub mod OpeningLemmas
+pub mod TradeLemmas

@@ -20,8 +20,8 @@ crown_of (Some x) = Some (x.lead, x.listed)
 -- the hold that four lists in order are
 unfoldable pub hold_of : Rights → Hold
 hold_of r = record {
-    cells = λ s v. state_of (row_at cell_place r.cells (s, v));
-    crowns = λ s. crown_of (row_at crown_place r.crowns (s, 0));
-    room = λ v. amount_at room_place (λ x. x.amount) r.room (v, 0);
-    spare = λ s. amount_at spare_place (λ x. x.amount) r.spare (s, 0);
-  }
+  cells = λ s v. state_of (row_at cell_place r.cells (s, v));
+  crowns = λ s. crown_of (row_at crown_place r.crowns (s, 0));
+  room = λ v. amount_at room_place (λ x. x.amount) r.room (v, 0);
+  spare = λ s. amount_at spare_place (λ x. x.amount) r.spare (s, 0);
+}

@@ -1,5 +1,5 @@
 -- Rights that are kept in lists with room: how many keys the lists take, and how the lists grow and shrink.
-use Rattle.std.specs.Prelude.{◌≡◌, ℕ, ◌+◌, ◌≤◌, None, length, count_by}
+use Rattle.std.specs.Prelude.{◌≡◌, ℕ, ◌+◌, ◌≤◌, length, count_by}
 use Rattle.std.specs.List.{AllByRecursion}
 use Rattle.sm_reservation.specs.Rights.{Rights}
 use Rattle.sm_reservation.specs.Hold.{Hold, minus}
@@ -24,20 +24,20 @@ sizes r = record { cells = length r.cells; crowns = length r.crowns; room = leng
 -- how many keys of a parcel a hold does not have
 abbrev pub new_keys : Hold → Rights → Sizes
 new_keys h p = record {
-    cells = count_by (lacks_cell h) p.cells;
-    crowns = count_by (lacks_crown h) p.crowns;
-    room = count_by (lacks_room h) p.room;
-    spare = count_by (lacks_spare h) p.spare;
-  }
+  cells = count_by (lacks_cell h) p.cells;
+  crowns = count_by (lacks_crown h) p.crowns;
+  room = count_by (lacks_room h) p.room;
+  spare = count_by (lacks_spare h) p.spare;
+}
 
 -- how many keys a hold no longer has once a parcel is taken out
 abbrev pub lost_keys : Hold → Rights → Sizes
 lost_keys h p = record {
-    cells = count_by (loses_cell h) p.cells;
-    crowns = count_by (loses_crown h) p.crowns;
-    room = count_by (loses_room h) p.room;
-    spare = count_by (loses_spare h) p.spare;
-  }
+  cells = count_by (loses_cell h) p.cells;
+  crowns = count_by (loses_crown h) p.crowns;
+  room = count_by (loses_room h) p.room;
+  spare = count_by (loses_spare h) p.spare;
+}
 
 abbrev pub add_sizes : Sizes → Sizes → Sizes
 add_sizes a b = record { cells = a.cells + b.cells; crowns = a.crowns + b.crowns; room = a.room + b.room; spare = a.spare + b.spare }
@@ -63,12 +63,19 @@ pub record IsMore (old new : Kept) (p : Rights) : Type 0 where
   pub sizes : sizes new.rights ≡ add_sizes (sizes old.rights) (new_keys (hold_of old.rights) p)
   pub places : new.places ≡ old.places
 
--- the hold has no cell right and no crown of the parcel
-pub record IsApart (h : Hold) (p : Rights) : Type 0 where
-  pub cells : AllByRecursion (λ x. h.cells x.shard x.server ≡ None) p.cells
-  pub crowns : AllByRecursion (λ x. h.crowns x.shard ≡ None) p.crowns
-
 -- no sum of the parcel and the hold passes u64
 pub record SumsFit (h : Hold) (p : Rights) : Type 0 where
   pub room : AllByRecursion (RoomFits h) p.room
   pub spare : AllByRecursion (SpareFits h) p.spare
+
+-- there is room for the new keys of what is got, once what is given is out
+pub record HasPlacesAfter (k : Kept) (out got : Rights) : Type 0 where
+  pub cells : length k.rights.cells + (new_keys (minus (hold_of k.rights) out) got).cells ≤ k.places + (lost_keys (hold_of k.rights) out).cells
+  pub crowns : length k.rights.crowns + (new_keys (minus (hold_of k.rights) out) got).crowns ≤ k.places + (lost_keys (hold_of k.rights) out).crowns
+  pub room : length k.rights.room + (new_keys (minus (hold_of k.rights) out) got).room ≤ k.places + (lost_keys (hold_of k.rights) out).room
+  pub spare : length k.rights.spare + (new_keys (minus (hold_of k.rights) out) got).spare ≤ k.places + (lost_keys (hold_of k.rights) out).spare
+
+-- the lists have lost the keys that were used up, and gained those that were new
+pub record IsTraded (old new : Kept) (out got : Rights) : Type 0 where
+  pub sizes : add_sizes (sizes new.rights) (lost_keys (hold_of old.rights) out) ≡ add_sizes (sizes old.rights) (new_keys (minus (hold_of old.rights) out) got)
+  pub places : new.places ≡ old.places

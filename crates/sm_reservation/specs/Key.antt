@@ -52,6 +52,10 @@ pub record IsLowestDouble (r : Rights) (k : Key) : Type 0 where
   pub twice : 2 ≤ key_count r k
   pub lowest : (j : Key) → key_before j k ≡ true → key_count r j ≤ 1
 
+-- rights of the four kinds
+abbrev pub lists : List CellRight → List Crown → List Room → List Spare → Rights
+lists cells crowns room spare = record { cells = cells; crowns = crowns; room = room; spare = spare }
+
 -- each list rises by its keys
 pub record IsOrdered (r : Rights) : Type 0 where
   pub cells : Rises cell_place r.cells

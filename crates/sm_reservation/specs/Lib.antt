@@ -15,3 +15,4 @@ pub mod Kept
 pub mod HoldView
 pub mod Short
 pub mod Pool
+pub mod Change

@@ -33,7 +33,7 @@ first_answer f (x ∷ xs) = option_or (f x) (first_answer f xs)
 abbrev pub first_short : Hold → Rights → Option Short
 first_short h p =
     option_or
-      (option_or
-        (option_or (first_answer (cell_short h) p.cells) (first_answer (crown_short h) p.crowns))
-        (first_answer (room_short h) p.room))
-      (first_answer (spare_short h) p.spare)
+    (option_or
+    (option_or (first_answer (cell_short h) p.cells) (first_answer (crown_short h) p.crowns))
+    (first_answer (room_short h) p.room))
+    (first_answer (spare_short h) p.spare)

@@ -3,11 +3,19 @@
 ghost use Rattle.std.specs.Prelude.{◌≡◌, ◌+◌, ◌<◌, ◌≤◌, ◌==◌, ◌&&◌, ◌^◌, None, Some, nat_lt, is_none, is_some, max, IfOk, OnOk, OnErr, length};
 ghost use Rattle.sm_placement.specs.Sums.{bit};
 ghost use Rattle.sm_reservation.specs.Rights.{no_rights};
-ghost use Rattle.sm_reservation.specs.Hold.{with_cell, with_crown, without_crown, get_room, pay_room, get_spare, pay_spare};
+ghost use Rattle.sm_reservation.specs.Rows.{Rises, HasPositive};
+ghost use Rattle.sm_reservation.specs.Key.{cell_place, crown_place, room_place, spare_place};
+ghost use Rattle.sm_reservation.specs.Short.{first_short};
+ghost use Rattle.sm_reservation.specs.Kept.{IsLess, IsMore, HasPlaces, SumsFit};
+ghost use Rattle.sm_reservation.specs.Hold.{minus, plus, with_cell, with_crown, without_crown, get_room, pay_room, get_spare, pay_spare};
+ghost use Rattle.sm_reservation.specs.Amounts.{Right, count};
 ghost use Rattle.sm_reservation.specs.HoldOf.{hold_of};
 
-use crate::right::{CellRight, Crown, PlainCell, Room, Spare};
-use crate::rows::{Row, add_amount, put_row, row_at, set_row, sub_amount, take_row};
+use crate::moves::{put_rights, take_rights};
+use crate::parcel::Parcel;
+use crate::right::{CellRight, Crown, PlainCell, Room, Short, Spare};
+use crate::rows::{Row, add_amount, copied_rows, put_row, row_at, set_row, sub_amount, take_row};
+use crate::short::first_short;
 use sm_placement::Lead;
 use sm_server::{ServerId, ShardId};
 use std::alloc::{AllocError, Global};
@@ -48,6 +56,28 @@ impl Hold {
             crowns: Vec::with_capacity(alloc, places)?,
             room: Vec::with_capacity(alloc, places)?,
             spare: Vec::with_capacity(alloc, places)?,
+            places,
+        })
+    }
+
+    /// A parcel's rights.
+    pub fn of_parcel(alloc: Global, parcel: &Parcel) -> Result<Hold, AllocError>
+        ensures { IfOk result (λ hold. hold.rights ≡ parcel.now) }
+    {
+        let cells = parcel.cells();
+        let crowns = parcel.crowns();
+        let room = parcel.room();
+        let spare = parcel.spare();
+        let places = cells
+            .len()
+            .max(crowns.len())
+            .max(room.len())
+            .max(spare.len());
+        Ok(Hold {
+            cells: copied_rows(alloc, cells, places)?,
+            crowns: copied_rows(alloc, crowns, places)?,
+            room: copied_rows(alloc, room, places)?,
+            spare: copied_rows(alloc, spare, places)?,
             places,
         })
     }
@@ -198,5 +228,94 @@ impl Hold {
         if spare.amount > 0 {
             add_amount(&mut self.spare, spare);
         }
+    }
+
+    /// The rights to cells.
+    pub fn cells(&self) -> &[CellRight]
+        ensures value { result.now ≡ self.now.rights.cells }
+        ensures order { Rises cell_place result.now }
+    {
+        self.cells.as_slice()
+    }
+
+    /// The crowns.
+    pub fn crowns(&self) -> &[Crown]
+        ensures value { result.now ≡ self.now.rights.crowns }
+        ensures order { Rises crown_place result.now }
+    {
+        self.crowns.as_slice()
+    }
+
+    /// All room.
+    pub fn rooms(&self) -> &[Room]
+        ensures value { result.now ≡ self.now.rights.room }
+        ensures order { Rises room_place result.now }
+        ensures positive { HasPositive (λ x. x.amount) result.now }
+    {
+        self.room.as_slice()
+    }
+
+    /// All spare replicas.
+    pub fn spares(&self) -> &[Spare]
+        ensures value { result.now ≡ self.now.rights.spare }
+        ensures order { Rises spare_place result.now }
+        ensures positive { HasPositive (λ x. x.amount) result.now }
+    {
+        self.spare.as_slice()
+    }
+
+    /// The first key of a parcel of which there is too little here.
+    pub fn first_short(&self, parcel: &Parcel) -> Option<Short>
+        ensures { result ≡ first_short (hold_of self.now.rights) parcel.now }
+    {
+        first_short(self, parcel)
+    }
+
+    /// Takes a parcel's rights out.
+    pub fn take(&mut self, parcel: &Parcel)
+        requires held { first_short (hold_of self.old.rights) parcel.now ≡ None }
+        ensures rights { hold_of self.new.rights ≡ minus (hold_of self.old.rights) parcel.now }
+        ensures sums { (r : Right) → count (hold_of self.new.rights) r + count (hold_of parcel.now) r ≡ count (hold_of self.old.rights) r }
+        ensures less { IsLess self.old self.new parcel.now }
+    {
+        take_rights(
+            self,
+            parcel.cells(),
+            parcel.crowns(),
+            parcel.room(),
+            parcel.spare(),
+        );
+    }
+
+    /// Puts a parcel's rights in.
+    ///
+    /// A cell right or a crown takes the place of one with the same key.
+    pub fn put(&mut self, parcel: &Parcel)
+        requires room { HasPlaces self.old parcel.now }
+        requires sums { SumsFit (hold_of self.old.rights) parcel.now }
+        ensures rights { hold_of self.new.rights ≡ plus (hold_of self.old.rights) parcel.now }
+        ensures more { IsMore self.old self.new parcel.now }
+    {
+        put_rights(
+            self,
+            parcel.cells(),
+            parcel.crowns(),
+            parcel.room(),
+            parcel.spare(),
+        );
+    }
+
+    /// The rights as a parcel.
+    pub fn into_parcel(self) -> Parcel
+        ensures { result ≡ self.rights }
+    {
+        let Hold {
+            cells,
+            crowns,
+            room,
+            spare,
+            places: _,
+        } = self;
+        Parcel::of_ordered(cells, crowns, room, spare)
     }
 }

@@ -1,6 +1,8 @@
 //! Rights: what a stream of a plan may do is what it holds.
 #![tactic(auto)]
 
+pub mod change;
+pub mod grant;
 pub mod hold;
 mod moves;
 mod opening;
@@ -13,6 +15,8 @@ mod rows;
 mod short;
 pub mod stream_id;
 
+pub use crate::change::{Change, Portion};
+pub use crate::grant::Grant;
 pub use crate::hold::Hold;
 pub use crate::parcel::{Lists, Parcel, ParcelFault};
 pub use crate::pool::Pool;

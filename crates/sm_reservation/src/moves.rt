@@ -1,6 +1,10 @@
 //! Rights of a whole list put into a hold or taken out of it.
-ghost use Rattle.std.specs.Prelude.{◌≡◌, ◌+◌, ◌≤◌, length};
-ghost use Rattle.sm_reservation.specs.Hold.{minus_cells, plus_cells, minus_crowns, plus_crowns, minus_room, plus_room, minus_spare, plus_spare};
+ghost use Rattle.std.specs.Prelude.{◌≡◌, ◌+◌, ◌≤◌, None, length};
+ghost use Rattle.sm_reservation.specs.Hold.{minus, plus, minus_cells, plus_cells, minus_crowns, plus_crowns, minus_room, plus_room, minus_spare, plus_spare};
+ghost use Rattle.sm_reservation.specs.Key.{IsOrdered, lists};
+ghost use Rattle.sm_reservation.specs.Short.{first_short};
+ghost use Rattle.sm_reservation.specs.Kept.{IsLess, IsMore, HasPlaces, SumsFit};
+ghost use Rattle.sm_reservation.specs.Amounts.{Right, count};
 ghost use Rattle.sm_reservation.specs.HoldOf.{hold_of};
 ghost use Rattle.sm_reservation.specs.Steps.{count_steps, AllSteps};
 ghost use Rattle.sm_reservation.specs.Turns.{out_cell, out_crown, out_room, out_spare, in_cell, in_crown, in_room, in_spare, lacks_cell, lacks_crown, lacks_room, lacks_spare, loses_cell, loses_crown, loses_room, loses_spare, HasRoom, HasSpare, RoomFits, SpareFits};
@@ -94,4 +98,44 @@ pub fn put_spares(hold: &mut Hold, spares: &[Spare])
     for spare in spares {
         hold.put_spare(*spare);
     }
+}
+
+/// Takes rights of the four kinds out.
+pub fn take_rights(
+    hold: &mut Hold,
+    cells: &[CellRight],
+    crowns: &[Crown],
+    rooms: &[Room],
+    spares: &[Spare],
+)
+    requires order { IsOrdered (lists cells.now crowns.now rooms.now spares.now) }
+    requires held { first_short (hold_of hold.old.rights) (lists cells.now crowns.now rooms.now spares.now) ≡ None }
+    ensures rights { hold_of hold.new.rights ≡ minus (hold_of hold.old.rights) (lists cells.now crowns.now rooms.now spares.now) }
+    ensures sums { (r : Right) → count (hold_of hold.new.rights) r + count (hold_of (lists cells.now crowns.now rooms.now spares.now)) r ≡ count (hold_of hold.old.rights) r }
+    ensures less { IsLess hold.old hold.new (lists cells.now crowns.now rooms.now spares.now) }
+{
+    take_cells(hold, cells);
+    take_crowns(hold, crowns);
+    take_rooms(hold, rooms);
+    take_spares(hold, spares);
+}
+
+/// Puts rights of the four kinds in.
+pub fn put_rights(
+    hold: &mut Hold,
+    cells: &[CellRight],
+    crowns: &[Crown],
+    rooms: &[Room],
+    spares: &[Spare],
+)
+    requires order { IsOrdered (lists cells.now crowns.now rooms.now spares.now) }
+    requires room { HasPlaces hold.old (lists cells.now crowns.now rooms.now spares.now) }
+    requires sums { SumsFit (hold_of hold.old.rights) (lists cells.now crowns.now rooms.now spares.now) }
+    ensures rights { hold_of hold.new.rights ≡ plus (hold_of hold.old.rights) (lists cells.now crowns.now rooms.now spares.now) }
+    ensures more { IsMore hold.old hold.new (lists cells.now crowns.now rooms.now spares.now) }
+{
+    put_cells(hold, cells);
+    put_crowns(hold, crowns);
+    put_rooms(hold, rooms);
+    put_spares(hold, spares);
 }

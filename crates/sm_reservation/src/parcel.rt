@@ -1,7 +1,7 @@
 //! Parcels: rights in order, each key once.
 ghost use Rattle.std.specs.Prelude.{◌≡◌, IfOk, OnOk, IfErr};
 ghost use Rattle.sm_reservation.specs.Rows.{Rises, HasPositive};
-ghost use Rattle.sm_reservation.specs.Key.{cell_place, crown_place, room_place, spare_place, IsOnce, IsOrdered, IsSortedFrom, IsInOrder, first_double};
+ghost use Rattle.sm_reservation.specs.Key.{cell_place, crown_place, room_place, spare_place, IsOnce, IsOrdered, IsPositive, IsSortedFrom, IsInOrder, first_double, lists as rights_in};
 ghost use Rattle.sm_reservation.specs.Lists.{rights_of};
 ghost use Rattle.sm_reservation.specs.Fault.{IsFaultOf};
 
@@ -85,6 +85,25 @@ impl Parcel {
         match sorted_parcel(alloc, &lists) {
             Ok(parcel) => Ok(parcel),
             Err(fault) => Err((lists, fault)),
+        }
+    }
+
+    /// The parcel of lists that are in order, with no amount of 0.
+    pub(crate) fn of_ordered(
+        cells: Vec<CellRight>,
+        crowns: Vec<Crown>,
+        room: Vec<Room>,
+        spare: Vec<Spare>,
+    ) -> Parcel
+        requires ordered { IsOrdered (rights_in cells.items crowns.items room.items spare.items) }
+        requires positive { IsPositive (rights_in cells.items crowns.items room.items spare.items) }
+        ensures { result ≡ rights_in cells.items crowns.items room.items spare.items }
+    {
+        Parcel {
+            cells,
+            crowns,
+            room,
+            spare,
         }
     }
 

@@ -1,7 +1,9 @@
 //! Ordered rows in a `Vec`: the row at a place, put in and taken out.
-ghost use Rattle.std.specs.Prelude.{◌≡◌, ℕ, ◌+◌, ◌<◌, ◌≤◌, ◌-◌, ◌==◌, ◌^◌, Some, None, length, vec_len, vec_capacity, if◌then◌else◌, IsSome, insert, remove, slice_set};
+ghost use Rattle.std.specs.Prelude.{◌≡◌, IfOk, ℕ, ◌+◌, ◌<◌, ◌≤◌, ◌-◌, ◌==◌, ◌^◌, Some, None, length, vec_len, vec_capacity, if◌then◌else◌, IsSome, insert, remove, slice_set};
 ghost use Rattle.sm_reservation.specs.Rows.{same, before, row_at, Rises, count_before, amount_at, HasPositive};
 ghost use Rattle.sm_placement.specs.Sums.{bit};
+
+use std::alloc::{AllocError, Global};
 
 /// A row of an ordered list, which its place tells apart from the others.
 pub trait Row: Copy {
@@ -88,6 +90,18 @@ pub fn set_row<T: Row>(rows: &mut Vec<T>, row: T)
 {
     let i = count_before(rows, row.place());
     rows[i] = row;
+}
+
+/// A copy of the rows, with room for a number of rows in all.
+pub fn copied_rows<T: Row>(alloc: Global, rows: &[T], places: usize) -> Result<Vec<T>, AllocError>
+    requires { length rows.now ≤ places }
+    ensures items { IfOk result (λ copy. copy.items ≡ rows.now) }
+    ensures len { IfOk result (λ copy. vec_len copy ≡ length rows.now) }
+    ensures capacity { IfOk result (λ copy. places ≤ vec_capacity copy) }
+{
+    let mut copy = Vec::with_capacity(alloc, places)?;
+    copy.extend_from_slice(rows)?;
+    Ok(copy)
 }
 
 /// A row with an amount.

@@ -3,6 +3,8 @@ ghost use Rattle.std.specs.Prelude.{◌≡◌};
 ghost use Rattle.sm_reservation.specs.Hold.{Hold};
 ghost use Rattle.sm_reservation.specs.Short.{cell_short, crown_short, room_short, spare_short, first_answer, first_short};
 
+use crate::hold;
+use crate::parcel::Parcel;
 use crate::right::{CellRight, Crown, Key, PlainCell, Room, Short, Spare};
 use sm_placement::Lead;
 use sm_server::{ServerId, ShardId};
@@ -26,6 +28,38 @@ pub(crate) trait ByKey {
     /// How many spare replicas of a shard there are.
     fn spare_of(&self, shard: ShardId) -> u64
         ensures { result ≡ (hold self.now).spare shard };
+}
+
+impl ByKey for hold::Hold {
+    ghost use Rattle.sm_reservation.specs.HoldOf.{hold_of};
+
+    ghost hold = { λ h. hold_of h.rights };
+
+    fn cell_of(&self, shard: ShardId, server: ServerId) -> Option<PlainCell> {
+        self.cell(shard, server)
+    }
+
+    fn crown_of(&self, shard: ShardId) -> Option<(Lead, Option<ServerId>)> {
+        self.crown(shard)
+    }
+
+    fn room_of(&self, server: ServerId) -> u64 {
+        self.room(server)
+    }
+
+    fn spare_of(&self, shard: ShardId) -> u64 {
+        self.spare(shard)
+    }
+}
+
+/// The first key of a parcel of which there is too little.
+pub(crate) fn first_short<H: ByKey>(held: &H, parcel: &Parcel) -> Option<Short>
+    ensures { result ≡ first_short (H.hold held.now) parcel.now }
+{
+    first_cell_short(held, parcel.cells())
+        .or(first_crown_short(held, parcel.crowns()))
+        .or(first_room_short(held, parcel.room()))
+        .or(first_spare_short(held, parcel.spare()))
 }
 
 /// What is lacking of a right to a cell.
@@ -92,7 +126,7 @@ fn spare_short<H: ByKey>(held: &H, spare: &Spare) -> Option<Short>
 }
 
 /// The first right to a cell that is lacking.
-pub(crate) fn first_cell_short<H: ByKey>(held: &H, rights: &[CellRight]) -> Option<Short>
+fn first_cell_short<H: ByKey>(held: &H, rights: &[CellRight]) -> Option<Short>
     ensures { result ≡ first_answer (cell_short (H.hold held.now)) rights.now }
 {
     for right in rights {
@@ -104,7 +138,7 @@ pub(crate) fn first_cell_short<H: ByKey>(held: &H, rights: &[CellRight]) -> Opti
 }
 
 /// The first crown that is lacking.
-pub(crate) fn first_crown_short<H: ByKey>(held: &H, crowns: &[Crown]) -> Option<Short>
+fn first_crown_short<H: ByKey>(held: &H, crowns: &[Crown]) -> Option<Short>
     ensures { result ≡ first_answer (crown_short (H.hold held.now)) crowns.now }
 {
     for crown in crowns {
@@ -116,7 +150,7 @@ pub(crate) fn first_crown_short<H: ByKey>(held: &H, crowns: &[Crown]) -> Option<
 }
 
 /// The first room that is lacking.
-pub(crate) fn first_room_short<H: ByKey>(held: &H, rooms: &[Room]) -> Option<Short>
+fn first_room_short<H: ByKey>(held: &H, rooms: &[Room]) -> Option<Short>
     ensures { result ≡ first_answer (room_short (H.hold held.now)) rooms.now }
 {
     for room in rooms {
@@ -128,7 +162,7 @@ pub(crate) fn first_room_short<H: ByKey>(held: &H, rooms: &[Room]) -> Option<Sho
 }
 
 /// The first spare replicas that are lacking.
-pub(crate) fn first_spare_short<H: ByKey>(held: &H, spares: &[Spare]) -> Option<Short>
+fn first_spare_short<H: ByKey>(held: &H, spares: &[Spare]) -> Option<Short>
     ensures { result ≡ first_answer (spare_short (H.hold held.now)) spares.now }
 {
     for spare in spares {

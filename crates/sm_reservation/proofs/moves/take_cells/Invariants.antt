@@ -7,7 +7,7 @@ use Rattle.sm_reservation.proofs.moves.take_cells.Given as goal
 
 abbrev pub invariant-loop-right : goal.invariant-loop-right
 invariant-loop-right l = record {
-    rights : minus_cells (hold_of l.hold.rights) (drop l.right-index l.rights) ≡ minus_cells (hold_of l.fn.hold.rights) l.rights;
-    len : length l.hold.rights.cells + count_steps out_cell loses_cell (hold_of l.fn.hold.rights) l.rights ≡ length l.fn.hold.rights.cells + count_steps out_cell loses_cell (hold_of l.hold.rights) (drop l.right-index l.rights);
-    others : l.hold ≡ record l.fn.hold { rights = record l.fn.hold.rights { cells = l.hold.rights.cells } };
-  }
+  rights : minus_cells (hold_of l.hold.rights) (drop l.right-index l.rights) ≡ minus_cells (hold_of l.fn.hold.rights) l.rights;
+  len : length l.hold.rights.cells + count_steps out_cell loses_cell (hold_of l.fn.hold.rights) l.rights ≡ length l.fn.hold.rights.cells + count_steps out_cell loses_cell (hold_of l.hold.rights) (drop l.right-index l.rights);
+  others : l.hold ≡ record l.fn.hold { rights = record l.fn.hold.rights { cells = l.hold.rights.cells } };
+}

@@ -1,0 +1,238 @@
+//! Grants: rights that must be spent.
+ghost use Rattle.std.specs.Prelude.{◌≡◌, ◌+◌, None, Some, max, IfOk, OnOk, IfErr, OnErr};
+ghost use Rattle.sm_reservation.specs.Rights.{no_rights};
+ghost use Rattle.sm_reservation.specs.Hold.{minus, plus};
+ghost use Rattle.sm_reservation.specs.HoldOf.{hold_of};
+ghost use Rattle.sm_reservation.specs.Amounts.{Right, count};
+ghost use Rattle.sm_reservation.specs.Kept.{IsLess, IsMore, IsTraded, HasPlaces, HasPlacesAfter};
+ghost use Rattle.sm_reservation.specs.Key.{IsOrdered, lists};
+ghost use Rattle.sm_reservation.specs.CanJoin.{CanJoin};
+ghost use Rattle.sm_reservation.specs.Short.{first_short};
+ghost use Rattle.sm_reservation.specs.Change.{portion_rights};
+
+use crate::change::{Change, Portion};
+use crate::hold::Hold;
+use crate::moves::{put_rights, take_rights};
+use crate::parcel::Parcel;
+use crate::right::{CellRight, Crown, PlainCell, Room, Short, Spare};
+use sm_placement::Lead;
+use sm_server::{ServerId, ShardId};
+use std::alloc::{AllocError, Global};
+use std::marker::Model;
+
+/// Rights that must be spent: a grant can be neither copied nor dropped.
+///
+/// Rights come out of a pool, move between grants, and go back into the pool. All calls but `empty` and `reserve` take
+/// no memory, and ask for room where a list gains a key that it did not have.
+pub struct Grant {
+    hold: Hold,
+}
+
+impl Model for Grant {
+    ghost use Rattle.sm_reservation.specs.Kept.{Kept};
+
+    ghost Value = { Kept };
+
+    ghost view = { λ grant. grant.hold };
+}
+
+impl Grant {
+    /// No rights, with room for `room` keys in each list.
+    pub fn empty(alloc: Global, room: u32) -> Result<Grant, AllocError>
+        ensures { IfOk result (λ grant. grant ≡ record { rights = no_rights; places = room }) }
+    {
+        Ok(Grant {
+            hold: Hold::empty(alloc, room)?,
+        })
+    }
+
+    /// The rights of a hold.
+    pub(crate) fn of_hold(hold: Hold) -> Grant
+        ensures { result ≡ hold }
+    {
+        Grant { hold }
+    }
+
+    /// The rights as a plain value, which spends the grant.
+    pub(crate) fn into_hold(self) -> Hold
+        ensures { result ≡ self }
+    {
+        let Grant { hold } = self;
+        hold
+    }
+
+    /// The rights, to be read.
+    pub fn hold(&self) -> &Hold
+        ensures { result.now ≡ self.now }
+    {
+        &self.hold
+    }
+
+    /// Raises the room to `room` keys in each list, where it is less.
+    pub fn reserve(&mut self, room: u32) -> Result<(), AllocError>
+        ensures rights { self.new.rights ≡ self.old.rights }
+        ensures ok { OnOk result (self.new.places ≡ max self.old.places room) }
+        ensures err { OnErr result (self.new.places ≡ self.old.places) }
+    {
+        self.hold.reserve(room)
+    }
+
+    /// The state of a cell to which there is a right.
+    pub fn cell(&self, shard: ShardId, server: ServerId) -> Option<PlainCell>
+        ensures { result ≡ (hold_of self.now.rights).cells shard server }
+    {
+        self.hold.cell(shard, server)
+    }
+
+    /// The lead and the listed server of a shard's crown.
+    pub fn crown(&self, shard: ShardId) -> Option<(Lead, Option<ServerId>)>
+        ensures { result ≡ (hold_of self.now.rights).crowns shard }
+    {
+        self.hold.crown(shard)
+    }
+
+    /// The room of a server.
+    pub fn room(&self, server: ServerId) -> u64
+        ensures { result ≡ (hold_of self.now.rights).room server }
+    {
+        self.hold.room(server)
+    }
+
+    /// The spare replicas of a shard.
+    pub fn spare(&self, shard: ShardId) -> u64
+        ensures { result ≡ (hold_of self.now.rights).spare shard }
+    {
+        self.hold.spare(shard)
+    }
+
+    /// Moves a parcel's rights into another grant.
+    ///
+    /// Where there is too little of a key the first such key comes back, and neither grant changes.
+    pub fn split(&mut self, into: &mut Grant, parcel: &Parcel) -> Result<(), Short>
+        requires room { HasPlaces into.old parcel.now }
+        requires fits { CanJoin (hold_of into.old.rights) (hold_of parcel.now) }
+        ensures short { IfErr result (λ short. first_short (hold_of self.old.rights) parcel.now ≡ Some short) }
+        ensures err { OnErr result ((self.new ≡ self.old) × (into.new ≡ into.old)) }
+        ensures enough { OnOk result (first_short (hold_of self.old.rights) parcel.now ≡ None) }
+        ensures taken { OnOk result (hold_of self.new.rights ≡ minus (hold_of self.old.rights) parcel.now) }
+        ensures given { OnOk result (hold_of into.new.rights ≡ plus (hold_of into.old.rights) parcel.now) }
+        ensures kept { OnOk result ((r : Right) → count (hold_of self.new.rights) r + count (hold_of into.new.rights) r ≡ count (hold_of self.old.rights) r + count (hold_of into.old.rights) r) }
+        ensures less { OnOk result (IsLess self.old self.new parcel.now) }
+        ensures more { OnOk result (IsMore into.old into.new parcel.now) }
+    {
+        if let Some(short) = self.hold.first_short(parcel) {
+            return Err(short);
+        }
+        self.hold.take(parcel);
+        join_parcel(&mut into.hold, parcel);
+        Ok(())
+    }
+
+    /// Takes all rights of another grant in.
+    pub fn join(&mut self, grant: Grant)
+        requires room { HasPlaces self.old grant.rights }
+        requires fits { CanJoin (hold_of self.old.rights) (hold_of grant.rights) }
+        ensures rights { hold_of self.new.rights ≡ plus (hold_of self.old.rights) grant.rights }
+        ensures kept { (r : Right) → count (hold_of self.new.rights) r ≡ count (hold_of self.old.rights) r + count (hold_of grant.rights) r }
+        ensures more { IsMore self.old self.new grant.rights }
+    {
+        let hold = grant.into_hold();
+        join_rights(
+            &mut self.hold,
+            hold.cells(),
+            hold.crowns(),
+            hold.rooms(),
+            hold.spares(),
+        );
+    }
+
+    /// Gives a parcel's rights up for those of another, beside the call that pays for it.
+    pub fn trade(&mut self, out: &Parcel, got: &Parcel)
+        requires held { first_short (hold_of self.old.rights) out.now ≡ None }
+        requires fits { CanJoin (minus (hold_of self.old.rights) out.now) (hold_of got.now) }
+        requires room { HasPlacesAfter self.old out.now got.now }
+        ensures rights { hold_of self.new.rights ≡ plus (minus (hold_of self.old.rights) out.now) got.now }
+        ensures changed { (r : Right) → count (hold_of self.new.rights) r + count (hold_of out.now) r ≡ count (hold_of self.old.rights) r + count (hold_of got.now) r }
+        ensures sizes { IsTraded self.old self.new out.now got.now }
+    {
+        self.hold.take(out);
+        join_parcel(&mut self.hold, got);
+    }
+
+    /// Gives the rights of a small change up for those that it gets, beside the call that pays for it.
+    pub fn exchange(&mut self, change: &Change)
+        requires held { first_short (hold_of self.old.rights) (portion_rights change.now.out) ≡ None }
+        requires fits { CanJoin (minus (hold_of self.old.rights) (portion_rights change.now.out)) (hold_of (portion_rights change.now.got)) }
+        requires room { HasPlacesAfter self.old (portion_rights change.now.out) (portion_rights change.now.got) }
+        ensures rights { hold_of self.new.rights ≡ plus (minus (hold_of self.old.rights) (portion_rights change.now.out)) (portion_rights change.now.got) }
+        ensures changed { (r : Right) → count (hold_of self.new.rights) r + count (hold_of (portion_rights change.now.out)) r ≡ count (hold_of self.old.rights) r + count (hold_of (portion_rights change.now.got)) r }
+        ensures sizes { IsTraded self.old self.new (portion_rights change.now.out) (portion_rights change.now.got) }
+    {
+        take_portion(&mut self.hold, &change.out);
+        join_portion(&mut self.hold, &change.got);
+    }
+}
+
+/// Puts rights of the four kinds in beside those that are there.
+fn join_rights(
+    hold: &mut Hold,
+    cells: &[CellRight],
+    crowns: &[Crown],
+    rooms: &[Room],
+    spares: &[Spare],
+)
+    requires order { IsOrdered (lists cells.now crowns.now rooms.now spares.now) }
+    requires room { HasPlaces hold.old (lists cells.now crowns.now rooms.now spares.now) }
+    requires fits { CanJoin (hold_of hold.old.rights) (hold_of (lists cells.now crowns.now rooms.now spares.now)) }
+    ensures rights { hold_of hold.new.rights ≡ plus (hold_of hold.old.rights) (lists cells.now crowns.now rooms.now spares.now) }
+    ensures sums { (r : Right) → count (hold_of hold.new.rights) r ≡ count (hold_of hold.old.rights) r + count (hold_of (lists cells.now crowns.now rooms.now spares.now)) r }
+    ensures more { IsMore hold.old hold.new (lists cells.now crowns.now rooms.now spares.now) }
+{
+    put_rights(hold, cells, crowns, rooms, spares);
+}
+
+/// Puts a parcel's rights in beside those that are there.
+fn join_parcel(hold: &mut Hold, parcel: &Parcel)
+    requires room { HasPlaces hold.old parcel.now }
+    requires fits { CanJoin (hold_of hold.old.rights) (hold_of parcel.now) }
+    ensures rights { hold_of hold.new.rights ≡ plus (hold_of hold.old.rights) parcel.now }
+    ensures sums { (r : Right) → count (hold_of hold.new.rights) r ≡ count (hold_of hold.old.rights) r + count (hold_of parcel.now) r }
+    ensures more { IsMore hold.old hold.new parcel.now }
+{
+    join_rights(
+        hold,
+        parcel.cells(),
+        parcel.crowns(),
+        parcel.room(),
+        parcel.spare(),
+    );
+}
+
+/// Takes a portion's rights out.
+fn take_portion(hold: &mut Hold, portion: &Portion)
+    requires held { first_short (hold_of hold.old.rights) (portion_rights portion.now) ≡ None }
+    ensures rights { hold_of hold.new.rights ≡ minus (hold_of hold.old.rights) (portion_rights portion.now) }
+    ensures sums { (r : Right) → count (hold_of hold.new.rights) r + count (hold_of (portion_rights portion.now)) r ≡ count (hold_of hold.old.rights) r }
+    ensures less { IsLess hold.old hold.new (portion_rights portion.now) }
+{
+    let cells = portion.cell.as_slice();
+    let crowns = portion.crown.as_slice();
+    let rooms = portion.room.as_slice();
+    let spares = portion.spare.as_slice();
+    take_rights(hold, cells, crowns, rooms, spares);
+}
+
+/// Puts a portion's rights in beside those that are there.
+fn join_portion(hold: &mut Hold, portion: &Portion)
+    requires room { HasPlaces hold.old (portion_rights portion.now) }
+    requires fits { CanJoin (hold_of hold.old.rights) (hold_of (portion_rights portion.now)) }
+    ensures rights { hold_of hold.new.rights ≡ plus (hold_of hold.old.rights) (portion_rights portion.now) }
+    ensures sums { (r : Right) → count (hold_of hold.new.rights) r ≡ count (hold_of hold.old.rights) r + count (hold_of (portion_rights portion.now)) r }
+    ensures more { IsMore hold.old hold.new (portion_rights portion.now) }
+{
+    let cells = portion.cell.as_slice();
+    let crowns = portion.crown.as_slice();
+    let rooms = portion.room.as_slice();
+    let spares = portion.spare.as_slice();
+    join_rights(hold, cells, crowns, rooms, spares);
+}
