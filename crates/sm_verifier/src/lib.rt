@@ -1,0 +1,4 @@
+//! The verifier of plans: what a stream holds after each of its instructions, and why it may not make one.
+#![tactic(auto)]
+
+mod steps;
