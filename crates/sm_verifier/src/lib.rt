@@ -1,4 +1,7 @@
 //! The verifier of plans: what a stream holds after each of its instructions, and why it may not make one.
 #![tactic(auto)]
 
+mod lines;
 mod steps;
+
+pub use steps::{StepFault, step};

@@ -1,340 +1,237 @@
-//! The instructions but signals and waits, each by its line of the table of rights.
-ghost use Rattle.std.specs.Prelude.{◌≡◌, ◌∷◌, ◌+◌, ◌<◌, ◌^◌, [], length, OnErr};
-ghost use Rattle.sm_placement.specs.Setup.{sizes_of};
-ghost use Rattle.sm_reservation.specs.Hold.{pay_room, get_room, with_cell};
+//! One instruction of a stream, made with the hold before it.
+ghost use Rattle.std.specs.Prelude.{◌≡◌, ◌<◌, ◌^◌, [], is_none, All, IfSome, OnOk, OnErr, length};
+ghost use Rattle.std.specs.List.{list_all};
+ghost use Rattle.sm_placement.specs.Setup.{Sizes, sizes_of};
+ghost use Rattle.sm_reservation.specs.Hold.{plus};
 ghost use Rattle.sm_reservation.specs.HoldOf.{hold_of};
-ghost use Rattle.sm_plan_code.specs.After.{first_why, decided, has_right, has_cell, has_room, prepare_add_line, prepare_drop_line, add_secondary_line, add_primary_line, lead_held, drop_held_line, drop_led_line, to_primary_line, to_secondary_line, publish_line, unlist_line};
-ghost use Rattle.sm_verifier.specs.Step.{outcome, refusal, HasPlace};
+ghost use Rattle.sm_plan_code.specs.Instr.{shard_of};
+ghost use Rattle.sm_plan_code.specs.After.{after, decided, signal_line, wait_line};
+ghost use Rattle.sm_verifier.specs.Step.{outcome, IsAnswer, HasPlaces, longest, most_keys, parcels_of, KnowsSignal, IsSmall, IsAtMost, Grows};
 
-use sm_placement::{Config, Lead};
-use sm_plan_code::Why;
-use sm_reservation::{CellRight, Crown, Hold, PlainCell, Room, Spare};
-use sm_server::{ServerId, ShardId};
+use crate::lines::{add_primary, add_secondary, drop, prepare_add, prepare_drop, publish, to_primary, to_secondary, unlist};
+use sm_placement::Config;
+use sm_plan_code::{Instr, Why};
+use sm_reservation::{CellRight, Crown, Hold, Parcel};
+use sm_server::{Role, ServerId, ShardId};
+use std::alloc::AllocError;
+use thiserror::Error;
 
-/// Prepares `server` for a primary that `owner` hands over.
-pub fn prepare_add(
-    config: &Config,
-    hold: &mut Hold,
-    shard: ShardId,
-    server: ServerId,
-    owner: ServerId,
-) -> Result<(), Why>
-    requires shard { shard < length config.now.shards }
-    requires place { HasPlace hold.old }
-    ensures answer { outcome result (hold_of hold.new.rights) ≡ decided (prepare_add_line (sizes_of config.now) shard server owner (hold_of hold.old.rights)) }
+/// Why an instruction is not made.
+#[derive(Clone, Copy, Debug, PartialEq, Eq, Error)]
+pub enum StepFault {
+    /// Memory was short.
+    #[error("out of memory")]
+    NoMemory,
+    /// The stream may not make the instruction.
+    #[error("{0}")]
+    Refused(Why),
+}
+
+impl From<AllocError> for StepFault {
+    ghost use Rattle.sm_verifier.specs.declared.steps.StepFault.TheVariants.{NoMemory};
+
+    ghost from_gives = { λ _ fault. fault ≡ NoMemory };
+
+    fn from(_error: AllocError) -> StepFault {
+        StepFault::NoMemory
+    }
+}
+
+impl From<Why> for StepFault {
+    ghost use Rattle.sm_verifier.specs.declared.steps.StepFault.TheVariants.{Refused};
+
+    ghost from_gives = { λ why fault. fault ≡ Refused why };
+
+    fn from(why: Why) -> StepFault {
+        StepFault::Refused(why)
+    }
+}
+
+/// Posts a signal, which takes its parcel.
+fn signal(hold: &mut Hold, parcel: &Parcel) -> Result<(), Why>
+    ensures answer { outcome result (hold_of hold.new.rights) ≡ decided (signal_line parcel.now (hold_of hold.old.rights)) }
     ensures kept { OnErr result (hold.new ≡ hold.old) }
+    ensures grows { Grows (2 ^ 32) (hold_of hold.old.rights) (hold_of hold.new.rights) }
 {
-    let (lead, listed) = hold.crown(shard).ok_or(Why::NoCrown)?;
-    if lead != Lead::At(owner) {
-        return Err(Why::WrongLead);
+    if hold.first_short(parcel).is_some() {
+        return Err(Why::NotCarried);
     }
-    match hold.cell(shard, server) {
-        None => return Err(Why::NoRight),
-        Some(PlainCell::Secondary) => return Err(Why::WrongState),
-        Some(PlainCell::Absent) => {}
-    }
-    let amount = config.load(shard);
-    if hold.room(server) < amount {
-        return Err(Why::NoRoom);
-    }
-    hold.take_room(Room { server, amount });
-    hold.take_cell(shard, server);
-    hold.put_crown(Crown {
-        shard,
-        lead: Lead::Ready(owner, server),
-        listed,
-    });
+    hold.take(parcel);
     Ok(())
 }
 
-/// Makes the owner `server` forward to the prepared server `new_owner`.
-pub fn prepare_drop(
-    hold: &mut Hold,
-    shard: ShardId,
-    server: ServerId,
-    new_owner: ServerId,
-) -> Result<(), Why>
-    requires { HasPlace hold.old }
-    ensures answer { outcome result (hold_of hold.new.rights) ≡ decided (prepare_drop_line shard server new_owner (hold_of hold.old.rights)) }
-    ensures kept { OnErr result (hold.new ≡ hold.old) }
+/// No right to one of these cells is held.
+fn are_cells_apart(hold: &Hold, cells: &[CellRight]) -> bool
+    ensures { result ≡ list_all (λ x. is_none ((hold_of hold.now.rights).cells x.shard x.server)) cells.now }
 {
-    let (lead, listed) = hold.crown(shard).ok_or(Why::NoCrown)?;
-    if lead != Lead::Ready(server, new_owner) {
-        return Err(Why::WrongLead);
-    }
-    hold.put_crown(Crown {
-        shard,
-        lead: Lead::Handing(server, new_owner),
-        listed,
-    });
-    Ok(())
+    cells.iter().all(|right| hold.cell(right.shard, right.server).is_none())
 }
 
-/// Adds a secondary.
-pub fn add_secondary(
-    config: &Config,
-    hold: &mut Hold,
-    shard: ShardId,
-    server: ServerId,
-) -> Result<(), Why>
-    requires shard { shard < length config.now.shards }
-    requires place { HasPlace hold.old }
-    requires fits { (hold_of hold.old.rights).spare shard + 1 < 2 ^ 64 }
-    ensures answer { outcome result (hold_of hold.new.rights) ≡ decided (add_secondary_line (sizes_of config.now) shard server (hold_of hold.old.rights)) }
-    ensures kept { OnErr result (hold.new ≡ hold.old) }
+/// None of these crowns is held.
+fn are_crowns_apart(hold: &Hold, crowns: &[Crown]) -> bool
+    ensures { result ≡ list_all (λ x. is_none ((hold_of hold.now.rights).crowns x.shard)) crowns.now }
 {
-    match hold.cell(shard, server) {
-        None => return Err(Why::NoRight),
-        Some(PlainCell::Secondary) => return Err(Why::WrongState),
-        Some(PlainCell::Absent) => {}
-    }
-    let amount = config.load(shard);
-    if hold.room(server) < amount {
-        return Err(Why::NoRoom);
-    }
-    hold.take_room(Room { server, amount });
-    hold.put_cell(CellRight {
-        shard,
-        server,
-        state: PlainCell::Secondary,
-    });
-    hold.put_spare(Spare { shard, amount: 1 });
-    Ok(())
+    crowns.iter().all(|crown| hold.crown(crown.shard).is_none())
 }
 
-/// Adds a primary: at the prepared server, or where the shard has none.
-pub fn add_primary(
-    config: &Config,
-    hold: &mut Hold,
-    shard: ShardId,
-    server: ServerId,
-) -> Result<(), Why>
-    requires shard { shard < length config.now.shards }
-    requires place { HasPlace hold.old }
-    requires fits { (hold_of hold.old.rights).spare shard + 1 < 2 ^ 64 }
-    ensures answer { outcome result (hold_of hold.new.rights) ≡ decided (add_primary_line (sizes_of config.now) shard server (hold_of hold.old.rights) (lead_held ((hold_of hold.old.rights).crowns shard))) }
+/// Waits for a signal, which puts its parcel in.
+fn wait(hold: &mut Hold, parcel: &Parcel) -> Result<(), Why>
+    requires small { IsSmall parcel.now }
+    requires places { HasPlaces (longest parcel.now) hold.old }
+    requires amounts { IsAtMost (2 ^ 63) (hold_of hold.old.rights) }
+    ensures answer { outcome result (hold_of hold.new.rights) ≡ decided (wait_line parcel.now (hold_of hold.old.rights)) }
     ensures kept { OnErr result (hold.new ≡ hold.old) }
+    ensures grows { Grows (2 ^ 32) (hold_of hold.old.rights) (hold_of hold.new.rights) }
 {
-    let (lead, listed) = hold.crown(shard).ok_or(Why::NoCrown)?;
-    match lead {
-        Lead::Handing(owner, new_owner) => {
-            if new_owner != server {
-                return Err(Why::WrongLead);
-            }
-            hold.put_crown(Crown {
-                shard,
-                lead: Lead::Handed(owner, server),
-                listed,
-            });
-            Ok(())
-        }
-        Lead::Gone => {
-            match hold.cell(shard, server) {
-                None => return Err(Why::NoRight),
-                Some(PlainCell::Secondary) => return Err(Why::WrongState),
-                Some(PlainCell::Absent) => {}
-            }
-            let amount = config.load(shard);
-            if hold.room(server) < amount {
-                return Err(Why::NoRoom);
-            }
-            hold.take_room(Room { server, amount });
-            hold.take_cell(shard, server);
-            hold.put_spare(Spare { shard, amount: 1 });
-            hold.put_crown(Crown {
-                shard,
-                lead: Lead::At(server),
-                listed,
-            });
-            Ok(())
-        }
-        Lead::At(_) | Lead::Ready(_, _) | Lead::Handed(_, _) => Err(Why::WrongLead),
-    }
-}
-
-/// Leaves a cell empty, and gets its room.
-fn free(config: &Config, hold: &mut Hold, shard: ShardId, server: ServerId)
-    requires shard { shard < length config.now.shards }
-    requires cells { length hold.old.rights.cells < hold.old.places }
-    requires room { length hold.old.rights.room < hold.old.places }
-    requires fits { (hold_of hold.old.rights).room server + (sizes_of config.now).load shard < 2 ^ 64 }
-    ensures { hold_of hold.new.rights ≡ get_room (with_cell (hold_of hold.old.rights) shard server (Some PlainCell.Absent)) server ((sizes_of config.now).load shard) }
-{
-    hold.put_cell(CellRight {
-        shard,
-        server,
-        state: PlainCell::Absent,
-    });
-    hold.put_room(Room {
-        server,
-        amount: config.load(shard),
-    });
-}
-
-/// Drops a secondary, to the cell of which there is the right.
-fn drop_held(
-    config: &Config,
-    hold: &mut Hold,
-    shard: ShardId,
-    server: ServerId,
-    state: PlainCell,
-) -> Result<(), Why>
-    requires shard { shard < length config.now.shards }
-    requires place { HasPlace hold.old }
-    requires fits { (hold_of hold.old.rights).room server + (sizes_of config.now).load shard < 2 ^ 64 }
-    requires held { (hold_of hold.old.rights).cells shard server ≡ Some state }
-    ensures answer { outcome result (hold_of hold.new.rights) ≡ decided (drop_held_line (sizes_of config.now) shard server (hold_of hold.old.rights)) }
-    ensures kept { OnErr result (hold.new ≡ hold.old) }
-{
-    if state != PlainCell::Secondary {
-        return Err(Why::WrongState);
-    }
-    if hold.spare(shard) == 0 {
-        return Err(Why::NoSpare);
-    }
-    hold.take_spare(Spare { shard, amount: 1 });
-    free(config, hold, shard, server);
-    Ok(())
-}
-
-/// Drops what a server has by its part in the lead.
-fn drop_led(
-    config: &Config,
-    hold: &mut Hold,
-    shard: ShardId,
-    server: ServerId,
-) -> Result<(), Why>
-    requires shard { shard < length config.now.shards }
-    requires place { HasPlace hold.old }
-    requires fits { (hold_of hold.old.rights).room server + (sizes_of config.now).load shard < 2 ^ 64 }
-    ensures answer { outcome result (hold_of hold.new.rights) ≡ decided (drop_led_line (sizes_of config.now) shard server (hold_of hold.old.rights) (lead_held ((hold_of hold.old.rights).crowns shard))) }
-    ensures kept { OnErr result (hold.new ≡ hold.old) }
-{
-    let (lead, listed) = hold.crown(shard).ok_or(Why::NoRight)?;
-    let lead = match lead {
-        Lead::Handed(owner, new_owner) => {
-            if owner != server {
-                return Err(Why::WrongLead);
-            }
-            if listed == Some(server) {
-                return Err(Why::StillListed);
-            }
-            Lead::At(new_owner)
-        }
-        Lead::Ready(owner, new_owner) => {
-            if new_owner != server {
-                return Err(Why::WrongLead);
-            }
-            Lead::At(owner)
-        }
-        Lead::At(owner) => {
-            if owner != server {
-                return Err(Why::WrongLead);
-            }
-            if listed.is_some() {
-                return Err(Why::StillListed);
-            }
-            if hold.spare(shard) == 0 {
-                return Err(Why::NoSpare);
-            }
-            hold.take_spare(Spare { shard, amount: 1 });
-            Lead::Gone
-        }
-        Lead::Gone | Lead::Handing(_, _) => return Err(Why::WrongLead),
-    };
-    hold.put_crown(Crown {
-        shard,
-        lead,
-        listed,
-    });
-    free(config, hold, shard, server);
-    Ok(())
-}
-
-/// Makes a secondary the primary of a shard that has none.
-pub fn to_primary(hold: &mut Hold, shard: ShardId, server: ServerId) -> Result<(), Why>
-    requires { HasPlace hold.old }
-    ensures answer { outcome result (hold_of hold.new.rights) ≡ decided (to_primary_line shard server (hold_of hold.old.rights)) }
-    ensures kept { OnErr result (hold.new ≡ hold.old) }
-{
-    let (lead, listed) = hold.crown(shard).ok_or(Why::NoCrown)?;
-    if lead != Lead::Gone {
-        return Err(Why::WrongLead);
-    }
-    match hold.cell(shard, server) {
-        None => return Err(Why::NoRight),
-        Some(PlainCell::Absent) => return Err(Why::WrongState),
-        Some(PlainCell::Secondary) => {}
-    }
-    hold.take_cell(shard, server);
-    hold.put_crown(Crown {
-        shard,
-        lead: Lead::At(server),
-        listed,
-    });
-    Ok(())
-}
-
-/// Makes the primary a secondary.
-pub fn to_secondary(hold: &mut Hold, shard: ShardId, server: ServerId) -> Result<(), Why>
-    requires { HasPlace hold.old }
-    ensures answer { outcome result (hold_of hold.new.rights) ≡ decided (to_secondary_line shard server (hold_of hold.old.rights)) }
-    ensures kept { OnErr result (hold.new ≡ hold.old) }
-{
-    let (lead, listed) = hold.crown(shard).ok_or(Why::NoCrown)?;
-    if lead != Lead::At(server) {
-        return Err(Why::WrongLead);
-    }
-    if listed.is_some() {
-        return Err(Why::StillListed);
-    }
-    if hold.cell(shard, server).is_some() {
+    if !are_cells_apart(hold, parcel.cells()) || !are_crowns_apart(hold, parcel.crowns()) {
         return Err(Why::Twice);
     }
-    hold.put_cell(CellRight {
-        shard,
-        server,
-        state: PlainCell::Secondary,
-    });
-    hold.put_crown(Crown {
-        shard,
-        lead: Lead::Gone,
-        listed,
-    });
+    put_parcel(hold, parcel);
     Ok(())
 }
 
-/// Writes the server that serves requests into the published map.
-pub fn publish(hold: &mut Hold, shard: ShardId) -> Result<(), Why>
-    requires { HasPlace hold.old }
-    ensures answer { outcome result (hold_of hold.new.rights) ≡ decided (publish_line shard (hold_of hold.old.rights) (lead_held ((hold_of hold.old.rights).crowns shard))) }
-    ensures kept { OnErr result (hold.new ≡ hold.old) }
+/// Puts a parcel in.
+fn put_parcel(hold: &mut Hold, parcel: &Parcel)
+    requires small { IsSmall parcel.now }
+    requires places { HasPlaces (longest parcel.now) hold.old }
+    requires amounts { IsAtMost (2 ^ 63) (hold_of hold.old.rights) }
+    ensures rights { hold_of hold.new.rights ≡ plus (hold_of hold.old.rights) parcel.now }
+    ensures grows { Grows (2 ^ 32) (hold_of hold.old.rights) (hold_of hold.new.rights) }
 {
-    let (lead, _) = hold.crown(shard).ok_or(Why::NoCrown)?;
-    let listed = match lead {
-        Lead::Gone => None,
-        Lead::At(server) | Lead::Ready(server, _) | Lead::Handing(server, _) => Some(server),
-        Lead::Handed(_, server) => Some(server),
-    };
-    hold.put_crown(Crown {
-        shard,
-        lead,
-        listed,
-    });
-    Ok(())
+    let _room = parcel.room();
+    let _spare = parcel.spare();
+    hold.put(parcel);
 }
 
-/// Takes the shard's server out of the published map.
-pub fn unlist(hold: &mut Hold, shard: ShardId) -> Result<(), Why>
-    requires { HasPlace hold.old }
-    ensures answer { outcome result (hold_of hold.new.rights) ≡ decided (unlist_line shard (hold_of hold.old.rights) (lead_held ((hold_of hold.old.rights).crowns shard))) }
+/// How many keys the longest list of a parcel has.
+fn longest(parcel: &Parcel) -> usize
+    ensures { result ≡ longest parcel.now }
+{
+    let cells = parcel.cells().len();
+    let crowns = parcel.crowns().len();
+    let room = parcel.room().len();
+    let spare = parcel.spare().len();
+    cells.max(crowns).max(room).max(spare)
+}
+
+/// How many keys an instruction adds to a list at most.
+fn most_keys(signals: &[Parcel], instr: &Instr) -> usize
+    requires { KnowsSignal (length signals.now) instr.now }
+    ensures { result ≡ most_keys (parcels_of signals.now) instr.now }
+{
+    match *instr {
+        Instr::Wait { signal } => longest(&signals[signal as usize]),
+        _ => 1,
+    }
+}
+
+/// Makes places for `more` keys in each list.
+fn reserve(hold: &mut Hold, more: usize) -> Result<(), AllocError>
+    requires { more < 2 ^ 63 }
+    ensures rights { hold.new.rights ≡ hold.old.rights }
+    ensures places { OnOk result (HasPlaces more hold.new) }
+{
+    let cells = hold.cells().len();
+    let crowns = hold.crowns().len();
+    let room = hold.rooms().len();
+    let spare = hold.spares().len();
+    let keys = cells.max(crowns).max(room).max(spare);
+    match u32::try_from(keys + more) {
+        Ok(places) => hold.reserve(places),
+        Err(_) => Err(AllocError),
+    }
+}
+
+/// Adds a replica in a role.
+fn add(
+    config: &Config,
+    hold: &mut Hold,
+    shard: ShardId,
+    server: ServerId,
+    role: Role,
+) -> Result<(), Why>
+    requires shard { shard < length config.now.shards }
+    requires place { HasPlaces 1 hold.old }
+    requires amounts { IsAtMost (2 ^ 63) (hold_of hold.old.rights) }
+    ensures answer { outcome result (hold_of hold.new.rights) ≡ after (sizes_of config.now) (parcels_of []) (Instr.Add shard server role) (hold_of hold.old.rights) }
     ensures kept { OnErr result (hold.new ≡ hold.old) }
 {
-    let (lead, _) = hold.crown(shard).ok_or(Why::NoCrown)?;
-    hold.put_crown(Crown {
-        shard,
-        lead,
-        listed: None,
-    });
-    Ok(())
+    match role {
+        Role::Primary => add_primary(config, hold, shard, server),
+        Role::Secondary => add_secondary(config, hold, shard, server),
+    }
+}
+
+/// Changes a replica to a role.
+fn change(hold: &mut Hold, shard: ShardId, server: ServerId, to: Role) -> Result<(), Why>
+    requires { HasPlaces 1 hold.old }
+    ensures answer { (c : Sizes) → outcome result (hold_of hold.new.rights) ≡ after c (parcels_of []) (Instr.Change shard server to) (hold_of hold.old.rights) }
+    ensures kept { OnErr result (hold.new ≡ hold.old) }
+{
+    match to {
+        Role::Primary => to_primary(hold, shard, server),
+        Role::Secondary => to_secondary(hold, shard, server),
+    }
+}
+
+/// Makes an instruction with a hold that has places for what it adds.
+fn make(
+    config: &Config,
+    signals: &[Parcel],
+    instr: &Instr,
+    hold: &mut Hold,
+) -> Result<(), Why>
+    requires shard { IfSome (shard_of instr.now) (λ s. s < length config.now.shards) }
+    requires signal { KnowsSignal (length signals.now) instr.now }
+    requires small { All IsSmall signals.now }
+    requires places { HasPlaces (most_keys (parcels_of signals.now) instr.now) hold.old }
+    requires amounts { IsAtMost (2 ^ 63) (hold_of hold.old.rights) }
+    ensures answer { outcome result (hold_of hold.new.rights) ≡ after (sizes_of config.now) (parcels_of signals.now) instr.now (hold_of hold.old.rights) }
+    ensures kept { OnErr result (hold.new ≡ hold.old) }
+    ensures grows { Grows (2 ^ 32) (hold_of hold.old.rights) (hold_of hold.new.rights) }
+{
+    match *instr {
+        Instr::PrepareAdd {
+            shard,
+            server,
+            owner,
+        } => prepare_add(config, hold, shard, server, owner),
+        Instr::PrepareDrop {
+            shard,
+            server,
+            new_owner,
+        } => prepare_drop(hold, shard, server, new_owner),
+        Instr::Add {
+            shard,
+            server,
+            role,
+        } => add(config, hold, shard, server, role),
+        Instr::Drop { shard, server } => drop(config, hold, shard, server),
+        Instr::Change { shard, server, to } => change(hold, shard, server, to),
+        Instr::Publish { shard } => publish(hold, shard),
+        Instr::Unlist { shard } => unlist(hold, shard),
+        Instr::Signal { signal: number } => signal(hold, &signals[number as usize]),
+        Instr::Wait { signal: number } => wait(hold, &signals[number as usize]),
+    }
+}
+
+/// Makes an instruction: the hold becomes the one after it. Where the instruction is not made, the rights stay as they are.
+///
+/// Memory is short for a list of 4,294,967,296 keys too.
+pub fn step(
+    config: &Config,
+    signals: &[Parcel],
+    instr: &Instr,
+    hold: &mut Hold,
+) -> Result<(), StepFault>
+    requires shard { IfSome (shard_of instr.now) (λ s. s < length config.now.shards) }
+    requires signal { KnowsSignal (length signals.now) instr.now }
+    requires small { All IsSmall signals.now }
+    requires amounts { IsAtMost (2 ^ 63) (hold_of hold.old.rights) }
+    ensures answer { IsAnswer result (hold_of hold.new.rights) (after (sizes_of config.now) (parcels_of signals.now) instr.now (hold_of hold.old.rights)) }
+    ensures kept { OnErr result (hold.new.rights ≡ hold.old.rights) }
+    ensures grows { Grows (2 ^ 32) (hold_of hold.old.rights) (hold_of hold.new.rights) }
+{
+    reserve(hold, most_keys(signals, instr))?;
+    Ok(make(config, signals, instr, hold)?)
 }
