@@ -1,7 +1,8 @@
 //! One instruction of a stream, made with the hold before it.
-ghost use Rattle.std.specs.Prelude.{◌≡◌, ◌<◌, ◌^◌, [], is_none, All, IfSome, OnOk, OnErr, length};
+ghost use Rattle.std.specs.Prelude.{◌≡◌, ◌<◌, ◌^◌, ℕ, is_none, All, IfSome, OnOk, OnErr, length};
 ghost use Rattle.std.specs.List.{list_all};
 ghost use Rattle.sm_placement.specs.Setup.{Sizes, sizes_of};
+ghost use Rattle.sm_reservation.specs.Rights.{Rights};
 ghost use Rattle.sm_reservation.specs.Hold.{plus};
 ghost use Rattle.sm_reservation.specs.HoldOf.{hold_of};
 ghost use Rattle.sm_plan_code.specs.Instr.{shard_of};
@@ -105,7 +106,8 @@ fn put_parcel(hold: &mut Hold, parcel: &Parcel)
 
 /// How many keys the longest list of a parcel has.
 fn longest(parcel: &Parcel) -> usize
-    ensures { result ≡ longest parcel.now }
+    ensures count { result ≡ longest parcel.now }
+    ensures bound { result < 2 ^ 63 }
 {
     let cells = parcel.cells().len();
     let crowns = parcel.crowns().len();
@@ -117,7 +119,8 @@ fn longest(parcel: &Parcel) -> usize
 /// How many keys an instruction adds to a list at most.
 fn most_keys(signals: &[Parcel], instr: &Instr) -> usize
     requires { KnowsSignal (length signals.now) instr.now }
-    ensures { result ≡ most_keys (parcels_of signals.now) instr.now }
+    ensures count { result ≡ most_keys (parcels_of signals.now) instr.now }
+    ensures bound { result < 2 ^ 63 }
 {
     match *instr {
         Instr::Wait { signal } => longest(&signals[signal as usize]),
@@ -153,8 +156,9 @@ fn add(
     requires shard { shard < length config.now.shards }
     requires place { HasPlaces 1 hold.old }
     requires amounts { IsAtMost (2 ^ 63) (hold_of hold.old.rights) }
-    ensures answer { outcome result (hold_of hold.new.rights) ≡ after (sizes_of config.now) (parcels_of []) (Instr.Add shard server role) (hold_of hold.old.rights) }
+    ensures answer { (signals : ℕ → Rights) → outcome result (hold_of hold.new.rights) ≡ after (sizes_of config.now) signals (Instr.Add shard server role) (hold_of hold.old.rights) }
     ensures kept { OnErr result (hold.new ≡ hold.old) }
+    ensures grows { Grows (2 ^ 32) (hold_of hold.old.rights) (hold_of hold.new.rights) }
 {
     match role {
         Role::Primary => add_primary(config, hold, shard, server),
@@ -165,8 +169,9 @@ fn add(
 /// Changes a replica to a role.
 fn change(hold: &mut Hold, shard: ShardId, server: ServerId, to: Role) -> Result<(), Why>
     requires { HasPlaces 1 hold.old }
-    ensures answer { (c : Sizes) → outcome result (hold_of hold.new.rights) ≡ after c (parcels_of []) (Instr.Change shard server to) (hold_of hold.old.rights) }
+    ensures answer { (c : Sizes) (signals : ℕ → Rights) → outcome result (hold_of hold.new.rights) ≡ after c signals (Instr.Change shard server to) (hold_of hold.old.rights) }
     ensures kept { OnErr result (hold.new ≡ hold.old) }
+    ensures grows { Grows (2 ^ 32) (hold_of hold.old.rights) (hold_of hold.new.rights) }
 {
     match to {
         Role::Primary => to_primary(hold, shard, server),

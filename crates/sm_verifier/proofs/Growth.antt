@@ -1,0 +1,51 @@
+-- How far amounts grow by a parcel, and the bounds of a parcel's amounts.
+use Rattle.std.proofs.Common.{◌≡◌, ℕ, ◌+◌, ◌<◌, ◌≤◌, ◌^◌, Bool, true, false, cond, List, [], ◌∷◌, Option, Some, None, length, get_or, ap, ◌∙◌, arith, inl, inr}
+use Rattle.std.specs.Prelude.{All}
+use Rattle.std.specs.List.{AllByRecursion}
+use Rattle.std.proofs.lemmas.Bool.{cases_Bool}
+use Rattle.std.proofs.lemmas.List.Elements.{recursion_from_All}
+use Rattle.sm_reservation.specs.declared.right.Room.{Room}
+use Rattle.sm_reservation.specs.declared.right.Spare.{Spare}
+use Rattle.sm_reservation.specs.Rights.{Rights}
+use Rattle.sm_reservation.specs.Rows.{Rises, same, amount_at, row_at}
+use Rattle.sm_reservation.specs.Key.{room_place, spare_place}
+use Rattle.sm_reservation.specs.Hold.{Hold, plus, plus_cells, plus_crowns, plus_room}
+use Rattle.sm_reservation.proofs.ParcelSums.{more_cells_alone, more_crowns_alone, more_room_alone, more_spare_alone, plus_room_at, plus_spare_at}
+use Rattle.sm_verifier.specs.Step.{IsSmall, Grows}
+
+-- an amount of a list is below what all its amounts are below
+amount_below : {T : Type 0} (place : T → ℕ × ℕ) (amount : T → ℕ) (n : ℕ) (xs : List T) (q : ℕ × ℕ) → 0 < n → AllByRecursion (λ x. amount x < n) xs → amount_at place amount xs q < n
+amount_below place amount n [] q some all = some
+amount_below place amount n (x ∷ xs) q some all = elim (cases_Bool (same (place x) q)) [
+  | inl e ↦ rw e all.0
+  | inr e ↦ rw e (amount_below place amount n xs q some all.1)
+]
+
+-- what a parcel of small amounts puts in
+pub plus_grows : (h : Hold) (p : Rights) → Rises room_place p.room → Rises spare_place p.spare → IsSmall p → Grows (2 ^ 32) h (plus h p)
+plus_grows h p room spare small =
+    let cells = more_cells_alone h p.cells in
+    let crowns = more_crowns_alone (plus_cells h p.cells) p.crowns in
+    let first : Hold = plus_crowns (plus_cells h p.cells) p.crowns in
+    let rooms = more_room_alone first p.room in
+    let spares = more_spare_alone (plus_room first p.room) p.spare in
+    record {
+      room = λ v.
+          let a : (plus h p).room v ≡ (plus_room first p.room).room v = ap (λ (k : Hold). k.room v) spares in
+          let b : (plus_room first p.room).room v ≡ first.room v + amount_at room_place (λ x. x.amount) p.room (v, 0) = plus_room_at first p.room v room in
+          let d : first.room v ≡ (plus_cells h p.cells).room v = ap (λ (k : Hold). k.room v) crowns in
+          let e : (plus_cells h p.cells).room v ≡ h.room v = ap (λ (k : Hold). k.room v) cells in
+          let f : amount_at room_place (λ x. x.amount) p.room (v, 0) < 2 ^ 32 = amount_below room_place (λ x. x.amount) (2 ^ 32) p.room (v, 0) (omega arith) (recursion_from_All (λ x. x.amount < 2 ^ 32) p.room small.room) in
+          omega arith;
+      spare = λ s.
+          let b : (plus h p).spare s ≡ (plus_room first p.room).spare s + amount_at spare_place (λ x. x.amount) p.spare (s, 0) = plus_spare_at (plus_room first p.room) p.spare s spare in
+          let a : (plus_room first p.room).spare s ≡ first.spare s = ap (λ (k : Hold). k.spare s) rooms in
+          let d : first.spare s ≡ (plus_cells h p.cells).spare s = ap (λ (k : Hold). k.spare s) crowns in
+          let e : (plus_cells h p.cells).spare s ≡ h.spare s = ap (λ (k : Hold). k.spare s) cells in
+          let f : amount_at spare_place (λ x. x.amount) p.spare (s, 0) < 2 ^ 32 = amount_below spare_place (λ x. x.amount) (2 ^ 32) p.spare (s, 0) (omega arith) (recursion_from_All (λ x. x.amount < 2 ^ 32) p.spare small.spare) in
+          omega arith;
+    }
+
+-- the parcel of a signal is small where all are
+pub small_at : (signals : List Rights) (k : ℕ) (p : Rights) → All IsSmall signals → k < length signals → p ≡ get_or signals k p → IsSmall p
+small_at signals k p all less is = rw is (all k p less)
