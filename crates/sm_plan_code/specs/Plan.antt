@@ -1,0 +1,125 @@
+-- Plans: what contracts see of them, what every plan keeps, and which plans are of a configuration.
+use Rattle.std.specs.Prelude.{◌≡◌, ◌≤◌, ◌<◌, ℕ, List, length, All, Option, Some, None, IfSome}
+use Rattle.sm_placement.specs.declared.lead.Lead.{Lead}
+use Rattle.sm_placement.specs.declared.lead.Lead.TheVariants.{Gone, At, Ready, Handing, Handed}
+use Rattle.sm_reservation.specs.declared.right.CellRight.{CellRight}
+use Rattle.sm_reservation.specs.declared.right.Crown.{Crown}
+use Rattle.sm_reservation.specs.declared.right.Room.{Room}
+use Rattle.sm_reservation.specs.declared.right.Spare.{Spare}
+use Rattle.sm_reservation.specs.Rights.{Rights}
+use Rattle.sm_plan_code.specs.declared.instruction.Instr.{Instr}
+use Rattle.sm_plan_code.specs.declared.instruction.Instr.TheVariants.{PrepareAdd, PrepareDrop, Add, Drop, Change, Publish, Unlist, Signal, Wait}
+use Rattle.sm_plan_code.specs.declared.plan.PlanFault.{PlanFault}
+use Rattle.sm_plan_code.specs.declared.plan.PlanFault.TheVariants.{TooMany, UnknownSignal}
+use Rattle.sm_plan_code.specs.Instr.{names_of, shard_of}
+
+-- a stream: how many calls it makes at most, how many tries beside them, what it holds at its start, and its instructions
+pub record StreamParts : Type 0 where
+  pub budget : ℕ
+  pub retries : ℕ
+  pub holds : Rights
+  pub code : List Instr
+
+-- a plan: how many calls and tries its streams have together at most, its streams, and what each signal carries
+pub record PlanParts : Type 0 where
+  pub budget : ℕ
+  pub streams : List StreamParts
+  pub signals : List Rights
+
+-- ---- within the limits
+
+-- each list of a parcel and each amount is within its limit
+pub record IsSmallParcel (r : Rights) : Type 0 where
+  pub cells : length r.cells ≤ 4096
+  pub crowns : length r.crowns ≤ 4096
+  pub room : length r.room ≤ 4096
+  pub spare : length r.spare ≤ 4096
+  pub room_amounts : All (λ x. x.amount ≤ 4294967295) r.room
+  pub spare_amounts : All (λ x. x.amount ≤ 4294967295) r.spare
+
+-- a stream's numbers, its parcel and its code are within their limits
+pub record IsSmallStream (s : StreamParts) : Type 0 where
+  pub budget : s.budget ≤ 262144
+  pub retries : s.retries ≤ 262144
+  pub holds : IsSmallParcel s.holds
+  pub code : length s.code ≤ 4096
+
+-- a plan's budget, its lists, each of its streams and each of its parcels are within their limits
+pub record IsSmallPlan (p : PlanParts) : Type 0 where
+  pub budget : p.budget ≤ 262144
+  pub stream_count : length p.streams ≤ 64
+  pub signal_count : length p.signals ≤ 256
+  pub streams : All IsSmallStream p.streams
+  pub signals : All IsSmallParcel p.signals
+
+-- ---- signals
+
+-- the signal that an instruction posts or waits for is one of the first n
+abbrev pub KnowsSignal : ℕ → Instr → Type 0
+KnowsSignal n (PrepareAdd s v u) = Unit {0}
+KnowsSignal n (PrepareDrop s u v) = Unit {0}
+KnowsSignal n (Add s v role) = Unit {0}
+KnowsSignal n (Drop s v) = Unit {0}
+KnowsSignal n (Change s v to) = Unit {0}
+KnowsSignal n (Publish s) = Unit {0}
+KnowsSignal n (Unlist s) = Unit {0}
+KnowsSignal n (Signal k) = k < n
+KnowsSignal n (Wait k) = k < n
+
+-- each instruction of each stream posts or waits for a signal of the plan, if it does at all
+abbrev pub KnowsSignals : PlanParts → Type 0
+KnowsSignals p = All (λ s. All (KnowsSignal (length p.signals)) s.code) p.streams
+
+-- ---- plans
+
+-- what every plan keeps
+pub record IsPlan (p : PlanParts) : Type 0 where
+  pub small : IsSmallPlan p
+  pub signals : KnowsSignals p
+
+-- why these parts are no plan: the first fault that they have
+abbrev pub IsFaultOf : PlanParts → PlanFault → Type 0
+IsFaultOf p TooMany = ¬ IsSmallPlan p
+IsFaultOf p UnknownSignal = IsSmallPlan p × ¬ KnowsSignals p
+
+-- ---- plans of a configuration, which has so many shards and servers
+
+-- the shard and the server of a cell right are below their counts
+abbrev pub FitsCell : ℕ → ℕ → CellRight → Type 0
+FitsCell shards servers x = (x.shard < shards) × (x.server < servers)
+
+-- each server that a lead names is below the count
+abbrev pub FitsLead : ℕ → Lead → Type 0
+FitsLead servers Gone = Unit {0}
+FitsLead servers (At u) = u < servers
+FitsLead servers (Ready u v) = (u < servers) × (v < servers)
+FitsLead servers (Handing u v) = (u < servers) × (v < servers)
+FitsLead servers (Handed u v) = (u < servers) × (v < servers)
+
+-- a crown's shard, each server of its lead and its listed server are below their counts
+abbrev pub FitsCrown : ℕ → ℕ → Crown → Type 0
+FitsCrown shards servers x = (x.shard < shards) × FitsLead servers x.lead × IfSome x.listed (λ v. v < servers)
+
+-- each id of each right in a parcel is below its count
+pub record FitsParcel (shards servers : ℕ) (r : Rights) : Type 0 where
+  pub cells : All (FitsCell shards servers) r.cells
+  pub crowns : All (FitsCrown shards servers) r.crowns
+  pub room : All (λ x. x.server < servers) r.room
+  pub spare : All (λ x. x.shard < shards) r.spare
+
+-- the shard of an instruction and each server that it mentions are below their counts
+abbrev pub FitsInstr : ℕ → ℕ → Instr → Type 0
+FitsInstr shards servers i =
+    IfSome (shard_of i) (λ s. s < shards)
+    × IfSome (names_of i).first (λ v. v < servers)
+    × IfSome (names_of i).second (λ v. v < servers)
+
+-- each id is below its count in what a stream holds at its start and in its instructions
+pub record FitsStream (shards servers : ℕ) (s : StreamParts) : Type 0 where
+  pub holds : FitsParcel shards servers s.holds
+  pub code : All (FitsInstr shards servers) s.code
+
+-- each id is below its count in each stream and in each signal's parcel
+pub record FitsPlan (shards servers : ℕ) (p : PlanParts) : Type 0 where
+  pub streams : All (FitsStream shards servers) p.streams
+  pub signals : All (FitsParcel shards servers) p.signals

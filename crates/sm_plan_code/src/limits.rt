@@ -1,0 +1,121 @@
+//! The limits of a plan, and which signals it knows.
+ghost use Rattle.std.specs.Prelude.{◌↔◌, ◌≤◌, IsTrue, All, length};
+ghost use Rattle.sm_plan_code.specs.Plan.{IsSmallParcel, IsSmallStream, IsSmallPlan, KnowsSignal, KnowsSignals};
+ghost use Rattle.sm_plan_code.specs.Parts.{parts_of};
+
+use crate::Instr;
+use crate::plan::{Parts, Stream};
+use sm_reservation::{Parcel, Room, Spare};
+
+/// How many streams a plan has at most.
+const MOST_STREAMS: usize = 64;
+
+/// How many signals a plan has at most.
+const MOST_SIGNALS: usize = 256;
+
+/// How many instructions a stream has at most.
+const MOST_INSTRUCTIONS: usize = 4_096;
+
+/// The greatest budget, of a plan and of a stream, and the most retries of a stream.
+const MOST_CALLS: u32 = 262_144;
+
+/// How many entries each list of a parcel has at most.
+const MOST_RIGHTS: usize = 4_096;
+
+/// The greatest amount of room or of spare replicas.
+const MOST_AMOUNT: u64 = 4_294_967_295;
+
+/// Each amount of room is within its limit.
+fn is_small_room(room: &[Room]) -> bool
+    ensures { IsTrue result ↔ All (λ x. x.amount ≤ 4294967295) room.now }
+{
+    room.iter().all(|x| x.amount <= MOST_AMOUNT)
+}
+
+/// Each amount of spare replicas is within its limit.
+fn is_small_spare(spare: &[Spare]) -> bool
+    ensures { IsTrue result ↔ All (λ x. x.amount ≤ 4294967295) spare.now }
+{
+    spare.iter().all(|x| x.amount <= MOST_AMOUNT)
+}
+
+/// Each list of a parcel and each amount is within its limit.
+fn is_small_parcel(parcel: &Parcel) -> bool
+    ensures { IsTrue result ↔ IsSmallParcel parcel.now }
+{
+    parcel.cells().len() <= MOST_RIGHTS
+        && parcel.crowns().len() <= MOST_RIGHTS
+        && parcel.room().len() <= MOST_RIGHTS
+        && parcel.spare().len() <= MOST_RIGHTS
+        && is_small_room(parcel.room())
+        && is_small_spare(parcel.spare())
+}
+
+/// A stream's numbers, its parcel and its code are within their limits.
+fn is_small_stream(stream: &Stream) -> bool
+    ensures { IsTrue result ↔ IsSmallStream stream.now }
+{
+    stream.budget <= MOST_CALLS
+        && stream.retries <= MOST_CALLS
+        && is_small_parcel(&stream.holds)
+        && stream.code.len() <= MOST_INSTRUCTIONS
+}
+
+/// Each of the streams is within the limits.
+fn are_small_streams(streams: &[Stream]) -> bool
+    ensures { IsTrue result ↔ All IsSmallStream streams.now }
+{
+    streams.iter().all(is_small_stream)
+}
+
+/// Each of the parcels is within the limits.
+fn are_small_parcels(parcels: &[Parcel]) -> bool
+    ensures { IsTrue result ↔ All IsSmallParcel parcels.now }
+{
+    parcels.iter().all(is_small_parcel)
+}
+
+/// The parts of a plan are within the limits.
+pub(crate) fn is_small_plan(parts: &Parts) -> bool
+    ensures { IsTrue result ↔ IsSmallPlan (parts_of parts.now) }
+{
+    parts.budget <= MOST_CALLS
+        && parts.streams.len() <= MOST_STREAMS
+        && parts.signals.len() <= MOST_SIGNALS
+        && are_small_streams(parts.streams.as_slice())
+        && are_small_parcels(parts.signals.as_slice())
+}
+
+/// The signal of an instruction is one of the first `signals`.
+fn knows_signal(instr: &Instr, signals: usize) -> bool
+    ensures { IsTrue result ↔ KnowsSignal signals instr.now }
+{
+    match *instr {
+        Instr::Signal { signal } | Instr::Wait { signal } => (signal as usize) < signals,
+        Instr::PrepareAdd { .. }
+        | Instr::PrepareDrop { .. }
+        | Instr::Add { .. }
+        | Instr::Drop { .. }
+        | Instr::Change { .. }
+        | Instr::Publish { .. }
+        | Instr::Unlist { .. } => true,
+    }
+}
+
+/// Each signal of a stream's code is one of the first `signals`.
+fn knows_signals_of(stream: &Stream, signals: usize) -> bool
+    ensures { IsTrue result ↔ All (KnowsSignal signals) stream.now.code }
+{
+    stream.code.iter().all(|instr| knows_signal(instr, signals))
+}
+
+/// Each signal that is posted or waited for has a parcel.
+pub(crate) fn knows_signals(parts: &Parts) -> bool
+    ensures { IsTrue result ↔ KnowsSignals (parts_of parts.now) }
+{
+    let signals = parts.signals.len();
+    parts
+        .streams
+        .iter()
+        .all(|stream| knows_signals_of(stream, signals))
+}
