@@ -10,19 +10,21 @@ use Rattle.sm_reservation.specs.Rights.{Rights}
 use Rattle.sm_reservation.specs.Rows.{Rises, same, amount_at, row_at}
 use Rattle.sm_reservation.specs.Key.{room_place, spare_place}
 use Rattle.sm_reservation.specs.Hold.{Hold, plus, plus_cells, plus_crowns, plus_room}
+use Rattle.sm_reservation.specs.HoldOf.{hold_of}
 use Rattle.sm_reservation.proofs.ParcelSums.{more_cells_alone, more_crowns_alone, more_room_alone, more_spare_alone, plus_room_at, plus_spare_at}
-use Rattle.sm_verifier.specs.Step.{IsSmall, Grows}
+use Rattle.sm_plan_code.specs.Plan.{IsSmallParcel}
+use Rattle.sm_verifier.specs.Step.{IsAtMost, Grows}
 
--- an amount of a list is below what all its amounts are below
-amount_below : {T : Type 0} (place : T → ℕ × ℕ) (amount : T → ℕ) (n : ℕ) (xs : List T) (q : ℕ × ℕ) → 0 < n → AllByRecursion (λ x. amount x < n) xs → amount_at place amount xs q < n
-amount_below place amount n [] q some all = some
-amount_below place amount n (x ∷ xs) q some all = elim (cases_Bool (same (place x) q)) [
+-- an amount of a list is no more than what all its amounts are no more than
+amount_most : {T : Type 0} (place : T → ℕ × ℕ) (amount : T → ℕ) (n : ℕ) (xs : List T) (q : ℕ × ℕ) → AllByRecursion (λ x. amount x ≤ n) xs → amount_at place amount xs q ≤ n
+amount_most place amount n [] q all = omega arith
+amount_most place amount n (x ∷ xs) q all = elim (cases_Bool (same (place x) q)) [
   | inl e ↦ rw e all.0
-  | inr e ↦ rw e (amount_below place amount n xs q some all.1)
+  | inr e ↦ rw e (amount_most place amount n xs q all.1)
 ]
 
 -- what a parcel of small amounts puts in
-pub plus_grows : (h : Hold) (p : Rights) → Rises room_place p.room → Rises spare_place p.spare → IsSmall p → Grows (2 ^ 32) h (plus h p)
+pub plus_grows : (h : Hold) (p : Rights) → Rises room_place p.room → Rises spare_place p.spare → IsSmallParcel p → Grows (2 ^ 32) h (plus h p)
 plus_grows h p room spare small =
     let cells = more_cells_alone h p.cells in
     let crowns = more_crowns_alone (plus_cells h p.cells) p.crowns in
@@ -35,17 +37,25 @@ plus_grows h p room spare small =
           let b : (plus_room first p.room).room v ≡ first.room v + amount_at room_place (λ x. x.amount) p.room (v, 0) = plus_room_at first p.room v room in
           let d : first.room v ≡ (plus_cells h p.cells).room v = ap (λ (k : Hold). k.room v) crowns in
           let e : (plus_cells h p.cells).room v ≡ h.room v = ap (λ (k : Hold). k.room v) cells in
-          let f : amount_at room_place (λ x. x.amount) p.room (v, 0) < 2 ^ 32 = amount_below room_place (λ x. x.amount) (2 ^ 32) p.room (v, 0) (omega arith) (recursion_from_All (λ x. x.amount < 2 ^ 32) p.room small.room) in
+          let f : amount_at room_place (λ x. x.amount) p.room (v, 0) ≤ 4294967295 = amount_most room_place (λ x. x.amount) 4294967295 p.room (v, 0) (recursion_from_All (λ x. x.amount ≤ 4294967295) p.room small.room_amounts) in
           omega arith;
       spare = λ s.
           let b : (plus h p).spare s ≡ (plus_room first p.room).spare s + amount_at spare_place (λ x. x.amount) p.spare (s, 0) = plus_spare_at (plus_room first p.room) p.spare s spare in
           let a : (plus_room first p.room).spare s ≡ first.spare s = ap (λ (k : Hold). k.spare s) rooms in
           let d : first.spare s ≡ (plus_cells h p.cells).spare s = ap (λ (k : Hold). k.spare s) crowns in
           let e : (plus_cells h p.cells).spare s ≡ h.spare s = ap (λ (k : Hold). k.spare s) cells in
-          let f : amount_at spare_place (λ x. x.amount) p.spare (s, 0) < 2 ^ 32 = amount_below spare_place (λ x. x.amount) (2 ^ 32) p.spare (s, 0) (omega arith) (recursion_from_All (λ x. x.amount < 2 ^ 32) p.spare small.spare) in
+          let f : amount_at spare_place (λ x. x.amount) p.spare (s, 0) ≤ 4294967295 = amount_most spare_place (λ x. x.amount) 4294967295 p.spare (s, 0) (recursion_from_All (λ x. x.amount ≤ 4294967295) p.spare small.spare_amounts) in
           omega arith;
     }
 
 -- the parcel of a signal is small where all are
-pub small_at : (signals : List Rights) (k : ℕ) (p : Rights) → All IsSmall signals → k < length signals → p ≡ get_or signals k p → IsSmall p
+pub small_at : (signals : List Rights) (k : ℕ) (p : Rights) → All IsSmallParcel signals → k < length signals → p ≡ get_or signals k p → IsSmallParcel p
 small_at signals k p all less is = rw is (all k p less)
+
+-- the amounts of a small parcel
+pub small_amounts : (p : Rights) → IsSmallParcel p → IsAtMost (2 ^ 32) (hold_of p)
+unfolding hold_of
+small_amounts p small = record {
+  room = λ v. let m : amount_at room_place (λ x. x.amount) p.room (v, 0) ≤ 4294967295 = amount_most room_place (λ x. x.amount) 4294967295 p.room (v, 0) (recursion_from_All (λ x. x.amount ≤ 4294967295) p.room small.room_amounts) in omega arith;
+  spare = λ s. let m : amount_at spare_place (λ x. x.amount) p.spare (s, 0) ≤ 4294967295 = amount_most spare_place (λ x. x.amount) 4294967295 p.spare (s, 0) (recursion_from_All (λ x. x.amount ≤ 4294967295) p.spare small.spare_amounts) in omega arith;
+}

@@ -1,5 +1,5 @@
 -- What one instruction answers, what its maker must have places for, and how far amounts grow.
-use Rattle.std.specs.Prelude.{◌≡◌, ◌+◌, ◌≤◌, ◌<◌, ◌^◌, ℕ, max, Result, Ok, Err, List, All, length, slice_index_or}
+use Rattle.std.specs.Prelude.{◌≡◌, ◌+◌, ◌≤◌, ℕ, max, Result, Ok, Err, List, length, slice_index_or}
 use Rattle.sm_reservation.specs.Rights.{Rights, no_rights}
 use Rattle.sm_reservation.specs.Hold.{Hold}
 use Rattle.sm_reservation.specs.Kept.{Kept}
@@ -46,23 +46,6 @@ most_keys signals (Drop s v) = 1
 most_keys signals (Change s v to) = 1
 most_keys signals (Publish s) = 1
 most_keys signals (Unlist s) = 1
-
--- the signal of an instruction is one of the first n
-abbrev pub KnowsSignal : ℕ → Instr → Type 0
-KnowsSignal n (Signal k) = k < n
-KnowsSignal n (Wait k) = k < n
-KnowsSignal n (PrepareAdd s v u) = Unit {0}
-KnowsSignal n (PrepareDrop s u v) = Unit {0}
-KnowsSignal n (Add s v role) = Unit {0}
-KnowsSignal n (Drop s v) = Unit {0}
-KnowsSignal n (Change s v to) = Unit {0}
-KnowsSignal n (Publish s) = Unit {0}
-KnowsSignal n (Unlist s) = Unit {0}
-
--- each amount of a parcel is below 2 ^ 32
-pub record IsSmall (p : Rights) : Type 0 where
-  pub room : All (λ x. x.amount < 2 ^ 32) p.room
-  pub spare : All (λ x. x.amount < 2 ^ 32) p.spare
 
 -- no amount is above n
 pub record IsAtMost (n : ℕ) (h : Hold) : Type 0 where

@@ -1,13 +1,13 @@
 //! One instruction of a stream, made with the hold before it.
-ghost use Rattle.std.specs.Prelude.{◌≡◌, ◌<◌, ◌^◌, ℕ, is_none, All, IfSome, OnOk, OnErr, length};
+ghost use Rattle.std.specs.Prelude.{◌≡◌, ◌<◌, ◌^◌, ℕ, is_none, All, OnOk, OnErr, length};
 ghost use Rattle.std.specs.List.{list_all};
 ghost use Rattle.sm_placement.specs.Setup.{Sizes, sizes_of};
 ghost use Rattle.sm_reservation.specs.Rights.{Rights};
 ghost use Rattle.sm_reservation.specs.Hold.{plus};
 ghost use Rattle.sm_reservation.specs.HoldOf.{hold_of};
-ghost use Rattle.sm_plan_code.specs.Instr.{shard_of};
+ghost use Rattle.sm_plan_code.specs.Plan.{KnowsSignal, IsSmallParcel, FitsInstr};
 ghost use Rattle.sm_plan_code.specs.After.{after, decided, signal_line, wait_line};
-ghost use Rattle.sm_verifier.specs.Step.{outcome, IsAnswer, HasPlaces, longest, most_keys, parcels_of, KnowsSignal, IsSmall, IsAtMost, Grows};
+ghost use Rattle.sm_verifier.specs.Step.{outcome, IsAnswer, HasPlaces, longest, most_keys, parcels_of, IsAtMost, Grows};
 
 use crate::lines::{add_primary, add_secondary, drop, prepare_add, prepare_drop, publish, to_primary, to_secondary, unlist};
 use sm_placement::Config;
@@ -77,7 +77,7 @@ fn are_crowns_apart(hold: &Hold, crowns: &[Crown]) -> bool
 
 /// Waits for a signal, which puts its parcel in.
 fn wait(hold: &mut Hold, parcel: &Parcel) -> Result<(), Why>
-    requires small { IsSmall parcel.now }
+    requires small { IsSmallParcel parcel.now }
     requires places { HasPlaces (longest parcel.now) hold.old }
     requires amounts { IsAtMost (2 ^ 63) (hold_of hold.old.rights) }
     ensures answer { outcome result (hold_of hold.new.rights) ≡ decided (wait_line parcel.now (hold_of hold.old.rights)) }
@@ -93,7 +93,7 @@ fn wait(hold: &mut Hold, parcel: &Parcel) -> Result<(), Why>
 
 /// Puts a parcel in.
 fn put_parcel(hold: &mut Hold, parcel: &Parcel)
-    requires small { IsSmall parcel.now }
+    requires small { IsSmallParcel parcel.now }
     requires places { HasPlaces (longest parcel.now) hold.old }
     requires amounts { IsAtMost (2 ^ 63) (hold_of hold.old.rights) }
     ensures rights { hold_of hold.new.rights ≡ plus (hold_of hold.old.rights) parcel.now }
@@ -186,9 +186,9 @@ fn make(
     instr: &Instr,
     hold: &mut Hold,
 ) -> Result<(), Why>
-    requires shard { IfSome (shard_of instr.now) (λ s. s < length config.now.shards) }
+    requires fits { FitsInstr (length config.now.shards) (length config.now.servers) instr.now }
     requires signal { KnowsSignal (length signals.now) instr.now }
-    requires small { All IsSmall signals.now }
+    requires small { All IsSmallParcel signals.now }
     requires places { HasPlaces (most_keys (parcels_of signals.now) instr.now) hold.old }
     requires amounts { IsAtMost (2 ^ 63) (hold_of hold.old.rights) }
     ensures answer { outcome result (hold_of hold.new.rights) ≡ after (sizes_of config.now) (parcels_of signals.now) instr.now (hold_of hold.old.rights) }
@@ -229,9 +229,9 @@ pub fn step(
     instr: &Instr,
     hold: &mut Hold,
 ) -> Result<(), StepFault>
-    requires shard { IfSome (shard_of instr.now) (λ s. s < length config.now.shards) }
+    requires fits { FitsInstr (length config.now.shards) (length config.now.servers) instr.now }
     requires signal { KnowsSignal (length signals.now) instr.now }
-    requires small { All IsSmall signals.now }
+    requires small { All IsSmallParcel signals.now }
     requires amounts { IsAtMost (2 ^ 63) (hold_of hold.old.rights) }
     ensures answer { IsAnswer result (hold_of hold.new.rights) (after (sizes_of config.now) (parcels_of signals.now) instr.now (hold_of hold.old.rights)) }
     ensures kept { OnErr result (hold.new.rights ≡ hold.old.rights) }
