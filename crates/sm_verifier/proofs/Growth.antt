@@ -48,9 +48,9 @@ plus_grows h p room spare small =
           omega arith;
     }
 
--- the parcel of a signal is small where all are
-pub small_at : (signals : List Rights) (k : ℕ) (p : Rights) → All IsSmallParcel signals → k < length signals → p ≡ get_or signals k p → IsSmallParcel p
-small_at signals k p all less is = rw is (all k p less)
+-- what holds of all elements holds of the one at a place
+pub all_at : {A : Type 0} (P : A → Type 0) (xs : List A) (k : ℕ) (x : A) → All P xs → k < length xs → x ≡ get_or xs k x → P x
+all_at P xs k x all less is = rw is (all k x less)
 
 -- the amounts of a small parcel
 pub small_amounts : (p : Rights) → IsSmallParcel p → IsAtMost (2 ^ 32) (hold_of p)

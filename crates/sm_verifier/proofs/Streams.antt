@@ -1,5 +1,5 @@
 -- A stream followed as far as a position, one instruction further, and at its end.
-use Rattle.std.proofs.Common.{◌≡◌, ℕ, ◌+◌, ◌*◌, ◌<◌, ◌≤◌, ◌^◌, Bool, true, false, ◌&&◌, nat_le, List, Option, Some, None, Result, Ok, Err, length, get_or, take, refl, sym, ap, ◌∙◌, arith, inl, inr, leb-true, leb-false}
+use Rattle.std.proofs.Common.{◌≡◌, ℕ, ◌+◌, ◌*◌, ◌<◌, ◌≤◌, ◌^◌, suc, add-one, Bool, true, false, ◌&&◌, nat_le, List, Option, Some, None, Result, Ok, Err, length, get_or, take, refl, sym, ap, ◌∙◌, arith, inl, inr, leb-true, leb-false}
 use Rattle.std.specs.Prelude.{IfSome, IsOk, is_ok, slice_get}
 use Rattle.std.specs.List.{count_by}
 use Rattle.std.proofs.lemmas.Bool.{cases_Bool, cases_eq, cases_lt, and_parts, and_cases}
@@ -14,7 +14,10 @@ use Rattle.sm_plan_code.specs.declared.instruction.Why.{Why}
 use Rattle.sm_plan_code.specs.declared.instruction.Why.TheVariants.{Unsettled, OverBudget}
 use Rattle.sm_plan_code.specs.Instr.{is_call}
 use Rattle.sm_plan_code.specs.After.{after}
-use Rattle.sm_verifier.specs.Step.{parcels_of, IsAtMost, Grows}
+use Rattle.sm_verifier.specs.declared.steps.StepFault.{StepFault}
+use Rattle.sm_verifier.specs.declared.steps.StepFault.TheVariants.{NoMemory, Refused}
+use Rattle.sm_verifier.specs.Step.{parcels_of, IsAnswer, IsAtMost, Grows}
+use Rattle.sm_verifier.specs.Bad.{bad_at, IsBad}
 use Rattle.sm_verifier.specs.Stream.{Course, hold_before, final_hold, calls_before, IsSettled, IsGood, within_budget, made_at, BreaksBy, BreaksAt, IsFirstBreak}
 
 -- the stream has been followed to a position: the calls so far, the hold there, and no break before it
@@ -46,8 +49,8 @@ one_more s p i e =
     let less : p < length s.code = slice_get_within s.code p i e in
     let same : get_or s.code p i ≡ i = get_or_from_slice_get s.code p i i e in
     elim (cases_Bool (is_call i)) [
-      | inl yes ↦ rw yes (count_by_more_yes is_call s.code p i less (rw same yes))
-      | inr no ↦ rw no (count_by_more_no is_call s.code p i less (rw same no) ∙ omega arith)
+      | inl call ↦ rw call (count_by_more_yes is_call s.code p i less (rw same call))
+      | inr other ↦ rw other (count_by_more_no is_call s.code p i less (rw same other) ∙ omega arith)
     ]
 
 -- an instruction that is made is one of the table, within the budget
@@ -55,12 +58,12 @@ made_of : (budget n : ℕ) (i : Instr) (said : Result Hold Why) (h : Hold) → n
 made_of budget n i said h l e = elim (cases_Bool (is_call i && nat_le budget n)) [
   | inl over ↦ absurd (let wrong = rw over at e in cc)
   | inr under ↦ (rw under at e, elim (and_cases (is_call i) (nat_le budget n) under) [
-      | inl no ↦ rw no (omega arith)
-      | inr less ↦ let m : n < budget = leb-false budget n less in elim (cases_Bool (is_call i)) [ inl yes ↦ rw yes (omega arith) | inr no ↦ rw no (omega arith) ]
+      | inl other ↦ rw other (omega arith)
+      | inr less ↦ let m : n < budget = leb-false budget n less in elim (cases_Bool (is_call i)) [ inl call ↦ rw call (omega arith) | inr other ↦ rw other (omega arith) ]
     ])
 ]
 
-next_hold : (s : Course) (p : ℕ) (i : Instr) (h : Hold) → slice_get s.code p ≡ Some i → said_of s i (hold_before s p) ≡ Ok h → h ≡ hold_before s (p + 1)
+next_hold : (s : Course) (p : ℕ) (i : Instr) (h : Hold) → slice_get s.code p ≡ Some i → said_of s i (hold_before s p) ≡ Ok h → h ≡ hold_before s (suc p)
 next_hold s p i h e said = rw e (rw said refl)
 
 pub next : (s : Course) (p n : ℕ) (h h' : Hold) (i : Instr) → IsFollowed s p n h → slice_get s.code p ≡ Some i → within_budget s.budget n i (said_of s i h) ≡ Ok h' → Grows (2 ^ 32) h h' → IsFollowed s (p + 1) (n + bit (is_call i)) h'
@@ -69,7 +72,7 @@ next s p n h h' i f e made grows =
     record {
       calls = let more = one_more s p i e in let so = f.calls in omega arith;
       within = parts.1;
-      hold = next_hold s p i h' e (rw (← f.hold) parts.0);
+      hold = rw add-one (next_hold s p i h' e (rw (← f.hold) parts.0));
       amounts = record {
         room = λ v. let a = f.amounts.room v in let b = grows.room v in omega arith;
         spare = λ k. let a = f.amounts.spare k in let b = grows.spare k in omega arith;
@@ -112,12 +115,17 @@ breaks s p n h i why f e refused =
       bad = not_good s p why here;
     }
 
+-- where the instruction at the position was not made, for want of memory or because it may not be
+pub breaks_by : (s : Course) (p n at : ℕ) (h h' : Hold) (i : Instr) (fault : StepFault) → at ≡ p → IsFollowed s p n h → slice_get s.code p ≡ Some i → IsAnswer {U = Unit {0}} (Err fault) h' (within_budget s.budget n i (said_of s i h)) → IsBad s (bad_at at fault)
+breaks_by s p n at h h' i NoMemory here f e answer = tt
+breaks_by s p n at h h' i (Refused why) here f e answer = rw here (breaks s p n h i why f e answer)
+
 -- ---- a stream at its end
 
 pub unsettled : (s : Course) (p n : ℕ) (h : Hold) → p ≡ length s.code → IsFollowed s p n h → ¬ IsSettled h → IsFirstBreak s p Unsettled
-unsettled s p n h end f no =
+unsettled s p n h end f open_handover =
     let past : slice_get s.code p ≡ None = slice_get_past s.code p (omega arith) in
-    let settled : ¬ IsSettled (final_hold s) = λ yes. no (rw (f.hold, end) yes) in
+    let settled : ¬ IsSettled (final_hold s) = λ rest. open_handover (rw (f.hold, end) rest) in
     let here : BreaksAt s p Unsettled = rw past (end, refl, settled) in
     record {
       here = here;

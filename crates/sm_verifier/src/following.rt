@@ -6,7 +6,7 @@ ghost use Rattle.sm_plan_code.specs.After.{after};
 ghost use Rattle.sm_plan_code.specs.Plan.{KnowsSignal, IsSmallParcel, IsSmallStream, FitsInstr, FitsStream, FitsPlan};
 ghost use Rattle.sm_verifier.specs.Step.{parcels_of, IsAnswer, IsAtMost, Grows};
 ghost use Rattle.sm_verifier.specs.Stream.{course, course_of, stream_at, final_hold, IsAtRest, IsSettled, IsGood, within_budget};
-ghost use Rattle.sm_verifier.specs.Bad.{IsBad};
+ghost use Rattle.sm_verifier.specs.Bad.{bad_at, IsBad};
 
 use crate::steps::{StepFault, step};
 use sm_placement::{Config, Lead};
@@ -38,6 +38,16 @@ impl From<AllocError> for Bad {
 
     fn from(_error: AllocError) -> Bad {
         Bad::NoMemory
+    }
+}
+
+/// A step's fault, with the step's position.
+fn bad_at(at: u32, fault: StepFault) -> Bad
+    ensures { result ≡ bad_at at fault }
+{
+    match fault {
+        StepFault::NoMemory => Bad::NoMemory,
+        StepFault::Refused(why) => Bad::At { at, why },
     }
 }
 
@@ -107,10 +117,8 @@ fn follow_code(
     let mut calls = 0;
     let mut at = 0;
     for instr in code {
-        match follow_one(config, signals, budget, calls, instr, hold) {
-            Ok(()) => {}
-            Err(StepFault::NoMemory) => return Err(Bad::NoMemory),
-            Err(StepFault::Refused(why)) => return Err(Bad::At { at, why }),
+        if let Err(fault) = follow_one(config, signals, budget, calls, instr, hold) {
+            return Err(bad_at(at, fault));
         }
         if is_call(instr) {
             calls += 1;
