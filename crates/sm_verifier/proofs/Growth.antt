@@ -1,13 +1,11 @@
 -- How far amounts grow by a parcel, and the bounds of a parcel's amounts.
-use Rattle.std.proofs.Common.{◌≡◌, ℕ, ◌+◌, ◌<◌, ◌≤◌, ◌^◌, Bool, true, false, cond, List, [], ◌∷◌, Option, Some, None, length, get_or, ap, ◌∙◌, arith, inl, inr}
+use Rattle.std.proofs.Common.{◌≡◌, ℕ, ◌+◌, ◌<◌, ◌≤◌, ◌^◌, List, [], ◌∷◌, length, get_or, ap, arith, inl, inr}
 use Rattle.std.specs.Prelude.{All}
 use Rattle.std.specs.List.{AllByRecursion}
 use Rattle.std.proofs.lemmas.Bool.{cases_Bool}
 use Rattle.std.proofs.lemmas.List.Elements.{recursion_from_All}
-use Rattle.sm_reservation.specs.declared.right.Room.{Room}
-use Rattle.sm_reservation.specs.declared.right.Spare.{Spare}
 use Rattle.sm_reservation.specs.Rights.{Rights}
-use Rattle.sm_reservation.specs.Rows.{Rises, same, amount_at, row_at}
+use Rattle.sm_reservation.specs.Rows.{Rises, same, amount_at}
 use Rattle.sm_reservation.specs.Key.{room_place, spare_place}
 use Rattle.sm_reservation.specs.Hold.{Hold, plus, plus_cells, plus_crowns, plus_room}
 use Rattle.sm_reservation.specs.HoldOf.{hold_of}

@@ -1,5 +1,5 @@
 -- Crowns at rest: in a list, and in the hold that the list is.
-use Rattle.std.proofs.Common.{◌≡◌, ℕ, List, [], ◌∷◌, inl, inr}
+use Rattle.std.proofs.Common.{ℕ, List, [], ◌∷◌, inl, inr}
 use Rattle.std.specs.Prelude.{IfSome}
 use Rattle.std.specs.List.{AllByRecursion}
 use Rattle.std.proofs.lemmas.Bool.{cases_Bool}
@@ -27,9 +27,9 @@ all_rest : (xs : List Crown) → Rises crown_place xs → ((s : ℕ) → RestsAt
 all_rest [] rises at = tt
 all_rest (x ∷ xs) rises at =
     let rest : (s : ℕ) → RestsAt xs s = λ s. elim (cases_Bool (same (crown_place x) (s, 0))) [
-        | inl e ↦ rw (none_after crown_place (crown_place x) (s, 0) xs rises.0 e) tt
-        | inr e ↦ rw e at (at s)
-      ] in
+      | inl e ↦ rw (none_after crown_place (crown_place x) (s, 0) xs rises.0 e) tt
+      | inr e ↦ rw e at (at s)
+    ] in
     (rw (same_here (x.shard, 0)) at (at x.shard), all_rest xs rises.1 rest)
 
 pub settled_from_rows : (r : Rights) → AllByRecursion (λ x. IsAtRest x.lead) r.crowns → IsSettled (hold_of r)

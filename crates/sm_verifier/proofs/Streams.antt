@@ -1,6 +1,6 @@
 -- A stream followed as far as a position, one instruction further, and at its end.
-use Rattle.std.proofs.Common.{◌≡◌, ℕ, ◌+◌, ◌*◌, ◌<◌, ◌≤◌, ◌^◌, suc, add-one, Bool, true, false, ◌&&◌, nat_le, List, Option, Some, None, Result, Ok, Err, length, get_or, take, refl, sym, ap, ◌∙◌, arith, inl, inr, leb-true, leb-false}
-use Rattle.std.specs.Prelude.{IfSome, IsOk, is_ok, slice_get}
+use Rattle.std.proofs.Common.{◌≡◌, ℕ, ◌+◌, ◌*◌, ◌<◌, ◌≤◌, ◌^◌, suc, add-one, true, ◌&&◌, nat_le, Option, Some, None, Result, Ok, Err, length, get_or, take, refl, ◌∙◌, arith, inl, inr, leb-true, leb-false}
+use Rattle.std.specs.Prelude.{IfSome, IsOk, slice_get}
 use Rattle.std.specs.List.{count_by}
 use Rattle.std.proofs.lemmas.Bool.{cases_Bool, cases_eq, cases_lt, and_parts, and_cases}
 use Rattle.std.proofs.lemmas.List.Sums.{count_by_more_yes, count_by_more_no, sum_by-take-le}
@@ -11,7 +11,7 @@ use Rattle.sm_reservation.specs.Hold.{Hold}
 use Rattle.sm_reservation.specs.HoldOf.{hold_of}
 use Rattle.sm_plan_code.specs.declared.instruction.Instr.{Instr}
 use Rattle.sm_plan_code.specs.declared.instruction.Why.{Why}
-use Rattle.sm_plan_code.specs.declared.instruction.Why.TheVariants.{Unsettled, OverBudget}
+use Rattle.sm_plan_code.specs.declared.instruction.Why.TheVariants.{Unsettled}
 use Rattle.sm_plan_code.specs.Instr.{is_call}
 use Rattle.sm_plan_code.specs.After.{after}
 use Rattle.sm_verifier.specs.declared.steps.StepFault.{StepFault}
@@ -57,10 +57,13 @@ one_more s p i e =
 made_of : (budget n : ℕ) (i : Instr) (said : Result Hold Why) (h : Hold) → n ≤ budget → within_budget budget n i said ≡ Ok h → (said ≡ Ok h) × (n + bit (is_call i) ≤ budget)
 made_of budget n i said h l e = elim (cases_Bool (is_call i && nat_le budget n)) [
   | inl over ↦ absurd (let wrong = rw over at e in cc)
-  | inr under ↦ (rw under at e, elim (and_cases (is_call i) (nat_le budget n) under) [
+  | inr under ↦ (
+    rw under at e,
+    elim (and_cases (is_call i) (nat_le budget n) under) [
       | inl other ↦ rw other (omega arith)
       | inr less ↦ let m : n < budget = leb-false budget n less in elim (cases_Bool (is_call i)) [ inl call ↦ rw call (omega arith) | inr other ↦ rw other (omega arith) ]
-    ])
+    ],
+  )
 ]
 
 next_hold : (s : Course) (p : ℕ) (i : Instr) (h : Hold) → slice_get s.code p ≡ Some i → said_of s i (hold_before s p) ≡ Ok h → h ≡ hold_before s (suc p)

@@ -1,5 +1,5 @@
 -- Streams: which of them are good, and where and why another one breaks off.
-use Rattle.std.specs.Prelude.{◌≡◌, ◌≤◌, ◌<◌, ℕ, ◌&&◌, nat_le, Option, Some, None, Result, Ok, Err, IfSome, IsOk, List, length, take, count_by, slice_get, slice_index_or, [], if◌then◌else◌}
+use Rattle.std.specs.Prelude.{◌≡◌, ◌≤◌, ◌<◌, ℕ, ◌&&◌, nat_le, Option, Some, None, Result, Err, IfSome, IsOk, List, length, take, count_by, slice_get, slice_index_or, [], if◌then◌else◌}
 use Rattle.sm_placement.specs.declared.lead.Lead.{Lead}
 use Rattle.sm_placement.specs.declared.lead.Lead.TheVariants.{Gone, At, Ready, Handing, Handed}
 use Rattle.sm_placement.specs.Setup.{Sizes}

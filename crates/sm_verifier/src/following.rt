@@ -150,7 +150,13 @@ fn follow_stream(
     ensures bad { IfErr result (λ bad. IsBad (course_of (sizes_of config.now) signals.now stream.now) bad) }
 {
     let mut hold = Hold::of_parcel(alloc, &stream.holds)?;
-    follow_code(config, signals, stream.budget, &mut hold, stream.code.as_slice())?;
+    follow_code(
+        config,
+        signals,
+        stream.budget,
+        &mut hold,
+        stream.code.as_slice(),
+    )?;
     Ok(hold.into_parcel())
 }
 
@@ -158,17 +164,17 @@ fn follow_stream(
 ///
 /// A stream that is not good breaks off at the first position where it may not go on. A call that is over the budget is
 /// refused as `OverBudget`, whatever else stands against it. Retries do not count.
-pub fn follow(
-    alloc: Global,
-    config: &Config,
-    plan: &Plan,
-    stream: u32,
-) -> Result<Parcel, Bad>
+pub fn follow(alloc: Global, config: &Config, plan: &Plan, stream: u32) -> Result<Parcel, Bad>
     requires fits { FitsPlan (length config.now.shards) (length config.now.servers) plan.now }
     requires stream { stream < length plan.now.streams }
     ensures good { OnOk result (IsGood (stream_at (sizes_of config.now) plan.now stream)) }
     ensures hold { IfOk result (λ parcel. hold_of parcel ≡ final_hold (stream_at (sizes_of config.now) plan.now stream)) }
     ensures bad { IfErr result (λ bad. IsBad (stream_at (sizes_of config.now) plan.now stream) bad) }
 {
-    follow_stream(alloc, config, plan.signals(), &plan.streams()[stream as usize])
+    follow_stream(
+        alloc,
+        config,
+        plan.signals(),
+        &plan.streams()[stream as usize],
+    )
 }

@@ -1,15 +1,16 @@
 //! The instructions but signals and waits, each by its line of the table of rights.
-ghost use Rattle.std.specs.Prelude.{◌≡◌, ◌+◌, ◌≤◌, ◌<◌, ◌^◌, length, OnErr, if◌then◌else◌};
-ghost use Rattle.sm_placement.specs.Setup.{sizes_of};
+ghost use Rattle.std.specs.Prelude.{◌≡◌, ◌≤◌, ◌<◌, ◌^◌, ℕ, OnErr, length};
+ghost use Rattle.sm_placement.specs.Setup.{Sizes, sizes_of};
+ghost use Rattle.sm_reservation.specs.Rights.{Rights};
 ghost use Rattle.sm_reservation.specs.Hold.{get_room, with_cell};
 ghost use Rattle.sm_reservation.specs.HoldOf.{hold_of};
-ghost use Rattle.sm_plan_code.specs.After.{decided, has_right, prepare_add_line, prepare_drop_line, add_secondary_line, add_primary_line, lead_held, drop_held_line, drop_led_line, to_primary_line, to_secondary_line, publish_line, unlist_line};
+ghost use Rattle.sm_plan_code.specs.After.{after, decided, prepare_add_line, prepare_drop_line, add_secondary_line, add_primary_line, lead_held, drop_held_line, drop_led_line, to_primary_line, to_secondary_line, publish_line, unlist_line};
 ghost use Rattle.sm_verifier.specs.Step.{outcome, HasPlaces, Grows};
 
 use sm_placement::{Config, Lead};
-use sm_plan_code::Why;
+use sm_plan_code::{Instr, Why};
 use sm_reservation::{CellRight, Crown, Hold, PlainCell, Room, Spare};
-use sm_server::{ServerId, ShardId};
+use sm_server::{Role, ServerId, ShardId};
 
 /// Prepares `server` for a primary that `owner` hands over.
 pub fn prepare_add(
@@ -71,7 +72,7 @@ pub fn prepare_drop(
 }
 
 /// Adds a secondary.
-pub fn add_secondary(
+fn add_secondary(
     config: &Config,
     hold: &mut Hold,
     shard: ShardId,
@@ -79,7 +80,7 @@ pub fn add_secondary(
 ) -> Result<(), Why>
     requires shard { shard < length config.now.shards }
     requires place { HasPlaces 1 hold.old }
-    requires fits { (hold_of hold.old.rights).spare shard + 1 < 2 ^ 64 }
+    requires fits { (hold_of hold.old.rights).spare shard ≤ 2 ^ 63 }
     ensures answer { outcome result (hold_of hold.new.rights) ≡ decided (add_secondary_line (sizes_of config.now) shard server (hold_of hold.old.rights)) }
     ensures kept { OnErr result (hold.new ≡ hold.old) }
 {
@@ -103,7 +104,7 @@ pub fn add_secondary(
 }
 
 /// Adds a primary: at the prepared server, or where the shard has none.
-pub fn add_primary(
+fn add_primary(
     config: &Config,
     hold: &mut Hold,
     shard: ShardId,
@@ -111,7 +112,7 @@ pub fn add_primary(
 ) -> Result<(), Why>
     requires shard { shard < length config.now.shards }
     requires place { HasPlaces 1 hold.old }
-    requires fits { (hold_of hold.old.rights).spare shard + 1 < 2 ^ 64 }
+    requires fits { (hold_of hold.old.rights).spare shard ≤ 2 ^ 63 }
     ensures answer { outcome result (hold_of hold.new.rights) ≡ decided (add_primary_line (sizes_of config.now) shard server (hold_of hold.old.rights) (lead_held ((hold_of hold.old.rights).crowns shard))) }
     ensures kept { OnErr result (hold.new ≡ hold.old) }
 {
@@ -200,12 +201,7 @@ fn drop_held(
 }
 
 /// Drops what a server has by its part in the lead.
-fn drop_led(
-    config: &Config,
-    hold: &mut Hold,
-    shard: ShardId,
-    server: ServerId,
-) -> Result<(), Why>
+fn drop_led(config: &Config, hold: &mut Hold, shard: ShardId, server: ServerId) -> Result<(), Why>
     requires shard { shard < length config.now.shards }
     requires place { HasPlaces 1 hold.old }
     requires fits { (hold_of hold.old.rights).room server ≤ 2 ^ 63 }
@@ -255,16 +251,11 @@ fn drop_led(
 }
 
 /// Drops whatever a server has.
-pub fn drop(
-    config: &Config,
-    hold: &mut Hold,
-    shard: ShardId,
-    server: ServerId,
-) -> Result<(), Why>
+pub fn drop(config: &Config, hold: &mut Hold, shard: ShardId, server: ServerId) -> Result<(), Why>
     requires shard { shard < length config.now.shards }
     requires place { HasPlaces 1 hold.old }
     requires fits { (hold_of hold.old.rights).room server ≤ 2 ^ 63 }
-    ensures answer { outcome result (hold_of hold.new.rights) ≡ decided (let h = hold_of hold.old.rights in let c = sizes_of config.now in if has_right h shard server then drop_held_line c shard server h else drop_led_line c shard server h (lead_held (h.crowns shard))) }
+    ensures answer { (signals : ℕ → Rights) → outcome result (hold_of hold.new.rights) ≡ after (sizes_of config.now) signals (Instr.Drop shard server) (hold_of hold.old.rights) }
     ensures kept { OnErr result (hold.new ≡ hold.old) }
     ensures grows { Grows (2 ^ 32) (hold_of hold.old.rights) (hold_of hold.new.rights) }
 {
@@ -275,7 +266,7 @@ pub fn drop(
 }
 
 /// Makes a secondary the primary of a shard that has none.
-pub fn to_primary(hold: &mut Hold, shard: ShardId, server: ServerId) -> Result<(), Why>
+fn to_primary(hold: &mut Hold, shard: ShardId, server: ServerId) -> Result<(), Why>
     requires { HasPlaces 1 hold.old }
     ensures answer { outcome result (hold_of hold.new.rights) ≡ decided (to_primary_line shard server (hold_of hold.old.rights)) }
     ensures kept { OnErr result (hold.new ≡ hold.old) }
@@ -299,7 +290,7 @@ pub fn to_primary(hold: &mut Hold, shard: ShardId, server: ServerId) -> Result<(
 }
 
 /// Makes the primary a secondary.
-pub fn to_secondary(hold: &mut Hold, shard: ShardId, server: ServerId) -> Result<(), Why>
+fn to_secondary(hold: &mut Hold, shard: ShardId, server: ServerId) -> Result<(), Why>
     requires { HasPlaces 1 hold.old }
     ensures answer { outcome result (hold_of hold.new.rights) ≡ decided (to_secondary_line shard server (hold_of hold.old.rights)) }
     ensures kept { OnErr result (hold.new ≡ hold.old) }
@@ -360,4 +351,38 @@ pub fn unlist(hold: &mut Hold, shard: ShardId) -> Result<(), Why>
         listed: None,
     });
     Ok(())
+}
+
+/// Adds a replica in a role.
+pub fn add(
+    config: &Config,
+    hold: &mut Hold,
+    shard: ShardId,
+    server: ServerId,
+    role: Role,
+) -> Result<(), Why>
+    requires shard { shard < length config.now.shards }
+    requires place { HasPlaces 1 hold.old }
+    requires fits { (hold_of hold.old.rights).spare shard ≤ 2 ^ 63 }
+    ensures answer { (signals : ℕ → Rights) → outcome result (hold_of hold.new.rights) ≡ after (sizes_of config.now) signals (Instr.Add shard server role) (hold_of hold.old.rights) }
+    ensures kept { OnErr result (hold.new ≡ hold.old) }
+    ensures grows { Grows (2 ^ 32) (hold_of hold.old.rights) (hold_of hold.new.rights) }
+{
+    match role {
+        Role::Primary => add_primary(config, hold, shard, server),
+        Role::Secondary => add_secondary(config, hold, shard, server),
+    }
+}
+
+/// Changes a replica to a role.
+pub fn change(hold: &mut Hold, shard: ShardId, server: ServerId, to: Role) -> Result<(), Why>
+    requires { HasPlaces 1 hold.old }
+    ensures answer { (c : Sizes) (signals : ℕ → Rights) → outcome result (hold_of hold.new.rights) ≡ after c signals (Instr.Change shard server to) (hold_of hold.old.rights) }
+    ensures kept { OnErr result (hold.new ≡ hold.old) }
+    ensures grows { Grows (2 ^ 32) (hold_of hold.old.rights) (hold_of hold.new.rights) }
+{
+    match to {
+        Role::Primary => to_primary(hold, shard, server),
+        Role::Secondary => to_secondary(hold, shard, server),
+    }
 }

@@ -1,19 +1,17 @@
 //! One instruction of a stream, made with the hold before it.
-ghost use Rattle.std.specs.Prelude.{◌≡◌, ◌<◌, ◌^◌, ℕ, is_none, All, OnOk, OnErr, length};
+ghost use Rattle.std.specs.Prelude.{◌≡◌, ◌<◌, ◌^◌, is_none, All, OnOk, OnErr, length};
 ghost use Rattle.std.specs.List.{list_all};
-ghost use Rattle.sm_placement.specs.Setup.{Sizes, sizes_of};
-ghost use Rattle.sm_reservation.specs.Rights.{Rights};
+ghost use Rattle.sm_placement.specs.Setup.{sizes_of};
 ghost use Rattle.sm_reservation.specs.Hold.{plus};
 ghost use Rattle.sm_reservation.specs.HoldOf.{hold_of};
 ghost use Rattle.sm_plan_code.specs.Plan.{KnowsSignal, IsSmallParcel, FitsInstr};
 ghost use Rattle.sm_plan_code.specs.After.{after, decided, signal_line, wait_line};
 ghost use Rattle.sm_verifier.specs.Step.{outcome, IsAnswer, HasPlaces, longest, most_keys, parcels_of, IsAtMost, Grows};
 
-use crate::lines::{add_primary, add_secondary, drop, prepare_add, prepare_drop, publish, to_primary, to_secondary, unlist};
+use crate::lines::{add, change, drop, prepare_add, prepare_drop, publish, unlist};
 use sm_placement::Config;
 use sm_plan_code::{Instr, Why};
 use sm_reservation::{CellRight, Crown, Hold, Parcel};
-use sm_server::{Role, ServerId, ShardId};
 use std::alloc::AllocError;
 use thiserror::Error;
 
@@ -65,7 +63,9 @@ fn signal(hold: &mut Hold, parcel: &Parcel) -> Result<(), Why>
 fn are_cells_apart(hold: &Hold, cells: &[CellRight]) -> bool
     ensures { result ≡ list_all (λ x. is_none ((hold_of hold.now.rights).cells x.shard x.server)) cells.now }
 {
-    cells.iter().all(|right| hold.cell(right.shard, right.server).is_none())
+    cells
+        .iter()
+        .all(|right| hold.cell(right.shard, right.server).is_none())
 }
 
 /// None of these crowns is held.
@@ -145,47 +145,8 @@ fn reserve(hold: &mut Hold, more: usize) -> Result<(), AllocError>
     }
 }
 
-/// Adds a replica in a role.
-fn add(
-    config: &Config,
-    hold: &mut Hold,
-    shard: ShardId,
-    server: ServerId,
-    role: Role,
-) -> Result<(), Why>
-    requires shard { shard < length config.now.shards }
-    requires place { HasPlaces 1 hold.old }
-    requires amounts { IsAtMost (2 ^ 63) (hold_of hold.old.rights) }
-    ensures answer { (signals : ℕ → Rights) → outcome result (hold_of hold.new.rights) ≡ after (sizes_of config.now) signals (Instr.Add shard server role) (hold_of hold.old.rights) }
-    ensures kept { OnErr result (hold.new ≡ hold.old) }
-    ensures grows { Grows (2 ^ 32) (hold_of hold.old.rights) (hold_of hold.new.rights) }
-{
-    match role {
-        Role::Primary => add_primary(config, hold, shard, server),
-        Role::Secondary => add_secondary(config, hold, shard, server),
-    }
-}
-
-/// Changes a replica to a role.
-fn change(hold: &mut Hold, shard: ShardId, server: ServerId, to: Role) -> Result<(), Why>
-    requires { HasPlaces 1 hold.old }
-    ensures answer { (c : Sizes) (signals : ℕ → Rights) → outcome result (hold_of hold.new.rights) ≡ after c signals (Instr.Change shard server to) (hold_of hold.old.rights) }
-    ensures kept { OnErr result (hold.new ≡ hold.old) }
-    ensures grows { Grows (2 ^ 32) (hold_of hold.old.rights) (hold_of hold.new.rights) }
-{
-    match to {
-        Role::Primary => to_primary(hold, shard, server),
-        Role::Secondary => to_secondary(hold, shard, server),
-    }
-}
-
 /// Makes an instruction with a hold that has places for what it adds.
-fn make(
-    config: &Config,
-    signals: &[Parcel],
-    instr: &Instr,
-    hold: &mut Hold,
-) -> Result<(), Why>
+fn make(config: &Config, signals: &[Parcel], instr: &Instr, hold: &mut Hold) -> Result<(), Why>
     requires fits { FitsInstr (length config.now.shards) (length config.now.servers) instr.now }
     requires signal { KnowsSignal (length signals.now) instr.now }
     requires small { All IsSmallParcel signals.now }

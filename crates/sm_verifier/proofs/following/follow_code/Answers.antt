@@ -1,5 +1,5 @@
-use Rattle.std.proofs.Common.{◌≡◌, ◌+◌, refl, sym, ◌∙◌, arith, ℕ}
-use Rattle.std.specs.Prelude.{length, slice_get, Some, true, false}
+use Rattle.std.proofs.Common.{◌≡◌, ◌+◌, refl, sym, ◌∙◌, arith}
+use Rattle.std.specs.Prelude.{length, true, false}
 use Rattle.std.proofs.lemmas.Option.{slice_get_read}
 use Rattle.sm_placement.specs.Setup.{sizes_of}
 use Rattle.sm_placement.specs.Sums.{bit}
@@ -21,9 +21,9 @@ loop-instr-preserved c =
     let s : Course = course (sizes_of c.args.config.now) c.args.signals.now c.args.budget c.args.hold.now.rights c.args.code.now in
     let here = slice_get_read c.args.code.now (length c.args.code.now) c.loop-instr.instr-index c.instr-item.result refl c.loop-instr-test.true c.instr-item.is in
     let count : c.if-is_call.calls ≡ c.loop-instr.calls + bit (is_call c.instr-item.result) = elim c.if-is_call.branch [
-        | then-is_call w ↦ let call : is_call c.instr-item.result ≡ true = sym c.is_call.ensures ∙ w.if-is_call.true in rw call w.calls-is
-        | else-is_call w ↦ let other : is_call c.instr-item.result ≡ false = sym c.is_call.ensures ∙ w.if-is_call.false in rw other (let same = w.calls-is in omega arith)
-      ] in
+      | then-is_call w ↦ let call : is_call c.instr-item.result ≡ true = sym c.is_call.ensures ∙ w.if-is_call.true in rw call w.calls-is
+      | else-is_call w ↦ let other : is_call c.instr-item.result ≡ false = sym c.is_call.ensures ∙ w.if-is_call.false in rw other (let same = w.calls-is in omega arith)
+    ] in
     let followed = next s c.loop-instr.instr-index c.loop-instr.calls (hold_of c.loop-instr.hold.rights) (hold_of c.follow_one.new.hold.rights) c.instr-item.result c.loop-instr.invariant.followed here (rw c.in_default.is at c.follow_one.ensures.answer) c.follow_one.ensures.grows in
     record { at = rw c.loop-instr.invariant.at refl; followed = rw count followed }
 

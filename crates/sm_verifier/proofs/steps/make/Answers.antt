@@ -12,3 +12,6 @@ returns-in-Add-clause-answer c = rw c.in-Add.is (c.add.ensures.answer (parcels_o
 
 pub returns-in-Change-clause-answer : goal.returns-in-Change-clause-answer
 returns-in-Change-clause-answer c = rw c.in-Change.is (c.change.ensures.answer (sizes_of c.args.config.now) (parcels_of c.args.signals.now))
+
+pub returns-in-Drop-clause-answer : goal.returns-in-Drop-clause-answer
+returns-in-Drop-clause-answer c = rw c.in-Drop.is (c.drop.ensures.answer (parcels_of c.args.signals.now))
