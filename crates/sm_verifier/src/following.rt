@@ -1,0 +1,180 @@
+//! A stream followed through its code.
+ghost use Rattle.std.specs.Prelude.{◌≡◌, ◌≤◌, ◌<◌, ◌^◌, ◌↔◌, IsTrue, All, IfOk, IfErr, OnOk, length};
+ghost use Rattle.sm_placement.specs.Setup.{sizes_of};
+ghost use Rattle.sm_reservation.specs.HoldOf.{hold_of};
+ghost use Rattle.sm_plan_code.specs.After.{after};
+ghost use Rattle.sm_plan_code.specs.Plan.{KnowsSignal, IsSmallParcel, IsSmallStream, FitsInstr, FitsStream, FitsPlan};
+ghost use Rattle.sm_verifier.specs.Step.{parcels_of, IsAnswer, IsAtMost, Grows};
+ghost use Rattle.sm_verifier.specs.Stream.{course, course_of, stream_at, final_hold, IsAtRest, IsSettled, IsGood, within_budget};
+ghost use Rattle.sm_verifier.specs.Bad.{bad_at, IsBad};
+
+use crate::steps::{StepFault, step};
+use sm_placement::{Config, Lead};
+use sm_plan_code::{Instr, Plan, Stream, Why, is_call};
+use sm_reservation::{Crown, Hold, Parcel};
+use std::alloc::{AllocError, Global};
+use thiserror::Error;
+
+/// Why a stream cannot be followed to its end.
+#[derive(Clone, Copy, Debug, PartialEq, Eq, Error)]
+pub enum Bad {
+    /// Memory was short.
+    #[error("out of memory")]
+    NoMemory,
+    /// The stream breaks off.
+    #[error("at {at}: {why}")]
+    At {
+        /// The position of the instruction, or the length of the code at the stream's end.
+        at: u32,
+        /// Why the instruction may not be made, or the stream may not end.
+        why: Why,
+    },
+}
+
+impl From<AllocError> for Bad {
+    ghost use Rattle.sm_verifier.specs.declared.following.Bad.TheVariants.{NoMemory};
+
+    ghost from_gives = { λ _ bad. bad ≡ NoMemory };
+
+    fn from(_error: AllocError) -> Bad {
+        Bad::NoMemory
+    }
+}
+
+/// A step's fault, with the step's position.
+fn bad_at(at: u32, fault: StepFault) -> Bad
+    ensures { result ≡ bad_at at fault }
+{
+    match fault {
+        StepFault::NoMemory => Bad::NoMemory,
+        StepFault::Refused(why) => Bad::At { at, why },
+    }
+}
+
+/// No handover is under way.
+fn is_at_rest(lead: &Lead) -> bool
+    ensures { IsTrue result ↔ IsAtRest lead.now }
+{
+    match lead {
+        Lead::Gone | Lead::At(_) => true,
+        Lead::Ready(_, _) | Lead::Handing(_, _) | Lead::Handed(_, _) => false,
+    }
+}
+
+/// Every crown is at rest.
+fn are_at_rest(crowns: &[Crown]) -> bool
+    ensures { IsTrue result ↔ All (λ x. IsAtRest x.lead) crowns.now }
+{
+    crowns.iter().all(|crown| is_at_rest(&crown.lead))
+}
+
+/// Every crown that is held is at rest.
+fn is_settled(hold: &Hold) -> bool
+    ensures { IsTrue result ↔ IsSettled (hold_of hold.now.rights) }
+{
+    are_at_rest(hold.crowns())
+}
+
+/// Makes an instruction after so many calls of the stream.
+fn follow_one(
+    config: &Config,
+    signals: &[Parcel],
+    budget: u32,
+    calls: u32,
+    instr: &Instr,
+    hold: &mut Hold,
+) -> Result<(), StepFault>
+    requires fits { FitsInstr (length config.now.shards) (length config.now.servers) instr.now }
+    requires signal { KnowsSignal (length signals.now) instr.now }
+    requires small { All IsSmallParcel signals.now }
+    requires amounts { IsAtMost (2 ^ 63) (hold_of hold.old.rights) }
+    ensures answer { IsAnswer result (hold_of hold.new.rights) (within_budget budget calls instr.now (after (sizes_of config.now) (parcels_of signals.now) instr.now (hold_of hold.old.rights))) }
+    ensures grows { Grows (2 ^ 32) (hold_of hold.old.rights) (hold_of hold.new.rights) }
+{
+    if is_call(instr) && budget <= calls {
+        return Err(StepFault::Refused(Why::OverBudget));
+    }
+    step(config, signals, instr, hold)
+}
+
+/// Follows a code from the hold before it, which becomes the hold after it.
+fn follow_code(
+    config: &Config,
+    signals: &[Parcel],
+    budget: u32,
+    hold: &mut Hold,
+    code: &[Instr],
+) -> Result<(), Bad>
+    requires fits { All (FitsInstr (length config.now.shards) (length config.now.servers)) code.now }
+    requires known { All (KnowsSignal (length signals.now)) code.now }
+    requires small { All IsSmallParcel signals.now }
+    requires short { length code.now ≤ 4096 }
+    requires amounts { IsAtMost (2 ^ 32) (hold_of hold.old.rights) }
+    ensures good { OnOk result (IsGood (course (sizes_of config.now) signals.now budget hold.old.rights code.now)) }
+    ensures hold { OnOk result (hold_of hold.new.rights ≡ final_hold (course (sizes_of config.now) signals.now budget hold.old.rights code.now)) }
+    ensures bad { IfErr result (λ bad. IsBad (course (sizes_of config.now) signals.now budget hold.old.rights code.now) bad) }
+{
+    let mut calls = 0;
+    let mut at = 0;
+    for instr in code {
+        if let Err(fault) = follow_one(config, signals, budget, calls, instr, hold) {
+            return Err(bad_at(at, fault));
+        }
+        if is_call(instr) {
+            calls += 1;
+        }
+        at += 1;
+    }
+    if !is_settled(hold) {
+        return Err(Bad::At {
+            at,
+            why: Why::Unsettled,
+        });
+    }
+    Ok(())
+}
+
+/// Follows a stream of a plan with these signals.
+fn follow_stream(
+    alloc: Global,
+    config: &Config,
+    signals: &[Parcel],
+    stream: &Stream,
+) -> Result<Parcel, Bad>
+    requires fits { FitsStream (length config.now.shards) (length config.now.servers) stream.now }
+    requires known { All (KnowsSignal (length signals.now)) stream.now.code }
+    requires small { All IsSmallParcel signals.now }
+    requires short { IsSmallStream stream.now }
+    ensures good { OnOk result (IsGood (course_of (sizes_of config.now) signals.now stream.now)) }
+    ensures hold { IfOk result (λ parcel. hold_of parcel ≡ final_hold (course_of (sizes_of config.now) signals.now stream.now)) }
+    ensures bad { IfErr result (λ bad. IsBad (course_of (sizes_of config.now) signals.now stream.now) bad) }
+{
+    let mut hold = Hold::of_parcel(alloc, &stream.holds)?;
+    follow_code(
+        config,
+        signals,
+        stream.budget,
+        &mut hold,
+        stream.code.as_slice(),
+    )?;
+    Ok(hold.into_parcel())
+}
+
+/// Follows the stream of a plan at a number, with its declared rights, through its whole code: what it holds at the end.
+///
+/// A stream that is not good breaks off at the first position where it may not go on. A call that is over the budget is
+/// refused as `OverBudget`, whatever else stands against it. Retries do not count.
+pub fn follow(alloc: Global, config: &Config, plan: &Plan, stream: u32) -> Result<Parcel, Bad>
+    requires fits { FitsPlan (length config.now.shards) (length config.now.servers) plan.now }
+    requires stream { stream < length plan.now.streams }
+    ensures good { OnOk result (IsGood (stream_at (sizes_of config.now) plan.now stream)) }
+    ensures hold { IfOk result (λ parcel. hold_of parcel ≡ final_hold (stream_at (sizes_of config.now) plan.now stream)) }
+    ensures bad { IfErr result (λ bad. IsBad (stream_at (sizes_of config.now) plan.now stream) bad) }
+{
+    follow_stream(
+        alloc,
+        config,
+        plan.signals(),
+        &plan.streams()[stream as usize],
+    )
+}

@@ -1,0 +1,203 @@
+//! One instruction of a stream, made with the hold before it.
+ghost use Rattle.std.specs.Prelude.{◌≡◌, ◌<◌, ◌^◌, is_none, All, OnOk, OnErr, length};
+ghost use Rattle.std.specs.List.{list_all};
+ghost use Rattle.sm_placement.specs.Setup.{sizes_of};
+ghost use Rattle.sm_reservation.specs.Hold.{plus};
+ghost use Rattle.sm_reservation.specs.HoldOf.{hold_of};
+ghost use Rattle.sm_plan_code.specs.Plan.{KnowsSignal, IsSmallParcel, FitsInstr};
+ghost use Rattle.sm_plan_code.specs.After.{after, decided, signal_line, wait_line};
+ghost use Rattle.sm_verifier.specs.Step.{outcome, IsAnswer, HasPlaces, longest, most_keys, parcels_of, IsAtMost, Grows};
+
+use crate::lines::{add, change, drop, prepare_add, prepare_drop, publish, unlist};
+use sm_placement::Config;
+use sm_plan_code::{Instr, Why};
+use sm_reservation::{CellRight, Crown, Hold, Parcel};
+use std::alloc::AllocError;
+use thiserror::Error;
+
+/// Why an instruction is not made.
+#[derive(Clone, Copy, Debug, PartialEq, Eq, Error)]
+pub enum StepFault {
+    /// Memory was short.
+    #[error("out of memory")]
+    NoMemory,
+    /// The stream may not make the instruction.
+    #[error("{0}")]
+    Refused(Why),
+}
+
+impl From<AllocError> for StepFault {
+    ghost use Rattle.sm_verifier.specs.declared.steps.StepFault.TheVariants.{NoMemory};
+
+    ghost from_gives = { λ _ fault. fault ≡ NoMemory };
+
+    fn from(_error: AllocError) -> StepFault {
+        StepFault::NoMemory
+    }
+}
+
+impl From<Why> for StepFault {
+    ghost use Rattle.sm_verifier.specs.declared.steps.StepFault.TheVariants.{Refused};
+
+    ghost from_gives = { λ why fault. fault ≡ Refused why };
+
+    fn from(why: Why) -> StepFault {
+        StepFault::Refused(why)
+    }
+}
+
+/// Posts a signal, which takes its parcel.
+fn signal(hold: &mut Hold, parcel: &Parcel) -> Result<(), Why>
+    ensures answer { outcome result (hold_of hold.new.rights) ≡ decided (signal_line parcel.now (hold_of hold.old.rights)) }
+    ensures kept { OnErr result (hold.new ≡ hold.old) }
+    ensures grows { Grows (2 ^ 32) (hold_of hold.old.rights) (hold_of hold.new.rights) }
+{
+    if hold.first_short(parcel).is_some() {
+        return Err(Why::NotCarried);
+    }
+    hold.take(parcel);
+    Ok(())
+}
+
+/// No right to one of these cells is held.
+fn are_cells_apart(hold: &Hold, cells: &[CellRight]) -> bool
+    ensures { result ≡ list_all (λ x. is_none ((hold_of hold.now.rights).cells x.shard x.server)) cells.now }
+{
+    cells
+        .iter()
+        .all(|right| hold.cell(right.shard, right.server).is_none())
+}
+
+/// None of these crowns is held.
+fn are_crowns_apart(hold: &Hold, crowns: &[Crown]) -> bool
+    ensures { result ≡ list_all (λ x. is_none ((hold_of hold.now.rights).crowns x.shard)) crowns.now }
+{
+    crowns.iter().all(|crown| hold.crown(crown.shard).is_none())
+}
+
+/// Waits for a signal, which puts its parcel in.
+fn wait(hold: &mut Hold, parcel: &Parcel) -> Result<(), Why>
+    requires small { IsSmallParcel parcel.now }
+    requires places { HasPlaces (longest parcel.now) hold.old }
+    requires amounts { IsAtMost (2 ^ 63) (hold_of hold.old.rights) }
+    ensures answer { outcome result (hold_of hold.new.rights) ≡ decided (wait_line parcel.now (hold_of hold.old.rights)) }
+    ensures kept { OnErr result (hold.new ≡ hold.old) }
+    ensures grows { Grows (2 ^ 32) (hold_of hold.old.rights) (hold_of hold.new.rights) }
+{
+    if !are_cells_apart(hold, parcel.cells()) || !are_crowns_apart(hold, parcel.crowns()) {
+        return Err(Why::Twice);
+    }
+    put_parcel(hold, parcel);
+    Ok(())
+}
+
+/// Puts a parcel in.
+fn put_parcel(hold: &mut Hold, parcel: &Parcel)
+    requires small { IsSmallParcel parcel.now }
+    requires places { HasPlaces (longest parcel.now) hold.old }
+    requires amounts { IsAtMost (2 ^ 63) (hold_of hold.old.rights) }
+    ensures rights { hold_of hold.new.rights ≡ plus (hold_of hold.old.rights) parcel.now }
+    ensures grows { Grows (2 ^ 32) (hold_of hold.old.rights) (hold_of hold.new.rights) }
+{
+    let _room = parcel.room();
+    let _spare = parcel.spare();
+    hold.put(parcel);
+}
+
+/// How many keys the longest list of a parcel has.
+fn longest(parcel: &Parcel) -> usize
+    ensures count { result ≡ longest parcel.now }
+    ensures bound { result < 2 ^ 63 }
+{
+    let cells = parcel.cells().len();
+    let crowns = parcel.crowns().len();
+    let room = parcel.room().len();
+    let spare = parcel.spare().len();
+    cells.max(crowns).max(room).max(spare)
+}
+
+/// How many keys an instruction adds to a list at most.
+fn most_keys(signals: &[Parcel], instr: &Instr) -> usize
+    requires { KnowsSignal (length signals.now) instr.now }
+    ensures count { result ≡ most_keys (parcels_of signals.now) instr.now }
+    ensures bound { result < 2 ^ 63 }
+{
+    match *instr {
+        Instr::Wait { signal } => longest(&signals[signal as usize]),
+        _ => 1,
+    }
+}
+
+/// Makes places for `more` keys in each list.
+fn reserve(hold: &mut Hold, more: usize) -> Result<(), AllocError>
+    requires { more < 2 ^ 63 }
+    ensures rights { hold.new.rights ≡ hold.old.rights }
+    ensures places { OnOk result (HasPlaces more hold.new) }
+{
+    let cells = hold.cells().len();
+    let crowns = hold.crowns().len();
+    let room = hold.rooms().len();
+    let spare = hold.spares().len();
+    let keys = cells.max(crowns).max(room).max(spare);
+    match u32::try_from(keys + more) {
+        Ok(places) => hold.reserve(places),
+        Err(_) => Err(AllocError),
+    }
+}
+
+/// Makes an instruction with a hold that has places for what it adds.
+fn make(config: &Config, signals: &[Parcel], instr: &Instr, hold: &mut Hold) -> Result<(), Why>
+    requires fits { FitsInstr (length config.now.shards) (length config.now.servers) instr.now }
+    requires signal { KnowsSignal (length signals.now) instr.now }
+    requires small { All IsSmallParcel signals.now }
+    requires places { HasPlaces (most_keys (parcels_of signals.now) instr.now) hold.old }
+    requires amounts { IsAtMost (2 ^ 63) (hold_of hold.old.rights) }
+    ensures answer { outcome result (hold_of hold.new.rights) ≡ after (sizes_of config.now) (parcels_of signals.now) instr.now (hold_of hold.old.rights) }
+    ensures kept { OnErr result (hold.new ≡ hold.old) }
+    ensures grows { Grows (2 ^ 32) (hold_of hold.old.rights) (hold_of hold.new.rights) }
+{
+    match *instr {
+        Instr::PrepareAdd {
+            shard,
+            server,
+            owner,
+        } => prepare_add(config, hold, shard, server, owner),
+        Instr::PrepareDrop {
+            shard,
+            server,
+            new_owner,
+        } => prepare_drop(hold, shard, server, new_owner),
+        Instr::Add {
+            shard,
+            server,
+            role,
+        } => add(config, hold, shard, server, role),
+        Instr::Drop { shard, server } => drop(config, hold, shard, server),
+        Instr::Change { shard, server, to } => change(hold, shard, server, to),
+        Instr::Publish { shard } => publish(hold, shard),
+        Instr::Unlist { shard } => unlist(hold, shard),
+        Instr::Signal { signal: number } => signal(hold, &signals[number as usize]),
+        Instr::Wait { signal: number } => wait(hold, &signals[number as usize]),
+    }
+}
+
+/// Makes an instruction: the hold becomes the one after it. Where the instruction is not made, the rights stay as they are.
+///
+/// Memory is short for a list of 4,294,967,296 keys too.
+pub fn step(
+    config: &Config,
+    signals: &[Parcel],
+    instr: &Instr,
+    hold: &mut Hold,
+) -> Result<(), StepFault>
+    requires fits { FitsInstr (length config.now.shards) (length config.now.servers) instr.now }
+    requires signal { KnowsSignal (length signals.now) instr.now }
+    requires small { All IsSmallParcel signals.now }
+    requires amounts { IsAtMost (2 ^ 63) (hold_of hold.old.rights) }
+    ensures answer { IsAnswer result (hold_of hold.new.rights) (after (sizes_of config.now) (parcels_of signals.now) instr.now (hold_of hold.old.rights)) }
+    ensures kept { OnErr result (hold.new.rights ≡ hold.old.rights) }
+    ensures grows { Grows (2 ^ 32) (hold_of hold.old.rights) (hold_of hold.new.rights) }
+{
+    reserve(hold, most_keys(signals, instr))?;
+    Ok(make(config, signals, instr, hold)?)
+}
