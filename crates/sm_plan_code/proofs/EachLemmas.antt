@@ -1,5 +1,5 @@
 -- What `all` answers, where its test decides a property of each element.
-use Rattle.std.proofs.Common.{◌≡◌, ◌↔◌, ◌<◌, ℕ, IsTrue, Bool, true, false, List, length, All, refl}
+use Rattle.std.proofs.Common.{◌↔◌, ◌<◌, ℕ, IsTrue, Bool, true, false, List, length, All, refl}
 use Rattle.std.specs.Bool.{MatchBool}
 use Rattle.std.specs.List.{AllWithin, HoldsAt}
 use Rattle.std.proofs.lemmas.List.Elements.{All-from_all_within}

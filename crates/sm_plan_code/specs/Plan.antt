@@ -1,11 +1,9 @@
 -- Plans: what contracts see of them, what every plan keeps, and which plans are of a configuration.
-use Rattle.std.specs.Prelude.{◌≡◌, ◌≤◌, ◌<◌, ℕ, List, length, All, Option, Some, None, IfSome}
+use Rattle.std.specs.Prelude.{◌≤◌, ◌<◌, ℕ, List, length, All, IfSome}
 use Rattle.sm_placement.specs.declared.lead.Lead.{Lead}
 use Rattle.sm_placement.specs.declared.lead.Lead.TheVariants.{Gone, At, Ready, Handing, Handed}
 use Rattle.sm_reservation.specs.declared.right.CellRight.{CellRight}
 use Rattle.sm_reservation.specs.declared.right.Crown.{Crown}
-use Rattle.sm_reservation.specs.declared.right.Room.{Room}
-use Rattle.sm_reservation.specs.declared.right.Spare.{Spare}
 use Rattle.sm_reservation.specs.Rights.{Rights}
 use Rattle.sm_plan_code.specs.declared.instruction.Instr.{Instr}
 use Rattle.sm_plan_code.specs.declared.instruction.Instr.TheVariants.{PrepareAdd, PrepareDrop, Add, Drop, Change, Publish, Unlist, Signal, Wait}
