@@ -66,8 +66,7 @@ impl Model for Pool {
 /// A law: no entry of a list is above what a u64 holds.
 fn entries_fit(entries: &[u64])
     ensures { (k : ℕ) → entries_of 0 entries.now k < 2 ^ 64 }
-{
-}
+{}
 
 impl Pool {
     ghost use Rattle.std.specs.Prelude.{length};
