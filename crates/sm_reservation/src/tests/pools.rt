@@ -70,7 +70,10 @@ fn assert_worked(rt: &impl Abort, pool: &Pool) {
     for shard in 0..3 {
         for server in 0..4 {
             let had = pool.cell_right(ShardId::new(shard), ServerId::new(server));
-            assert!(rt; had == cells[shard as usize][server as usize], "{shard} {server}");
+            assert!(rt;
+                had == cells[shard as usize][server as usize],
+                "{shard} {server}"
+            );
         }
     }
     assert!(rt; pool.crown(ShardId::new(0)) == Some((at(0), Some(ServerId::new(0)))));
@@ -154,10 +157,19 @@ fn missing(key: Key) -> Short {
 }
 
 /// Asserts that a right to a secondary's cell is refused, before what else is short.
-fn test_cell(rt: &impl Abort, alloc: Global, pool: &mut Pool, shard: u32, server: u32) -> Result<(), AllocError> {
+fn test_cell(
+    rt: &impl Abort,
+    alloc: Global,
+    pool: &mut Pool,
+    shard: u32,
+    server: u32,
+) -> Result<(), AllocError> {
     let asked = parcel(
         alloc,
-        &[cell(1, 0, PlainCell::Absent), cell(shard, server, PlainCell::Secondary)],
+        &[
+            cell(1, 0, PlainCell::Absent),
+            cell(shard, server, PlainCell::Secondary),
+        ],
         &[crown(0, at(0), None)],
         &[room(1, 5)],
         &[],
@@ -182,9 +194,15 @@ fn cells_that_are_not_so_are_short(rt: HostRuntime) -> Result<(), Fail> {
 }
 
 /// Asserts that a crown is refused, before what else is short.
-fn test_crown(rt: &impl Abort, alloc: Global, pool: &mut Pool, other: Crown) -> Result<(), AllocError> {
-    let asked = parcel(alloc, &[], &[other], &[room(1, 5)], &[])?;
-    assert_refused(rt, alloc, pool, &asked, missing(Key::Crown { shard: other.shard }));
+fn test_crown(
+    rt: &impl Abort,
+    alloc: Global,
+    pool: &mut Pool,
+    other: &Crown,
+) -> Result<(), AllocError> {
+    let shard = other.shard;
+    let asked = parcel(alloc, &[], &[*other], &[room(1, 5)], &[])?;
+    assert_refused(rt, alloc, pool, &asked, missing(Key::Crown { shard }));
     Ok(())
 }
 
@@ -192,9 +210,14 @@ fn test_crown(rt: &impl Abort, alloc: Global, pool: &mut Pool, other: Crown) -> 
 fn crowns_that_are_not_so_are_short(rt: HostRuntime) -> Result<(), Fail> {
     let alloc = rt.alloc();
     let mut pool = worked_pool(&rt, alloc)?;
-    test_crown(&rt, alloc, &mut pool, crown(0, at(0), None))?;
-    test_crown(&rt, alloc, &mut pool, crown(0, at(1), Some(ServerId::new(0))))?;
-    test_crown(&rt, alloc, &mut pool, crown(2, Lead::Gone, None))?;
+    test_crown(&rt, alloc, &mut pool, &crown(0, at(0), None))?;
+    test_crown(
+        &rt,
+        alloc,
+        &mut pool,
+        &crown(0, at(1), Some(ServerId::new(0))),
+    )?;
+    test_crown(&rt, alloc, &mut pool, &crown(2, Lead::Gone, None))?;
     Ok(())
 }
 
@@ -203,7 +226,13 @@ fn amounts_that_are_not_there_are_short(rt: HostRuntime) -> Result<(), Fail> {
     let alloc = rt.alloc();
     let mut pool = worked_pool(&rt, alloc)?;
     for (server, had, amount) in [(1, 4, 5), (2, 0, 1), (3, 0, 1)] {
-        let asked = parcel(alloc, &[], &[], &[room(0, 6), room(server, amount)], &[spare(1, 1)])?;
+        let asked = parcel(
+            alloc,
+            &[],
+            &[],
+            &[room(0, 6), room(server, amount)],
+            &[spare(1, 1)],
+        )?;
         let key = Key::Room {
             server: ServerId::new(server),
         };
@@ -236,7 +265,12 @@ fn fill(rt: &impl Abort, pool: &mut Pool, grant: &mut Grant, asked: &Parcel) -> 
     pool.fill(grant, asked)
 }
 
-fn test_fill(rt: &impl Abort, alloc: Global, pool: &mut Pool, grant: &mut Grant) -> Result<(), AllocError> {
+fn test_fill(
+    rt: &impl Abort,
+    alloc: Global,
+    pool: &mut Pool,
+    grant: &mut Grant,
+) -> Result<(), AllocError> {
     let asked = handover(rt, alloc)?;
     let more = parcel(alloc, &[], &[], &[room(1, 1)], &[])?;
     assert_eq!(rt; fill(rt, pool, grant, &asked), Ok(()));
@@ -250,7 +284,10 @@ fn test_fill(rt: &impl Abort, alloc: Global, pool: &mut Pool, grant: &mut Grant)
     };
     assert_eq!(rt; fill(rt, pool, grant, &more), Err(short));
     assert_handed_out(rt, pool);
-    assert_eq!(rt; grant.cell(ShardId::new(0), ServerId::new(1)), Some(PlainCell::Absent));
+    assert_eq!(rt;
+        grant.cell(ShardId::new(0), ServerId::new(1)),
+        Some(PlainCell::Absent)
+    );
     assert!(rt; grant.crown(ShardId::new(0)) == Some((at(0), Some(ServerId::new(0)))));
     assert_eq!(rt; grant.room(ServerId::new(1)), 4);
     Ok(())
