@@ -335,7 +335,7 @@ fn spare_replicas_go_and_come(rt: HostRuntime) -> Result<(), Fail> {
 /// With each allocation refused in turn: a pool is opened or not, a refused `take` leaves it as it was, and a key that
 /// is short is told all the same.
 #[test]
-fn memory_may_be_short(rt: HostRuntime) {
+fn a_pool_is_opened_and_taken_from_or_not(rt: HostRuntime) {
     let alloc = rt.alloc();
     if let Ok(asked) = handover(&rt, alloc) {
         if let Ok(mut pool) = worked_pool(&rt, alloc) {
