@@ -4,6 +4,8 @@
 mod following;
 mod lines;
 mod steps;
+#[cfg(test)]
+mod tests;
 
 pub use following::{Bad, follow};
 pub use steps::{StepFault, step};
