@@ -1,4 +1,4 @@
--- The servers, shards and calls of a document without faults: they are a configuration, and each id is below its count.
+-- The servers, shards, calls and moves of a document without faults: they are a configuration, and each id is below its count.
 use Rattle.std.proofs.Common.{◌≡◌, ◌++◌, ◌+◌, ◌-◌, ◌<◌, ◌≤◌, ◌^◌, ℕ, Bool, true, false, cond, ◌&&◌, ◌||◌, not, List, [], ◌∷◌, length, map, Option, Some, None, is_some, option_and_then, nat_lt, nat_le, refl, ap, sym, ◌∙◌, arith, true≢false, lt-ltb, le-leb, length-append, add-zero, All}
 use Rattle.std.specs.List.{flat_map, enumerate_from, filter_map, cons_option, list_any, list_all}
 use Rattle.std.specs.Str.{bytes_eq}
@@ -25,6 +25,7 @@ use Rattle.sm_plan_text.specs.Tables.{one, maybe, whole, name, new_name, known, 
 use Rattle.sm_plan_text.specs.Servers.{server_table, server_faults, server_in, id_if_down, down_in}
 use Rattle.sm_plan_text.specs.Shards.{cap_limit, cell_count, shard_table, cell_table, cell_faults, shard_faults, shard_in, named_cell, cells_of, cells_in}
 use Rattle.sm_plan_text.specs.Calls.{NamedCall, call_word, word_table, call_table, call_faults, call_of, call_by, call_in}
+use Rattle.sm_plan_text.specs.Moves.{IsKnownMove, move_table, move_faults, move_in}
 use Rattle.sm_plan_text.proofs.ServerLemmas.{names_in_push}
 use Rattle.sm_plan_text.proofs.Faultless.{nil_left, nil_right, walked_entries, walked_front, up_to_below, number_in-le, number_is_read, text_passes, id_known, entries_within}
 
@@ -253,3 +254,21 @@ pub calls_within : (shards servers : List (List ℕ)) (ds : List Data) → walke
 calls_within shards servers ds h =
     All-map (IsWithin (length shards) (length servers)) (call_in shards servers) ds
     (walked_entries (call_faults shards servers) (λ d. IsWithin (length shards) (length servers) (call_in shards servers d)) (λ before d none. call_by_word shards servers d (option_and_then call_word (text_found members.Call d)) none) [] ds h)
+
+-- ---- moves
+
+move_known : (shards servers : List (List ℕ)) (before : List Data) (d : Data) → move_faults shards servers before d ≡ [] → IsKnownMove (length shards) (length servers) (move_in shards servers d)
+move_known shards servers before d h =
+    let rows = nil_right (object_faults members.Moves (map (λ row. text_of row.member) (move_table shards servers)) d) _ h in
+    let after_shard = nil_right (row_faults d (one members.Shard (known shards))) _ rows in
+    let after_from = nil_right (row_faults d (one members.From (known servers))) _ after_shard in
+    record {
+      shard = id_known members.Shard shards d (nil_left (row_faults d (one members.Shard (known shards))) _ rows);
+      from = id_known members.From servers d (nil_left (row_faults d (one members.From (known servers))) _ after_shard);
+      to = id_known members.To servers d (nil_left (row_faults d (one members.To (known servers))) _ after_from);
+    }
+
+pub moves_within : (shards servers : List (List ℕ)) (ds : List Data) → walked (move_faults shards servers) [] ds ≡ [] → All (IsKnownMove (length shards) (length servers)) (map (move_in shards servers) ds)
+moves_within shards servers ds h =
+    All-map (IsKnownMove (length shards) (length servers)) (move_in shards servers) ds
+    (walked_entries (move_faults shards servers) (λ d. IsKnownMove (length shards) (length servers) (move_in shards servers d)) (move_known shards servers) [] ds h)

@@ -5,6 +5,7 @@ pub mod WalkLemmas
 pub mod ServerLemmas
 pub mod ShardLemmas
 pub mod CallLemmas
+pub mod DocumentLemmas
 pub mod Texts
 pub mod Faultless
 pub mod FaultlessDocument

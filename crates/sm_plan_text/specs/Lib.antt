@@ -5,5 +5,6 @@ pub mod Tables
 pub mod Servers
 pub mod Shards
 pub mod Calls
+pub mod Moves
 pub mod Documents
 pub mod Reading

@@ -37,6 +37,9 @@ rows_of d = record {
   limit = d.limit;
   log = d.log;
   calls = option_map (λ calls. calls.items) d.calls;
+  moves = option_map (λ moves. moves.items) d.moves;
+  drain = d.drain;
+  asks = d.asks.items;
 }
 
 -- the same of a document whose servers and shards are not a configuration yet
@@ -49,4 +52,7 @@ rows_of_parts p = record {
   limit = p.limit;
   log = p.log;
   calls = option_map (λ calls. calls.items) p.calls;
+  moves = option_map (λ moves. moves.items) p.moves;
+  drain = p.drain;
+  asks = p.asks.items;
 }

@@ -10,7 +10,7 @@ use Rattle.sm_plan_text.specs.declared.fault.TextFault.{TextFault}
 use Rattle.sm_plan_text.specs.declared.fault.TextFault.TheVariants.{Shape, UnknownName, TooMany, Number}
 use Rattle.sm_plan_text.specs.declared.member.Member.{Member}
 use Rattle.sm_plan_text.specs.Members.{text_of}
-use Rattle.sm_plan_text.specs.Values.{found, text_found, entries, number_named, role_named}
+use Rattle.sm_plan_text.specs.Values.{found, text_found, entries, entries_of, number_named, role_named}
 
 -- what a member's value is to be
 pub data Want : Type 0 where
@@ -26,6 +26,8 @@ pub data Want : Type 0 where
   known_or_null : List (List ℕ) → Want
   -- a list of at most so many entries
   list : ℕ → Want
+  -- a list of at most so many texts, each of which names one of these
+  known_list : ℕ → List (List ℕ) → Want
 
 abbrev pub is_among : List (List ℕ) → List ℕ → Bool
 is_among names s = list_any (bytes_eq s) names
@@ -83,6 +85,10 @@ abbrev pub list_fault : Member → ℕ → Option Items → List TextFault
 list_fault m limit None = Shape m ∷ []
 list_fault m limit (Some ds) = count_faults m limit (length (entries ds))
 
+-- the faults of an entry of a list of names: they are those of the member that has the list
+abbrev pub entry_faults : Member → List (List ℕ) → Data → List TextFault
+entry_faults m names d = name_fault m names (as_str d)
+
 -- the faults of a member's value
 abbrev pub value_faults : Member → Want → Data → List TextFault
 value_faults m (whole limit) d = number_fault m limit (as_number d)
@@ -91,6 +97,7 @@ value_faults m (text passes) d = text_fault m passes (as_str d)
 value_faults m (known names) d = name_fault m names (as_str d)
 value_faults m (known_or_null names) d = if is_some (as_null d) then [] else name_fault m names (as_str d)
 value_faults m (list limit) d = list_fault m limit (as_array d)
+value_faults m (known_list limit names) d = list_fault m limit (as_array d) ++ flat_map (entry_faults m names) (entries_of d)
 
 abbrev pub found_faults : Row → Option Data → List TextFault
 found_faults row None = if row.optional then [] else Shape row.member ∷ []

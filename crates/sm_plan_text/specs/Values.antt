@@ -76,6 +76,10 @@ id_named names d = option_map id_of (option_and_then (number_named names) (as_st
 abbrev pub id_in : List (List ℕ) → Member → Data → ℕ
 id_in names member d = unwrap_or (option_and_then (id_named names) (found member d)) 0
 
+-- the ids of the objects that the entries of a list name
+abbrev pub ids_in : List (List ℕ) → Member → Data → List ℕ
+ids_in names member d = map (λ entry. unwrap_or (id_named names entry) 0) (entries_in member d)
+
 -- the role that a word says
 abbrev pub role_named : List ℕ → Option Role
 role_named word = if bytes_eq word (codes "primary") then Some Primary else if bytes_eq word (codes "secondary") then Some Secondary else None

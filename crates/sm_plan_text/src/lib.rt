@@ -1,10 +1,12 @@
 //! Placements and calls as JSON documents.
 #![tactic(auto)]
 
+mod asks;
 mod call;
 mod document;
 mod fault;
 mod member;
+mod moves;
 mod names;
 mod object;
 mod server;
@@ -15,3 +17,4 @@ mod tests;
 pub use document::{Document, read_document};
 pub use fault::{TextFault, first_is_answered};
 pub use member::Member;
+pub use moves::MoveText;

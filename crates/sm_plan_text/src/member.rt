@@ -32,6 +32,9 @@ pub enum Member {
     To,
     Other,
     Number,
+    Moves,
+    Drain,
+    Asks,
 }
 
 impl Member {
@@ -65,6 +68,9 @@ impl Member {
             Member::To => "to",
             Member::Other => "other",
             Member::Number => "number",
+            Member::Moves => "moves",
+            Member::Drain => "drain",
+            Member::Asks => "asks",
         }
     }
 }

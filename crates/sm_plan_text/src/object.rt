@@ -219,7 +219,7 @@ pub fn id(n: usize) -> u32
 }
 
 /// The number of what a value names.
-fn known(value: &Value, member: Member, names: &Names, faults: &mut Faults) -> Option<u32>
+pub fn known(value: &Value, member: Member, names: &Names, faults: &mut Faults) -> Option<u32>
     ensures value { result ≡ id_named names.now (view value.now) }
     ensures faults { faults.new.lowest ≡ noted faults.old.lowest (value_faults member (known names.now) (view value.now)) }
 {
@@ -268,6 +268,22 @@ pub fn reference_or_none(
         return None;
     }
     known(value, member, names, faults)
+}
+
+/// The number of what a member names, and none where it is missing.
+pub fn reference_where_there(
+    object: &Value,
+    member: Member,
+    names: &Names,
+    faults: &mut Faults,
+) -> Option<u32>
+    ensures value { result ≡ option_and_then (id_named names.now) (found member (view object.now)) }
+    ensures faults { faults.new.lowest ≡ noted faults.old.lowest (row_faults (view object.now) (maybe member (known names.now))) }
+{
+    match find(object, member) {
+        Some(value) => known(value, member, names, faults),
+        None => None,
+    }
 }
 
 fn role_of(text: &str) -> Option<Role>
@@ -354,5 +370,21 @@ pub fn list_or_none<'a>(
     match find(object, member) {
         Some(value) => Some(entries(value, member, limit, faults)),
         None => None,
+    }
+}
+
+/// The entries of a list that may be missing, and none where there is no list.
+pub fn list_or_empty<'a>(
+    object: &'a Value,
+    member: Member,
+    limit: usize,
+    faults: &mut Faults,
+) -> &'a [Value]
+    ensures entries { map view result.now ≡ entries_in member (view object.now) }
+    ensures faults { faults.new.lowest ≡ noted faults.old.lowest (row_faults (view object.now) (maybe member (list limit))) }
+{
+    match find(object, member) {
+        Some(value) => entries(value, member, limit, faults),
+        None => &[],
     }
 }

@@ -4,6 +4,7 @@ mod calls;
 mod counts;
 mod documents;
 mod fixtures;
+mod moves;
 mod numbers;
 mod order;
 mod reading;

@@ -72,6 +72,26 @@ fn push_shard(whole: &mut String, name: u32, cells: u32) -> Result<(), AllocErro
     whole.push_str("]}")
 }
 
+#[test]
+fn counts_moves(rt: HostRuntime) -> Result<(), Fail> {
+    for (moves, fault) in [(4096, None), (4097, too_many(Member::Moves))] {
+        let text = moved(rt.alloc(), moves)?;
+        assert_eq!(rt; fault_of(rt.alloc(), text.as_str()), fault, "{moves} moves");
+    }
+    Ok(())
+}
+
+/// A document of so many moves.
+fn moved(alloc: Global, moves: u32) -> Result<String, AllocError> {
+    let front = r#"{"limit":0,"servers":[{"name":"0","region":"r","room":1}],"shards":["#;
+    let shard = r#"{"name":"0","load":0,"want":0,"cap":0,"spread":0,"cells":[]}"#;
+    let mut whole = format!(in alloc; "{front}{shard}")?;
+    whole.push_str(r#"],"moves":["#)?;
+    push_times(&mut whole, moves, r#"{"shard":"0","from":"0","to":"0"}"#)?;
+    whole.push_str("]}")?;
+    Ok(whole)
+}
+
 /// A server, two shards with so many cells, and so many calls.
 fn filled(alloc: Global, first: u32, second: u32, calls: u32) -> Result<String, AllocError> {
     let servers = r#"{"limit":0,"servers":[{"name":"0","region":"r","room":1}],"shards":["#;

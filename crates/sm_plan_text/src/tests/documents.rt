@@ -75,6 +75,14 @@ fn refuses_members_of_a_document(rt: HostRuntime) {
                 r#"{"limit":0,"servers":[],"shards":[],"calls":[{"call":"drop","shard":"s","server":"a"}]}"#,
                 unknown_name(Member::Shard),
             ),
+            (
+                r#"{"limit":0,"servers":[],"shards":[],"moves":null}"#,
+                shape(Member::Moves),
+            ),
+            (
+                r#"{"limit":0,"servers":[],"shards":[],"asks":null}"#,
+                shape(Member::Asks),
+            ),
         ],
     );
 }
@@ -112,7 +120,7 @@ fn refuses_unknown_members(rt: HostRuntime) -> Result<(), Fail> {
         rt.alloc(),
         r#""limit":1024"#,
         &[
-            (r#""limit":1024,"drain":"x-1""#, shape(Member::Document)),
+            (r#""limit":1024,"extra":"x-1""#, shape(Member::Document)),
             (r#""limit":1024,"":0"#, shape(Member::Document)),
             (r#""limit":1024,"Log":0"#, shape(Member::Document)),
             (r#""limit":1024,"log ":0"#, shape(Member::Document)),

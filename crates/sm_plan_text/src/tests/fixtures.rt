@@ -23,7 +23,9 @@ pub const EVERYTHING: &str =
 {"call":"drop","shard":"x-1","server":"y_2"},
 {"call":"change","shard":"Z","server":"y_2","from":"secondary","to":"primary"},
 {"call":"prepare_add","shard":"x-1","server":"x-1","other":"y_2","number":4294967295},
-{"call":"prepare_drop","shard":"Z","server":"y_2","other":"x-1","number":0}]}"#;
+{"call":"prepare_drop","shard":"Z","server":"y_2","other":"x-1","number":0}],
+"moves":[{"shard":"Z","from":"x-1","to":"y_2"},{"shard":"x-1","from":"y_2","to":"y_2"}],
+"drain":"y_2","asks":["x-1","x-1"]}"#;
 
 pub const NOT_JSON: Option<TextFault> = Some(TextFault::NotJson);
 

@@ -1,6 +1,6 @@
 //! What good documents say.
 use super::fixtures::{EVERYTHING, PLACEMENT, fault_of};
-use crate::{Document, TextFault, read_document};
+use crate::{Document, MoveText, TextFault, read_document};
 use sm_placement::{Server, Shard};
 use sm_server::{Call, Cell, Role, ServerId, ShardId};
 use std::alloc::{AllocError, Global};
@@ -40,6 +40,14 @@ const fn call(shard: u32, server: u32, call: Call) -> (ShardId, ServerId, Call) 
     (ShardId::new(shard), ServerId::new(server), call)
 }
 
+const fn move_text(shard: u32, from: u32, to: u32) -> MoveText {
+    MoveText {
+        shard: ShardId::new(shard),
+        from: ServerId::new(from),
+        to: ServerId::new(to),
+    }
+}
+
 fn judge_placement(rt: &impl Abort, alloc: Global, document: &Document) -> Result<(), AllocError> {
     let servers = [
         server(alloc, "a", "r1", 10)?,
@@ -64,6 +72,9 @@ fn judge_placement(rt: &impl Abort, alloc: Global, document: &Document) -> Resul
     assert_eq!(rt; document.limit, 1);
     assert_eq!(rt; document.log, 65_536);
     assert!(rt; document.calls.is_none());
+    assert!(rt; document.moves.is_none());
+    assert_eq!(rt; document.drain, None);
+    assert!(rt; document.asks.is_empty());
     Ok(())
 }
 
@@ -125,6 +136,20 @@ fn reads_each_call(rt: HostRuntime) -> Result<(), Fail> {
     let document = read_document(rt.alloc(), EVERYTHING.as_bytes())?;
     let read = document.calls.ok_or("no calls")?;
     assert_eq!(rt; read.as_slice(), calls.as_slice());
+    Ok(())
+}
+
+#[test]
+fn reads_moves_and_names(rt: HostRuntime) -> Result<(), Fail> {
+    let document = read_document(rt.alloc(), EVERYTHING.as_bytes())?;
+    let moves = [move_text(1, 0, 1), move_text(0, 1, 1)];
+    let read = document.moves.ok_or("no moves")?;
+    assert_eq!(rt; read.as_slice(), moves.as_slice());
+    assert_eq!(rt; document.drain, Some(ServerId::new(1)));
+    assert_eq!(rt;
+        document.asks.as_slice(),
+        [ShardId::new(0), ShardId::new(0)].as_slice()
+    );
     Ok(())
 }
 
