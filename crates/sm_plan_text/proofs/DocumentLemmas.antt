@@ -1,5 +1,5 @@
 -- The faults of a document: its own, some of which are noted after those of its servers and shards have been noted apart.
-use Rattle.std.proofs.Common.{◌≡◌, ◌++◌, List, Option, None, ap, sym, ◌∙◌}
+use Rattle.std.proofs.Common.{◌≡◌, ◌++◌, List, Option, ap, sym, ◌∙◌}
 use Rattle.sm_plan_text.specs.declared.fault.TextFault.{TextFault}
 use Rattle.sm_plan_text.specs.Faults.{noted}
 use Rattle.sm_plan_text.proofs.WalkLemmas.{noted_append}

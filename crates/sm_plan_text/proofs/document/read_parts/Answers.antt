@@ -1,13 +1,12 @@
-use Rattle.std.proofs.Common.{◌≡◌, ◌∙◌, ◌++◌, ℕ, List, [], Option, map, option_map, None, option_and_then, unwrap_or, ap, sym, append-nil, append_assoc}
-use Rattle.std.specs.List.{flat_map}
+use Rattle.std.proofs.Common.{◌≡◌, ◌∙◌, ◌++◌, ℕ, List, [], map, option_map, None, option_and_then, unwrap_or, ap, sym, append-nil, append_assoc}
 use Rattle.serde_json.specs.Data.{Data}
 use Rattle.serde_json.specs.View.{view}
 use Rattle.sm_plan_text.specs.declared.fault.TextFault.{TextFault}
 use Rattle.sm_plan_text.specs.declared.member.Member.TheVariants as members
 use Rattle.sm_plan_text.specs.Members.{text_of}
 use Rattle.sm_plan_text.specs.Faults.{noted}
-use Rattle.sm_plan_text.specs.Values.{found, list_in, entries_in, names_in, id_named, ids_in}
-use Rattle.sm_plan_text.specs.Tables.{one, maybe, whole, known, list, known_list, object_faults, own_faults, row_faults, walked}
+use Rattle.sm_plan_text.specs.Values.{found, entries_in, names_in, id_named, ids_in}
+use Rattle.sm_plan_text.specs.Tables.{one, maybe, whole, known, list, known_list, object_faults, row_faults, walked}
 use Rattle.sm_plan_text.specs.Servers.{server_faults, server_in, down_in}
 use Rattle.sm_plan_text.specs.Shards.{shard_faults, shard_in, listed_in, cells_in}
 use Rattle.sm_plan_text.specs.Calls.{call_faults, call_in}
