@@ -1,5 +1,5 @@
 -- What clap makes of the words that name a command.
-use Rattle.std.proofs.Common.{◌≡◌, ◌≢◌, ℕ, true, false, Bool, List, [], ◌∷◌, Some, None, codes, refl, sym, ap, subst, cond, inl, inr, ◌∙◌, ◌⊎◌}
+use Rattle.std.proofs.Common.{◌≡◌, ◌≢◌, true, false, Bool, List, [], ◌∷◌, None, codes, refl, ap, subst, inl, inr, ◌∙◌, ◌⊎◌}
 use Rattle.std.specs.Str.{bytes_eq}
 use Rattle.std.proofs.lemmas.Slice.Eq.{bytes_eq-Decides}
 use Rattle.clap.specs.Words.{App, Text, takes, fault_of, is_simple_and_free}
@@ -7,7 +7,7 @@ use Rattle.clap.specs.Kinds.{Kinds, IsAmong}
 use Rattle.clap.specs.declared.error.kind.ErrorKind.{ErrorKind}
 use Rattle.clap.specs.declared.error.kind.ErrorKind.TheVariants as kind
 use Rattle.clap.proofs.OnLiterals.{clap_on_literals}
-use Rattle.sm_report.specs.CommandLine.{named, asked_for, program, Tells, TellsKind}
+use Rattle.sm_report.specs.CommandLine.{asked_for, program, Tells, TellsKind}
 use Rattle.sm_report.specs.declared.command.LineFault.{LineFault}
 use Rattle.sm_report.specs.declared.command.LineFault.TheVariants.{NoMemory, Help, Bad}
 

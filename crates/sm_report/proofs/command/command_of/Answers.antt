@@ -1,4 +1,4 @@
-use Rattle.std.proofs.Common.{◌≡◌, ap₂, refl, ◌∙◌}
+use Rattle.std.proofs.Common.{ap₂, refl, ◌∙◌}
 use Rattle.clap.specs.Words.{takes}
 use Rattle.clap.specs.Walk.{texts}
 use Rattle.sm_report.proofs.CommandLine.{takes_asked, tells_no_memory, tells_kinds}
