@@ -6,6 +6,7 @@ pub mod ServerLemmas
 pub mod ShardLemmas
 pub mod CallLemmas
 pub mod DocumentLemmas
+pub mod EventLemmas
 pub mod Texts
 pub mod Faultless
 pub mod FaultlessDocument

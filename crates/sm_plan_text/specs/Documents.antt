@@ -11,6 +11,8 @@ use Rattle.sm_plan_text.specs.Tables.{Row, one, maybe, whole, known, list, known
 use Rattle.sm_plan_text.specs.Servers.{server_faults, server_in, down_in}
 use Rattle.sm_plan_text.specs.Shards.{shard_faults, shard_in, listed_in, cells_in}
 use Rattle.sm_plan_text.specs.Calls.{NamedCall, call_faults, call_in}
+use Rattle.sm_plan_text.specs.declared.event.EventText.{EventText}
+use Rattle.sm_plan_text.specs.Events.{IsKnownEvent, event_faults, event_in}
 use Rattle.sm_plan_text.specs.declared.moves.MoveText.{MoveText}
 use Rattle.sm_plan_text.specs.Moves.{IsKnownMove, move_faults, move_in}
 
@@ -23,6 +25,7 @@ pub record DocumentRows : Type 0 where
   pub limit : ℕ
   pub log : ℕ
   pub calls : Option (List NamedCall)
+  pub events : Option (List EventText)
   pub moves : Option (List MoveText)
   pub drain : Option ℕ
   pub asks : List ℕ
@@ -34,6 +37,7 @@ document_table shards servers =
     one members.Shards (list 4096) ∷
     maybe members.Log (whole 1048576) ∷
     maybe members.Calls (list 1048576) ∷
+    maybe members.Events (list 1048576) ∷
     maybe members.Moves (list 4096) ∷
     maybe members.Drain (known servers) ∷
     maybe members.Asks (known_list 16 shards) ∷ []
@@ -58,6 +62,7 @@ document_faults d =
     ++ walked server_faults [] (servers_in d)
     ++ walked (shard_faults (server_names d)) [] (shards_in d)
     ++ walked (call_faults (shard_names d) (server_names d)) [] (entries_in members.Calls d)
+    ++ walked (event_faults (shard_names d) (server_names d)) [] (entries_in members.Events d)
     ++ walked (move_faults (shard_names d) (server_names d)) [] (entries_in members.Moves d)
 
 abbrev pub setup_in : Data → Setup
@@ -72,6 +77,7 @@ rows_in d = record {
   limit = number_in members.Limit 1024 d;
   log = number_or 65536 members.Log 1048576 d;
   calls = option_map (map (call_in (shard_names d) (server_names d))) (list_in members.Calls d);
+  events = option_map (map (event_in (shard_names d) (server_names d))) (list_in members.Events d);
   moves = option_map (map (move_in (shard_names d) (server_names d))) (list_in members.Moves d);
   drain = option_and_then (id_named (server_names d)) (found members.Drain d);
   asks = ids_in (shard_names d) members.Asks d;
@@ -83,6 +89,7 @@ pub record IsDocument (rows : DocumentRows) : Type 0 where
   pub listed : All (λ entry. IfSome entry (λ server. server < length rows.setup.servers)) rows.listed
   pub down : All (λ server. server < length rows.setup.servers) rows.down
   pub calls : IfSome rows.calls (λ calls. All (λ call. (call.0 < length rows.setup.shards) × (call.1 < length rows.setup.servers) × IsKnownCall (length rows.setup.servers) call.2) calls)
+  pub events : IfSome rows.events (All (IsKnownEvent (length rows.setup.shards) (length rows.setup.servers)))
   pub moves : IfSome rows.moves (All (IsKnownMove (length rows.setup.shards) (length rows.setup.servers)))
   pub drain : IfSome rows.drain (λ server. server < length rows.setup.servers)
   pub asks : All (λ shard. shard < length rows.setup.shards) rows.asks

@@ -5,6 +5,7 @@ pub mod Tables
 pub mod Servers
 pub mod Shards
 pub mod Calls
+pub mod Events
 pub mod Moves
 pub mod Documents
 pub mod Reading

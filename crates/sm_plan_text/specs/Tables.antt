@@ -10,7 +10,7 @@ use Rattle.sm_plan_text.specs.declared.fault.TextFault.{TextFault}
 use Rattle.sm_plan_text.specs.declared.fault.TextFault.TheVariants.{Shape, UnknownName, TooMany, Number}
 use Rattle.sm_plan_text.specs.declared.member.Member.{Member}
 use Rattle.sm_plan_text.specs.Members.{text_of}
-use Rattle.sm_plan_text.specs.Values.{found, text_found, entries, entries_of, number_named, role_named}
+use Rattle.sm_plan_text.specs.Values.{found, text_found, entries, entries_of, number_named, role_named, after_named}
 
 -- what a member's value is to be
 pub data Want : Type 0 where
@@ -43,6 +43,10 @@ new_name taken = text (λ s. is_name s && not (is_among taken s))
 -- a replica's role
 abbrev pub role : Want
 role = text (λ s. is_some (role_named s))
+
+-- when a call is lost
+abbrev pub when : Want
+when = text (λ s. is_some (after_named s))
 
 -- a row of a table: a member, whether it may be missing, and what it is to be
 pub record Row : Type 0 where

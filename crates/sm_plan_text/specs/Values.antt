@@ -1,6 +1,6 @@
 -- What the members of a JSON object say. A member that is missing or not in its form says nothing, and stands for 0,
 -- false, or what is empty: a document with such a member is refused.
-use Rattle.std.specs.Prelude.{ℕ, Bool, false, List, [], ◌∷◌, codes, fold, map, Option, Some, None, nat_le, option_and_then, option_map, unwrap_or, position, if◌then◌else◌}
+use Rattle.std.specs.Prelude.{ℕ, Bool, true, false, List, [], ◌∷◌, codes, fold, map, Option, Some, None, nat_le, option_and_then, option_map, unwrap_or, position, if◌then◌else◌}
 use Rattle.std.specs.Str.{bytes_eq}
 use Rattle.indexmap.specs.IndexSet.{insert_key}
 use Rattle.serde_json.specs.Data.{Data, Items, no_items, item}
@@ -86,3 +86,10 @@ role_named word = if bytes_eq word (codes "primary") then Some Primary else if b
 
 abbrev pub role_in : Member → Data → Role
 role_in member d = unwrap_or (option_and_then role_named (text_found member d)) Secondary
+
+-- whether a word says that a call is lost after it was made, or before
+abbrev pub after_named : List ℕ → Option Bool
+after_named word = if bytes_eq word (codes "before") then Some false else if bytes_eq word (codes "after") then Some true else None
+
+abbrev pub after_in : Member → Data → Bool
+after_in member d = unwrap_or (option_and_then after_named (text_found member d)) false

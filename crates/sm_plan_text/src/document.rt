@@ -13,6 +13,7 @@ ghost use Rattle.sm_plan_text.specs.Reading.{data_of, read_data, read, rows_of, 
 
 use crate::asks::read_asks;
 use crate::call::read_calls;
+use crate::event::{EventText, read_events};
 use crate::fault::{Faults, TextFault};
 use crate::member::Member;
 use crate::moves::{MoveText, read_moves};
@@ -41,6 +42,8 @@ pub struct Document {
     pub log: u32,
     /// The calls to make, each for a shard at a server.
     pub calls: Option<Vec<(ShardId, ServerId, Call)>>,
+    /// What is to happen, one event after the other.
+    pub events: Option<Vec<EventText>>,
     /// The moves to make a plan for.
     pub moves: Option<Vec<MoveText>>,
     /// The server to make a plan for that empties it.
@@ -60,6 +63,7 @@ struct Parts {
     limit: u32,
     log: u32,
     calls: Option<Vec<(ShardId, ServerId, Call)>>,
+    events: Option<Vec<EventText>>,
     moves: Option<Vec<MoveText>>,
     drain: Option<ServerId>,
     asks: Vec<ShardId>,
@@ -116,6 +120,7 @@ fn members() -> &'static [Member]
         Member::Shards,
         Member::Log,
         Member::Calls,
+        Member::Events,
         Member::Moves,
         Member::Drain,
         Member::Asks,
@@ -145,6 +150,7 @@ fn read_parts(alloc: Global, value: &Value, faults: &mut Faults) -> Result<Parts
     let shard_items = list(value, Member::Shards, 4096, faults);
     let log = number_or(value, Member::Log, 65_536, 1_048_576, faults);
     let call_items = list_or_none(value, Member::Calls, 1_048_576, faults);
+    let event_items = list_or_none(value, Member::Events, 1_048_576, faults);
     let move_items = list_or_none(value, Member::Moves, 4096, faults);
     // Some members of the document name what stands in its lists, and their faults come before those of the lists.
     let mut listed_faults = Faults { lowest: None };
@@ -154,6 +160,7 @@ fn read_parts(alloc: Global, value: &Value, faults: &mut Faults) -> Result<Parts
     let asks = read_asks(alloc, value, &shards.names, faults)?;
     faults.append(listed_faults);
     let calls = calls_of(alloc, call_items, &shards.names, &servers.names, faults)?;
+    let events = read_events(alloc, event_items, &shards.names, &servers.names, faults)?;
     let moves = read_moves(alloc, move_items, &shards.names, &servers.names, faults)?;
     Ok(Parts {
         servers: servers.rows,
@@ -164,6 +171,7 @@ fn read_parts(alloc: Global, value: &Value, faults: &mut Faults) -> Result<Parts
         limit,
         log,
         calls,
+        events,
         moves,
         drain,
         asks,
@@ -202,6 +210,7 @@ fn from_value(alloc: Global, value: &Value) -> Result<Document, TextFault>
         limit: parts.limit,
         log: parts.log,
         calls: parts.calls,
+        events: parts.events,
         moves: parts.moves,
         drain: parts.drain,
         asks: parts.asks,

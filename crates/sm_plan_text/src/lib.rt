@@ -4,6 +4,7 @@
 mod asks;
 mod call;
 mod document;
+mod event;
 mod fault;
 mod member;
 mod moves;
@@ -15,6 +16,7 @@ mod shard;
 mod tests;
 
 pub use document::{Document, read_document};
+pub use event::EventText;
 pub use fault::{TextFault, first_is_answered};
 pub use member::Member;
 pub use moves::MoveText;

@@ -5,8 +5,8 @@ ghost use Rattle.serde_json.specs.View.{view, members_view};
 ghost use Rattle.sm_placement.specs.Names.{is_name_byte, is_name};
 ghost use Rattle.sm_plan_text.specs.Members.{text_of};
 ghost use Rattle.sm_plan_text.specs.Faults.{noted};
-ghost use Rattle.sm_plan_text.specs.Values.{found, whole_of, text_found, text_in, flag_in, number_in, number_or, limited, entries_of, list_in, entries_in, id_of, id_named, id_in, role_named, role_in};
-ghost use Rattle.sm_plan_text.specs.Tables.{is_among, has_unknown, object_faults, row_faults, value_faults, count_faults, one, maybe, whole, flag, name, new_name, known, known_or_null, role, list};
+ghost use Rattle.sm_plan_text.specs.Values.{found, whole_of, text_found, text_in, flag_in, number_in, number_or, limited, entries_of, list_in, entries_in, id_of, id_named, id_in, role_named, role_in, after_named, after_in};
+ghost use Rattle.sm_plan_text.specs.Tables.{is_among, has_unknown, object_faults, unlisted_faults, row_faults, value_faults, count_faults, one, maybe, whole, flag, name, new_name, known, known_or_null, role, when, list};
 
 use crate::fault::{Faults, TextFault};
 use crate::member::Member;
@@ -57,6 +57,16 @@ pub fn note_unknown(object: &Value, place: Member, known: &[Member], faults: &mu
         }
         None => faults.note(TextFault::Shape { member: place }),
     }
+}
+
+/// Notes that what stands in a place has a word that is not listed, or is no object.
+pub fn note_unlisted(object: &Value, place: Member, word: Member, faults: &mut Faults)
+    ensures { faults.new.lowest ≡ noted faults.old.lowest (unlisted_faults place word (view object.now)) }
+{
+    if !object.is_object() {
+        faults.note(TextFault::Shape { member: place });
+    }
+    faults.note(TextFault::Shape { member: word });
 }
 
 /// The whole number that a member is.
@@ -312,6 +322,36 @@ pub fn role(object: &Value, member: Member, faults: &mut Faults) -> Role
         None => {
             faults.note(TextFault::Shape { member });
             Role::Secondary
+        }
+    }
+}
+
+fn after_of(text: &str) -> Option<bool>
+    ensures { result ≡ after_named text.now }
+{
+    if text == "before" {
+        Some(false)
+    } else if text == "after" {
+        Some(true)
+    } else {
+        None
+    }
+}
+
+/// A call is lost after it was made, and not before.
+pub fn after(object: &Value, member: Member, faults: &mut Faults) -> bool
+    ensures value { result ≡ after_in member (view object.now) }
+    ensures faults { faults.new.lowest ≡ noted faults.old.lowest (row_faults (view object.now) (one member when)) }
+{
+    let Some(text) = text(object, member) else {
+        faults.note(TextFault::Shape { member });
+        return false;
+    };
+    match after_of(text) {
+        Some(after) => after,
+        None => {
+            faults.note(TextFault::Shape { member });
+            false
         }
     }
 }
