@@ -14,7 +14,7 @@ pub struct Portion {
     pub spare: Option<Spare>,
 }
 
-/// What a grant gives for what it gets, beside the call that pays for it.
+/// What a grant gives for what it gets, together with the call that it is for.
 #[derive(Clone, Copy, Debug, Default, PartialEq, Eq)]
 pub struct Change {
     /// What it gives.

@@ -157,7 +157,7 @@ impl Grant {
         join_parcel(&mut self.hold, parcel);
     }
 
-    /// Gives a parcel's rights up for those of another, beside the call that pays for it.
+    /// Gives a parcel's rights up for those of another, together with the call that it is for.
     pub fn trade(&mut self, out: &Parcel, got: &Parcel)
         requires held { first_short (hold_of self.old.rights) out.now ≡ None }
         requires fits { CanJoin (minus (hold_of self.old.rights) out.now) (hold_of got.now) }
@@ -170,7 +170,7 @@ impl Grant {
         join_parcel(&mut self.hold, got);
     }
 
-    /// Gives the rights of a small change up for those that it gets, beside the call that pays for it.
+    /// Gives the rights of a small change up for those that it gets, together with the call that it is for.
     pub fn exchange(&mut self, change: &Change)
         requires held { first_short (hold_of self.old.rights) (portion_rights change.now.out) ≡ None }
         requires fits { CanJoin (minus (hold_of self.old.rights) (portion_rights change.now.out)) (hold_of (portion_rights change.now.got)) }

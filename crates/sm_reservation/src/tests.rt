@@ -1,11 +1,12 @@
 //! Parcels, holds and grants by example, with each expected value written out by hand.
-ghost use Rattle.std.specs.Prelude.{◌≡◌};
+ghost use Rattle.std.specs.Prelude.{◌≡◌, IfOk};
+ghost use Rattle.sm_reservation.specs.Change.{portion_rights};
 
 mod pools;
 
 use crate::{
-    CellRight, Crown, Grant, Hold, Key, Lead, Lists, Parcel, ParcelFault, PlainCell, Room, Short,
-    Spare, StreamId, rights_add_up, rights_stay_at_one_place,
+    CellRight, Change, Crown, Grant, Hold, Key, Lead, Lists, Parcel, ParcelFault, PlainCell,
+    Portion, Room, Short, Spare, StreamId, rights_add_up, rights_stay_at_one_place,
 };
 use sm_server::{ServerId, ShardId};
 use std::alloc::{AllocError, Global};
@@ -384,6 +385,102 @@ fn grants_are_joined(rt: HostRuntime) -> Result<(), Fail> {
     let mut into = Grant::empty(alloc, 1)?;
     join(&rt, &mut into, Grant::of_hold(hold), &all);
     assert_spent(&rt, into, &want);
+    Ok(())
+}
+
+/// Trades a parcel for another, where the conditions are met: `rest` has what the grant has.
+fn trade(rt: &impl Abort, grant: &mut Grant, rest: &mut Hold, out: &Parcel, got: &Parcel)
+    requires { rest.old ≡ grant.old }
+{
+    assert!(rt; rest.first_short(out).is_none());
+    rest.take(out);
+    assert!(rt; rest.can_join(got));
+    assert!(rt; rest.has_places(got));
+    grant.trade(out, got);
+}
+
+/// A grant of one key in each list gives them up for others, within its room.
+#[test]
+fn rights_are_traded(rt: HostRuntime) -> Result<(), Fail> {
+    let alloc = rt.alloc();
+    let before = [cell(0, 1, PlainCell::Absent)];
+    let after = [cell(0, 1, PlainCell::Secondary)];
+    let out = parcel(alloc, &before, &[], &[room(1, 4)], &[])?;
+    let got = parcel(alloc, &after, &[], &[], &[spare(0, 1)])?;
+    let want = lists(alloc, &after, &[], &[], &[spare(0, 1)])?;
+    let mut rest = Hold::of_parcel(alloc, &out)?;
+    let hold = Hold::of_parcel(alloc, &out)?;
+    let mut grant = Grant::of_hold(hold);
+    trade(&rt, &mut grant, &mut rest, &out, &got);
+    assert_spent(&rt, grant, &want);
+    Ok(())
+}
+
+/// A parcel of the rights of a portion.
+fn portion_parcel(rt: &impl Abort, alloc: Global, portion: &Portion) -> Result<Parcel, AllocError>
+    ensures { IfOk result (λ parcel. parcel ≡ portion_rights portion.now) }
+{
+    if let Some(room) = &portion.room {
+        assert!(rt; room.amount > 0);
+    }
+    if let Some(spare) = &portion.spare {
+        assert!(rt; spare.amount > 0);
+    }
+    let cells = Vec::from_slice(alloc, portion.cell.as_slice())?;
+    let crowns = Vec::from_slice(alloc, portion.crown.as_slice())?;
+    let rooms = Vec::from_slice(alloc, portion.room.as_slice())?;
+    let spares = Vec::from_slice(alloc, portion.spare.as_slice())?;
+    Ok(Parcel::of_ordered(cells, crowns, rooms, spares))
+}
+
+/// Makes a change, where the conditions are met: `rest` has what the grant has.
+fn exchange(
+    rt: &impl Abort,
+    alloc: Global,
+    grant: &mut Grant,
+    rest: &mut Hold,
+    change: &Change,
+) -> Result<(), AllocError>
+    requires { rest.old ≡ grant.old }
+{
+    let out = portion_parcel(rt, alloc, &change.out)?;
+    let got = portion_parcel(rt, alloc, &change.got)?;
+    assert!(rt; rest.first_short(&out).is_none());
+    rest.take(&out);
+    assert!(rt; rest.can_join(&got));
+    assert!(rt; rest.has_places(&got));
+    grant.exchange(change);
+    Ok(())
+}
+
+/// The rights for a replica are given up for those that its server has once it is added.
+#[test]
+fn rights_are_exchanged(rt: HostRuntime) -> Result<(), Fail> {
+    let alloc = rt.alloc();
+    let before = [cell(0, 1, PlainCell::Absent)];
+    let after = [cell(0, 1, PlainCell::Secondary)];
+    let held = parcel(alloc, &before, &[], &[room(1, 4)], &[])?;
+    let want = lists(alloc, &after, &[], &[room(1, 1)], &[spare(0, 1)])?;
+    let change = Change {
+        out: Portion {
+            cell: Some(cell(0, 1, PlainCell::Absent)),
+            crown: None,
+            room: Some(room(1, 3)),
+            spare: None,
+        },
+        got: Portion {
+            cell: Some(cell(0, 1, PlainCell::Secondary)),
+            crown: None,
+            room: None,
+            spare: Some(spare(0, 1)),
+        },
+    };
+    let mut rest = Hold::of_parcel(alloc, &held)?;
+    let hold = Hold::of_parcel(alloc, &held)?;
+    let mut grant = Grant::of_hold(hold);
+    let outcome = exchange(&rt, alloc, &mut grant, &mut rest, &change);
+    assert_spent(&rt, grant, &want);
+    outcome?;
     Ok(())
 }
 
