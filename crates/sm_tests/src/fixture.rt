@@ -6,22 +6,27 @@ use sm_server::{Call, Cell, Refusal, Role, ServerId, ShardId};
 use std::alloc::{AllocError, Global};
 use std::process::Abort;
 
-pub const ADD_PRIMARY: Call = Call::Add(Role::Primary);
+pub(crate) const ADD_PRIMARY: Call = Call::Add(Role::Primary);
 
-pub const ADD_SECONDARY: Call = Call::Add(Role::Secondary);
+pub(crate) const ADD_SECONDARY: Call = Call::Add(Role::Secondary);
 
-pub const TO_PRIMARY: Call = Call::Change {
+pub(crate) const TO_PRIMARY: Call = Call::Change {
     from: Role::Secondary,
     to: Role::Primary,
 };
 
-pub const TO_SECONDARY: Call = Call::Change {
+pub(crate) const TO_SECONDARY: Call = Call::Change {
     from: Role::Primary,
     to: Role::Secondary,
 };
 
 /// A server of a region, by its name and room.
-pub fn server(alloc: Global, name: &str, region: &str, room: u64) -> Result<Server, AllocError> {
+pub(crate) fn server(
+    alloc: Global,
+    name: &str,
+    region: &str,
+    room: u64,
+) -> Result<Server, AllocError> {
     Ok(Server {
         name: String::from_str(alloc, name)?,
         region: String::from_str(alloc, region)?,
@@ -30,7 +35,7 @@ pub fn server(alloc: Global, name: &str, region: &str, room: u64) -> Result<Serv
 }
 
 /// A shard of spread 1.
-pub fn shard(
+pub(crate) fn shard(
     alloc: Global,
     name: &str,
     load: u64,
@@ -47,7 +52,11 @@ pub fn shard(
 }
 
 /// As many servers with this room.
-pub fn many_servers(alloc: Global, count: u32, room: u64) -> Result<Vec<Server>, AllocError> {
+pub(crate) fn many_servers(
+    alloc: Global,
+    count: u32,
+    room: u64,
+) -> Result<Vec<Server>, AllocError> {
     let mut servers = Vec::new(alloc);
     for number in 0..count {
         let name = format!(in alloc; "server-{number}")?;
@@ -57,7 +66,7 @@ pub fn many_servers(alloc: Global, count: u32, room: u64) -> Result<Vec<Server>,
 }
 
 /// As many shards with this load, want and cap.
-pub fn many_shards(
+pub(crate) fn many_shards(
     alloc: Global,
     count: u32,
     load: u64,
@@ -74,7 +83,7 @@ pub fn many_shards(
 
 /// Three servers with room for 10, 10 and 4; shard 0 has load 4 and wants 2 with a cap of 1, shard 1 has load 6 and
 /// wants 1 with no cap.
-pub fn small_config(alloc: Global) -> Result<Config, ConfigFault> {
+pub(crate) fn small_config(alloc: Global) -> Result<Config, ConfigFault> {
     let servers = [
         server(alloc, "a", "r1", 10).map_err(|_| ConfigFault::NoMemory)?,
         server(alloc, "b", "r2", 10).map_err(|_| ConfigFault::NoMemory)?,
@@ -88,13 +97,13 @@ pub fn small_config(alloc: Global) -> Result<Config, ConfigFault> {
 }
 
 /// A cell with its ids.
-pub fn named(shard: u32, server: u32, cell: Cell) -> (ShardId, ServerId, Cell) {
+pub(crate) fn named(shard: u32, server: u32, cell: Cell) -> (ShardId, ServerId, Cell) {
     (ShardId::new(shard), ServerId::new(server), cell)
 }
 
 /// The small placement: shard 0 has its primary at server 0 and a secondary at server 2, shard 1 its primary at
 /// server 1.
-pub fn small_placement(alloc: Global, config: &Config) -> Result<Placement, OpenFault> {
+pub(crate) fn small_placement(alloc: Global, config: &Config) -> Result<Placement, OpenFault> {
     let cells = [
         named(0, 0, Cell::Primary),
         named(0, 2, Cell::Secondary),
@@ -105,7 +114,7 @@ pub fn small_placement(alloc: Global, config: &Config) -> Result<Placement, Open
 }
 
 /// The id of a server, which has to be there.
-pub fn server_id(rt: &impl Abort, placement: &Placement, server: u32) -> ServerId
+pub(crate) fn server_id(rt: &impl Abort, placement: &Placement, server: u32) -> ServerId
     ensures { result < length placement.now.setup.servers }
 {
     assert!(rt; server < placement.config().server_count());
@@ -113,7 +122,7 @@ pub fn server_id(rt: &impl Abort, placement: &Placement, server: u32) -> ServerI
 }
 
 /// The id of a shard, which has to be there.
-pub fn shard_id(rt: &impl Abort, placement: &Placement, shard: u32) -> ShardId
+pub(crate) fn shard_id(rt: &impl Abort, placement: &Placement, shard: u32) -> ShardId
     ensures { result < length placement.now.setup.shards }
 {
     assert!(rt; shard < placement.config().shard_count());
@@ -121,7 +130,7 @@ pub fn shard_id(rt: &impl Abort, placement: &Placement, shard: u32) -> ShardId
 }
 
 /// A call, at ids that have to be there.
-pub fn call(
+pub(crate) fn call(
     rt: &impl Abort,
     placement: &mut Placement,
     server: u32,
@@ -145,7 +154,7 @@ pub fn call(
 }
 
 /// A numbered call, at ids that have to be there and under a number of at least 1.
-pub fn call_numbered(
+pub(crate) fn call_numbered(
     rt: &impl Abort,
     placement: &mut Placement,
     server: u32,
@@ -171,29 +180,29 @@ pub fn call_numbered(
 }
 
 /// The cell of a shard at a server.
-pub fn cell(rt: &impl Abort, placement: &Placement, shard: u32, server: u32) -> Cell {
+pub(crate) fn cell(rt: &impl Abort, placement: &Placement, shard: u32, server: u32) -> Cell {
     let server = server_id(rt, placement, server);
     let shard = shard_id(rt, placement, shard);
     placement.cell(shard, server)
 }
 
 /// The load of a server.
-pub fn load(rt: &impl Abort, placement: &Placement, server: u32) -> u64 {
+pub(crate) fn load(rt: &impl Abort, placement: &Placement, server: u32) -> u64 {
     placement.load(server_id(rt, placement, server))
 }
 
 /// The live replicas of a shard.
-pub fn live(rt: &impl Abort, placement: &Placement, shard: u32) -> u32 {
+pub(crate) fn live(rt: &impl Abort, placement: &Placement, shard: u32) -> u32 {
     placement.live(shard_id(rt, placement, shard))
 }
 
 /// Who serves a shard.
-pub fn serving(rt: &impl Abort, placement: &Placement, shard: u32) -> Serving {
+pub(crate) fn serving(rt: &impl Abort, placement: &Placement, shard: u32) -> Serving {
     placement.serving(shard_id(rt, placement, shard))
 }
 
 /// The published entry of a shard: the listed server's number, and the version.
-pub fn listed(rt: &impl Abort, placement: &Placement, shard: u32) -> (Option<u32>, u64) {
+pub(crate) fn listed(rt: &impl Abort, placement: &Placement, shard: u32) -> (Option<u32>, u64) {
     let shard = shard_id(rt, placement, shard);
     let server = match placement.listed(shard) {
         Some(server) => Some(server.number()),
@@ -203,7 +212,7 @@ pub fn listed(rt: &impl Abort, placement: &Placement, shard: u32) -> (Option<u32
 }
 
 /// Publishes an entry for a shard.
-pub fn publish(rt: &impl Abort, placement: &mut Placement, shard: u32, server: Option<u32>) {
+pub(crate) fn publish(rt: &impl Abort, placement: &mut Placement, shard: u32, server: Option<u32>) {
     let shard = shard_id(rt, placement, shard);
     assert!(rt; placement.version(shard) < 140737488355328);
     match server {
@@ -216,12 +225,12 @@ pub fn publish(rt: &impl Abort, placement: &mut Placement, shard: u32, server: O
 }
 
 /// Whether a server is down.
-pub fn is_down(rt: &impl Abort, placement: &Placement, server: u32) -> bool {
+pub(crate) fn is_down(rt: &impl Abort, placement: &Placement, server: u32) -> bool {
     placement.is_down(server_id(rt, placement, server))
 }
 
 /// Sets a server down, or up.
-pub fn set_down(rt: &impl Abort, placement: &mut Placement, server: u32, down: bool) {
+pub(crate) fn set_down(rt: &impl Abort, placement: &mut Placement, server: u32, down: bool) {
     let server = server_id(rt, placement, server);
     if down {
         placement.set_down(server);

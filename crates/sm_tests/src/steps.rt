@@ -6,7 +6,7 @@ use std::process::Abort;
 
 /// One thing done to a placement, or asked of it. Servers and shards stand as numbers, a server before a shard.
 #[derive(Drop)]
-pub enum Step {
+pub(crate) enum Step {
     /// A call at a server for a shard has this answer.
     Made(u32, u32, Call, Result<(), Refusal>),
     /// A numbered call at a server for a shard has this answer.
@@ -76,7 +76,7 @@ fn ask(rt: &impl Abort, placement: &Placement, step: &Step) {
 }
 
 /// Follows the steps to their end.
-pub fn follow(rt: &impl Abort, placement: &mut Placement, steps: &[Step]) {
+pub(crate) fn follow(rt: &impl Abort, placement: &mut Placement, steps: &[Step]) {
     for step in steps {
         if !change(rt, placement, step) {
             ask(rt, placement, step);
