@@ -24,17 +24,8 @@ before_trans p q r a b = grind (arith, nat_tests)
 pub before_from_not : (p q : ℕ × ℕ) → before p q ≡ false → same p q ≡ false → before q p ≡ true
 before_from_not p q a b = grind (arith, nat_tests)
 
-pub not_before_here : (p q : ℕ × ℕ) → before q p ≡ true → before p q ≡ false
-not_before_here p q a = grind (arith, nat_tests)
-
 pub apart_after : (p q r : ℕ × ℕ) → before p q ≡ true → same p r ≡ true → same q r ≡ false
 apart_after p q r a b = grind (arith, nat_tests)
-
-pub apart_before : (p q r : ℕ × ℕ) → before p q ≡ true → same q r ≡ true → same p r ≡ false
-apart_before p q r a b = grind (arith, nat_tests)
-
-pub same_moves : (p q r : ℕ × ℕ) → same p q ≡ true → same q r ≡ same p r
-same_moves p q r e = rw (same_is p q e) refl
 
 pub same_first : (s q : ℕ) → same (s, 0) (q, 0) ≡ eqb s q
 same_first s q = grind (arith, nat_tests)

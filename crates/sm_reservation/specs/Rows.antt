@@ -35,14 +35,6 @@ amount_of amount (Some r) = amount r
 abbrev pub amount_at : {T : Type 0} → (T → ℕ × ℕ) → (T → ℕ) → List T → ℕ × ℕ → ℕ
 amount_at place amount rows k = amount_of amount (row_at place rows k)
 
-abbrev pub without : {T : Type 0} → Option T → Option T → Option T
-without None o = o
-without (Some _) o = None
-
-abbrev pub or_else : {T : Type 0} → Option T → Option T → Option T
-or_else None o = o
-or_else (Some r) o = Some r
-
 abbrev pub HasPositive : {T : Type 0} → (T → ℕ) → List T → Type 0
 HasPositive amount [] = Unit {0}
 HasPositive amount (x ∷ xs) = (0 < amount x) × HasPositive amount xs
