@@ -5,6 +5,7 @@ use Rattle.sm_placement.specs.declared.lead.Lead.TheVariants.{Gone, At, Ready, H
 use Rattle.sm_reservation.specs.declared.right.CellRight.{CellRight}
 use Rattle.sm_reservation.specs.declared.right.Crown.{Crown}
 use Rattle.sm_reservation.specs.Rights.{Rights}
+use Rattle.sm_reservation.specs.Key.{IsOrdered, IsPositive}
 use Rattle.sm_plan_code.specs.declared.instruction.Instr.{Instr}
 use Rattle.sm_plan_code.specs.declared.instruction.Instr.TheVariants.{PrepareAdd, PrepareDrop, Add, Drop, Change, Publish, Unlist, Signal, Wait}
 use Rattle.sm_plan_code.specs.declared.plan.PlanFault.{PlanFault}
@@ -68,12 +69,25 @@ KnowsSignal n (Wait k) = k < n
 abbrev pub KnowsSignals : PlanParts → Type 0
 KnowsSignals p = All (λ s. All (KnowsSignal (length p.signals)) s.code) p.streams
 
+-- ---- parcels in order
+
+-- each list of a parcel rises by its keys, and no amount is 0
+pub record IsOrderedParcel (r : Rights) : Type 0 where
+  pub ordered : IsOrdered r
+  pub positive : IsPositive r
+
+-- each parcel of a plan is in order: what a stream holds at its start, and what a signal carries
+pub record HasOrderedParcels (p : PlanParts) : Type 0 where
+  pub streams : All (λ s. IsOrderedParcel s.holds) p.streams
+  pub signals : All IsOrderedParcel p.signals
+
 -- ---- plans
 
 -- what every plan keeps
 pub record IsPlan (p : PlanParts) : Type 0 where
   pub small : IsSmallPlan p
   pub signals : KnowsSignals p
+  pub parcels : HasOrderedParcels p
 
 -- why these parts are no plan: the first fault that they have
 abbrev pub IsFaultOf : PlanParts → PlanFault → Type 0

@@ -1,6 +1,6 @@
 //! The limits of a plan, and which signals it knows.
 ghost use Rattle.std.specs.Prelude.{◌↔◌, ◌≤◌, IsTrue, All, length};
-ghost use Rattle.sm_plan_code.specs.Plan.{IsSmallParcel, IsSmallStream, IsSmallPlan, KnowsSignal, KnowsSignals};
+ghost use Rattle.sm_plan_code.specs.Plan.{IsSmallParcel, IsSmallStream, IsSmallPlan, IsOrderedParcel, HasOrderedParcels, KnowsSignal, KnowsSignals};
 ghost use Rattle.sm_plan_code.specs.Parts.{parts_of};
 
 use crate::Instr;
@@ -41,7 +41,8 @@ fn is_small_spare(spare: &[Spare]) -> bool
 
 /// Each list of a parcel and each amount is within its limit.
 fn is_small_parcel(parcel: &Parcel) -> bool
-    ensures { IsTrue result ↔ IsSmallParcel parcel.now }
+    ensures small { IsTrue result ↔ IsSmallParcel parcel.now }
+    ensures order { IsTrue result → IsOrderedParcel parcel.now }
 {
     parcel.cells().len() <= MOST_RIGHTS
         && parcel.crowns().len() <= MOST_RIGHTS
@@ -53,7 +54,8 @@ fn is_small_parcel(parcel: &Parcel) -> bool
 
 /// A stream's numbers, its parcel and its code are within their limits.
 fn is_small_stream(stream: &Stream) -> bool
-    ensures { IsTrue result ↔ IsSmallStream stream.now }
+    ensures small { IsTrue result ↔ IsSmallStream stream.now }
+    ensures order { IsTrue result → IsOrderedParcel stream.now.holds }
 {
     stream.budget <= MOST_CALLS
         && stream.retries <= MOST_CALLS
@@ -63,21 +65,24 @@ fn is_small_stream(stream: &Stream) -> bool
 
 /// Each of the streams is within the limits.
 fn are_small_streams(streams: &[Stream]) -> bool
-    ensures { IsTrue result ↔ All IsSmallStream streams.now }
+    ensures small { IsTrue result ↔ All IsSmallStream streams.now }
+    ensures order { IsTrue result → All (λ s. IsOrderedParcel s.holds) streams.now }
 {
     streams.iter().all(is_small_stream)
 }
 
 /// Each of the parcels is within the limits.
 fn are_small_parcels(parcels: &[Parcel]) -> bool
-    ensures { IsTrue result ↔ All IsSmallParcel parcels.now }
+    ensures small { IsTrue result ↔ All IsSmallParcel parcels.now }
+    ensures order { IsTrue result → All IsOrderedParcel parcels.now }
 {
     parcels.iter().all(is_small_parcel)
 }
 
 /// The parts of a plan are within the limits.
 pub(crate) fn is_small_plan(parts: &Parts) -> bool
-    ensures { IsTrue result ↔ IsSmallPlan (parts_of parts.now) }
+    ensures small { IsTrue result ↔ IsSmallPlan (parts_of parts.now) }
+    ensures order { IsTrue result → HasOrderedParcels (parts_of parts.now) }
 {
     parts.budget <= MOST_CALLS
         && parts.streams.len() <= MOST_STREAMS

@@ -1,5 +1,6 @@
 -- What a JSON object without faults says.
 use Rattle.std.proofs.Common.{◌≡◌, ◌++◌, ◌<◌, ◌≤◌, ℕ, Bool, true, false, cond, List, [], ◌∷◌, length, min, Option, Some, None, is_some, option_and_then, option_map, unwrap_or, nat_le, refl, sym, subst, append_assoc, append-nil, arith, true≢false, All, IfSome}
+use Rattle.std.specs.List.{flat_map}
 use Rattle.std.specs.Str.{bytes_eq}
 use Rattle.std.proofs.lemmas.List.Elements.{All-nil, All-cons}
 use Rattle.std.proofs.lemmas.List.Quantifiers.{position-Some}
@@ -10,7 +11,7 @@ use Rattle.sm_plan_text.specs.declared.fault.TextFault.{TextFault}
 use Rattle.sm_plan_text.specs.declared.member.Member.{Member}
 use Rattle.sm_plan_text.specs.Faults.{noted, lower}
 use Rattle.sm_plan_text.specs.Values.{found, text_in, up_to, whole_of, limited, number_in, number_or, entries, entries_of, entries_in, number_named, id_of, id_named, id_in}
-use Rattle.sm_plan_text.specs.Tables.{one, whole, text, known, list, limit_fault, number_fault, text_fault, name_fault, list_fault, found_faults, row_faults, walked}
+use Rattle.sm_plan_text.specs.Tables.{one, maybe, whole, text, known, list, known_list, entry_faults, limit_fault, number_fault, text_fault, name_fault, list_fault, found_faults, row_faults, walked}
 
 -- ---- no fault in all, no fault in each part
 
@@ -22,7 +23,7 @@ pub nil_right : (xs ys : List TextFault) → xs ++ ys ≡ [] → ys ≡ []
 nil_right [] ys h = h
 nil_right (x ∷ xs) ys h = absurd (cc)
 
-noted_some : (best : TextFault) (faults : List TextFault) → noted (Some best) faults ≡ None → ⊥
+pub noted_some : (best : TextFault) (faults : List TextFault) → noted (Some best) faults ≡ None → ⊥
 noted_some best [] h = cc
 noted_some best (fault ∷ faults) h = noted_some (lower (Some best) fault) faults h
 
@@ -153,3 +154,32 @@ count_kept_at m limit (Some d) h = count_kept m limit (as_array d) h
 -- a list without a fault has no more entries than its limit
 pub entries_within : (m : Member) (limit : ℕ) (d : Data) → row_faults d (one m (list limit)) ≡ [] → length (entries_in m d) ≤ limit
 entries_within m limit d h = count_kept_at m limit (found m d) h
+
+optional_kept : (m : Member) (limit : ℕ) (o : Option Data) → found_faults (maybe m (list limit)) o ≡ [] → length (unwrap_or (option_map entries_of o) []) ≤ limit
+optional_kept m limit None h = omega arith
+optional_kept m limit (Some d) h = count_kept m limit (as_array d) h
+
+-- the same of a list that may be missing
+pub optional_within : (m : Member) (limit : ℕ) (d : Data) → row_faults d (maybe m (list limit)) ≡ [] → length (entries_in m d) ≤ limit
+optional_within m limit d h = optional_kept m limit (found m d) h
+
+entry_known : (m : Member) (names : List (List ℕ)) (d : Data) → entry_faults m names d ≡ [] → unwrap_or (id_named names d) 0 < length names
+entry_known m names d h = value_of_some (length names) (id_named names d) (named m names (as_str d) h) (text_within names (as_str d))
+
+each_known : (m : Member) (names : List (List ℕ)) (ds : List Data) → flat_map (entry_faults m names) ds ≡ [] → All (λ e. unwrap_or (id_named names e) 0 < length names) ds
+each_known m names [] h = All-nil (λ e. unwrap_or (id_named names e) 0 < length names)
+each_known m names (d ∷ ds) h =
+    All-cons (λ e. unwrap_or (id_named names e) 0 < length names) d ds
+    (entry_known m names d (nil_left (entry_faults m names d) (flat_map (entry_faults m names) ds) h))
+    (each_known m names ds (nil_right (entry_faults m names d) (flat_map (entry_faults m names) ds) h))
+
+names_kept : (m : Member) (limit : ℕ) (names : List (List ℕ)) (o : Option Data) → found_faults (maybe m (known_list limit names)) o ≡ [] → (length (unwrap_or (option_map entries_of o) []) ≤ limit) × All (λ e. unwrap_or (id_named names e) 0 < length names) (unwrap_or (option_map entries_of o) [])
+names_kept m limit names None h = (omega arith, All-nil (λ e. unwrap_or (id_named names e) 0 < length names))
+names_kept m limit names (Some d) h = (
+  count_kept m limit (as_array d) (nil_left (list_fault m limit (as_array d)) (flat_map (entry_faults m names) (entries_of d)) h),
+  each_known m names (entries_of d) (nil_right (list_fault m limit (as_array d)) (flat_map (entry_faults m names) (entries_of d)) h),
+)
+
+-- a list of names without a fault has no more entries than its limit, and each names what is there
+pub names_known : (m : Member) (limit : ℕ) (names : List (List ℕ)) (d : Data) → row_faults d (maybe m (known_list limit names)) ≡ [] → (length (entries_in m d) ≤ limit) × All (λ e. unwrap_or (id_named names e) 0 < length names) (entries_in m d)
+names_known m limit names d h = names_kept m limit names (found m d) h

@@ -1,4 +1,4 @@
--- The servers, shards and calls of a document without faults: they are a configuration, and each id is below its count.
+-- The servers, shards, calls, moves and events of a document without faults: they are a configuration, and each id is below its count.
 use Rattle.std.proofs.Common.{◌≡◌, ◌++◌, ◌+◌, ◌-◌, ◌<◌, ◌≤◌, ◌^◌, ℕ, Bool, true, false, cond, ◌&&◌, ◌||◌, not, List, [], ◌∷◌, length, map, Option, Some, None, is_some, option_and_then, nat_lt, nat_le, refl, ap, sym, ◌∙◌, arith, true≢false, lt-ltb, le-leb, length-append, add-zero, All}
 use Rattle.std.specs.List.{flat_map, enumerate_from, filter_map, cons_option, list_any, list_all}
 use Rattle.std.specs.Str.{bytes_eq}
@@ -25,6 +25,10 @@ use Rattle.sm_plan_text.specs.Tables.{one, maybe, whole, name, new_name, known, 
 use Rattle.sm_plan_text.specs.Servers.{server_table, server_faults, server_in, id_if_down, down_in}
 use Rattle.sm_plan_text.specs.Shards.{cap_limit, cell_count, shard_table, cell_table, cell_faults, shard_faults, shard_in, named_cell, cells_of, cells_in}
 use Rattle.sm_plan_text.specs.Calls.{NamedCall, call_word, word_table, call_table, call_faults, call_of, call_by, call_in}
+use Rattle.sm_plan_text.specs.declared.event.EventWord.{EventWord}
+use Rattle.sm_plan_text.specs.declared.event.EventWord.TheVariants as event_word_of
+use Rattle.sm_plan_text.specs.Events.{IsKnownEvent, event_word, event_table, event_faults, event_of, event_by, event_in}
+use Rattle.sm_plan_text.specs.Moves.{IsKnownMove, move_table, move_faults, move_in}
 use Rattle.sm_plan_text.proofs.ServerLemmas.{names_in_push}
 use Rattle.sm_plan_text.proofs.Faultless.{nil_left, nil_right, walked_entries, walked_front, up_to_below, number_in-le, number_is_read, text_passes, id_known, entries_within}
 
@@ -253,3 +257,46 @@ pub calls_within : (shards servers : List (List ℕ)) (ds : List Data) → walke
 calls_within shards servers ds h =
     All-map (IsWithin (length shards) (length servers)) (call_in shards servers) ds
     (walked_entries (call_faults shards servers) (λ d. IsWithin (length shards) (length servers) (call_in shards servers d)) (λ before d none. call_by_word shards servers d (option_and_then call_word (text_found members.Call d)) none) [] ds h)
+
+-- ---- moves
+
+move_known : (shards servers : List (List ℕ)) (before : List Data) (d : Data) → move_faults shards servers before d ≡ [] → IsKnownMove (length shards) (length servers) (move_in shards servers d)
+move_known shards servers before d h =
+    let rows = nil_right (object_faults members.Moves (map (λ row. text_of row.member) (move_table shards servers)) d) _ h in
+    let after_shard = nil_right (row_faults d (one members.Shard (known shards))) _ rows in
+    let after_from = nil_right (row_faults d (one members.From (known servers))) _ after_shard in
+    record {
+      shard = id_known members.Shard shards d (nil_left (row_faults d (one members.Shard (known shards))) _ rows);
+      from = id_known members.From servers d (nil_left (row_faults d (one members.From (known servers))) _ after_shard);
+      to = id_known members.To servers d (nil_left (row_faults d (one members.To (known servers))) _ after_from);
+    }
+
+pub moves_within : (shards servers : List (List ℕ)) (ds : List Data) → walked (move_faults shards servers) [] ds ≡ [] → All (IsKnownMove (length shards) (length servers)) (map (move_in shards servers) ds)
+moves_within shards servers ds h =
+    All-map (IsKnownMove (length shards) (length servers)) (move_in shards servers) ds
+    (walked_entries (move_faults shards servers) (λ d. IsKnownMove (length shards) (length servers) (move_in shards servers d)) (move_known shards servers) [] ds h)
+
+-- ---- events
+
+event_rest : (shards servers : List (List ℕ)) (d : Data) (w : EventWord) → flat_map (row_faults d) (event_table shards servers w) ≡ [] → IsKnownEvent (length shards) (length servers) (event_of shards servers d w)
+event_rest shards servers d event_word_of.Step h = tt
+event_rest shards servers d event_word_of.Request h = (
+  id_known members.Shard shards d (nil_left (row_faults d (one members.Shard (known shards))) _ h),
+  id_known members.Server servers d (nil_left (row_faults d (one members.Server (known servers))) _ (nil_right (row_faults d (one members.Shard (known shards))) _ h)),
+)
+event_rest shards servers d event_word_of.PassOn h = tt
+event_rest shards servers d event_word_of.Approve h = id_known members.Server servers d (nil_left (row_faults d (one members.Server (known servers))) _ h)
+event_rest shards servers d event_word_of.Done h = id_known members.Server servers d (nil_left (row_faults d (one members.Server (known servers))) _ h)
+event_rest shards servers d event_word_of.Lose h = tt
+event_rest shards servers d event_word_of.Refill h = number_in-le members.More 262144 d
+event_rest shards servers d event_word_of.Begin h = tt
+
+event_by_word : (shards servers : List (List ℕ)) (d : Data) (o : Option EventWord) → by_word members.Events members.Event (event_table shards servers) d o ≡ [] → IsKnownEvent (length shards) (length servers) (event_by shards servers d o)
+event_by_word shards servers d None h = tt
+event_by_word shards servers d (Some w) h =
+    event_rest shards servers d w (nil_right (object_faults members.Events (text_of members.Event ∷ map (λ row. text_of row.member) (event_table shards servers w)) d) _ h)
+
+pub events_within : (shards servers : List (List ℕ)) (ds : List Data) → walked (event_faults shards servers) [] ds ≡ [] → All (IsKnownEvent (length shards) (length servers)) (map (event_in shards servers) ds)
+events_within shards servers ds h =
+    All-map (IsKnownEvent (length shards) (length servers)) (event_in shards servers) ds
+    (walked_entries (event_faults shards servers) (λ d. IsKnownEvent (length shards) (length servers) (event_in shards servers d)) (λ before d none. event_by_word shards servers d (option_and_then event_word (text_found members.Event d)) none) [] ds h)

@@ -1,6 +1,6 @@
 -- A walk over the entries of a list, one entry after another.
 use Rattle.std.proofs.Common.{◌≡◌, ◌++◌, ◌+◌, ◌<◌, ◌≤◌, ℕ, List, [], ◌∷◌, length, take, drop, get_or, map, Option, Some, refl, ap, sym, ◌∙◌, subst, append_assoc, add-zero, arith}
-use Rattle.std.specs.List.{enumerate_from}
+use Rattle.std.specs.List.{enumerate_from, flat_map}
 use Rattle.std.proofs.lemmas.List.{drop_more, take_more, drop_all, get_or-map, length-map, map_push}
 use Rattle.serde_json.specs.Data.{Data}
 use Rattle.serde_json.specs.View.{view}
@@ -43,6 +43,14 @@ at_take_view f items i item h is = ap f (take_view items i item h is)
 pub walked_step : (faults : List Data → Data → List TextFault) (items : List Value) (i : ℕ) (item : Value) (best next : Option TextFault) → i < length items → item ≡ get_or items i item → next ≡ noted best (faults (take i (map view items)) (view item)) → noted next (walked faults (take (i + 1) (map view items)) (drop (i + 1) (map view items))) ≡ noted best (walked faults (take i (map view items)) (drop i (map view items)))
 walked_step faults items i item best next h is e =
     walked_more faults (map view items) i (view item) best next (subst (λ n. i < n) (sym (length-map items view)) h) (entry_at items i item h is) e
+
+-- the same where the faults of an entry do not depend on those before it
+pub flat_step : (faults : Data → List TextFault) (items : List Value) (i : ℕ) (item : Value) (best next : Option TextFault) → i < length items → item ≡ get_or items i item → next ≡ noted best (faults (view item)) → noted next (flat_map faults (drop (i + 1) (map view items))) ≡ noted best (flat_map faults (drop i (map view items)))
+flat_step faults items i item best next h is e =
+    let rest : List Data = drop (i + 1) (map view items) in
+    ap (λ b. noted b (flat_map faults rest)) e ∙
+    sym (noted_append best (faults (view item)) (flat_map faults rest)) ∙
+    sym (ap (λ ds. noted best (flat_map faults ds)) (drop_more (map view items) i (view item) (subst (λ n. i < n) (sym (length-map items view)) h) ∙ ap (λ d. d ∷ rest) (sym (entry_at items i item h is))))
 
 pub enumerate_push : {A : Type 0} (n : ℕ) (xs : List A) (x : A) → enumerate_from n (xs ++ x ∷ []) ≡ enumerate_from n xs ++ (n + length xs, x) ∷ []
 enumerate_push n [] x = ap (λ k. (k, x) ∷ []) (sym (add-zero n))

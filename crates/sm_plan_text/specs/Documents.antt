@@ -1,16 +1,22 @@
 -- A document.
-use Rattle.std.specs.Prelude.{◌≡◌, ◌≤◌, ◌<◌, ℕ, List, [], ◌∷◌, ◌++◌, length, map, Option, option_map, All, IfSome}
+use Rattle.std.specs.Prelude.{◌≡◌, ◌≤◌, ◌<◌, ℕ, List, [], ◌∷◌, ◌++◌, length, map, Option, option_map, option_and_then, All, IfSome}
 use Rattle.serde_json.specs.Data.{Data}
 use Rattle.sm_placement.specs.Setup.{Setup}
 use Rattle.sm_placement.specs.Opening.{NamedCell}
 use Rattle.sm_placement.specs.Rows.{IsKnownCall}
+use Rattle.sm_plan_code.specs.Plan.{PlanParts, FitsPlan}
 use Rattle.sm_plan_text.specs.declared.fault.TextFault.{TextFault}
 use Rattle.sm_plan_text.specs.declared.member.Member.TheVariants as members
-use Rattle.sm_plan_text.specs.Values.{number_in, number_or, list_in, entries_in, names_in}
-use Rattle.sm_plan_text.specs.Tables.{Row, one, maybe, whole, list, own_faults, walked}
+use Rattle.sm_plan_text.specs.Values.{found, number_in, number_or, list_in, entries_in, names_in, id_named, ids_in}
+use Rattle.sm_plan_text.specs.Tables.{Row, one, maybe, whole, known, object, list, known_list, own_faults, walked}
 use Rattle.sm_plan_text.specs.Servers.{server_faults, server_in, down_in}
 use Rattle.sm_plan_text.specs.Shards.{shard_faults, shard_in, listed_in, cells_in}
 use Rattle.sm_plan_text.specs.Calls.{NamedCall, call_faults, call_in}
+use Rattle.sm_plan_text.specs.Plans.{faults_within, plan_faults, plan_in}
+use Rattle.sm_plan_text.specs.declared.event.EventText.{EventText}
+use Rattle.sm_plan_text.specs.Events.{IsKnownEvent, event_faults, event_in}
+use Rattle.sm_plan_text.specs.declared.moves.MoveText.{MoveText}
+use Rattle.sm_plan_text.specs.Moves.{IsKnownMove, move_faults, move_in}
 
 -- what a document says
 pub record DocumentRows : Type 0 where
@@ -21,14 +27,26 @@ pub record DocumentRows : Type 0 where
   pub limit : ℕ
   pub log : ℕ
   pub calls : Option (List NamedCall)
+  pub plan : Option PlanParts
+  pub plans : Option (List PlanParts)
+  pub events : Option (List EventText)
+  pub moves : Option (List MoveText)
+  pub drain : Option ℕ
+  pub asks : List ℕ
 
-abbrev pub document_table : List Row
-document_table =
+abbrev pub document_table : List (List ℕ) → List (List ℕ) → List Row
+document_table shards servers =
     one members.Limit (whole 1024) ∷
     one members.Servers (list 1024) ∷
     one members.Shards (list 4096) ∷
     maybe members.Log (whole 1048576) ∷
-    maybe members.Calls (list 1048576) ∷ []
+    maybe members.Calls (list 1048576) ∷
+    maybe members.Plan object ∷
+    maybe members.Plans (list 16) ∷
+    maybe members.Events (list 1048576) ∷
+    maybe members.Moves (list 4096) ∷
+    maybe members.Drain (known servers) ∷
+    maybe members.Asks (known_list 16 shards) ∷ []
 
 abbrev pub servers_in : Data → List Data
 servers_in d = entries_in members.Servers d
@@ -46,10 +64,14 @@ shard_names d = names_in (shards_in d)
 -- all faults of a document, as a walk meets them: its own, and then those of the objects in it
 abbrev pub document_faults : Data → List TextFault
 document_faults d =
-    own_faults members.Document document_table d
+    own_faults members.Document (document_table (shard_names d) (server_names d)) d
     ++ walked server_faults [] (servers_in d)
     ++ walked (shard_faults (server_names d)) [] (shards_in d)
     ++ walked (call_faults (shard_names d) (server_names d)) [] (entries_in members.Calls d)
+    ++ faults_within (plan_faults members.Plan (shard_names d) (server_names d) []) (found members.Plan d)
+    ++ walked (plan_faults members.Plans (shard_names d) (server_names d)) [] (entries_in members.Plans d)
+    ++ walked (event_faults (shard_names d) (server_names d)) [] (entries_in members.Events d)
+    ++ walked (move_faults (shard_names d) (server_names d)) [] (entries_in members.Moves d)
 
 abbrev pub setup_in : Data → Setup
 setup_in d = record { servers = map server_in (servers_in d); shards = map shard_in (shards_in d) }
@@ -63,6 +85,12 @@ rows_in d = record {
   limit = number_in members.Limit 1024 d;
   log = number_or 65536 members.Log 1048576 d;
   calls = option_map (map (call_in (shard_names d) (server_names d))) (list_in members.Calls d);
+  plan = option_map (plan_in (shard_names d) (server_names d)) (found members.Plan d);
+  plans = option_map (map (plan_in (shard_names d) (server_names d))) (list_in members.Plans d);
+  events = option_map (map (event_in (shard_names d) (server_names d))) (list_in members.Events d);
+  moves = option_map (map (move_in (shard_names d) (server_names d))) (list_in members.Moves d);
+  drain = option_and_then (id_named (server_names d)) (found members.Drain d);
+  asks = ids_in (shard_names d) members.Asks d;
 }
 
 -- every id is below its count
@@ -71,8 +99,17 @@ pub record IsDocument (rows : DocumentRows) : Type 0 where
   pub listed : All (λ entry. IfSome entry (λ server. server < length rows.setup.servers)) rows.listed
   pub down : All (λ server. server < length rows.setup.servers) rows.down
   pub calls : IfSome rows.calls (λ calls. All (λ call. (call.0 < length rows.setup.shards) × (call.1 < length rows.setup.servers) × IsKnownCall (length rows.setup.servers) call.2) calls)
+  pub plan : IfSome rows.plan (FitsPlan (length rows.setup.shards) (length rows.setup.servers))
+  pub plans : IfSome rows.plans (All (FitsPlan (length rows.setup.shards) (length rows.setup.servers)))
+  pub events : IfSome rows.events (All (IsKnownEvent (length rows.setup.shards) (length rows.setup.servers)))
+  pub moves : IfSome rows.moves (All (IsKnownMove (length rows.setup.shards) (length rows.setup.servers)))
+  pub drain : IfSome rows.drain (λ server. server < length rows.setup.servers)
+  pub asks : All (λ shard. shard < length rows.setup.shards) rows.asks
   -- each shard has its entry in the published map, and there are no more cells than a placement may be opened with
   pub listed_length : length rows.listed ≡ length rows.setup.shards
   pub cell_count : length rows.cells ≤ 1048576
   pub limit : rows.limit ≤ 1024
   pub log : rows.log ≤ 1048576
+  pub plan_count : IfSome rows.plans (λ plans. length plans ≤ 16)
+  pub move_count : IfSome rows.moves (λ moves. length moves ≤ 4096)
+  pub ask_count : length rows.asks ≤ 16

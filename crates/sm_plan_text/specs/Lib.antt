@@ -5,5 +5,11 @@ pub mod Tables
 pub mod Servers
 pub mod Shards
 pub mod Calls
+pub mod Events
+pub mod Moves
+pub mod Parcels
+pub mod Instructions
+pub mod Plans
+pub mod PlanTexts
 pub mod Documents
 pub mod Reading

@@ -1,23 +1,26 @@
 -- What bytes are read as.
-use Rattle.std.specs.Prelude.{ℕ, List, Option, Some, None, Result, Ok, Err, option_map, if◌then◌else◌}
+use Rattle.std.specs.Prelude.{ℕ, List, [], Option, Some, None, Result, Ok, Err, option_map, if◌then◌else◌}
 use Rattle.std.specs.Str.{is_utf8}
 use Rattle.serde_json.specs.Data.{Data}
 use Rattle.serde_json.specs.Read as json
 use Rattle.sm_placement.specs.Config.{setup_of}
+use Rattle.sm_plan_code.specs.Plan.{PlanParts}
 use Rattle.sm_plan_text.specs.declared.fault.TextFault.{TextFault}
 use Rattle.sm_plan_text.specs.declared.fault.TextFault.TheVariants.{NotJson}
+use Rattle.sm_plan_text.specs.declared.member.Member.TheVariants as members
 use Rattle.sm_plan_text.specs.declared.document.Document.{Document}
 use Rattle.sm_plan_text.specs.declared.document.Parts.{Parts}
 use Rattle.sm_plan_text.specs.Faults.{answered}
+use Rattle.sm_plan_text.specs.Plans.{plan_faults, plan_in}
 use Rattle.sm_plan_text.specs.Documents.{DocumentRows, document_faults, rows_in}
 
 -- the JSON value that the bytes are in UTF-8
 abbrev pub data_of : List ℕ → Option Data
 data_of bytes = if is_utf8 bytes then json.read bytes else None
 
-abbrev unless : Option TextFault → DocumentRows → Result DocumentRows TextFault
-unless None rows = Ok rows
-unless (Some fault) rows = Err fault
+abbrev unless : {A : Type 0} → Option TextFault → A → Result A TextFault
+unless None read = Ok read
+unless (Some fault) read = Err fault
 
 abbrev pub read_data : Option Data → Result DocumentRows TextFault
 read_data None = Err NotJson
@@ -26,6 +29,14 @@ read_data (Some d) = unless (answered (document_faults d)) (rows_in d)
 -- what the bytes are read as: a document, or the fault that is answered
 abbrev pub read : List ℕ → Result DocumentRows TextFault
 read bytes = read_data (data_of bytes)
+
+abbrev pub read_plan_data : List (List ℕ) → List (List ℕ) → Option Data → Result PlanParts TextFault
+read_plan_data shards servers None = Err NotJson
+read_plan_data shards servers (Some d) = unless (answered (plan_faults members.Document shards servers [] d)) (plan_in shards servers d)
+
+-- what the bytes are read as that are to be one plan, where shards and servers have these names
+abbrev pub read_plan : List (List ℕ) → List (List ℕ) → List ℕ → Result PlanParts TextFault
+read_plan shards servers bytes = read_plan_data shards servers (data_of bytes)
 
 -- what a document says that was read
 abbrev pub rows_of : Document → DocumentRows
@@ -37,6 +48,12 @@ rows_of d = record {
   limit = d.limit;
   log = d.log;
   calls = option_map (λ calls. calls.items) d.calls;
+  plan = d.plan;
+  plans = option_map (λ plans. plans.items) d.plans;
+  events = option_map (λ events. events.items) d.events;
+  moves = option_map (λ moves. moves.items) d.moves;
+  drain = d.drain;
+  asks = d.asks.items;
 }
 
 -- the same of a document whose servers and shards are not a configuration yet
@@ -49,4 +66,10 @@ rows_of_parts p = record {
   limit = p.limit;
   log = p.log;
   calls = option_map (λ calls. calls.items) p.calls;
+  plan = p.plan;
+  plans = option_map (λ plans. plans.items) p.plans;
+  events = option_map (λ events. events.items) p.events;
+  moves = option_map (λ moves. moves.items) p.moves;
+  drain = p.drain;
+  asks = p.asks.items;
 }

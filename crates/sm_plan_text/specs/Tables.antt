@@ -1,6 +1,6 @@
 -- Tables of members: what each member of an object is to be. The faults of an object against its table are found in the
 -- order of the table.
-use Rattle.std.specs.Prelude.{ℕ, Bool, true, false, ◌&&◌, not, List, [], ◌∷◌, ◌++◌, length, map, Option, Some, None, is_some, nat_le, option_and_then, if◌then◌else◌}
+use Rattle.std.specs.Prelude.{ℕ, Bool, true, false, ◌&&◌, ◌||◌, ◌==◌, not, List, [], ◌∷◌, ◌++◌, length, map, Option, Some, None, is_some, nat_le, nat_lt, option_and_then, option_map, if◌then◌else◌}
 use Rattle.std.specs.List.{list_any, flat_map}
 use Rattle.std.specs.Str.{bytes_eq}
 use Rattle.serde_json.specs.Data.{Data, Num, Items, Members, no_members, member}
@@ -10,7 +10,7 @@ use Rattle.sm_plan_text.specs.declared.fault.TextFault.{TextFault}
 use Rattle.sm_plan_text.specs.declared.fault.TextFault.TheVariants.{Shape, UnknownName, TooMany, Number}
 use Rattle.sm_plan_text.specs.declared.member.Member.{Member}
 use Rattle.sm_plan_text.specs.Members.{text_of}
-use Rattle.sm_plan_text.specs.Values.{found, text_found, entries, number_named, role_named}
+use Rattle.sm_plan_text.specs.Values.{found, text_found, entries, entries_of, number_named, role_named, after_named}
 
 -- what a member's value is to be
 pub data Want : Type 0 where
@@ -26,6 +26,16 @@ pub data Want : Type 0 where
   known_or_null : List (List ℕ) → Want
   -- a list of at most so many entries
   list : ℕ → Want
+  -- a list of at most so many texts, each of which names one of these
+  known_list : ℕ → List (List ℕ) → Want
+  -- a list of at most so many objects, no two of which have the same texts in these members
+  keyed : ℕ → List Member → Want
+  -- a whole number below a count
+  below : ℕ → Want
+  -- the format of a plan: 1 or 2
+  format : Want
+  -- an object
+  object : Want
 
 abbrev pub is_among : List (List ℕ) → List ℕ → Bool
 is_among names s = list_any (bytes_eq s) names
@@ -41,6 +51,10 @@ new_name taken = text (λ s. is_name s && not (is_among taken s))
 -- a replica's role
 abbrev pub role : Want
 role = text (λ s. is_some (role_named s))
+
+-- when a call is lost
+abbrev pub when : Want
+when = text (λ s. is_some (after_named s))
 
 -- a row of a table: a member, whether it may be missing, and what it is to be
 pub record Row : Type 0 where
@@ -83,6 +97,48 @@ abbrev pub list_fault : Member → ℕ → Option Items → List TextFault
 list_fault m limit None = Shape m ∷ []
 list_fault m limit (Some ds) = count_faults m limit (length (entries ds))
 
+-- the faults of an entry of a list of names: they are those of the member that has the list
+abbrev pub entry_faults : Member → List (List ℕ) → Data → List TextFault
+entry_faults m names d = name_fault m names (as_str d)
+
+-- the texts of these members, where each of them is a text
+abbrev pub texts_found : List Member → Data → Option (List (List ℕ))
+texts_found [] d = Some []
+texts_found (m ∷ ms) d = option_and_then (λ text. option_map (λ texts. text ∷ texts) (texts_found ms d)) (text_found m d)
+
+abbrev pub texts_eq : List (List ℕ) → List (List ℕ) → Bool
+texts_eq [] [] = true
+texts_eq (s ∷ ss) (t ∷ ts) = bytes_eq s t && texts_eq ss ts
+texts_eq _ _ = false
+
+abbrev pub is_same_key : Option (List (List ℕ)) → Option (List (List ℕ)) → Bool
+is_same_key (Some s) (Some t) = texts_eq s t
+is_same_key _ _ = false
+
+-- two of these have the same key; one that lacks a part of its key has none
+abbrev pub has_double_key : List (Option (List (List ℕ))) → Bool
+has_double_key [] = false
+has_double_key (key ∷ keys) = list_any (is_same_key key) keys || has_double_key keys
+
+abbrev pub double_faults : Member → List Member → List Data → List TextFault
+double_faults m key ds = if has_double_key (map (texts_found key) ds) then Shape m ∷ [] else []
+
+abbrev pub below_fault : Member → ℕ → Option ℕ → List TextFault
+below_fault m count None = Number m ∷ []
+below_fault m count (Some n) = if nat_lt n count then [] else UnknownName m ∷ []
+
+abbrev pub index_fault : Member → ℕ → Option Num → List TextFault
+index_fault m count None = Shape m ∷ []
+index_fault m count (Some n) = below_fault m count (as_u64 n)
+
+abbrev pub is_number : ℕ → Option ℕ → Bool
+is_number n None = false
+is_number n (Some k) = k == n
+
+abbrev pub format_fault : Member → Option Num → List TextFault
+format_fault m None = Shape m ∷ []
+format_fault m (Some n) = if is_number 1 (as_u64 n) || is_number 2 (as_u64 n) then [] else Number m ∷ []
+
 -- the faults of a member's value
 abbrev pub value_faults : Member → Want → Data → List TextFault
 value_faults m (whole limit) d = number_fault m limit (as_number d)
@@ -91,6 +147,11 @@ value_faults m (text passes) d = text_fault m passes (as_str d)
 value_faults m (known names) d = name_fault m names (as_str d)
 value_faults m (known_or_null names) d = if is_some (as_null d) then [] else name_fault m names (as_str d)
 value_faults m (list limit) d = list_fault m limit (as_array d)
+value_faults m (known_list limit names) d = list_fault m limit (as_array d) ++ flat_map (entry_faults m names) (entries_of d)
+value_faults m (keyed limit key) d = list_fault m limit (as_array d) ++ double_faults m key (entries_of d)
+value_faults m (below count) d = index_fault m count (as_number d)
+value_faults m format d = format_fault m (as_number d)
+value_faults m object d = if is_some (as_object d) then [] else Shape m ∷ []
 
 abbrev pub found_faults : Row → Option Data → List TextFault
 found_faults row None = if row.optional then [] else Shape row.member ∷ []

@@ -1,6 +1,6 @@
 -- What the members of a JSON object say. A member that is missing or not in its form says nothing, and stands for 0,
 -- false, or what is empty: a document with such a member is refused.
-use Rattle.std.specs.Prelude.{ℕ, Bool, false, List, [], ◌∷◌, codes, fold, map, Option, Some, None, nat_le, option_and_then, option_map, unwrap_or, position, if◌then◌else◌}
+use Rattle.std.specs.Prelude.{ℕ, Bool, true, false, List, [], ◌∷◌, codes, fold, map, Option, Some, None, nat_le, nat_lt, option_and_then, option_map, unwrap_or, position, if◌then◌else◌}
 use Rattle.std.specs.Str.{bytes_eq}
 use Rattle.indexmap.specs.IndexSet.{insert_key}
 use Rattle.serde_json.specs.Data.{Data, Items, no_items, item}
@@ -27,6 +27,10 @@ flag_in member d = unwrap_or (option_and_then as_bool (found member d)) false
 -- a number within its limit
 abbrev pub up_to : ℕ → ℕ → ℕ
 up_to limit n = if nat_le n limit then n else 0
+
+-- a number below a count
+abbrev pub under : ℕ → ℕ → ℕ
+under count n = if nat_lt n count then n else 0
 
 -- the whole number that a value is
 abbrev pub whole_of : Data → Option ℕ
@@ -69,6 +73,10 @@ number_named names text = position (λ name. bytes_eq text name) names
 abbrev pub id_of : ℕ → ℕ
 id_of n = up_to 4294967295 n
 
+-- the whole number that is below a count, as an id
+abbrev pub number_below : ℕ → Member → Data → ℕ
+number_below count member d = id_of (under count (unwrap_or (option_and_then whole_of (found member d)) 0))
+
 -- the id of the object that a value names
 abbrev pub id_named : List (List ℕ) → Data → Option ℕ
 id_named names d = option_map id_of (option_and_then (number_named names) (as_str d))
@@ -76,9 +84,20 @@ id_named names d = option_map id_of (option_and_then (number_named names) (as_st
 abbrev pub id_in : List (List ℕ) → Member → Data → ℕ
 id_in names member d = unwrap_or (option_and_then (id_named names) (found member d)) 0
 
+-- the ids of the objects that the entries of a list name
+abbrev pub ids_in : List (List ℕ) → Member → Data → List ℕ
+ids_in names member d = map (λ entry. unwrap_or (id_named names entry) 0) (entries_in member d)
+
 -- the role that a word says
 abbrev pub role_named : List ℕ → Option Role
 role_named word = if bytes_eq word (codes "primary") then Some Primary else if bytes_eq word (codes "secondary") then Some Secondary else None
 
 abbrev pub role_in : Member → Data → Role
 role_in member d = unwrap_or (option_and_then role_named (text_found member d)) Secondary
+
+-- whether a word says that a call is lost after it was made, or before
+abbrev pub after_named : List ℕ → Option Bool
+after_named word = if bytes_eq word (codes "before") then Some false else if bytes_eq word (codes "after") then Some true else None
+
+abbrev pub after_in : Member → Data → Bool
+after_in member d = unwrap_or (option_and_then after_named (text_found member d)) false

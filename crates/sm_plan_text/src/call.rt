@@ -9,10 +9,10 @@ ghost use Rattle.sm_plan_text.specs.Values.{text_found};
 ghost use Rattle.sm_plan_text.specs.Tables.{row_faults, unlisted_faults, walked};
 ghost use Rattle.sm_plan_text.specs.Calls.{call_word, word_table, call_table, call_faults, call_of, call_in};
 
-use crate::fault::{Faults, TextFault};
+use crate::fault::Faults;
 use crate::member::Member;
 use crate::names::Names;
-use crate::object::{note_unknown, number, reference, role, text};
+use crate::object::{note_unknown, note_unlisted, number, reference, role, text};
 use serde_json::Value;
 use sm_server::{Call, ServerId, ShardId};
 use std::alloc::{AllocError, Global};
@@ -87,14 +87,7 @@ fn read_word(object: &Value, faults: &mut Faults) -> Option<CallWord>
         None => None,
     };
     if word.is_none() {
-        if !object.is_object() {
-            faults.note(TextFault::Shape {
-                member: Member::Calls,
-            });
-        }
-        faults.note(TextFault::Shape {
-            member: Member::Call,
-        });
+        note_unlisted(object, Member::Calls, Member::Call, faults);
     }
     word
 }

@@ -1,22 +1,32 @@
 //! A document, from its text.
-ghost use Rattle.std.specs.Prelude.{◌≡◌, ◌≢◌, Some, None, Ok, Err, IfOk, IfErr, OnOk, [], option_map, unwrap_or, map};
+ghost use Rattle.std.specs.Prelude.{◌≡◌, ◌≢◌, ℕ, List, Some, None, Ok, Err, IfOk, IfErr, OnOk, [], option_map, option_and_then, unwrap_or, map};
 ghost use Rattle.serde_json.specs.View.{view};
 ghost use Rattle.sm_placement.specs.Config.{setup_of, config_fault};
 ghost use Rattle.sm_plan_text.specs.Faults.{noted};
-ghost use Rattle.sm_plan_text.specs.Tables.{walked};
+ghost use Rattle.sm_plan_text.specs.declared.member.Member.TheVariants as members;
+ghost use Rattle.sm_plan_text.specs.Members.{text_of};
+ghost use Rattle.sm_plan_text.specs.Values.{found, id_named};
+ghost use Rattle.sm_plan_text.specs.Tables.{maybe, known, row_faults, walked};
 ghost use Rattle.sm_plan_text.specs.Calls.{call_faults, call_in};
-ghost use Rattle.sm_plan_text.specs.Documents.{document_faults, rows_in, IsDocument};
+ghost use Rattle.sm_plan_text.specs.Documents.{document_table, document_faults, rows_in, IsDocument};
 ghost use Rattle.sm_plan_text.specs.Reading.{data_of, read_data, read, rows_of, rows_of_parts};
 
+use crate::asks::read_asks;
 use crate::call::read_calls;
+use crate::event::{EventText, read_events};
 use crate::fault::{Faults, TextFault};
 use crate::member::Member;
+use crate::moves::{MoveText, read_moves};
 use crate::names::Names;
-use crate::object::{list, list_or_none, note_unknown, number, number_or};
+use crate::object::{
+    inner_or_none, list, list_or_none, note_unknown, number, number_or, reference_where_there,
+};
+use crate::plan::{read_plan_where_there, read_plans};
 use crate::server::read_servers;
 use crate::shard::read_shards;
 use serde_json::Value;
 use sm_placement::{Config, ConfigFault, Server, Shard};
+use sm_plan_code::Plan;
 use sm_server::{Call, Cell, ServerId, ShardId};
 use std::alloc::{AllocError, Global};
 
@@ -36,6 +46,18 @@ pub struct Document {
     pub log: u32,
     /// The calls to make, each for a shard at a server.
     pub calls: Option<Vec<(ShardId, ServerId, Call)>>,
+    /// The plan to check, to play or to run.
+    pub plan: Option<Plan>,
+    /// The plans to run beside each other.
+    pub plans: Option<Vec<Plan>>,
+    /// What is to happen, one event after the other.
+    pub events: Option<Vec<EventText>>,
+    /// The moves to make a plan for.
+    pub moves: Option<Vec<MoveText>>,
+    /// The server to make a plan for that empties it.
+    pub drain: Option<ServerId>,
+    /// The shards to ask for while plans run.
+    pub asks: Vec<ShardId>,
 }
 
 /// What a document says, before its servers and shards are a configuration.
@@ -49,11 +71,17 @@ struct Parts {
     limit: u32,
     log: u32,
     calls: Option<Vec<(ShardId, ServerId, Call)>>,
+    plan: Option<Plan>,
+    plans: Option<Vec<Plan>>,
+    events: Option<Vec<EventText>>,
+    moves: Option<Vec<MoveText>>,
+    drain: Option<ServerId>,
+    asks: Vec<ShardId>,
 }
 
 /// The JSON value of the bytes.
 #[tactic(auto, using(crate::proofs::Texts::data_of_text, crate::proofs::Texts::data_of_none))]
-fn parse(alloc: Global, bytes: &[u8]) -> Result<Value, TextFault>
+pub fn parse(alloc: Global, bytes: &[u8]) -> Result<Value, TextFault>
     ensures ok { IfOk result (λ value. data_of bytes.now ≡ Some (view value)) }
     ensures fault { IfErr result (λ why. why ≢ TextFault.NoMemory → why ≡ TextFault.NotJson) }
     ensures none { IfErr result (λ why. why ≢ TextFault.NoMemory → data_of bytes.now ≡ None) }
@@ -92,32 +120,64 @@ fn calls_of(
     }
 }
 
+/// The members that a document knows.
+fn members() -> &'static [Member]
+    ensures { (shards servers : List (List ℕ)) → map text_of result.now ≡ map (λ row. text_of row.member) (document_table shards servers) }
+{
+    &[
+        Member::Limit,
+        Member::Servers,
+        Member::Shards,
+        Member::Log,
+        Member::Calls,
+        Member::Plan,
+        Member::Plans,
+        Member::Events,
+        Member::Moves,
+        Member::Drain,
+        Member::Asks,
+    ]
+}
+
+/// The server to empty.
+fn read_drain(document: &Value, servers: &Names, faults: &mut Faults) -> Option<ServerId>
+    ensures drain { result ≡ option_and_then (id_named servers.now) (found members.Drain (view document.now)) }
+    ensures faults { faults.new.lowest ≡ noted faults.old.lowest (row_faults (view document.now) (maybe members.Drain (known servers.now))) }
+{
+    match reference_where_there(document, Member::Drain, servers, faults) {
+        Some(server) => Some(ServerId::new(server)),
+        None => None,
+    }
+}
+
 /// The parts of a document.
 #[tactic(auto, using(crate::proofs::WalkLemmas::noted_append))]
 fn read_parts(alloc: Global, value: &Value, faults: &mut Faults) -> Result<Parts, AllocError>
-    ensures rows { IfOk result (λ parts. rows_of_parts parts ≡ rows_in (view value.now)) }
+    ensures rows { IfOk result (λ parts. faults.new.lowest ≡ None → rows_of_parts parts ≡ rows_in (view value.now)) }
     ensures faults { OnOk result (faults.new.lowest ≡ noted faults.old.lowest (document_faults (view value.now))) }
 {
-    note_unknown(
-        value,
-        Member::Document,
-        &[
-            Member::Limit,
-            Member::Servers,
-            Member::Shards,
-            Member::Log,
-            Member::Calls,
-        ],
-        faults,
-    );
+    note_unknown(value, Member::Document, members(), faults);
     let limit = number(value, Member::Limit, 1024, faults);
     let server_items = list(value, Member::Servers, 1024, faults);
     let shard_items = list(value, Member::Shards, 4096, faults);
     let log = number_or(value, Member::Log, 65_536, 1_048_576, faults);
     let call_items = list_or_none(value, Member::Calls, 1_048_576, faults);
-    let servers = read_servers(alloc, server_items, faults)?;
-    let shards = read_shards(alloc, shard_items, &servers.names, faults)?;
+    let plan_object = inner_or_none(value, Member::Plan, faults);
+    let plan_items = list_or_none(value, Member::Plans, 16, faults);
+    let event_items = list_or_none(value, Member::Events, 1_048_576, faults);
+    let move_items = list_or_none(value, Member::Moves, 4096, faults);
+    // Some members of the document name what stands in its lists, and their faults come before those of the lists.
+    let mut listed_faults = Faults { lowest: None };
+    let servers = read_servers(alloc, server_items, &mut listed_faults)?;
+    let shards = read_shards(alloc, shard_items, &servers.names, &mut listed_faults)?;
+    let drain = read_drain(value, &servers.names, faults);
+    let asks = read_asks(alloc, value, &shards.names, faults)?;
+    faults.append(listed_faults);
     let calls = calls_of(alloc, call_items, &shards.names, &servers.names, faults)?;
+    let plan = read_plan_where_there(alloc, plan_object, &shards.names, &servers.names, faults)?;
+    let plans = read_plans(alloc, plan_items, &shards.names, &servers.names, faults)?;
+    let events = read_events(alloc, event_items, &shards.names, &servers.names, faults)?;
+    let moves = read_moves(alloc, move_items, &shards.names, &servers.names, faults)?;
     Ok(Parts {
         servers: servers.rows,
         shards: shards.rows,
@@ -127,6 +187,12 @@ fn read_parts(alloc: Global, value: &Value, faults: &mut Faults) -> Result<Parts
         limit,
         log,
         calls,
+        plan,
+        plans,
+        events,
+        moves,
+        drain,
+        asks,
     })
 }
 
@@ -162,6 +228,12 @@ fn from_value(alloc: Global, value: &Value) -> Result<Document, TextFault>
         limit: parts.limit,
         log: parts.log,
         calls: parts.calls,
+        plan: parts.plan,
+        plans: parts.plans,
+        events: parts.events,
+        moves: parts.moves,
+        drain: parts.drain,
+        asks: parts.asks,
     })
 }
 

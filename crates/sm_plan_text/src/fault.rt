@@ -74,6 +74,17 @@ impl Faults {
             }
         }
     }
+
+    /// Takes the faults of a part of the walk, which were noted apart.
+    #[tactic(auto, using(crate::proofs::Lowest::part_none, crate::proofs::Lowest::part_some))]
+    pub fn append(&mut self, part: Faults)
+        ensures { (faults : List TextFault) → part.lowest ≡ answered faults → self.new.lowest ≡ noted self.old.lowest faults }
+    {
+        match part.lowest {
+            None => {}
+            Some(fault) => self.note(fault),
+        }
+    }
 }
 
 /// What is answered is the first of the faults of the lowest number, and nothing where there is no fault.

@@ -1,17 +1,30 @@
-//! Placements and calls as JSON documents.
+//! Documents and plans as JSON: what they are read as, and how plans are written.
 #![tactic(auto)]
 
+mod asks;
 mod call;
 mod document;
+mod event;
 mod fault;
+mod instruction;
+mod key;
 mod member;
+mod moves;
 mod names;
 mod object;
+mod parcel;
+mod plan;
+mod plan_text;
 mod server;
 mod shard;
 #[cfg(test)]
 mod tests;
+mod writing;
 
 pub use document::{Document, read_document};
+pub use event::EventText;
 pub use fault::{TextFault, first_is_answered};
 pub use member::Member;
+pub use moves::MoveText;
+pub use plan_text::read_plan;
+pub use writing::{write_plan, written_plan_is_read};

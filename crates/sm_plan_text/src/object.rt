@@ -5,10 +5,11 @@ ghost use Rattle.serde_json.specs.View.{view, members_view};
 ghost use Rattle.sm_placement.specs.Names.{is_name_byte, is_name};
 ghost use Rattle.sm_plan_text.specs.Members.{text_of};
 ghost use Rattle.sm_plan_text.specs.Faults.{noted};
-ghost use Rattle.sm_plan_text.specs.Values.{found, whole_of, text_found, text_in, flag_in, number_in, number_or, limited, entries_of, list_in, entries_in, id_of, id_named, id_in, role_named, role_in};
-ghost use Rattle.sm_plan_text.specs.Tables.{is_among, has_unknown, object_faults, row_faults, value_faults, count_faults, one, maybe, whole, flag, name, new_name, known, known_or_null, role, list};
+ghost use Rattle.sm_plan_text.specs.Values.{found, whole_of, text_found, text_in, flag_in, number_in, number_or, number_below, limited, entries_of, list_in, entries_in, id_of, id_named, id_in, role_named, role_in, after_named, after_in};
+ghost use Rattle.sm_plan_text.specs.Tables.{is_among, has_unknown, object_faults, unlisted_faults, row_faults, value_faults, count_faults, one, maybe, whole, flag, name, new_name, known, known_or_null, role, when, list, keyed, below, format, object as an_object};
 
 use crate::fault::{Faults, TextFault};
+use crate::key::has_double_key;
 use crate::member::Member;
 use crate::names::Names;
 use serde_json::{Map, Value};
@@ -16,7 +17,7 @@ use sm_server::Role;
 use std::alloc::{AllocError, Global};
 
 /// The value of a member, where it stands.
-fn find(object: &Value, member: Member) -> Option<&Value>
+pub fn find(object: &Value, member: Member) -> Option<&Value>
     ensures { option_map (λ v. view v.now) result ≡ found member (view object.now) }
 {
     object.get(member.text())
@@ -57,6 +58,16 @@ pub fn note_unknown(object: &Value, place: Member, known: &[Member], faults: &mu
         }
         None => faults.note(TextFault::Shape { member: place }),
     }
+}
+
+/// Notes that what stands in a place has a word that is not listed, or is no object.
+pub fn note_unlisted(object: &Value, place: Member, word: Member, faults: &mut Faults)
+    ensures { faults.new.lowest ≡ noted faults.old.lowest (unlisted_faults place word (view object.now)) }
+{
+    if !object.is_object() {
+        faults.note(TextFault::Shape { member: place });
+    }
+    faults.note(TextFault::Shape { member: word });
 }
 
 /// The whole number that a member is.
@@ -118,6 +129,80 @@ pub fn number_or(
     match find(object, member) {
         Some(value) => whole(value, member, limit, faults),
         None => default,
+    }
+}
+
+/// A whole number below a count, as an id.
+pub fn number_below(object: &Value, member: Member, count: usize, faults: &mut Faults) -> u32
+    ensures value { result ≡ number_below count member (view object.now) }
+    ensures faults { faults.new.lowest ≡ noted faults.old.lowest (row_faults (view object.now) (one member (below count))) }
+{
+    let Some(value) = find(object, member) else {
+        faults.note(TextFault::Shape { member });
+        return 0;
+    };
+    if !value.is_number() {
+        faults.note(TextFault::Shape { member });
+        return 0;
+    }
+    match value.as_u64() {
+        Some(n) if n < count as u64 => return id(n as usize),
+        Some(_) => faults.note(TextFault::UnknownName { member }),
+        None => faults.note(TextFault::Number { member }),
+    }
+    0
+}
+
+/// Notes that a format is neither 1 nor 2, where it stands.
+pub fn note_format(object: &Value, member: Member, faults: &mut Faults)
+    ensures { faults.new.lowest ≡ noted faults.old.lowest (row_faults (view object.now) (maybe member format)) }
+{
+    let Some(value) = find(object, member) else {
+        return;
+    };
+    if !value.is_number() {
+        faults.note(TextFault::Shape { member });
+    } else if value.as_u64() != Some(1) && value.as_u64() != Some(2) {
+        faults.note(TextFault::Number { member });
+    }
+}
+
+/// The value of a member that is to be an object.
+pub fn inner<'a>(object: &'a Value, member: Member, faults: &mut Faults) -> Option<&'a Value>
+    ensures value { option_map (λ v. view v.now) result ≡ found member (view object.now) }
+    ensures faults { faults.new.lowest ≡ noted faults.old.lowest (row_faults (view object.now) (one member an_object)) }
+{
+    match find(object, member) {
+        Some(value) => {
+            if !value.is_object() {
+                faults.note(TextFault::Shape { member });
+            }
+            Some(value)
+        }
+        None => {
+            faults.note(TextFault::Shape { member });
+            None
+        }
+    }
+}
+
+/// The value of a member that may be missing and is to be an object.
+pub fn inner_or_none<'a>(
+    object: &'a Value,
+    member: Member,
+    faults: &mut Faults,
+) -> Option<&'a Value>
+    ensures value { option_map (λ v. view v.now) result ≡ found member (view object.now) }
+    ensures faults { faults.new.lowest ≡ noted faults.old.lowest (row_faults (view object.now) (maybe member an_object)) }
+{
+    match find(object, member) {
+        Some(value) => {
+            if !value.is_object() {
+                faults.note(TextFault::Shape { member });
+            }
+            Some(value)
+        }
+        None => None,
     }
 }
 
@@ -219,7 +304,7 @@ pub fn id(n: usize) -> u32
 }
 
 /// The number of what a value names.
-fn known(value: &Value, member: Member, names: &Names, faults: &mut Faults) -> Option<u32>
+pub fn known(value: &Value, member: Member, names: &Names, faults: &mut Faults) -> Option<u32>
     ensures value { result ≡ id_named names.now (view value.now) }
     ensures faults { faults.new.lowest ≡ noted faults.old.lowest (value_faults member (known names.now) (view value.now)) }
 {
@@ -270,6 +355,22 @@ pub fn reference_or_none(
     known(value, member, names, faults)
 }
 
+/// The number of what a member names, and none where it is missing.
+pub fn reference_where_there(
+    object: &Value,
+    member: Member,
+    names: &Names,
+    faults: &mut Faults,
+) -> Option<u32>
+    ensures value { result ≡ option_and_then (id_named names.now) (found member (view object.now)) }
+    ensures faults { faults.new.lowest ≡ noted faults.old.lowest (row_faults (view object.now) (maybe member (known names.now))) }
+{
+    match find(object, member) {
+        Some(value) => known(value, member, names, faults),
+        None => None,
+    }
+}
+
 fn role_of(text: &str) -> Option<Role>
     ensures { result ≡ role_named text.now }
 {
@@ -296,6 +397,36 @@ pub fn role(object: &Value, member: Member, faults: &mut Faults) -> Role
         None => {
             faults.note(TextFault::Shape { member });
             Role::Secondary
+        }
+    }
+}
+
+fn after_of(text: &str) -> Option<bool>
+    ensures { result ≡ after_named text.now }
+{
+    if text == "before" {
+        Some(false)
+    } else if text == "after" {
+        Some(true)
+    } else {
+        None
+    }
+}
+
+/// A call is lost after it was made, and not before.
+pub fn after(object: &Value, member: Member, faults: &mut Faults) -> bool
+    ensures value { result ≡ after_in member (view object.now) }
+    ensures faults { faults.new.lowest ≡ noted faults.old.lowest (row_faults (view object.now) (one member when)) }
+{
+    let Some(text) = text(object, member) else {
+        faults.note(TextFault::Shape { member });
+        return false;
+    };
+    match after_of(text) {
+        Some(after) => after,
+        None => {
+            faults.note(TextFault::Shape { member });
+            false
         }
     }
 }
@@ -355,4 +486,39 @@ pub fn list_or_none<'a>(
         Some(value) => Some(entries(value, member, limit, faults)),
         None => None,
     }
+}
+
+/// The entries of a list that may be missing, and none where there is no list.
+pub fn list_or_empty<'a>(
+    object: &'a Value,
+    member: Member,
+    limit: usize,
+    faults: &mut Faults,
+) -> &'a [Value]
+    ensures entries { map view result.now ≡ entries_in member (view object.now) }
+    ensures faults { faults.new.lowest ≡ noted faults.old.lowest (row_faults (view object.now) (maybe member (list limit))) }
+{
+    match find(object, member) {
+        Some(value) => entries(value, member, limit, faults),
+        None => &[],
+    }
+}
+
+/// The entries of a list that may be missing, no two of which are to have the same texts in the members of their key.
+pub fn keyed<'a>(
+    alloc: Global,
+    object: &'a Value,
+    member: Member,
+    limit: usize,
+    key: &[Member],
+    faults: &mut Faults,
+) -> Result<&'a [Value], AllocError>
+    ensures entries { IfOk result (λ items. map view items.now ≡ entries_in member (view object.now)) }
+    ensures faults { OnOk result (faults.new.lowest ≡ noted faults.old.lowest (row_faults (view object.now) (maybe member (keyed limit key.now)))) }
+{
+    let items = list_or_empty(object, member, limit, faults);
+    if has_double_key(alloc, items, key)? {
+        faults.note(TextFault::Shape { member });
+    }
+    Ok(items)
 }

@@ -94,7 +94,8 @@ fn read_shard<'a>(
     Ok((row, server_id(listed), cells))
 }
 
-fn server_id(number: Option<u32>) -> Option<ServerId>
+/// The id that a number is.
+pub fn server_id(number: Option<u32>) -> Option<ServerId>
     ensures { result ≡ number }
 {
     match number {

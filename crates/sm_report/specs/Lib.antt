@@ -5,4 +5,6 @@ pub mod Ending
 pub mod Answers
 pub mod Opening
 pub mod BadInput
+pub mod Report
+pub mod Checking
 pub mod Output

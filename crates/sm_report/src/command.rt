@@ -13,6 +13,8 @@ use std::alloc::{AllocError, Global};
 pub enum Command {
     /// The answers to the document's calls, and the placement after them.
     Calls,
+    /// Whether the document's plan is accepted at its placement, or why it is not.
+    Check,
 }
 
 impl Command {
@@ -22,6 +24,8 @@ impl Command {
     {
         if name == "calls" {
             Some(Command::Calls)
+        } else if name == "check" {
+            Some(Command::Check)
         } else {
             None
         }
@@ -52,12 +56,16 @@ fn parser<'a>(alloc: Global) -> Result<Parser<'a>, AllocError>
     let calls = Parser::new(alloc, "calls").about(
         "Makes the document's calls, and prints their answers and the placement after them",
     );
+    let check = Parser::new(alloc, "check").about(
+        "Checks the document's plan, and prints that it is accepted or why it is not",
+    );
     Parser::new(alloc, "smplan")
         .bin_name("smplan")?
         .about("Reads a placement of shards on standard input, and prints a report of it")
         .no_binary_name(true)
         .subcommand_required(true)
-        .subcommand(calls)
+        .subcommand(calls)?
+        .subcommand(check)
 }
 
 /// What an error of the command line tells.

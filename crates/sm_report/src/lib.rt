@@ -4,6 +4,7 @@
 mod answers;
 mod bad_input;
 mod calls;
+mod checks;
 mod command;
 mod delivery;
 mod ending;
@@ -13,6 +14,7 @@ mod names;
 mod opening;
 mod reporting;
 mod status;
+mod verdict;
 
 pub use command::{Command, LineFault, Word, command_of};
 pub use input::{InputFault, take_input};

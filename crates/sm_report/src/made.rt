@@ -3,15 +3,19 @@ ghost use Rattle.std.specs.Prelude.{◌≡◌, ◌≢◌, ◌<◌, ℕ, take, If
 ghost use Rattle.std.specs.Io.KnownBytes.{Appends};
 ghost use Rattle.sm_report.specs.BadInput.{text_fault_line, too_long_line};
 ghost use Rattle.sm_report.specs.Opening.{open_fault_line};
-ghost use Rattle.sm_report.specs.Output.{bad_input, refused};
+ghost use Rattle.sm_report.specs.Checking.{accepted, fault_line, holding_line};
+ghost use Rattle.sm_report.specs.Report.{bad_input, refused};
 ghost use Rattle.sm_report.specs.Status.{code_of};
 
 use crate::bad_input::{push_text_fault, push_too_long};
 use crate::delivery::deliver;
 use crate::opening::push_open_fault;
 use crate::status::Status;
+use crate::verdict::{push_accepted, push_fault, push_holding};
 use sm_placement::{Config, OpenFault};
+use sm_plan_code::Plan;
 use sm_plan_text::TextFault;
+use sm_verifier::{Fault, Holding};
 use std::alloc::{AllocError, Global};
 use std::io::Write;
 use std::marker::Model;
@@ -26,7 +30,7 @@ pub struct Made {
 impl Model for Made {
     ghost use Rattle.std.specs.Prelude.{◌<◌, string_bytes};
     ghost use Rattle.sm_report.specs.Status.{code_of};
-    ghost use Rattle.sm_report.specs.Output.{Output};
+    ghost use Rattle.sm_report.specs.Report.{Output};
 
     ghost Value = { Output };
 
@@ -63,16 +67,50 @@ impl Made {
         })
     }
 
+    /// The report of a command whose placement or plan is refused.
+    fn with_refusal(text: String) -> Self
+        ensures { result ≡ refused (string_bytes text) }
+    {
+        Made {
+            text,
+            status: Status::Refused,
+        }
+    }
+
     /// The report of a placement that is not opened.
     pub fn refused(alloc: Global, config: &Config, fault: OpenFault) -> Result<Self, AllocError>
         ensures { IfOk result (λ made. made ≡ refused (open_fault_line config.now fault)) }
     {
         let mut text = String::new(alloc);
         push_open_fault(&mut text, config, fault)?;
-        Ok(Made {
-            text,
-            status: Status::Refused,
-        })
+        Ok(Made::with_refusal(text))
+    }
+
+    /// The report of a plan that does not pass the check.
+    pub fn unsound(alloc: Global, fault: &Fault) -> Result<Self, AllocError>
+        ensures { IfOk result (λ made. made ≡ refused (fault_line fault.now)) }
+    {
+        let mut text = String::new(alloc);
+        push_fault(&mut text, fault)?;
+        Ok(Made::with_refusal(text))
+    }
+
+    /// The report of a plan that may not start.
+    pub fn held(alloc: Global, config: &Config, holding: Holding) -> Result<Self, AllocError>
+        ensures { IfOk result (λ made. made ≡ refused (holding_line config.now holding)) }
+    {
+        let mut text = String::new(alloc);
+        push_holding(&mut text, config, holding)?;
+        Ok(Made::with_refusal(text))
+    }
+
+    /// The report of a plan that is accepted.
+    pub fn accepted(alloc: Global, plan: &Plan) -> Result<Self, AllocError>
+        ensures { IfOk result (λ made. made ≡ accepted plan.now) }
+    {
+        let mut text = String::new(alloc);
+        push_accepted(&mut text, plan)?;
+        Ok(Made::done(text))
     }
 
     /// The report of a command that was carried out.

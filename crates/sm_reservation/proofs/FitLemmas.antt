@@ -1,7 +1,7 @@
 -- When a parcel can be put beside what a hold has: the tests of its rows.
-use Rattle.std.proofs.Common.{◌≡◌, ℕ, ◌+◌, ◌<◌, ◌^◌, nat_lt, Bool, true, false, ◌&&◌, Option, Some, None, is_none, List, [], ◌∷◌, refl, sym, ◌∙◌, ap, arith, inl, inr, lit<}
+use Rattle.std.proofs.Common.{◌≡◌, ℕ, ◌+◌, ◌<◌, ◌^◌, nat_lt, Bool, true, Option, Some, None, is_none, List, [], ◌∷◌, refl, sym, ◌∙◌, ap, arith, inl, inr, lit<}
 use Rattle.std.specs.List.{list_all, AllByRecursion}
-use Rattle.std.proofs.lemmas.Bool.{cases_Bool, ltb-true}
+use Rattle.std.proofs.lemmas.Bool.{cases_Bool, ltb-true, and_parts}
 use Rattle.std.proofs.lemmas.Bool.Decides.{nat_tests}
 use Rattle.sm_placement.specs.declared.lead.Lead.{Lead}
 use Rattle.sm_reservation.specs.declared.right.PlainCell.{PlainCell}
@@ -14,20 +14,16 @@ use Rattle.sm_reservation.specs.Rows.{same, row_at, amount_of}
 use Rattle.sm_reservation.specs.Key.{IsOrdered, AreU64, cell_place, crown_place, room_place, spare_place}
 use Rattle.sm_reservation.specs.Hold.{Hold}
 use Rattle.sm_reservation.specs.HoldOf.{hold_of, state_of, crown_of}
-use Rattle.sm_reservation.specs.CanJoin.{CanJoin}
+use Rattle.sm_reservation.specs.CanJoin.{AreApart, CanJoin}
 use Rattle.sm_reservation.specs.Turns.{lacks_cell, lacks_crown, RoomFits, SpareFits}
 use Rattle.sm_reservation.proofs.Places.{same_is}
 use Rattle.sm_reservation.proofs.ParcelRows.{IsFound, all_found, all_map, rooms_fit, spares_fit}
 
 -- ---- a test that all rows pass
 
-and_true : (a b : Bool) → (a && b) ≡ true → (a ≡ true) × (b ≡ true)
-and_true true b e = (refl, e)
-and_true false b e = cc
-
 each_passes : {T : Type 0} (test : T → Bool) (xs : List T) → list_all test xs ≡ true → AllByRecursion (λ x. test x ≡ true) xs
 each_passes test [] e = tt
-each_passes test (x ∷ xs) e = let b = and_true (test x) (list_all test xs) e in (b.0, each_passes test xs b.1)
+each_passes test (x ∷ xs) e = let b = and_parts (test x) (list_all test xs) e in (b.0, each_passes test xs b.1)
 
 all_pass : {T : Type 0} (test : T → Bool) (xs : List T) → AllByRecursion (λ x. test x ≡ true) xs → list_all test xs ≡ true
 all_pass test [] h = refl
@@ -68,7 +64,7 @@ spares_pass h p o can = all_pass (λ x. nat_lt (h.spare x.shard + x.amount) (2 ^
 
 -- ---- where all rows pass, a parcel can be put
 
-none_of : {A : Type 0} (o : Option A) → is_none o ≡ true → o ≡ None
+pub none_of : {A : Type 0} (o : Option A) → is_none o ≡ true → o ≡ None
 none_of None e = refl
 none_of (Some x) e = cc
 
@@ -96,15 +92,22 @@ crown_at had xs all (Some y) s c e is =
     let t = all_at crown_place (λ x. is_none (had x.shard) ≡ true) (s, 0) y xs all e in
     sym (ap (λ (q : ℕ × ℕ). had q.0) t.1) ∙ none_of (had y.shard) t.0
 
+-- a hold that lacks each cell right and each crown of a parcel is apart from it
+pub passes_apart : (h : Hold) (p : Rights) → list_all (lacks_cell h) p.cells ≡ true → list_all (lacks_crown h) p.crowns ≡ true → AreApart h (hold_of p)
+unfolding hold_of
+passes_apart h p cells crowns = record {
+  cells = λ s v state e. cell_at (λ s v. h.cells s v) p.cells (each_passes (lacks_cell h) p.cells cells) (row_at cell_place p.cells (s, v)) s v state refl e;
+  crowns = λ s c e. crown_at (λ s. h.crowns s) p.crowns (each_passes (lacks_crown h) p.crowns crowns) (row_at crown_place p.crowns (s, 0)) s c refl e;
+}
+
 pub passes_join : (k p : Rights) → IsOrdered p → AreU64 k → list_all (lacks_cell (hold_of k)) p.cells ≡ true → list_all (lacks_crown (hold_of k)) p.crowns ≡ true → list_all (λ x. nat_lt ((hold_of k).room x.server + x.amount) (2 ^ 64)) p.room ≡ true → list_all (λ x. nat_lt ((hold_of k).spare x.shard + x.amount) (2 ^ 64)) p.spare ≡ true → CanJoin (hold_of k) (hold_of p)
 unfolding hold_of
 passes_join k p o u cells crowns rooms spares =
     let h = hold_of k in
-    let cell : (o : Option CellRight) (s v : ℕ) (state : PlainCell) → row_at cell_place p.cells (s, v) ≡ o → state_of o ≡ Some state → h.cells s v ≡ None = cell_at (λ s v. h.cells s v) p.cells (each_passes (lacks_cell h) p.cells cells) in
-    let crown : (o : Option Crown) (s : ℕ) (c : Lead × Option ℕ) → row_at crown_place p.crowns (s, 0) ≡ o → crown_of o ≡ Some c → h.crowns s ≡ None = crown_at (λ s. h.crowns s) p.crowns (each_passes (lacks_crown h) p.crowns crowns) in
+    let apart = passes_apart h p cells crowns in
     record {
-      cells = λ s v state e. cell (row_at cell_place p.cells (s, v)) s v state refl e;
-      crowns = λ s c e. crown (row_at crown_place p.crowns (s, 0)) s c refl e;
+      cells = apart.cells;
+      crowns = apart.crowns;
       room = λ v. sum_below_bound room_place (λ (x : Room). x.amount) (λ q. h.room q.0) p.room (v, 0) (row_at room_place p.room (v, 0)) refl (amount_below room_place (λ (x : Room). x.amount) k.room (v, 0) (row_at room_place k.room (v, 0)) refl u.room) (all_map (λ x. nat_lt (h.room x.server + x.amount) (2 ^ 64) ≡ true) (λ x. h.room x.server + x.amount < 2 ^ 64) p.room (λ x e. ltb-true (h.room x.server + x.amount) (2 ^ 64) e) (each_passes (λ x. nat_lt (h.room x.server + x.amount) (2 ^ 64)) p.room rooms));
       spare = λ s. sum_below_bound spare_place (λ (x : Spare). x.amount) (λ q. h.spare q.0) p.spare (s, 0) (row_at spare_place p.spare (s, 0)) refl (amount_below spare_place (λ (x : Spare). x.amount) k.spare (s, 0) (row_at spare_place k.spare (s, 0)) refl u.spare) (all_map (λ x. nat_lt (h.spare x.shard + x.amount) (2 ^ 64) ≡ true) (λ x. h.spare x.shard + x.amount < 2 ^ 64) p.spare (λ x e. ltb-true (h.spare x.shard + x.amount) (2 ^ 64) e) (each_passes (λ x. nat_lt (h.spare x.shard + x.amount) (2 ^ 64)) p.spare spares));
     }

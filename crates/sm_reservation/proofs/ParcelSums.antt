@@ -1,11 +1,10 @@
 -- A parcel's rights taken out of a hold and put into one: what is left, and how much there is then of each right.
-use Rattle.std.proofs.Common.{◌≡◌, ◌≢◌, ℕ, ◌+◌, ◌-◌, ◌≤◌, Bool, true, false, ◌&&◌, cond, eqb, leb, Option, Some, None, List, [], ◌∷◌, refl, sym, ap, ◌∙◌, arith, inl, inr, ◌⊎◌, subst, ◌<◌, ◌^◌}
+use Rattle.std.proofs.Common.{◌≡◌, ◌≢◌, ℕ, ◌+◌, ◌-◌, ◌≤◌, Bool, true, false, cond, eqb, leb, Option, Some, None, List, [], ◌∷◌, refl, sym, ap, ◌∙◌, arith, inl, inr, ◌⊎◌, subst, ◌<◌, ◌^◌}
 use Rattle.std.proofs.Math.Path.{fun_ext}
 use Rattle.std.specs.Option.{option_or}
 use Rattle.std.proofs.lemmas.Bool.Decides.{nat_tests}
-use Rattle.std.proofs.lemmas.Bool.{cases_Bool, cases_eq, leb-true, eqb-true}
+use Rattle.std.proofs.lemmas.Bool.{cases_Bool, cases_eq, leb-true, and_parts}
 use Rattle.sm_placement.specs.declared.lead.Lead.{Lead}
-use Rattle.sm_placement.specs.declared.lead.Lead.TheVariants.{Gone, At, Ready, Handing, Handed}
 use Rattle.sm_placement.specs.Sums.{put, put2, bit}
 use Rattle.sm_reservation.specs.declared.right.PlainCell.{PlainCell}
 use Rattle.sm_reservation.specs.declared.right.PlainCell.TheVariants.{Absent, Secondary}
@@ -23,6 +22,7 @@ use Rattle.sm_reservation.specs.CanJoin.{CanJoin, AreApart}
 use Rattle.sm_reservation.specs.Short.{cell_short, crown_short, room_short, spare_short, first_answer, first_short}
 use Rattle.sm_placement.proofs.Sums.{put2-here, put2-row, put2-apart}
 use Rattle.sm_reservation.proofs.Places.{same_here, same_first, same_is}
+use Rattle.sm_reservation.proofs.Truths.{is_cell_true, same_lead_true, same_server_true}
 use Rattle.sm_reservation.proofs.RowLemmas.{none_after}
 
 -- ---- one list at a time: what the others say stays
@@ -299,69 +299,17 @@ found_passes place f (y ∷ ys) q x none is =
       | inr e ↦ found_passes place f ys q x both.1 (rw e at is)
     ]
 
-state_is : (o : Option PlainCell) (state : PlainCell) → is_cell state o ≡ true → o ≡ Some state
-state_is (Some Absent) Absent e = refl
-state_is (Some Secondary) Secondary e = refl
-state_is (Some Absent) Secondary e = cc
-state_is (Some Secondary) Absent e = cc
-state_is None Absent e = cc
-state_is None Secondary e = cc
-
-both_true : (a b : Bool) → (a && b) ≡ true → (a ≡ true) × (b ≡ true)
-both_true true b e = (refl, e)
-both_true false b e = cc
-
-both_are : (f : ℕ → ℕ → Lead) (x y u v : ℕ) → (eqb x u && eqb y v) ≡ true → f x y ≡ f u v
-both_are f x y u v e =
-    let both = both_true (eqb x u) (eqb y v) e in
-    let a : x ≡ u = eqb-true x u both.0 in
-    let b : y ≡ v = eqb-true y v both.1 in
-    rw (a, b) refl
-
 -- what a test lets through has passed it
 passes : {Y : Type 0} (b : Bool) (y : Y) → cond b None (Some y) ≡ None → b ≡ true
 passes true y e = refl
 passes false y e = cc
 
-server_is : (a b : Option ℕ) → same_server a b ≡ true → a ≡ b
-server_is None None e = refl
-server_is (Some x) (Some y) e = ap Some (eqb-true x y e)
-server_is None (Some y) e = cc
-server_is (Some x) None e = cc
-
-lead_is : (a b : Lead) → same_lead a b ≡ true → a ≡ b
-lead_is Gone Gone e = refl
-lead_is Gone (At u) e = cc
-lead_is Gone (Ready u v) e = cc
-lead_is Gone (Handing u v) e = cc
-lead_is Gone (Handed u v) e = cc
-lead_is (At x) (At u) e = ap At (eqb-true x u e)
-lead_is (At x) Gone e = cc
-lead_is (At x) (Ready u v) e = cc
-lead_is (At x) (Handing u v) e = cc
-lead_is (At x) (Handed u v) e = cc
-lead_is (Ready x y) (Ready u v) e = both_are Ready x y u v e
-lead_is (Ready x y) Gone e = cc
-lead_is (Ready x y) (At u) e = cc
-lead_is (Ready x y) (Handing u v) e = cc
-lead_is (Ready x y) (Handed u v) e = cc
-lead_is (Handing x y) (Handing u v) e = both_are Handing x y u v e
-lead_is (Handing x y) Gone e = cc
-lead_is (Handing x y) (At u) e = cc
-lead_is (Handing x y) (Ready u v) e = cc
-lead_is (Handing x y) (Handed u v) e = cc
-lead_is (Handed x y) (Handed u v) e = both_are Handed x y u v e
-lead_is (Handed x y) Gone e = cc
-lead_is (Handed x y) (At u) e = cc
-lead_is (Handed x y) (Ready u v) e = cc
-lead_is (Handed x y) (Handing u v) e = cc
-
-crown_is : (o : Option (Lead × Option ℕ)) (lead : Lead) (listed : Option ℕ) → is_crown lead listed o ≡ true → o ≡ Some (lead, listed)
+pub crown_is : (o : Option (Lead × Option ℕ)) (lead : Lead) (listed : Option ℕ) → is_crown lead listed o ≡ true → o ≡ Some (lead, listed)
 crown_is None lead listed e = cc
 crown_is (Some c) lead listed e =
-    let both = both_true (same_lead lead c.0) (same_server listed c.1) e in
-    let a : lead ≡ c.0 = lead_is lead c.0 both.0 in
-    let b : listed ≡ c.1 = server_is listed c.1 both.1 in
+    let both = and_parts (same_lead lead c.0) (same_server listed c.1) e in
+    let a : lead ≡ c.0 = same_lead_true lead c.0 both.0 in
+    let b : listed ≡ c.1 = same_server_true listed c.1 both.1 in
     rw (a, b) refl
 
 -- a hold of which nothing of a parcel is short has all of it
@@ -384,7 +332,7 @@ covers h p none =
         let f = found_passes cell_place (cell_short h) p.cells (s, v) x none is in
         let k = same_is (cell_place x) (s, v) f.1 in
         let t : is_cell x.state (h.cells x.shard x.server) ≡ true = passes (is_cell x.state (h.cells x.shard x.server)) _ f.0 in
-        ap (λ (q : ℕ × ℕ). h.cells q.0 q.1) (sym k) ∙ state_is (h.cells x.shard x.server) x.state t ∙ e
+        ap (λ (q : ℕ × ℕ). h.cells q.0 q.1) (sym k) ∙ is_cell_true x.state (h.cells x.shard x.server) t ∙ e
 
     crown : (o : Option Crown) (s : ℕ) (crown : Lead × Option ℕ) → row_at crown_place p.crowns (s, 0) ≡ o → first_answer (crown_short h) p.crowns ≡ None → crown_of o ≡ Some crown → h.crowns s ≡ Some crown
     crown None s c is none e = cc

@@ -4,6 +4,7 @@ pub mod Amounts
 pub mod Truth
 pub mod Rows
 pub mod Key
+pub mod InOrder
 pub mod Lists
 pub mod Parcel
 pub mod Fault

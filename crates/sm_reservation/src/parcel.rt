@@ -3,6 +3,7 @@ ghost use Rattle.std.specs.Prelude.{◌≡◌, ◌<◌, ◌^◌, IfOk, OnOk, IfE
 ghost use Rattle.std.specs.List.{AllByRecursion};
 ghost use Rattle.sm_reservation.specs.Rows.{Rises, HasPositive};
 ghost use Rattle.sm_reservation.specs.Key.{cell_place, crown_place, room_place, spare_place, IsOnce, IsOrdered, IsPositive, AreU64, IsSortedFrom, IsInOrder, first_double, lists as rights_in};
+ghost use Rattle.sm_reservation.specs.InOrder.{in_order};
 ghost use Rattle.sm_reservation.specs.Lists.{rights_of};
 ghost use Rattle.sm_reservation.specs.Fault.{IsFaultOf};
 
@@ -77,6 +78,7 @@ impl Parcel {
     /// A key that stands twice is refused, whatever its amounts, states, leads or listed servers are. The lists come
     /// back with the fault.
     pub fn new(alloc: Global, lists: Lists) -> Result<Parcel, (Lists, ParcelFault)>
+        ensures value { IfOk result (λ parcel. parcel ≡ in_order (rights_of lists)) }
         ensures sorted { IfOk result (λ parcel. IsSortedFrom (rights_of lists) parcel) }
         ensures order { IfOk result (λ parcel. IsOrdered parcel) }
         ensures once { OnOk result (IsOnce (rights_of lists)) }
@@ -148,6 +150,7 @@ impl Parcel {
 
 /// The parcel of the rights of four lists.
 fn sorted_parcel(alloc: Global, lists: &Lists) -> Result<Parcel, ParcelFault>
+    ensures value { IfOk result (λ parcel. parcel ≡ in_order (rights_of lists.now)) }
     ensures sorted { IfOk result (λ parcel. IsSortedFrom (rights_of lists.now) parcel) }
     ensures once { OnOk result (IsOnce (rights_of lists.now)) }
     ensures order { IfOk result (λ parcel. IsOrdered parcel) }

@@ -27,13 +27,10 @@ fn is_before(a: (u32, u32), b: (u32, u32)) -> bool
 }
 
 fn count_before<T: Row>(rows: &[T], place: (u32, u32)) -> usize
+    requires { Rises T.place rows.now }
     ensures { result ≡ count_before T.place place rows.now }
 {
-    let mut i = 0;
-    while i < rows.len() && is_before(rows[i].place(), place) {
-        i += 1;
-    }
-    i
+    rows.partition_point(|row| is_before(row.place(), place))
 }
 
 pub fn row_at<T: Row>(rows: &[T], place: (u32, u32)) -> Option<T>

@@ -1,3 +1,14 @@
+pub mod Counts
+pub mod Ends
+pub mod Faults
 pub mod Growth
+pub mod Rooms
+pub mod Runs
 pub mod Settled
 pub mod Streams
+pub mod Walks
+pub mod LookUps
+pub mod FirstRows
+pub mod Judging
+pub mod Beyond
+pub mod DownLemmas

@@ -1,3 +1,14 @@
 pub mod Step
 pub mod Stream
 pub mod Bad
+pub mod Room
+pub mod Order
+pub mod Walk
+pub mod Plan
+pub mod Fault
+pub mod Counts
+pub mod Checked
+pub mod CheckedView
+pub mod Admission
+pub mod Finding
+pub mod Downs

@@ -7,8 +7,9 @@ ghost use Rattle.sm_plan_code.specs.Plan.{KnowsSignal, IsSmallParcel, IsSmallStr
 ghost use Rattle.sm_verifier.specs.Step.{parcels_of, IsAnswer, IsAtMost, Grows};
 ghost use Rattle.sm_verifier.specs.Stream.{course, course_of, stream_at, final_hold, IsAtRest, IsSettled, IsGood, within_budget};
 ghost use Rattle.sm_verifier.specs.Bad.{bad_at, IsBad};
+ghost use Rattle.sm_verifier.specs.Room.{IsRoom};
 
-use crate::steps::{StepFault, step};
+use crate::steps::{StepFault, longest_list, step};
 use sm_placement::{Config, Lead};
 use sm_plan_code::{Instr, Plan, Stream, Why, is_call};
 use sm_reservation::{Crown, Hold, Parcel};
@@ -90,6 +91,7 @@ fn follow_one(
     requires amounts { IsAtMost (2 ^ 63) (hold_of hold.old.rights) }
     ensures answer { IsAnswer result (hold_of hold.new.rights) (within_budget budget calls instr.now (after (sizes_of config.now) (parcels_of signals.now) instr.now (hold_of hold.old.rights))) }
     ensures grows { Grows (2 ^ 32) (hold_of hold.old.rights) (hold_of hold.new.rights) }
+    ensures places { hold.old.places < 2 ^ 32 → hold.new.places < 2 ^ 32 }
 {
     if is_call(instr) && budget <= calls {
         return Err(StepFault::Refused(Why::OverBudget));
@@ -97,25 +99,28 @@ fn follow_one(
     step(config, signals, instr, hold)
 }
 
-/// Follows a code from the hold before it, which becomes the hold after it.
+/// Follows a code from the hold before it, which becomes the hold after it: the most keys that one of its lists had.
 fn follow_code(
     config: &Config,
     signals: &[Parcel],
     budget: u32,
     hold: &mut Hold,
     code: &[Instr],
-) -> Result<(), Bad>
+) -> Result<u32, Bad>
     requires fits { All (FitsInstr (length config.now.shards) (length config.now.servers)) code.now }
     requires known { All (KnowsSignal (length signals.now)) code.now }
     requires small { All IsSmallParcel signals.now }
     requires short { length code.now ≤ 4096 }
     requires amounts { IsAtMost (2 ^ 32) (hold_of hold.old.rights) }
+    requires places { hold.old.places < 2 ^ 32 }
     ensures good { OnOk result (IsGood (course (sizes_of config.now) signals.now budget hold.old.rights code.now)) }
     ensures hold { OnOk result (hold_of hold.new.rights ≡ final_hold (course (sizes_of config.now) signals.now budget hold.old.rights code.now)) }
+    ensures room { IfOk result (λ room. IsRoom (course (sizes_of config.now) signals.now budget hold.old.rights code.now) room) }
     ensures bad { IfErr result (λ bad. IsBad (course (sizes_of config.now) signals.now budget hold.old.rights code.now) bad) }
 {
     let mut calls = 0;
     let mut at = 0;
+    let mut room = longest_list(hold);
     for instr in code {
         if let Err(fault) = follow_one(config, signals, budget, calls, instr, hold) {
             return Err(bad_at(at, fault));
@@ -124,6 +129,7 @@ fn follow_code(
             calls += 1;
         }
         at += 1;
+        room = room.max(longest_list(hold));
     }
     if !is_settled(hold) {
         return Err(Bad::At {
@@ -131,7 +137,16 @@ fn follow_code(
             why: Why::Unsettled,
         });
     }
-    Ok(())
+    Ok(room as u32)
+}
+
+/// What a stream leaves at its end.
+#[derive(Drop)]
+pub struct End {
+    /// What the stream holds.
+    pub parcel: Parcel,
+    /// The most keys that one list of its hold had on the way.
+    pub room: u32,
 }
 
 /// Follows a stream of a plan with these signals.
@@ -140,24 +155,45 @@ fn follow_stream(
     config: &Config,
     signals: &[Parcel],
     stream: &Stream,
-) -> Result<Parcel, Bad>
+) -> Result<End, Bad>
     requires fits { FitsStream (length config.now.shards) (length config.now.servers) stream.now }
     requires known { All (KnowsSignal (length signals.now)) stream.now.code }
     requires small { All IsSmallParcel signals.now }
     requires short { IsSmallStream stream.now }
     ensures good { OnOk result (IsGood (course_of (sizes_of config.now) signals.now stream.now)) }
-    ensures hold { IfOk result (λ parcel. hold_of parcel ≡ final_hold (course_of (sizes_of config.now) signals.now stream.now)) }
+    ensures hold { IfOk result (λ end. hold_of end.parcel ≡ final_hold (course_of (sizes_of config.now) signals.now stream.now)) }
+    ensures room { IfOk result (λ end. IsRoom (course_of (sizes_of config.now) signals.now stream.now) end.room) }
     ensures bad { IfErr result (λ bad. IsBad (course_of (sizes_of config.now) signals.now stream.now) bad) }
 {
     let mut hold = Hold::of_parcel(alloc, &stream.holds)?;
-    follow_code(
+    let room = follow_code(
         config,
         signals,
         stream.budget,
         &mut hold,
         stream.code.as_slice(),
     )?;
-    Ok(hold.into_parcel())
+    Ok(End {
+        parcel: hold.into_parcel(),
+        room,
+    })
+}
+
+/// Follows the stream of a plan at a number to its end.
+pub fn follow_to_end(alloc: Global, config: &Config, plan: &Plan, stream: u32) -> Result<End, Bad>
+    requires fits { FitsPlan (length config.now.shards) (length config.now.servers) plan.now }
+    requires stream { stream < length plan.now.streams }
+    ensures good { OnOk result (IsGood (stream_at (sizes_of config.now) plan.now stream)) }
+    ensures hold { IfOk result (λ end. hold_of end.parcel ≡ final_hold (stream_at (sizes_of config.now) plan.now stream)) }
+    ensures room { IfOk result (λ end. IsRoom (stream_at (sizes_of config.now) plan.now stream) end.room) }
+    ensures bad { IfErr result (λ bad. IsBad (stream_at (sizes_of config.now) plan.now stream) bad) }
+{
+    follow_stream(
+        alloc,
+        config,
+        plan.signals(),
+        &plan.streams()[stream as usize],
+    )
 }
 
 /// Follows the stream of a plan at a number, with its declared rights, through its whole code: what it holds at the end.
@@ -171,10 +207,6 @@ pub fn follow(alloc: Global, config: &Config, plan: &Plan, stream: u32) -> Resul
     ensures hold { IfOk result (λ parcel. hold_of parcel ≡ final_hold (stream_at (sizes_of config.now) plan.now stream)) }
     ensures bad { IfErr result (λ bad. IsBad (stream_at (sizes_of config.now) plan.now stream) bad) }
 {
-    follow_stream(
-        alloc,
-        config,
-        plan.signals(),
-        &plan.streams()[stream as usize],
-    )
+    let End { parcel, room: _ } = follow_to_end(alloc, config, plan, stream)?;
+    Ok(parcel)
 }

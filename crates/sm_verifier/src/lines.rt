@@ -24,6 +24,7 @@ pub fn prepare_add(
     requires place { HasPlaces 1 hold.old }
     ensures answer { outcome result (hold_of hold.new.rights) ≡ decided (prepare_add_line (sizes_of config.now) shard server owner (hold_of hold.old.rights)) }
     ensures kept { OnErr result (hold.new ≡ hold.old) }
+    ensures places { hold.new.places ≡ hold.old.places }
 {
     let (lead, listed) = hold.crown(shard).ok_or(Why::NoCrown)?;
     if lead != Lead::At(owner) {
@@ -58,6 +59,7 @@ pub fn prepare_drop(
     requires { HasPlaces 1 hold.old }
     ensures answer { outcome result (hold_of hold.new.rights) ≡ decided (prepare_drop_line shard server new_owner (hold_of hold.old.rights)) }
     ensures kept { OnErr result (hold.new ≡ hold.old) }
+    ensures places { hold.new.places ≡ hold.old.places }
 {
     let (lead, listed) = hold.crown(shard).ok_or(Why::NoCrown)?;
     if lead != Lead::Ready(server, new_owner) {
@@ -83,6 +85,7 @@ fn add_secondary(
     requires fits { (hold_of hold.old.rights).spare shard ≤ 2 ^ 63 }
     ensures answer { outcome result (hold_of hold.new.rights) ≡ decided (add_secondary_line (sizes_of config.now) shard server (hold_of hold.old.rights)) }
     ensures kept { OnErr result (hold.new ≡ hold.old) }
+    ensures places { hold.new.places ≡ hold.old.places }
 {
     match hold.cell(shard, server) {
         None => return Err(Why::NoRight),
@@ -115,6 +118,7 @@ fn add_primary(
     requires fits { (hold_of hold.old.rights).spare shard ≤ 2 ^ 63 }
     ensures answer { outcome result (hold_of hold.new.rights) ≡ decided (add_primary_line (sizes_of config.now) shard server (hold_of hold.old.rights) (lead_held ((hold_of hold.old.rights).crowns shard))) }
     ensures kept { OnErr result (hold.new ≡ hold.old) }
+    ensures places { hold.new.places ≡ hold.old.places }
 {
     let (lead, listed) = hold.crown(shard).ok_or(Why::NoCrown)?;
     match lead {
@@ -161,6 +165,7 @@ fn free(config: &Config, hold: &mut Hold, shard: ShardId, server: ServerId)
     requires fits { (hold_of hold.old.rights).room server ≤ 2 ^ 63 }
     ensures small { (sizes_of config.now).load shard < 2 ^ 32 }
     ensures rights { hold_of hold.new.rights ≡ get_room (with_cell (hold_of hold.old.rights) shard server (Some PlainCell.Absent)) server ((sizes_of config.now).load shard) }
+    ensures places { hold.new.places ≡ hold.old.places }
 {
     hold.put_cell(CellRight {
         shard,
@@ -188,6 +193,7 @@ fn drop_held(
     ensures answer { outcome result (hold_of hold.new.rights) ≡ decided (drop_held_line (sizes_of config.now) shard server (hold_of hold.old.rights)) }
     ensures kept { OnErr result (hold.new ≡ hold.old) }
     ensures grows { Grows (2 ^ 32) (hold_of hold.old.rights) (hold_of hold.new.rights) }
+    ensures places { hold.new.places ≡ hold.old.places }
 {
     if state != PlainCell::Secondary {
         return Err(Why::WrongState);
@@ -208,6 +214,7 @@ fn drop_led(config: &Config, hold: &mut Hold, shard: ShardId, server: ServerId) 
     ensures answer { outcome result (hold_of hold.new.rights) ≡ decided (drop_led_line (sizes_of config.now) shard server (hold_of hold.old.rights) (lead_held ((hold_of hold.old.rights).crowns shard))) }
     ensures kept { OnErr result (hold.new ≡ hold.old) }
     ensures grows { Grows (2 ^ 32) (hold_of hold.old.rights) (hold_of hold.new.rights) }
+    ensures places { hold.new.places ≡ hold.old.places }
 {
     let (lead, listed) = hold.crown(shard).ok_or(Why::NoRight)?;
     let lead = match lead {
@@ -258,6 +265,7 @@ pub fn drop(config: &Config, hold: &mut Hold, shard: ShardId, server: ServerId) 
     ensures answer { (signals : ℕ → Rights) → outcome result (hold_of hold.new.rights) ≡ after (sizes_of config.now) signals (Instr.Drop shard server) (hold_of hold.old.rights) }
     ensures kept { OnErr result (hold.new ≡ hold.old) }
     ensures grows { Grows (2 ^ 32) (hold_of hold.old.rights) (hold_of hold.new.rights) }
+    ensures places { hold.new.places ≡ hold.old.places }
 {
     match hold.cell(shard, server) {
         Some(state) => drop_held(config, hold, shard, server, state),
@@ -270,6 +278,7 @@ fn to_primary(hold: &mut Hold, shard: ShardId, server: ServerId) -> Result<(), W
     requires { HasPlaces 1 hold.old }
     ensures answer { outcome result (hold_of hold.new.rights) ≡ decided (to_primary_line shard server (hold_of hold.old.rights)) }
     ensures kept { OnErr result (hold.new ≡ hold.old) }
+    ensures places { hold.new.places ≡ hold.old.places }
 {
     let (lead, listed) = hold.crown(shard).ok_or(Why::NoCrown)?;
     if lead != Lead::Gone {
@@ -294,6 +303,7 @@ fn to_secondary(hold: &mut Hold, shard: ShardId, server: ServerId) -> Result<(),
     requires { HasPlaces 1 hold.old }
     ensures answer { outcome result (hold_of hold.new.rights) ≡ decided (to_secondary_line shard server (hold_of hold.old.rights)) }
     ensures kept { OnErr result (hold.new ≡ hold.old) }
+    ensures places { hold.new.places ≡ hold.old.places }
 {
     let (lead, listed) = hold.crown(shard).ok_or(Why::NoCrown)?;
     if lead != Lead::At(server) {
@@ -323,6 +333,7 @@ pub fn publish(hold: &mut Hold, shard: ShardId) -> Result<(), Why>
     requires { HasPlaces 1 hold.old }
     ensures answer { outcome result (hold_of hold.new.rights) ≡ decided (publish_line shard (hold_of hold.old.rights) (lead_held ((hold_of hold.old.rights).crowns shard))) }
     ensures kept { OnErr result (hold.new ≡ hold.old) }
+    ensures places { hold.new.places ≡ hold.old.places }
 {
     let (lead, _) = hold.crown(shard).ok_or(Why::NoCrown)?;
     let listed = match lead {
@@ -343,6 +354,7 @@ pub fn unlist(hold: &mut Hold, shard: ShardId) -> Result<(), Why>
     requires { HasPlaces 1 hold.old }
     ensures answer { outcome result (hold_of hold.new.rights) ≡ decided (unlist_line shard (hold_of hold.old.rights) (lead_held ((hold_of hold.old.rights).crowns shard))) }
     ensures kept { OnErr result (hold.new ≡ hold.old) }
+    ensures places { hold.new.places ≡ hold.old.places }
 {
     let (lead, _) = hold.crown(shard).ok_or(Why::NoCrown)?;
     hold.put_crown(Crown {
@@ -367,6 +379,7 @@ pub fn add(
     ensures answer { (signals : ℕ → Rights) → outcome result (hold_of hold.new.rights) ≡ after (sizes_of config.now) signals (Instr.Add shard server role) (hold_of hold.old.rights) }
     ensures kept { OnErr result (hold.new ≡ hold.old) }
     ensures grows { Grows (2 ^ 32) (hold_of hold.old.rights) (hold_of hold.new.rights) }
+    ensures places { hold.new.places ≡ hold.old.places }
 {
     match role {
         Role::Primary => add_primary(config, hold, shard, server),
@@ -380,6 +393,7 @@ pub fn change(hold: &mut Hold, shard: ShardId, server: ServerId, to: Role) -> Re
     ensures answer { (c : Sizes) (signals : ℕ → Rights) → outcome result (hold_of hold.new.rights) ≡ after c signals (Instr.Change shard server to) (hold_of hold.old.rights) }
     ensures kept { OnErr result (hold.new ≡ hold.old) }
     ensures grows { Grows (2 ^ 32) (hold_of hold.old.rights) (hold_of hold.new.rights) }
+    ensures places { hold.new.places ≡ hold.old.places }
 {
     match to {
         Role::Primary => to_primary(hold, shard, server),

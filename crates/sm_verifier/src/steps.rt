@@ -1,12 +1,14 @@
 //! One instruction of a stream, made with the hold before it.
-ghost use Rattle.std.specs.Prelude.{◌≡◌, ◌<◌, ◌^◌, is_none, All, OnOk, OnErr, length};
+ghost use Rattle.std.specs.Prelude.{◌≡◌, ◌≤◌, ◌<◌, ◌^◌, is_none, All, OnOk, OnErr, length};
 ghost use Rattle.std.specs.List.{list_all};
 ghost use Rattle.sm_placement.specs.Setup.{sizes_of};
 ghost use Rattle.sm_reservation.specs.Hold.{plus};
 ghost use Rattle.sm_reservation.specs.HoldOf.{hold_of};
+ghost use Rattle.sm_reservation.specs.Kept.{most_keys as kept_keys};
 ghost use Rattle.sm_plan_code.specs.Plan.{KnowsSignal, IsSmallParcel, FitsInstr};
 ghost use Rattle.sm_plan_code.specs.After.{after, decided, signal_line, wait_line};
 ghost use Rattle.sm_verifier.specs.Step.{outcome, IsAnswer, HasPlaces, longest, most_keys, parcels_of, IsAtMost, Grows};
+ghost use Rattle.sm_verifier.specs.Room.{IsListing};
 
 use crate::lines::{add, change, drop, prepare_add, prepare_drop, publish, unlist};
 use sm_placement::Config;
@@ -51,6 +53,7 @@ fn signal(hold: &mut Hold, parcel: &Parcel) -> Result<(), Why>
     ensures answer { outcome result (hold_of hold.new.rights) ≡ decided (signal_line parcel.now (hold_of hold.old.rights)) }
     ensures kept { OnErr result (hold.new ≡ hold.old) }
     ensures grows { Grows (2 ^ 32) (hold_of hold.old.rights) (hold_of hold.new.rights) }
+    ensures places { hold.new.places ≡ hold.old.places }
 {
     if hold.first_short(parcel).is_some() {
         return Err(Why::NotCarried);
@@ -83,6 +86,7 @@ fn wait(hold: &mut Hold, parcel: &Parcel) -> Result<(), Why>
     ensures answer { outcome result (hold_of hold.new.rights) ≡ decided (wait_line parcel.now (hold_of hold.old.rights)) }
     ensures kept { OnErr result (hold.new ≡ hold.old) }
     ensures grows { Grows (2 ^ 32) (hold_of hold.old.rights) (hold_of hold.new.rights) }
+    ensures places { hold.new.places ≡ hold.old.places }
 {
     if !are_cells_apart(hold, parcel.cells()) || !are_crowns_apart(hold, parcel.crowns()) {
         return Err(Why::Twice);
@@ -98,6 +102,7 @@ fn put_parcel(hold: &mut Hold, parcel: &Parcel)
     requires amounts { IsAtMost (2 ^ 63) (hold_of hold.old.rights) }
     ensures rights { hold_of hold.new.rights ≡ plus (hold_of hold.old.rights) parcel.now }
     ensures grows { Grows (2 ^ 32) (hold_of hold.old.rights) (hold_of hold.new.rights) }
+    ensures places { hold.new.places ≡ hold.old.places }
 {
     let _room = parcel.room();
     let _spare = parcel.spare();
@@ -128,18 +133,29 @@ fn most_keys(signals: &[Parcel], instr: &Instr) -> usize
     }
 }
 
+/// How many keys the longest list of a hold has.
+pub fn longest_list(hold: &Hold) -> usize
+    ensures count { result ≡ kept_keys hold.now.rights }
+    ensures listing { IsListing hold.now.rights (hold_of hold.now.rights) }
+    ensures within { result ≤ hold.now.places }
+    ensures bound { result < 2 ^ 63 }
+{
+    let _places = hold.places();
+    let cells = hold.cells().len();
+    let crowns = hold.crowns().len();
+    let room = hold.rooms().len();
+    let spare = hold.spares().len();
+    cells.max(crowns).max(room).max(spare)
+}
+
 /// Makes places for `more` keys in each list.
 fn reserve(hold: &mut Hold, more: usize) -> Result<(), AllocError>
     requires { more < 2 ^ 63 }
     ensures rights { hold.new.rights ≡ hold.old.rights }
     ensures places { OnOk result (HasPlaces more hold.new) }
+    ensures small { hold.old.places < 2 ^ 32 → hold.new.places < 2 ^ 32 }
 {
-    let cells = hold.cells().len();
-    let crowns = hold.crowns().len();
-    let room = hold.rooms().len();
-    let spare = hold.spares().len();
-    let keys = cells.max(crowns).max(room).max(spare);
-    match u32::try_from(keys + more) {
+    match u32::try_from(longest_list(hold) + more) {
         Ok(places) => hold.reserve(places),
         Err(_) => Err(AllocError),
     }
@@ -155,6 +171,7 @@ fn make(config: &Config, signals: &[Parcel], instr: &Instr, hold: &mut Hold) -> 
     ensures answer { outcome result (hold_of hold.new.rights) ≡ after (sizes_of config.now) (parcels_of signals.now) instr.now (hold_of hold.old.rights) }
     ensures kept { OnErr result (hold.new ≡ hold.old) }
     ensures grows { Grows (2 ^ 32) (hold_of hold.old.rights) (hold_of hold.new.rights) }
+    ensures places { hold.new.places ≡ hold.old.places }
 {
     match *instr {
         Instr::PrepareAdd {
@@ -197,6 +214,7 @@ pub fn step(
     ensures answer { IsAnswer result (hold_of hold.new.rights) (after (sizes_of config.now) (parcels_of signals.now) instr.now (hold_of hold.old.rights)) }
     ensures kept { OnErr result (hold.new.rights ≡ hold.old.rights) }
     ensures grows { Grows (2 ^ 32) (hold_of hold.old.rights) (hold_of hold.new.rights) }
+    ensures places { hold.old.places < 2 ^ 32 → hold.new.places < 2 ^ 32 }
 {
     reserve(hold, most_keys(signals, instr))?;
     Ok(make(config, signals, instr, hold)?)

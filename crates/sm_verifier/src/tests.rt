@@ -21,7 +21,7 @@ const fn new() -> ServerId {
 }
 
 /// Two servers, and a shard with a load of 4.
-fn config(alloc: Global) -> Result<Config, AllocError> {
+pub(crate) fn config(alloc: Global) -> Result<Config, AllocError> {
     let mut servers = Vec::new(alloc);
     for number in 0..2 {
         servers.push(Server {
@@ -42,7 +42,7 @@ fn config(alloc: Global) -> Result<Config, AllocError> {
 }
 
 /// The absent cell at the new server, the crown of the old one, and so much room at the new one.
-fn held(alloc: Global, room: u64) -> Result<Parcel, AllocError> {
+pub(crate) fn held(alloc: Global, room: u64) -> Result<Parcel, AllocError> {
     let cell = CellRight {
         shard: shard(),
         server: new(),
@@ -67,7 +67,7 @@ fn held(alloc: Global, room: u64) -> Result<Parcel, AllocError> {
 }
 
 /// The steps of the handover: prepared, forwarded, added, published, dropped.
-fn handover() -> [Instr; 5] {
+pub(crate) fn handover() -> [Instr; 5] {
     [
         Instr::PrepareAdd {
             shard: shard(),
@@ -128,7 +128,7 @@ fn at(at: u32, why: Why) -> Option<Bad> {
 }
 
 /// The rights at the end of the handover.
-fn assert_end(rt: &impl Abort, end: &Parcel) {
+pub(crate) fn assert_end(rt: &impl Abort, end: &Parcel) {
     let absent = CellRight {
         shard: shard(),
         server: old(),

@@ -72,6 +72,101 @@ fn push_shard(whole: &mut String, name: u32, cells: u32) -> Result<(), AllocErro
     whole.push_str("]}")
 }
 
+/// A document with a plan of so many signals and streams.
+fn planned(alloc: Global, signals: u32, streams: u32) -> Result<String, AllocError> {
+    let front = r#"{"limit":0,"servers":[],"shards":[],"plan":{"budget":0,"signals":["#;
+    let mut whole = String::from_str(alloc, front)?;
+    push_times(&mut whole, signals, "{}")?;
+    whole.push_str(r#"],"streams":["#)?;
+    push_times(&mut whole, streams, r#"{"budget":0,"holds":{},"code":[]}"#)?;
+    whole.push_str("]}}")?;
+    Ok(whole)
+}
+
+#[test]
+fn counts_signals_and_streams(rt: HostRuntime) -> Result<(), Fail> {
+    let sizes = [
+        (256, 64, None),
+        (257, 1, too_many(Member::Signals)),
+        (1, 65, too_many(Member::Streams)),
+        (257, 65, too_many(Member::Signals)),
+    ];
+    for (signals, streams, fault) in sizes {
+        let text = planned(rt.alloc(), signals, streams)?;
+        assert_eq!(rt;
+            fault_of(rt.alloc(), text.as_str()),
+            fault,
+            "{signals} signals, {streams} streams"
+        );
+    }
+    Ok(())
+}
+
+/// A document with a plan of one stream of so many instructions.
+fn coded(alloc: Global, instructions: u32) -> Result<String, AllocError> {
+    let front =
+        r#"{"limit":0,"servers":[],"shards":[],"plan":{"budget":0,"signals":[{}],"streams":[{"budget":0,"holds":{},"code":["#;
+    let mut whole = String::from_str(alloc, front)?;
+    push_times(&mut whole, instructions, r#"{"do":"wait","signal":0}"#)?;
+    whole.push_str("]}]}}")?;
+    Ok(whole)
+}
+
+#[test]
+fn counts_instructions(rt: HostRuntime) -> Result<(), Fail> {
+    for (instructions, fault) in [(4096, None), (4097, too_many(Member::Code))] {
+        let text = coded(rt.alloc(), instructions)?;
+        assert_eq!(rt;
+            fault_of(rt.alloc(), text.as_str()),
+            fault,
+            "{instructions} instructions"
+        );
+    }
+    Ok(())
+}
+
+#[test]
+fn counts_moves(rt: HostRuntime) -> Result<(), Fail> {
+    for (moves, fault) in [(4096, None), (4097, too_many(Member::Moves))] {
+        let text = moved(rt.alloc(), moves)?;
+        assert_eq!(rt; fault_of(rt.alloc(), text.as_str()), fault, "{moves} moves");
+    }
+    Ok(())
+}
+
+/// A document of so many moves.
+fn moved(alloc: Global, moves: u32) -> Result<String, AllocError> {
+    let front = r#"{"limit":0,"servers":[{"name":"0","region":"r","room":1}],"shards":["#;
+    let shard = r#"{"name":"0","load":0,"want":0,"cap":0,"spread":0,"cells":[]}"#;
+    let mut whole = format!(in alloc; "{front}{shard}")?;
+    whole.push_str(r#"],"moves":["#)?;
+    push_times(&mut whole, moves, r#"{"shard":"0","from":"0","to":"0"}"#)?;
+    whole.push_str("]}")?;
+    Ok(whole)
+}
+
+#[test]
+fn counts_events(rt: HostRuntime) -> Result<(), Fail> {
+    for (events, fault) in [(1_048_576, None), (1_048_577, too_many(Member::Events))] {
+        let text = eventful(rt.alloc(), events)?;
+        assert_eq!(rt;
+            fault_of(rt.alloc(), text.as_str()),
+            fault,
+            "{events} events"
+        );
+    }
+    Ok(())
+}
+
+/// A document of so many events.
+fn eventful(alloc: Global, events: u32) -> Result<String, AllocError> {
+    let front = r#"{"limit":0,"servers":[],"shards":[],"events":["#;
+    let mut whole = String::from_str(alloc, front)?;
+    push_times(&mut whole, events, r#"{"event":"step","stream":0}"#)?;
+    whole.push_str("]}")?;
+    Ok(whole)
+}
+
 /// A server, two shards with so many cells, and so many calls.
 fn filled(alloc: Global, first: u32, second: u32, calls: u32) -> Result<String, AllocError> {
     let servers = r#"{"limit":0,"servers":[{"name":"0","region":"r","room":1}],"shards":["#;

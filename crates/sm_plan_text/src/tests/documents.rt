@@ -75,6 +75,49 @@ fn refuses_members_of_a_document(rt: HostRuntime) {
                 r#"{"limit":0,"servers":[],"shards":[],"calls":[{"call":"drop","shard":"s","server":"a"}]}"#,
                 unknown_name(Member::Shard),
             ),
+            (
+                r#"{"limit":0,"servers":[],"shards":[],"events":null}"#,
+                shape(Member::Events),
+            ),
+            (
+                r#"{"limit":0,"servers":[],"shards":[],"events":"step"}"#,
+                shape(Member::Events),
+            ),
+            (
+                r#"{"limit":0,"servers":[],"shards":[],"moves":null}"#,
+                shape(Member::Moves),
+            ),
+            (
+                r#"{"limit":0,"servers":[],"shards":[],"asks":null}"#,
+                shape(Member::Asks),
+            ),
+        ],
+    );
+}
+
+/// That one is no list is the document's own fault, and comes before those of the objects in it.
+#[test]
+fn walks_the_lists_of_a_document(rt: HostRuntime) {
+    judge_texts(
+        &rt,
+        rt.alloc(),
+        &[
+            (
+                r#"{"limit":0,"servers":[5],"shards":[],"events":5,"calls":5,"log":"x"}"#,
+                shape(Member::Log),
+            ),
+            (
+                r#"{"limit":0,"servers":[5],"shards":[],"events":5,"calls":5}"#,
+                shape(Member::Calls),
+            ),
+            (
+                r#"{"limit":0,"servers":[5],"shards":[],"moves":5,"events":5}"#,
+                shape(Member::Events),
+            ),
+            (
+                r#"{"limit":0,"servers":[5],"shards":[],"events":[5]}"#,
+                shape(Member::Servers),
+            ),
         ],
     );
 }
@@ -112,7 +155,7 @@ fn refuses_unknown_members(rt: HostRuntime) -> Result<(), Fail> {
         rt.alloc(),
         r#""limit":1024"#,
         &[
-            (r#""limit":1024,"drain":"x-1""#, shape(Member::Document)),
+            (r#""limit":1024,"extra":"x-1""#, shape(Member::Document)),
             (r#""limit":1024,"":0"#, shape(Member::Document)),
             (r#""limit":1024,"Log":0"#, shape(Member::Document)),
             (r#""limit":1024,"log ":0"#, shape(Member::Document)),

@@ -23,7 +23,14 @@ pub const EVERYTHING: &str =
 {"call":"drop","shard":"x-1","server":"y_2"},
 {"call":"change","shard":"Z","server":"y_2","from":"secondary","to":"primary"},
 {"call":"prepare_add","shard":"x-1","server":"x-1","other":"y_2","number":4294967295},
-{"call":"prepare_drop","shard":"Z","server":"y_2","other":"x-1","number":0}]}"#;
+{"call":"prepare_drop","shard":"Z","server":"y_2","other":"x-1","number":0}],
+"events":[{"event":"step","plan":4294967295,"stream":4294967295},{"event":"step","stream":0},
+{"event":"request","shard":"Z","server":"y_2"},{"event":"pass_on","ticket":4294967295},
+{"event":"approve","server":"x-1"},{"event":"done","server":"y_2"},
+{"event":"lose","plan":1,"stream":2,"when":"after"},{"event":"lose","stream":3,"when":"before"},
+{"event":"refill","plan":4,"stream":5,"more":262144},{"event":"refill","stream":6,"more":0},{"event":"begin","plan":16}],
+"moves":[{"shard":"Z","from":"x-1","to":"y_2"},{"shard":"x-1","from":"y_2","to":"y_2"}],
+"drain":"y_2","asks":["x-1","x-1"]}"#;
 
 pub const NOT_JSON: Option<TextFault> = Some(TextFault::NotJson);
 
@@ -49,6 +56,23 @@ pub fn fault_of(alloc: Global, text: &str) -> Option<TextFault> {
         Ok(_) => None,
         Err(fault) => Some(fault),
     }
+}
+
+/// Puts each of the events before those of the document with every member, and wants its fault.
+pub fn judge_events(
+    rt: &impl Abort,
+    alloc: Global,
+    events: &[(&str, Option<TextFault>)],
+) -> Result<(), AllocError> {
+    let Some((front, back)) = EVERYTHING.split_once(r#"{"event":"#) else {
+        assert!(rt; false, "there are no events");
+        return Ok(());
+    };
+    for (event, fault) in events {
+        let text = format!(in alloc; r#"{front}{event},{{"event":{back}"#)?;
+        assert_eq!(rt; fault_of(alloc, text.as_str()), *fault, "{event}");
+    }
+    Ok(())
 }
 
 /// Puts each of the new texts in the place of the first that reads as the old one in the document with every member,

@@ -1,6 +1,6 @@
 //! What good documents say.
 use super::fixtures::{EVERYTHING, PLACEMENT, fault_of};
-use crate::{Document, TextFault, read_document};
+use crate::{Document, EventText, MoveText, TextFault, read_document};
 use sm_placement::{Server, Shard};
 use sm_server::{Call, Cell, Role, ServerId, ShardId};
 use std::alloc::{AllocError, Global};
@@ -40,6 +40,14 @@ const fn call(shard: u32, server: u32, call: Call) -> (ShardId, ServerId, Call) 
     (ShardId::new(shard), ServerId::new(server), call)
 }
 
+const fn move_text(shard: u32, from: u32, to: u32) -> MoveText {
+    MoveText {
+        shard: ShardId::new(shard),
+        from: ServerId::new(from),
+        to: ServerId::new(to),
+    }
+}
+
 fn judge_placement(rt: &impl Abort, alloc: Global, document: &Document) -> Result<(), AllocError> {
     let servers = [
         server(alloc, "a", "r1", 10)?,
@@ -64,6 +72,10 @@ fn judge_placement(rt: &impl Abort, alloc: Global, document: &Document) -> Resul
     assert_eq!(rt; document.limit, 1);
     assert_eq!(rt; document.log, 65_536);
     assert!(rt; document.calls.is_none());
+    assert!(rt; document.events.is_none());
+    assert!(rt; document.moves.is_none());
+    assert_eq!(rt; document.drain, None);
+    assert!(rt; document.asks.is_empty());
     Ok(())
 }
 
@@ -125,6 +137,71 @@ fn reads_each_call(rt: HostRuntime) -> Result<(), Fail> {
     let document = read_document(rt.alloc(), EVERYTHING.as_bytes())?;
     let read = document.calls.ok_or("no calls")?;
     assert_eq!(rt; read.as_slice(), calls.as_slice());
+    Ok(())
+}
+
+const fn step(plan: u32, stream: u32) -> EventText {
+    EventText::Step { plan, stream }
+}
+
+const fn lose(plan: u32, stream: u32, after: bool) -> EventText {
+    EventText::Lose {
+        plan,
+        stream,
+        after,
+    }
+}
+
+const fn refill(plan: u32, stream: u32, more: u32) -> EventText {
+    EventText::Refill { plan, stream, more }
+}
+
+/// Where the plan is missing, the first one is meant.
+#[test]
+fn reads_each_event(rt: HostRuntime) -> Result<(), Fail> {
+    let request = EventText::Request {
+        shard: ShardId::new(1),
+        server: ServerId::new(1),
+    };
+    let pass_on = EventText::PassOn {
+        ticket: 4_294_967_295,
+    };
+    let approve = EventText::Approve {
+        server: ServerId::new(0),
+    };
+    let done = EventText::Done {
+        server: ServerId::new(1),
+    };
+    let events = [
+        step(4_294_967_295, 4_294_967_295),
+        step(0, 0),
+        request,
+        pass_on,
+        approve,
+        done,
+        lose(1, 2, true),
+        lose(0, 3, false),
+        refill(4, 5, 262_144),
+        refill(0, 6, 0),
+        EventText::Begin { plan: 16 },
+    ];
+    let document = read_document(rt.alloc(), EVERYTHING.as_bytes())?;
+    let read = document.events.ok_or("no events")?;
+    assert_eq!(rt; read.as_slice(), events.as_slice());
+    Ok(())
+}
+
+#[test]
+fn reads_moves_and_names(rt: HostRuntime) -> Result<(), Fail> {
+    let document = read_document(rt.alloc(), EVERYTHING.as_bytes())?;
+    let moves = [move_text(1, 0, 1), move_text(0, 1, 1)];
+    let read = document.moves.ok_or("no moves")?;
+    assert_eq!(rt; read.as_slice(), moves.as_slice());
+    assert_eq!(rt; document.drain, Some(ServerId::new(1)));
+    assert_eq!(rt;
+        document.asks.as_slice(),
+        [ShardId::new(0), ShardId::new(0)].as_slice()
+    );
     Ok(())
 }
 

@@ -1,5 +1,6 @@
 //! Readers and writers that go wrong.
-use super::documents::REFUSED_CALLS;
+use super::documents::{REFUSED_CALLS, Row};
+use super::plans::TWO_STREAMS;
 use sm_report::{Command, Status, report};
 use std::alloc::Global;
 use std::io::{self, ErrorKind, Read, Write};
@@ -88,54 +89,82 @@ fn failing_writer(alloc: Global, most: usize, fails_at: usize, fault: Fault) -> 
     }
 }
 
-#[test]
-fn reads_again_where_it_is_interrupted(rt: HostRuntime) {
+/// A reader that is interrupted before each read gives the whole report.
+fn reads_again(rt: &(impl AllocGlobal + std::process::Abort), command: Command, row: &Row) {
     let mut reader = InterruptedReader {
-        left: REFUSED_CALLS.document.as_bytes(),
+        left: row.document.as_bytes(),
         was_interrupted: false,
     };
     let mut text = Vec::new(rt.alloc());
-    let status = report(rt.alloc(), Command::Calls, &mut reader, &mut text);
-    assert!(rt; text.as_slice() == REFUSED_CALLS.text.as_bytes());
+    let status = report(rt.alloc(), command, &mut reader, &mut text);
+    assert!(rt; text.as_slice() == row.text.as_bytes());
     assert_eq!(rt; status, Status::Done);
 }
 
 #[test]
-fn writes_nothing_after_a_failed_read(rt: HostRuntime) {
-    let reads = REFUSED_CALLS.document.len() / 16 + 2;
+fn reads_again_where_it_is_interrupted(rt: HostRuntime) {
+    reads_again(&rt, Command::Calls, &REFUSED_CALLS);
+    reads_again(&rt, Command::Check, &TWO_STREAMS);
+}
+
+/// Each read fails in turn, and nothing is written.
+fn writes_nothing(rt: &(impl AllocGlobal + std::process::Abort), command: Command, row: &Row) {
+    let reads = row.document.len() / 16 + 2;
     for fails_at in 1..=reads {
         let mut reader = FailingReader {
-            left: REFUSED_CALLS.document.as_bytes(),
+            left: row.document.as_bytes(),
             reads: 0,
             fails_at,
         };
         let mut text = Vec::new(rt.alloc());
-        let status = report(rt.alloc(), Command::Calls, &mut reader, &mut text);
+        let status = report(rt.alloc(), command, &mut reader, &mut text);
         assert_eq!(rt; status, Status::ReadFailed, "read {fails_at}");
         assert!(rt; text.is_empty());
     }
 }
 
 #[test]
-fn writes_byte_by_byte(rt: HostRuntime) {
-    let mut reader = REFUSED_CALLS.document.as_bytes();
+fn writes_nothing_after_a_failed_read(rt: HostRuntime) {
+    writes_nothing(&rt, Command::Calls, &REFUSED_CALLS);
+    writes_nothing(&rt, Command::Check, &TWO_STREAMS);
+}
+
+/// A writer of one byte at a time gets the whole report.
+fn writes_all(rt: &(impl AllocGlobal + std::process::Abort), command: Command, row: &Row) {
+    let mut reader = row.document.as_bytes();
     let mut writer = failing_writer(rt.alloc(), 1, 0, Fault::Fails);
-    let status = report(rt.alloc(), Command::Calls, &mut reader, &mut writer);
-    assert!(rt; writer.taken.as_slice() == REFUSED_CALLS.text.as_bytes());
+    let status = report(rt.alloc(), command, &mut reader, &mut writer);
+    assert!(rt; writer.taken.as_slice() == row.text.as_bytes());
     assert_eq!(rt; status, Status::Done);
 }
 
-/// Each write of the report goes wrong in turn.
-fn ends_at_each_write(rt: &(impl AllocGlobal + std::process::Abort), fault: Fault) {
-    for (before, _) in REFUSED_CALLS.text.as_bytes().chunks(7).enumerate() {
-        let mut reader = REFUSED_CALLS.document.as_bytes();
+#[test]
+fn writes_byte_by_byte(rt: HostRuntime) {
+    writes_all(&rt, Command::Calls, &REFUSED_CALLS);
+    writes_all(&rt, Command::Check, &TWO_STREAMS);
+}
+
+/// Each write of a report goes wrong in turn, and a front of it is written.
+fn writes_fronts(
+    rt: &(impl AllocGlobal + std::process::Abort),
+    command: Command,
+    row: &Row,
+    fault: Fault,
+) {
+    for (before, _) in row.text.as_bytes().chunks(7).enumerate() {
+        let mut reader = row.document.as_bytes();
         let mut writer = failing_writer(rt.alloc(), 7, before.saturating_add(1), fault);
-        let status = report(rt.alloc(), Command::Calls, &mut reader, &mut writer);
+        let status = report(rt.alloc(), command, &mut reader, &mut writer);
         assert_eq!(rt; status, Status::WriteFailed, "after {before} writes");
         let front = writer.taken.as_slice();
         assert_eq!(rt; front.len(), before.saturating_mul(7));
-        assert!(rt; REFUSED_CALLS.text.as_bytes().starts_with(front));
+        assert!(rt; row.text.as_bytes().starts_with(front));
     }
+}
+
+fn ends_at_each_write(rt: &(impl AllocGlobal + std::process::Abort), fault: Fault) {
+    writes_fronts(rt, Command::Calls, &REFUSED_CALLS, fault);
+    writes_fronts(rt, Command::Check, &TWO_STREAMS, fault);
 }
 
 #[test]

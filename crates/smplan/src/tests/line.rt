@@ -5,12 +5,14 @@ use sm_report::{Command, LineFault, Word, command_of};
 fn knows_the_commands(rt: HostRuntime) {
     let word = command_of(rt.alloc(), &["calls"]);
     assert!(rt; word.is_ok_and(|word| word == Word::Report(Command::Calls)));
+    let word = command_of(rt.alloc(), &["check"]);
+    assert!(rt; word.is_ok_and(|word| word == Word::Report(Command::Check)));
 }
 
 static BAD: [&[&str]; 12] = [
     &[],
     &["chat"],
-    &["check"],
+    &["calls", "check"],
     &["play"],
     &["plan"],
     &["run"],
@@ -30,11 +32,12 @@ fn refuses_other_words(rt: HostRuntime) {
     }
 }
 
-static HELP: [&[&str]; 6] = [
+static HELP: [&[&str]; 7] = [
     &["--help"],
     &["-h"],
     &["help"],
     &["help", "calls"],
+    &["help", "check"],
     &["calls", "--help"],
     &["calls", "-h"],
 ];

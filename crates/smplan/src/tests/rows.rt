@@ -1,28 +1,48 @@
 //! Documents and their reports, over memory.
-use super::documents::{REFUSED_CALLS, ROWS};
+use super::documents::{REFUSED_CALLS, ROWS, Row};
+use super::plans::PLAN_ROWS;
 use sm_report::{Command, report};
 use std::alloc::Global;
 use std::test::Fail;
 
 /// What is reported of a document, and the exit status.
-fn reported(alloc: Global, document: &[u8]) -> (Vec<u8>, u8) {
+fn reported(alloc: Global, command: Command, document: &[u8]) -> (Vec<u8>, u8) {
     let mut reader = document;
     let mut text = Vec::new(alloc);
-    let status = report(alloc, Command::Calls, &mut reader, &mut text);
+    let status = report(alloc, command, &mut reader, &mut text);
     (text, status.code())
 }
 
+/// The row is what is reported of its document.
+fn is_reported(alloc: Global, command: Command, row: &Row) -> bool {
+    let (text, status) = reported(alloc, command, row.document.as_bytes());
+    text.as_slice() == row.text.as_bytes() && status == row.status
+}
+
 #[test]
-fn reports_documents(rt: HostRuntime) {
+fn reports_calls(rt: HostRuntime) {
     for row in &ROWS {
-        let (text, status) = reported(rt.alloc(), row.document.as_bytes());
-        assert!(rt; text.as_slice() == row.text.as_bytes(), "{}", row.document);
-        assert!(rt; status == row.status, "{}", row.document);
+        assert!(rt;
+            is_reported(rt.alloc(), Command::Calls, row),
+            "{}",
+            row.document
+        );
+    }
+}
+
+#[test]
+fn reports_plans(rt: HostRuntime) {
+    for row in &PLAN_ROWS {
+        assert!(rt;
+            is_reported(rt.alloc(), Command::Check, row),
+            "{}",
+            row.document
+        );
     }
 }
 
 fn is_not_json(alloc: Global, document: &[u8]) -> bool {
-    let (text, status) = reported(alloc, document);
+    let (text, status) = reported(alloc, Command::Calls, document);
     text.as_slice() == b"bad input: 2 NotJson\n".as_slice() && status == 2
 }
 

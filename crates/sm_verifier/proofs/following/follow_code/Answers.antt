@@ -1,11 +1,12 @@
-use Rattle.std.proofs.Common.{◌≡◌, ◌+◌, refl, sym, ◌∙◌, arith}
+use Rattle.std.proofs.Common.{◌≡◌, ◌+◌, max, refl, sym, ◌∙◌, arith, rules}
 use Rattle.std.specs.Prelude.{length, true, false}
 use Rattle.std.proofs.lemmas.Option.{slice_get_read}
 use Rattle.sm_placement.specs.Setup.{sizes_of}
 use Rattle.sm_placement.specs.Sums.{bit}
 use Rattle.sm_reservation.specs.HoldOf.{hold_of}
 use Rattle.sm_plan_code.specs.Instr.{is_call}
-use Rattle.sm_verifier.specs.Stream.{Course, course}
+use Rattle.sm_verifier.specs.Stream.{Course, course, hold_before}
+use Rattle.sm_verifier.proofs.Rooms.{listing_at, room_next}
 use Rattle.sm_verifier.proofs.Streams.{next, breaks_by, unsettled, good}
 use Rattle.sm_verifier.proofs.following.follow_code.Goals as goal
 use Rattle.sm_verifier.proofs.following.follow_code.Goals.{then-is_call, else-is_call}
@@ -25,7 +26,15 @@ loop-instr-preserved c =
       | else-is_call w ↦ let other : is_call c.instr-item.result ≡ false = sym c.is_call.ensures ∙ w.if-is_call.false in rw other (let same = w.calls-is in omega arith)
     ] in
     let followed = next s c.loop-instr.instr-index c.loop-instr.calls (hold_of c.loop-instr.hold.rights) (hold_of c.follow_one.new.hold.rights) c.instr-item.result c.loop-instr.invariant.followed here (rw c.in_default.is at c.follow_one.ensures.answer) c.follow_one.ensures.grows in
-    record { at = rw c.loop-instr.invariant.at refl; followed = rw count followed }
+    let listing = listing_at _ (hold_before s (c.loop-instr.instr-index + 1)) c.longest_list.ensures.listing followed.hold in
+    let top : c.max-room.result ≡ max c.loop-instr.room c.longest_list.result = search rules in
+    record {
+      at = rw c.loop-instr.invariant.at refl;
+      room = rw top (room_next s c.loop-instr.instr-index c.loop-instr.room c.longest_list.result c.follow_one.new.hold.rights c.loop-instr.invariant.room listing c.longest_list.ensures.count);
+      small = omega arith;
+      places = c.follow_one.ensures.places c.loop-instr.invariant.places;
+      followed = rw count followed;
+    }
 
 pub returns-then-not-is_settled-clause-bad : goal.returns-then-not-is_settled-clause-bad
 returns-then-not-is_settled-clause-bad c =
@@ -38,3 +47,8 @@ returns-clause-good c =
     let s : Course = course (sizes_of c.args.config.now) c.args.signals.now c.args.budget c.args.hold.now.rights c.args.code.now in
     let end : c.loop-instr.instr-index ≡ length c.args.code.now = omega (arith, c.loop-instr-test.false, c.loop-instr.auto.instr-index-end) in
     good s c.loop-instr.instr-index c.loop-instr.calls (hold_of c.loop-instr.hold.rights) end c.loop-instr.invariant.followed (c.is_settled.ensures.0 (let passed = c.if-not-is_settled.false in cc))
+
+pub returns-clause-room : goal.returns-clause-room
+returns-clause-room c =
+    let end : c.loop-instr.instr-index ≡ length c.args.code.now = omega (arith, c.loop-instr-test.false, c.loop-instr.auto.instr-index-end) in
+    rw end at c.loop-instr.invariant.room

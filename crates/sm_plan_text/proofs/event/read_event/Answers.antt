@@ -1,0 +1,16 @@
+use Rattle.std.proofs.Common.{◌∙◌, ap, map}
+use Rattle.serde_json.specs.View.{view}
+use Rattle.sm_plan_text.specs.declared.member.Member.TheVariants as members
+use Rattle.sm_plan_text.specs.Members.{text_of}
+use Rattle.sm_plan_text.specs.Faults.{noted}
+use Rattle.sm_plan_text.specs.Tables.{object_faults}
+use Rattle.sm_plan_text.proofs.EventLemmas.{event_noted}
+use Rattle.sm_plan_text.proofs.event.read_event.Goals as goal
+
+pub returns-clause-faults : goal.returns-clause-faults
+returns-clause-faults c =
+    event_noted c.args.shards.now c.args.servers.now (view c.args.object.now) c.in-Some.word (map text_of c.members.result.now) c.args.faults.now.lowest _ _
+    c.in-Some.ensures.word
+    (c.members.ensures c.args.shards.now c.args.servers.now)
+    (c.note_unknown.ensures ∙ ap (λ f. noted f (object_faults members.Events (map text_of c.members.result.now) (view c.args.object.now))) c.in-Some.ensures.listed)
+    c.read_rest.ensures.faults

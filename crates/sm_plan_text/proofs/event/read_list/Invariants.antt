@@ -1,0 +1,12 @@
+use Rattle.std.proofs.Common.{◌≡◌, take, drop, map, []}
+use Rattle.serde_json.specs.View.{view}
+use Rattle.sm_plan_text.specs.Faults.{noted}
+use Rattle.sm_plan_text.specs.Tables.{walked}
+use Rattle.sm_plan_text.specs.Events.{event_faults, event_in}
+use Rattle.sm_plan_text.proofs.event.read_list.Given as goal
+
+abbrev pub invariant-loop-item : goal.invariant-loop-item
+invariant-loop-item l = record {
+  events : l.events.items ≡ map (event_in l.shards l.servers) (take l.item-index (map view l.items));
+  faults : noted l.faults.lowest (walked (event_faults l.shards l.servers) (take l.item-index (map view l.items)) (drop l.item-index (map view l.items))) ≡ noted l.fn.faults.lowest (walked (event_faults l.shards l.servers) [] (map view l.items));
+}

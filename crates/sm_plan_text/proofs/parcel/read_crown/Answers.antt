@@ -1,0 +1,18 @@
+use Rattle.std.proofs.Common.{◌∙◌, ap, map}
+use Rattle.serde_json.specs.View.{view}
+use Rattle.sm_plan_text.specs.declared.member.Member.TheVariants as members
+use Rattle.sm_plan_text.specs.Members.{text_of}
+use Rattle.sm_plan_text.specs.Faults.{noted}
+use Rattle.sm_plan_text.specs.Tables.{object_faults}
+use Rattle.sm_plan_text.proofs.CrownLemmas.{crown_noted}
+use Rattle.sm_plan_text.proofs.parcel.read_crown.Goals as goal
+
+pub returns-clause-faults : goal.returns-clause-faults
+returns-clause-faults c =
+    crown_noted c.args.shards.now c.args.servers.now (view c.args.object.now) c.in-Some.word (map text_of c.members.result.now) c.args.faults.now.lowest _ _ _ _
+    c.in-Some.ensures.word
+    (c.members.ensures c.args.shards.now c.args.servers.now)
+    (c.note_unknown.ensures ∙ ap (λ f. noted f (object_faults members.Crowns (map text_of c.members.result.now) (view c.args.object.now))) c.in-Some.ensures.listed)
+    c.reference-shard.ensures.faults
+    c.reference_or_none-listed.ensures.faults
+    c.read_lead-lead.ensures.faults

@@ -1,0 +1,12 @@
+use Rattle.std.proofs.Common.{◌≡◌, take, drop, map, []}
+use Rattle.serde_json.specs.View.{view}
+use Rattle.sm_plan_text.specs.Faults.{noted}
+use Rattle.sm_plan_text.specs.Tables.{walked}
+use Rattle.sm_plan_text.specs.Parcels.{right_faults, right_in}
+use Rattle.sm_plan_text.proofs.parcel.read_rights.Given as goal
+
+abbrev pub invariant-loop-item : goal.invariant-loop-item
+invariant-loop-item l = record {
+  rights : l.rights.items ≡ map (right_in l.shards l.servers) (take l.item-index (map view l.items));
+  faults : noted l.faults.lowest (walked (right_faults l.shards l.servers) (take l.item-index (map view l.items)) (drop l.item-index (map view l.items))) ≡ noted l.fn.faults.lowest (walked (right_faults l.shards l.servers) [] (map view l.items));
+}

@@ -1,0 +1,73 @@
+-- The events of a document, which are played one after the other.
+use Rattle.std.specs.Prelude.{◌<◌, ◌≤◌, ℕ, List, [], ◌∷◌, codes, Option, Some, None, option_and_then, if◌then◌else◌}
+use Rattle.std.specs.Str.{bytes_eq}
+use Rattle.serde_json.specs.Data.{Data}
+use Rattle.sm_plan_text.specs.declared.fault.TextFault.{TextFault}
+use Rattle.sm_plan_text.specs.declared.member.Member.TheVariants.{Events, Event as EventMember, Plan, Stream, Shard, Server, Ticket, When, More}
+use Rattle.sm_plan_text.specs.declared.event.EventText.{EventText}
+use Rattle.sm_plan_text.specs.declared.event.EventText.TheVariants as event
+use Rattle.sm_plan_text.specs.declared.event.EventWord.{EventWord}
+use Rattle.sm_plan_text.specs.declared.event.EventWord.TheVariants as word
+use Rattle.sm_plan_text.specs.Values.{text_found, number_in, number_or, id_in, after_in}
+use Rattle.sm_plan_text.specs.Tables.{Row, one, maybe, whole, known, when, worded_faults}
+
+abbrev pub event_word : List ℕ → Option EventWord
+event_word text =
+    if bytes_eq text (codes "step") then Some word.Step
+    else if bytes_eq text (codes "request") then Some word.Request
+    else if bytes_eq text (codes "pass_on") then Some word.PassOn
+    else if bytes_eq text (codes "approve") then Some word.Approve
+    else if bytes_eq text (codes "done") then Some word.Done
+    else if bytes_eq text (codes "lose") then Some word.Lose
+    else if bytes_eq text (codes "refill") then Some word.Refill
+    else if bytes_eq text (codes "begin") then Some word.Begin
+    else None
+
+-- the members that an event has by its word
+abbrev pub event_table : List (List ℕ) → List (List ℕ) → EventWord → List Row
+event_table shards servers word.Step = maybe Plan (whole 4294967295) ∷ one Stream (whole 4294967295) ∷ []
+event_table shards servers word.Request = one Shard (known shards) ∷ one Server (known servers) ∷ []
+event_table shards servers word.PassOn = one Ticket (whole 4294967295) ∷ []
+event_table shards servers word.Approve = one Server (known servers) ∷ []
+event_table shards servers word.Done = one Server (known servers) ∷ []
+event_table shards servers word.Lose = maybe Plan (whole 4294967295) ∷ one Stream (whole 4294967295) ∷ one When when ∷ []
+event_table shards servers word.Refill = maybe Plan (whole 4294967295) ∷ one Stream (whole 4294967295) ∷ one More (whole 262144) ∷ []
+event_table shards servers word.Begin = one Plan (whole 4294967295) ∷ []
+
+abbrev pub event_faults : List (List ℕ) → List (List ℕ) → List Data → Data → List TextFault
+event_faults shards servers before d = worded_faults Events EventMember event_word (event_table shards servers) d
+
+-- the plan whose stream is meant: the first one if none is named
+abbrev pub plan_in : Data → ℕ
+plan_in d = number_or 0 Plan 4294967295 d
+
+abbrev pub stream_in : Data → ℕ
+stream_in d = number_in Stream 4294967295 d
+
+abbrev pub event_of : List (List ℕ) → List (List ℕ) → Data → EventWord → EventText
+event_of shards servers d word.Step = event.Step (plan_in d) (stream_in d)
+event_of shards servers d word.Request = event.Request (id_in shards Shard d) (id_in servers Server d)
+event_of shards servers d word.PassOn = event.PassOn (number_in Ticket 4294967295 d)
+event_of shards servers d word.Approve = event.Approve (id_in servers Server d)
+event_of shards servers d word.Done = event.Done (id_in servers Server d)
+event_of shards servers d word.Lose = event.Lose (plan_in d) (stream_in d) (after_in When d)
+event_of shards servers d word.Refill = event.Refill (plan_in d) (stream_in d) (number_in More 262144 d)
+event_of shards servers d word.Begin = event.Begin (number_in Plan 4294967295 d)
+
+abbrev pub event_by : List (List ℕ) → List (List ℕ) → Data → Option EventWord → EventText
+event_by shards servers d None = event.Begin 0
+event_by shards servers d (Some w) = event_of shards servers d w
+
+abbrev pub event_in : List (List ℕ) → List (List ℕ) → Data → EventText
+event_in shards servers d = event_by shards servers d (option_and_then event_word (text_found EventMember d))
+
+-- its shard and server are below their counts, and it gives no more tries than a refill may
+abbrev pub IsKnownEvent : ℕ → ℕ → EventText → Type 0
+IsKnownEvent shards servers (event.Step plan stream) = Unit {0}
+IsKnownEvent shards servers (event.Request shard server) = (shard < shards) × (server < servers)
+IsKnownEvent shards servers (event.PassOn ticket) = Unit {0}
+IsKnownEvent shards servers (event.Approve server) = server < servers
+IsKnownEvent shards servers (event.Done server) = server < servers
+IsKnownEvent shards servers (event.Lose plan stream after) = Unit {0}
+IsKnownEvent shards servers (event.Refill plan stream more) = more ≤ 262144
+IsKnownEvent shards servers (event.Begin plan) = Unit {0}

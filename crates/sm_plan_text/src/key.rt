@@ -1,0 +1,47 @@
+//! Keys of the entries of a list: the texts of some of their members.
+ghost use Rattle.std.specs.Prelude.{◌≡◌, map, option_map, IfOk};
+ghost use Rattle.serde_json.specs.View.{view};
+ghost use Rattle.sm_plan_text.specs.Tables.{texts_found, has_double_key};
+
+use crate::member::Member;
+use crate::object::text;
+use indexmap::IndexSet;
+use serde_json::Value;
+use std::alloc::{AllocError, Global};
+
+/// The key of an entry, which has none where one of the members is no text.
+fn key_of<'a>(
+    alloc: Global,
+    entry: &'a Value,
+    members: &[Member],
+) -> Result<Option<Vec<&'a str>>, AllocError>
+    ensures { IfOk result (λ key. option_map (λ texts. map (λ s. s.now) texts.items) key ≡ texts_found members.now (view entry.now)) }
+{
+    let mut texts = Vec::with_capacity(alloc, members.len())?;
+    for member in members {
+        let Some(text) = text(entry, *member) else {
+            return Ok(None);
+        };
+        texts.push(text)?;
+    }
+    Ok(Some(texts))
+}
+
+/// Two entries have the same key.
+pub fn has_double_key(
+    alloc: Global,
+    entries: &[Value],
+    members: &[Member],
+) -> Result<bool, AllocError>
+    ensures { IfOk result (λ double. double ≡ has_double_key (map (texts_found members.now) (map view entries.now))) }
+{
+    let mut keys = IndexSet::new(alloc);
+    for entry in entries {
+        if let Some(key) = key_of(alloc, entry, members)? {
+            if !keys.insert(key)? {
+                return Ok(true);
+            }
+        }
+    }
+    Ok(false)
+}

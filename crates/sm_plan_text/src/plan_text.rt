@@ -1,0 +1,83 @@
+//! A plan, from a text of its own.
+ghost use Rattle.std.specs.Prelude.{◌≡◌, ◌≢◌, Some, Ok, Err, IfOk, IfErr, OnOk, string_bytes, length};
+ghost use Rattle.std.specs.Str.{bytes_eq};
+ghost use Rattle.indexmap.specs.IndexSet.{insert_key};
+ghost use Rattle.serde_json.specs.View.{view};
+ghost use Rattle.sm_placement.specs.Setup.{IsSetup, names_of_servers, names_of_shards};
+ghost use Rattle.sm_plan_code.specs.Plan.{FitsPlan};
+ghost use Rattle.sm_plan_text.specs.Reading.{read_plan, read_plan_data};
+
+use crate::document::parse;
+use crate::fault::{Faults, TextFault};
+use crate::member::Member;
+use crate::names::Names;
+use crate::plan::read_plan_at;
+use serde_json::Value;
+use sm_placement::Config;
+use sm_plan_code::Plan;
+use sm_server::{ServerId, ShardId};
+use std::alloc::{AllocError, Global};
+
+/// The names of the servers of a configuration.
+fn server_names(alloc: Global, config: &Config) -> Result<Names, AllocError>
+    ensures names { IfOk result (λ names. names ≡ names_of_servers config.now) }
+    ensures setup { IsSetup config.now }
+{
+    let mut names = Names::new(alloc);
+    for number in 0..config.server_count() {
+        let name = config.server(ServerId::new(number)).name.clone()?;
+        names.insert(name)?;
+    }
+    Ok(names)
+}
+
+/// The names of the shards of a configuration.
+fn shard_names(alloc: Global, config: &Config) -> Result<Names, AllocError>
+    ensures names { IfOk result (λ names. names ≡ names_of_shards config.now) }
+    ensures setup { IsSetup config.now }
+{
+    let mut names = Names::new(alloc);
+    for number in 0..config.shard_count() {
+        let name = config.shard(ShardId::new(number)).name.clone()?;
+        names.insert(name)?;
+    }
+    Ok(names)
+}
+
+/// The plan that a JSON value is.
+fn from_value(alloc: Global, config: &Config, value: &Value) -> Result<Plan, TextFault>
+    ensures ok { IfOk result (λ plan. read_plan_data (names_of_shards config.now) (names_of_servers config.now) (Some (view value.now)) ≡ Ok plan) }
+    ensures refused { IfErr result (λ why. why ≢ TextFault.NoMemory
+        → read_plan_data (names_of_shards config.now) (names_of_servers config.now) (Some (view value.now)) ≡ Err why) }
+    ensures fits { IfOk result (λ plan. FitsPlan (length config.now.shards) (length config.now.servers) plan) }
+{
+    let shards = shard_names(alloc, config)?;
+    let servers = server_names(alloc, config)?;
+    let mut faults = Faults { lowest: None };
+    let plan = read_plan_at(
+        alloc,
+        value,
+        Member::Document,
+        &shards,
+        &servers,
+        &mut faults,
+    )?;
+    if let Some(fault) = faults.lowest {
+        return Err(fault);
+    }
+    match plan {
+        Some(plan) => Ok(plan),
+        None => unreachable!(),
+    }
+}
+
+/// Reads a plan for a configuration from the bytes of its text.
+pub fn read_plan(alloc: Global, config: &Config, bytes: &[u8]) -> Result<Plan, TextFault>
+    ensures ok { IfOk result (λ plan. read_plan (names_of_shards config.now) (names_of_servers config.now) bytes.now ≡ Ok plan) }
+    ensures refused { IfErr result (λ why. why ≢ TextFault.NoMemory
+        → read_plan (names_of_shards config.now) (names_of_servers config.now) bytes.now ≡ Err why) }
+    ensures fits { IfOk result (λ plan. FitsPlan (length config.now.shards) (length config.now.servers) plan) }
+{
+    let value = parse(alloc, bytes)?;
+    from_value(alloc, config, &value)
+}

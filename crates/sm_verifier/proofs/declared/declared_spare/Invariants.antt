@@ -1,0 +1,10 @@
+use Rattle.std.proofs.Common.{◌≡◌, ◌≤◌, ◌*◌, ◌^◌, take}
+use Rattle.sm_verifier.specs.Admission.{declared_spare}
+use Rattle.sm_verifier.proofs.declared.declared_spare.Given as goal
+
+-- the sum of the streams so far
+abbrev pub invariant-loop-stream : goal.invariant-loop-stream
+invariant-loop-stream l = record {
+  sum : l.sum ≡ declared_spare (take l.stream-index l.streams) l.shard;
+  bound : l.sum ≤ l.stream-index * 2 ^ 32;
+}

@@ -1,0 +1,28 @@
+-- The lowest server that is down and mentioned, found along the codes.
+use Rattle.std.specs.Prelude.{ℕ, Bool, Option, Some, None, List, [], ◌∷◌, nat_lt, if◌then◌else◌}
+use Rattle.sm_plan_code.specs.declared.instruction.Instr.{Instr}
+use Rattle.sm_plan_code.specs.Instr.{names_of}
+use Rattle.sm_plan_code.specs.Plan.{StreamParts}
+
+-- the lower one of two servers, where they are given
+abbrev pub lower : Option ℕ → Option ℕ → Option ℕ
+lower None b = b
+lower (Some v) None = Some v
+lower (Some v) (Some w) = if nat_lt w v then Some w else Some v
+
+-- the server, where it is down
+abbrev pub if_down : (ℕ → Bool) → Option ℕ → Option ℕ
+if_down down None = None
+if_down down (Some v) = if down v then Some v else None
+
+-- the lowest one once an instruction, a code and streams have been gone through
+abbrev pub down_at : (ℕ → Bool) → Option ℕ → Instr → Option ℕ
+down_at down lowest i = lower (lower lowest (if_down down (names_of i).first)) (if_down down (names_of i).second)
+
+abbrev pub down_in : (ℕ → Bool) → Option ℕ → List Instr → Option ℕ
+down_in down lowest [] = lowest
+down_in down lowest (i ∷ is) = down_in down (down_at down lowest i) is
+
+abbrev pub down_of : (ℕ → Bool) → Option ℕ → List StreamParts → Option ℕ
+down_of down lowest [] = lowest
+down_of down lowest (s ∷ ss) = down_of down (down_in down lowest s.code) ss

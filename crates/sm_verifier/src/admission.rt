@@ -1,0 +1,117 @@
+//! Whether a plan may start.
+ghost use Rattle.std.specs.Prelude.{◌≡◌, ◌≤◌, All, OnOk, OnErr, IfErr, length};
+ghost use Rattle.sm_placement.specs.Setup.{sizes_of};
+ghost use Rattle.sm_placement.specs.Layout.{place_of};
+ghost use Rattle.sm_reservation.specs.Pool.{pool_hold, HasSize};
+ghost use Rattle.sm_plan_code.specs.Plan.{FitsStream, FitsPlan, IsSmallStream};
+ghost use Rattle.sm_verifier.specs.Admission.{IsAdmitted, IsHolding};
+
+use crate::Checked;
+use crate::amounts::{first_short_room, first_short_spare};
+use crate::declared::{declared_room, declared_spare};
+use crate::downs::first_down;
+use crate::free::first_taken;
+use crate::truth::first_untrue;
+use sm_placement::{Config, Placement};
+use sm_plan_code::Plan;
+use sm_reservation::{Key, Pool};
+use sm_server::{ServerId, ShardId};
+use thiserror::Error;
+
+/// What holds a plan up.
+#[derive(Clone, Copy, Debug, PartialEq, Eq, Error)]
+pub enum Holding {
+    /// A stream declares a cell right or a crown that is not true of the placement.
+    #[error("a declared right is not true of the placement")]
+    Untrue {
+        /// Its key.
+        key: Key,
+    },
+    /// A stream declares a cell right or a crown that is not in the pool, or that an earlier stream declares.
+    #[error("a declared right is taken")]
+    Taken {
+        /// Its key.
+        key: Key,
+    },
+    /// The streams declare more room of a server than the pool has.
+    #[error("too little room: {declared} is declared, and {free} is free")]
+    ShortRoom {
+        /// The server.
+        server: ServerId,
+        /// How much the pool has.
+        free: u64,
+        /// How much the streams declare together.
+        declared: u64,
+    },
+    /// The streams declare more spare replicas of a shard than the pool has.
+    #[error("too few spare replicas: {declared} are declared, and {free} are free")]
+    ShortSpare {
+        /// The shard.
+        shard: ShardId,
+        /// How many the pool has.
+        free: u64,
+        /// How many the streams declare together.
+        declared: u64,
+    },
+    /// An instruction mentions a server that is down.
+    #[error("a server of the plan is down")]
+    ServerDown {
+        /// The server.
+        server: ServerId,
+    },
+}
+
+/// Judges whether a plan may start at a placement with its pool.
+pub(crate) fn admit_plan(
+    config: &Config,
+    plan: &Plan,
+    pool: &Pool,
+    placement: &Placement,
+) -> Result<(), Holding>
+    requires fits { FitsPlan (length config.now.shards) (length config.now.servers) plan.now }
+    requires size { HasSize (sizes_of config.now) pool.now }
+    requires setup { placement.now.setup ≡ config.now }
+    ensures admitted { OnOk result (IsAdmitted (sizes_of config.now) (place_of placement.now) (pool_hold pool.now) plan.now) }
+    ensures holding { IfErr result (λ why. IsHolding (sizes_of config.now) (place_of placement.now) (pool_hold pool.now) plan.now why) }
+    ensures refused { OnErr result (¬ IsAdmitted (sizes_of config.now) (place_of placement.now) (pool_hold pool.now) plan.now) }
+{
+    let streams = plan.streams();
+    if let Some(key) = first_untrue(placement, streams) {
+        return Err(Holding::Untrue { key });
+    }
+    if let Some(key) = first_taken(pool, streams) {
+        return Err(Holding::Taken { key });
+    }
+    if let Some(server) = first_short_room(config, pool, streams) {
+        return Err(Holding::ShortRoom {
+            server,
+            free: pool.room(server),
+            declared: declared_room(streams, server),
+        });
+    }
+    if let Some(shard) = first_short_spare(config, pool, streams) {
+        return Err(Holding::ShortSpare {
+            shard,
+            free: pool.spare(shard),
+            declared: declared_spare(streams, shard),
+        });
+    }
+    if let Some(server) = first_down(placement, streams) {
+        return Err(Holding::ServerDown { server });
+    }
+    Ok(())
+}
+
+/// Judges whether a checked plan may start at a placement with its pool. Takes no memory.
+///
+/// The rules are looked at in the order of `Holding`, each over all streams: the first one that is not kept is named, at
+/// the first stream and its lowest key, or at the lowest server or shard.
+pub fn admit(checked: &Checked, pool: &Pool, placement: &Placement) -> Result<(), Holding>
+    requires size { HasSize (sizes_of checked.now.setup) pool.now }
+    requires setup { placement.now.setup ≡ checked.now.setup }
+    ensures admitted { OnOk result (IsAdmitted (sizes_of checked.now.setup) (place_of placement.now) (pool_hold pool.now) checked.now.plan) }
+    ensures holding { IfErr result (λ why. IsHolding (sizes_of checked.now.setup) (place_of placement.now) (pool_hold pool.now) checked.now.plan why) }
+    ensures refused { OnErr result (¬ IsAdmitted (sizes_of checked.now.setup) (place_of placement.now) (pool_hold pool.now) checked.now.plan) }
+{
+    admit_plan(checked.config(), checked.plan(), pool, placement)
+}

@@ -1,0 +1,134 @@
+//! Checked plans.
+ghost use Rattle.std.specs.Prelude.{◌≡◌, ◌<◌, length, slice_index, slice_index_or};
+ghost use Rattle.sm_placement.specs.Setup.{sizes_of};
+ghost use Rattle.sm_reservation.specs.Rights.{no_rights};
+ghost use Rattle.sm_reservation.specs.HoldOf.{hold_of};
+ghost use Rattle.sm_plan_code.specs.Plan.{FitsPlan};
+ghost use Rattle.sm_verifier.specs.Stream.{stream_at, final_hold};
+ghost use Rattle.sm_verifier.specs.Room.{IsRoom};
+ghost use Rattle.sm_verifier.specs.Order.{IsOrder};
+ghost use Rattle.sm_verifier.specs.Plan.{IsSound};
+ghost use Rattle.sm_verifier.specs.Checked.{checked_parts, IsChecked};
+
+use sm_placement::Config;
+use sm_plan_code::Plan;
+use sm_reservation::Parcel;
+use std::marker::Model;
+
+/// What a check finds out about a plan that passes it.
+#[derive(Drop)]
+pub(crate) struct Findings {
+    /// A copy of the configuration.
+    pub config: Config,
+    /// An order of the plan's steps.
+    pub order: Vec<(u32, u32)>,
+    /// What each stream holds at its end.
+    pub finals: Vec<Parcel>,
+    /// The most keys that one list of each stream's hold has.
+    pub rooms: Vec<u32>,
+}
+
+/// A plan that has passed the check, with what the check found out.
+///
+/// There is no other way to get one than the check, and none to change one.
+#[derive(Drop)]
+pub struct Checked {
+    config: Config,
+    plan: Plan,
+    order: Vec<(u32, u32)>,
+    finals: Vec<Parcel>,
+    rooms: Vec<u32>,
+}
+
+impl Model for Checked {
+    ghost use Rattle.sm_verifier.specs.Checked.{CheckedParts, IsChecked};
+
+    ghost Value = { CheckedParts };
+
+    ghost use Rattle.sm_verifier.specs.CheckedView.{checked_of};
+
+    ghost view = { checked_of };
+
+    ghost invariant = { λ a. IsChecked (checked_of a) };
+}
+
+impl Checked {
+    /// The plan with what the check found out about it.
+    pub(crate) fn new(plan: Plan, findings: Findings) -> Checked
+        requires { IsChecked (checked_parts findings.config plan findings.order.items findings.finals.items findings.rooms.items) }
+        ensures { result ≡ checked_parts findings.config plan findings.order.items findings.finals.items findings.rooms.items }
+    {
+        let Findings {
+            config,
+            order,
+            finals,
+            rooms,
+        } = findings;
+        Checked {
+            config,
+            plan,
+            order,
+            finals,
+            rooms,
+        }
+    }
+
+    /// The configuration that the plan was checked for.
+    pub fn config(&self) -> &Config
+        ensures { result.now ≡ self.now.setup }
+    {
+        &self.config
+    }
+
+    /// The plan.
+    pub fn plan(&self) -> &Plan
+        ensures value { result.now ≡ self.now.plan }
+        ensures fits { FitsPlan (length self.now.setup.shards) (length self.now.setup.servers) self.now.plan }
+        ensures sound { IsSound (sizes_of self.now.setup) self.now.plan }
+    {
+        &self.plan
+    }
+
+    /// The plan, which is checked no longer.
+    pub fn into_plan(self) -> Plan
+        ensures value { result ≡ self.plan }
+        ensures fits { FitsPlan (length self.setup.shards) (length self.setup.servers) self.plan }
+        ensures sound { IsSound (sizes_of self.setup) self.plan }
+    {
+        let Checked {
+            config: _,
+            plan,
+            order: _,
+            finals: _,
+            rooms: _,
+        } = self;
+        plan
+    }
+
+    /// An order of the plan's steps: the number of a stream and a position in its code, each. The position behind the
+    /// last instruction is the stream's end.
+    pub fn order(&self) -> &[(u32, u32)]
+        ensures value { result.now ≡ self.now.order }
+        ensures order { IsOrder self.now.plan self.now.order }
+    {
+        self.order.as_slice()
+    }
+
+    /// What a stream holds at its end.
+    pub fn final_hold(&self, stream: u32) -> &Parcel
+        requires { stream < length self.now.plan.streams }
+        ensures value { result.now ≡ slice_index_or self.now.finals stream no_rights }
+        ensures hold { hold_of result.now ≡ final_hold (stream_at (sizes_of self.now.setup) self.now.plan stream) }
+    {
+        &self.finals[stream as usize]
+    }
+
+    /// The most keys that one list of a stream's hold has on its way.
+    pub fn room(&self, stream: u32) -> u32
+        requires { stream < length self.now.plan.streams }
+        ensures value { result ≡ slice_index self.now.rooms stream }
+        ensures room { IsRoom (stream_at (sizes_of self.now.setup) self.now.plan stream) result }
+    {
+        self.rooms[stream as usize]
+    }
+}

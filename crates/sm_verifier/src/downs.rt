@@ -1,0 +1,81 @@
+//! Servers that are down and that an instruction mentions.
+ghost use Rattle.std.specs.Prelude.{◌≡◌, ◌<◌, All, None, IfSome, IfNone, length};
+ghost use Rattle.sm_placement.specs.Layout.{place_of};
+ghost use Rattle.sm_plan_code.specs.Plan.{FitsInstr, FitsStream};
+ghost use Rattle.sm_verifier.specs.Downs.{lower, if_down, down_at, down_in, down_of};
+ghost use Rattle.sm_verifier.specs.Admission.{IsUpWhereMentioned, AreUp, IsLowest};
+
+use sm_placement::Placement;
+use sm_plan_code::{Instr, Stream, names};
+use sm_server::ServerId;
+
+/// The lower one of two servers, where they are given.
+fn lower(first: Option<ServerId>, second: Option<ServerId>) -> Option<ServerId>
+    ensures { result ≡ lower first second }
+{
+    match (first, second) {
+        (None, other) => other,
+        (Some(server), None) => Some(server),
+        (Some(server), Some(other)) => {
+            if other.number() < server.number() {
+                Some(other)
+            } else {
+                Some(server)
+            }
+        }
+    }
+}
+
+/// The server, where it is down.
+fn if_down(placement: &Placement, server: Option<ServerId>) -> Option<ServerId>
+    requires { IfSome server (λ v. v < length placement.now.setup.servers) }
+    ensures { result ≡ if_down (place_of placement.now).down server }
+{
+    match server {
+        Some(server) if placement.is_down(server) => Some(server),
+        _ => None,
+    }
+}
+
+/// The lowest server that is down: the one so far, or one that the instruction mentions.
+fn down_at(placement: &Placement, lowest: Option<ServerId>, instr: &Instr) -> Option<ServerId>
+    requires { FitsInstr (length placement.now.setup.shards) (length placement.now.setup.servers) instr.now }
+    ensures { result ≡ down_at (place_of placement.now).down lowest instr.now }
+{
+    let names = names(instr);
+    let with_first = lower(lowest, if_down(placement, names.first));
+    lower(with_first, if_down(placement, names.second))
+}
+
+/// The lowest server that is down: the one so far, or one that the code mentions.
+fn down_in(placement: &Placement, before: Option<ServerId>, code: &[Instr]) -> Option<ServerId>
+    requires { All (FitsInstr (length placement.now.setup.shards) (length placement.now.setup.servers)) code.now }
+    ensures { result ≡ down_in (place_of placement.now).down before code.now }
+{
+    let mut lowest = before;
+    for instr in code {
+        lowest = down_at(placement, lowest, instr);
+    }
+    lowest
+}
+
+/// The lowest server that is down and that the streams mention.
+fn down_of(placement: &Placement, streams: &[Stream]) -> Option<ServerId>
+    requires { All (FitsStream (length placement.now.setup.shards) (length placement.now.setup.servers)) streams.now }
+    ensures { result ≡ down_of (place_of placement.now).down None streams.now }
+{
+    let mut lowest = None;
+    for stream in streams {
+        lowest = down_in(placement, lowest, stream.code.as_slice());
+    }
+    lowest
+}
+
+/// The lowest server that an instruction mentions though it is down.
+pub(crate) fn first_down(placement: &Placement, streams: &[Stream]) -> Option<ServerId>
+    requires { All (FitsStream (length placement.now.setup.shards) (length placement.now.setup.servers)) streams.now }
+    ensures lowest { IfSome result (IsLowest (IsUpWhereMentioned (place_of placement.now) streams.now)) }
+    ensures none { IfNone result (AreUp (place_of placement.now) streams.now) }
+{
+    down_of(placement, streams)
+}
