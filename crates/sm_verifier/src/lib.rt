@@ -3,24 +3,16 @@
 #![tactic(auto)]
 
 mod admission;
-#[cfg(test)]
-mod admission_tests;
 mod amounts;
-#[cfg(test)]
-mod check_tests;
 mod checked;
 mod checking;
 mod declared;
 mod downs;
-#[cfg(test)]
-mod follow_tests;
 mod following;
 mod free;
 mod lead;
 mod lines;
 mod order;
-#[cfg(test)]
-mod order_tests;
 mod signals;
 mod steps;
 #[cfg(test)]

@@ -1,6 +1,6 @@
 //! Plans that pass the check, and each fault of another one.
-use crate::order_tests::{plan, stream};
-use crate::tests::{assert_end, config, handover, held};
+use super::handover::{assert_end, config, handover, held};
+use super::order::{plan, stream};
 use crate::{Checked, Fault, check};
 use sm_plan_code::{Instr, Parts, Plan, Stream, Why};
 use std::alloc::{AllocError, Global};
