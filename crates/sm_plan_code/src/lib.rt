@@ -2,16 +2,10 @@
 #![tactic(auto)]
 
 mod fits;
-#[cfg(test)]
-mod fits_tests;
 mod instruction;
 mod law;
 mod limits;
 mod plan;
-#[cfg(test)]
-mod plan_tests;
-#[cfg(test)]
-mod tests;
 
 pub use instruction::{Instr, NamedServers, Why, is_call, names};
 pub use law::{has_effects, signal_gives, wait_takes};

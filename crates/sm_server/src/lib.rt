@@ -5,8 +5,6 @@ mod call;
 mod handover;
 mod server_id;
 mod shard_id;
-#[cfg(test)]
-mod tests;
 
 pub use call::{
     Call, Cell, Refusal, Role, Served, leads_where_led, serve, serve_numbered, served_once,

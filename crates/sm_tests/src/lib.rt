@@ -14,4 +14,8 @@ mod placement_opening;
 #[cfg(test)]
 mod placement_totals;
 #[cfg(test)]
+mod plan_code;
+#[cfg(test)]
+mod server_calls;
+#[cfg(test)]
 mod steps;

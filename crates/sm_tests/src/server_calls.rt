@@ -1,5 +1,5 @@
 //! The table of calls, numbered calls and the handover, with each expected value written out by hand.
-use crate::{
+use sm_server::{
     Call, Cell, HandoverCells, Refusal, Role, Served, ServerId, ShardId, Steady, leads_where_led,
     serve, serve_numbered, served_once, served_where_allowed,
 };

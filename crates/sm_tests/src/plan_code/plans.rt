@@ -1,5 +1,5 @@
 //! Plans at each limit and just above it, and what a plan tells of itself.
-use crate::{Instr, Parts, Plan, PlanFault, Stream};
+use sm_plan_code::{Instr, Parts, Plan, PlanFault, Stream};
 use sm_reservation::{CellRight, Crown, Lead, Lists, Parcel, PlainCell, Room, Spare};
 use sm_server::{ServerId, ShardId};
 use std::alloc::{AllocError, Global};

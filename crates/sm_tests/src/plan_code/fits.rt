@@ -1,6 +1,6 @@
 //! Plans with an id at its count in each kind of place.
-use crate::{Instr, Parts, Plan, Stream};
 use sm_placement::{Config, Server, Shard};
+use sm_plan_code::{Instr, Parts, Plan, Stream};
 use sm_reservation::{CellRight, Crown, Lead, Lists, Parcel, PlainCell, Room, Spare};
 use sm_server::{Role, ServerId, ShardId};
 use std::alloc::{AllocError, Global};

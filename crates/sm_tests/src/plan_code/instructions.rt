@@ -1,5 +1,7 @@
 //! What the instructions of a handover mention, and which of them are calls.
-use crate::{Instr, NamedServers, Why, has_effects, is_call, names, signal_gives, wait_takes};
+use sm_plan_code::{
+    Instr, NamedServers, Why, has_effects, is_call, names, signal_gives, wait_takes,
+};
 use sm_server::{Role, ServerId, ShardId};
 use std::process::Abort;
 use std::test::Fail;
