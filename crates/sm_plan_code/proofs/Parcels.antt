@@ -1,5 +1,5 @@
 -- A parcel that leaves a hold by a signal, and one that comes into it by a wait: what is counted of each right.
-use Rattle.std.proofs.Common.{◌≡◌, ℕ, ◌+◌, true, Ok}
+use Rattle.std.proofs.Common.{◌≡◌, ◌+◌, true, Ok}
 use Rattle.std.specs.List.{list_all}
 use Rattle.std.proofs.lemmas.Bool.{and_parts}
 use Rattle.sm_reservation.specs.Rights.{Rights}

@@ -1,5 +1,5 @@
 -- Places: their tests.
-use Rattle.std.proofs.Common.{◌≡◌, ℕ, true, false, refl, arith, eqb}
+use Rattle.std.proofs.Common.{◌≡◌, ℕ, true, false, arith, eqb}
 use Rattle.std.proofs.lemmas.Bool.Decides.{nat_tests}
 use Rattle.sm_reservation.specs.Rows.{same, before}
 

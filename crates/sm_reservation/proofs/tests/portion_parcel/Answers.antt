@@ -1,4 +1,4 @@
-use Rattle.std.proofs.Common.{◌≡◌, ◌∙◌, refl}
+use Rattle.std.proofs.Common.{◌∙◌, refl}
 use Rattle.sm_reservation.proofs.TradeLemmas.{slice_is}
 use Rattle.sm_reservation.proofs.tests.portion_parcel.Goals as goal
 
