@@ -15,6 +15,7 @@ test:
 	$(MAKE) build
 	scripts/check-examples
 	scripts/check-documents
+	scripts/check-faults
 	scripts/check-command-line
 	scripts/check-memory
 	scripts/check-memory-tests sm_tests sm_reservation sm_verifier sm_plan_text sm_map

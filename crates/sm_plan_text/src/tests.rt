@@ -1,18 +1,9 @@
-//! Documents with each fault, in the places where it can come, and what a good document says.
-mod bytes;
-mod calls;
-mod counts;
-mod documents;
-mod events;
+//! What good documents and plans say, a fault of each kind, and the texts of plans. Each fault in each of the places where it can come is
+//! shown by scripts/check-faults.
+mod faults;
 mod fixtures;
-mod moves;
-mod numbers;
-mod order;
 mod parcels;
-mod plans;
 mod reading;
-mod servers;
-mod shards;
 mod shown;
 mod worked_plans;
 mod writing;

@@ -1,7 +1,4 @@
-//! Two documents, and what is wrong with their edits.
-use crate::{Member, TextFault, read_document};
-use std::alloc::{AllocError, Global};
-use std::process::Abort;
+//! Two documents.
 
 /// Three servers, two shards and no calls.
 pub const PLACEMENT: &str = r#"{"limit":1,"servers":[
@@ -31,69 +28,3 @@ pub const EVERYTHING: &str =
 {"event":"refill","plan":4,"stream":5,"more":262144},{"event":"refill","stream":6,"more":0},{"event":"begin","plan":16}],
 "moves":[{"shard":"Z","from":"x-1","to":"y_2"},{"shard":"x-1","from":"y_2","to":"y_2"}],
 "drain":"y_2","asks":["x-1","x-1"]}"#;
-
-pub const NOT_JSON: Option<TextFault> = Some(TextFault::NotJson);
-
-pub const fn shape(member: Member) -> Option<TextFault> {
-    Some(TextFault::Shape { member })
-}
-
-pub const fn unknown_name(member: Member) -> Option<TextFault> {
-    Some(TextFault::UnknownName { member })
-}
-
-pub const fn too_many(member: Member) -> Option<TextFault> {
-    Some(TextFault::TooMany { member })
-}
-
-pub const fn number(member: Member) -> Option<TextFault> {
-    Some(TextFault::Number { member })
-}
-
-/// What is wrong with a text.
-pub fn fault_of(alloc: Global, text: &str) -> Option<TextFault> {
-    match read_document(alloc, text.as_bytes()) {
-        Ok(_) => None,
-        Err(fault) => Some(fault),
-    }
-}
-
-/// Puts each of the events before those of the document with every member, and wants its fault.
-pub fn judge_events(
-    rt: &impl Abort,
-    alloc: Global,
-    events: &[(&str, Option<TextFault>)],
-) -> Result<(), AllocError> {
-    let Some((front, back)) = EVERYTHING.split_once(r#"{"event":"#) else {
-        assert!(rt; false, "there are no events");
-        return Ok(());
-    };
-    for (event, fault) in events {
-        let text = format!(in alloc; r#"{front}{event},{{"event":{back}"#)?;
-        assert_eq!(rt; fault_of(alloc, text.as_str()), *fault, "{event}");
-    }
-    Ok(())
-}
-
-/// Puts each of the new texts in the place of the first that reads as the old one in the document with every member,
-/// and wants its fault.
-pub fn judge(
-    rt: &impl Abort,
-    alloc: Global,
-    old: &str,
-    edits: &[(&str, Option<TextFault>)],
-) -> Result<(), AllocError> {
-    let Some((front, back)) = EVERYTHING.split_once(old) else {
-        assert!(rt; false, "{old} is not there");
-        return Ok(());
-    };
-    for (new, fault) in edits {
-        let text = format!(in alloc; "{front}{new}{back}")?;
-        assert_eq!(rt;
-            fault_of(alloc, text.as_str()),
-            *fault,
-            "with {new} for {old}"
-        );
-    }
-    Ok(())
-}

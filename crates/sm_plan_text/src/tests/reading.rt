@@ -1,5 +1,5 @@
 //! What good documents say.
-use super::fixtures::{EVERYTHING, PLACEMENT, fault_of};
+use super::fixtures::{EVERYTHING, PLACEMENT};
 use crate::{Document, EventText, MoveText, TextFault, read_document};
 use sm_placement::{Server, Shard};
 use sm_server::{Call, Cell, Role, ServerId, ShardId};
@@ -216,15 +216,6 @@ fn reads_what_is_empty(rt: HostRuntime) -> Result<(), Fail> {
     let calls = document.calls.ok_or("no calls")?;
     assert!(rt; calls.is_empty());
     Ok(())
-}
-
-#[test]
-fn reads_blanks_and_escapes(rt: HostRuntime) {
-    let blanks = " {\t\"limit\" : 0 ,\r\n\"servers\":[ ],\"shards\":[] } ";
-    assert_eq!(rt; fault_of(rt.alloc(), blanks), None);
-    let escapes =
-        r#"{"l\u0069mit":0,"servers":[{"name":"\u0061","region":"r","room":0}],"shards":[]}"#;
-    assert_eq!(rt; fault_of(rt.alloc(), escapes), None);
 }
 
 /// Run with each allocation refused in turn.

@@ -1,6 +1,6 @@
 //! What good plans say.
 use super::fixtures::PLACEMENT;
-use crate::{Member, TextFault, read_document, read_plan};
+use crate::{TextFault, read_document, read_plan};
 use sm_plan_code::{Instr, Plan, Stream};
 use sm_reservation::{CellRight, Crown, Lead, PlainCell, Room};
 use sm_server::{Role, ServerId, ShardId};
@@ -156,45 +156,6 @@ fn reads_plans_of_documents(rt: HostRuntime) -> Result<(), Fail> {
     assert_eq!(rt; plans.len(), 2);
     judge_drain(&rt, &plans[0]);
     judge_handover(&rt, &plans[1]);
-    Ok(())
-}
-
-/// Texts that are no plans, and their faults.
-static NO_PLANS: [(&str, TextFault); 5] = [
-    ("", TextFault::NotJson),
-    (
-        "[]",
-        TextFault::Shape {
-            member: Member::Document,
-        },
-    ),
-    (
-        r#"{"budget":0,"streams":[],"plan":{}}"#,
-        TextFault::Shape {
-            member: Member::Document,
-        },
-    ),
-    (
-        r#"{"budget":0}"#,
-        TextFault::Shape {
-            member: Member::Streams,
-        },
-    ),
-    (
-        r#"{"budget":262145,"streams":[]}"#,
-        TextFault::Number {
-            member: Member::Budget,
-        },
-    ),
-];
-
-#[test]
-fn refuses_texts_that_are_no_plans(rt: HostRuntime) -> Result<(), Fail> {
-    let document = read_document(rt.alloc(), PLACEMENT.as_bytes())?;
-    for (text, fault) in &NO_PLANS {
-        let read = read_plan(rt.alloc(), &document.config, text.as_bytes());
-        assert!(rt; read.is_err_and(|told| told == *fault), "{text}");
-    }
     Ok(())
 }
 

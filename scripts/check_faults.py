@@ -1,0 +1,164 @@
+"""Documents with faults, and what the built program answers: see scripts/check-faults."""
+import json
+import os
+import pathlib
+import subprocess
+import sys
+from concurrent.futures import ThreadPoolExecutor
+
+root, program = pathlib.Path(sys.argv[1]), sys.argv[2]
+documents = root / "tests/documents"
+# What each command answers to a document that is read, but has nothing for the command.
+LACKS = {"calls": "bad input: 3 Shape calls\n", "check": "bad input: 3 Shape plan\n"}
+
+
+def edited(case, base):
+    """The text of a case of a file."""
+    if set(case) == {"what", "text", "answer"}:
+        return case["text"]
+    if set(case) != {"what", "old", "new", "answer"}:
+        sys.exit(f"no case: {case}")
+    if case["old"] not in base:
+        sys.exit(f"{case['old']} is not in the base: {case['what']}")
+    return base.replace(case["old"], case["new"], 1)
+
+
+def cases_of(path):
+    """The cases of a file: where it stands, its bytes, its answer."""
+    whole = json.loads(path.read_bytes())
+    if not whole["groups"]:
+        sys.exit(f"{path.name} has no groups")
+    for group in whole["groups"]:
+        base = (documents / "bases" / group.get("base", whole["base"])).read_bytes().decode()
+        if not group["cases"]:
+            sys.exit(f"{path.name} has a group without cases: {group['title']}")
+        for case in group["cases"]:
+            yield f"{path.name}, {group['title']} {case['what']}", edited(case, base).encode(), case["answer"]
+
+
+def cut_and_nested():
+    """A document cut at each byte, or with a byte that no text has at each place, and lists in lists."""
+    whole = (documents / "bases/placement.json").read_bytes()
+    for at in range(len(whole)):
+        yield f"cut to {at} bytes", whole[:at], "2 NotJson"
+        yield f"no text at byte {at}", whole[:at] + b"\xff" + whole[at + 1:], "2 NotJson"
+    for depth, answer in [(127, "3 Shape document"), (128, "2 NotJson"), (200, "2 NotJson")]:
+        yield f"{depth} lists in each other", b"[" * depth + b"]" * depth, answer
+
+
+def entries(count, entry):
+    """So many entries of a list; {n} in an entry is its number."""
+    if "{n}" in entry:
+        return ",".join(entry.replace("{n}", str(n)) for n in range(count))
+    return ",".join([entry] * count)
+
+
+def document(servers="", shards="", **others):
+    """A document with these entries and members."""
+    members = "".join(f',"{name}":{value}' for name, value in others.items())
+    return f'{{"limit":0,"servers":[{servers}],"shards":[{shards}]{members}}}'.encode()
+
+
+def server_entries(count):
+    return entries(count, '{"name":"{n}","region":"r","room":1}')
+
+
+def shard_entries(count):
+    return entries(count, '{"name":"{n}","load":1,"want":0,"cap":0,"spread":0,"cells":[]}')
+
+
+def with_cells(first, second):
+    """A server, and two shards with so many cells."""
+    cell = '{"server":"0","state":"secondary"}'
+    shard = '{"name":"%d","load":0,"want":0,"cap":0,"spread":0,"cells":[%s]}'
+    return document(server_entries(1), ",".join([shard % (0, entries(first, cell)), shard % (1, entries(second, cell))]))
+
+
+def with_plan(signals=0, streams=1, code="", holds="{}", **lists):
+    stream = f'{{"budget":0,"holds":{holds},"code":[{code}]}}'
+    return document(plan=f'{{"budget":0,"signals":[{entries(signals, "{}")}],"streams":[{entries(streams, stream)}]}}', **lists)
+
+
+def with_rights(count):
+    """Rights to so many cells, each of another shard or server."""
+    rights = ",".join(f'{{"shard":"{n // 64}","server":"{n % 64}","state":"absent"}}' for n in range(count))
+    return with_plan(holds=f'{{"cells":[{rights}]}}', servers=server_entries(64), shards=shard_entries(65))
+
+
+def of_each_shard(kind, entry):
+    """A parcel with an entry for each of 4096 shards."""
+    return with_plan(holds=f'{{"{kind}":[{entries(4096, entry)}]}}', shards=shard_entries(4096))
+
+
+def listed(name, count, entry):
+    """A server, a shard, and so many entries of one of the document's lists."""
+    return document(server_entries(1), shard_entries(1), **{name: f"[{entries(count, entry)}]"})
+
+
+CALL = '{"call":"drop","shard":"0","server":"0"}'
+EVENT = '{"event":"step","stream":0}'
+MOVE = '{"shard":"0","from":"0","to":"0"}'
+WAIT = '{"do":"wait","signal":0}'
+# Lists as long as they may be, and longer ones; each document is made when its turn comes.
+SIZES = [
+    ("1024 servers, 4096 shards", lambda: document(server_entries(1024), shard_entries(4096)), None),
+    ("1025 servers, 1 shard", lambda: document(server_entries(1025), shard_entries(1)), "5 TooMany servers"),
+    ("1 server, 4097 shards", lambda: document(server_entries(1), shard_entries(4097)), "5 TooMany shards"),
+    ("1025 servers, 4097 shards", lambda: document(server_entries(1025), shard_entries(4097)), "5 TooMany servers"),
+    ("256 signals, 64 streams", lambda: with_plan(256, 64), None),
+    ("257 signals, 1 stream", lambda: with_plan(257, 1), "5 TooMany signals"),
+    ("1 signal, 65 streams", lambda: with_plan(1, 65), "5 TooMany streams"),
+    ("257 signals, 65 streams", lambda: with_plan(257, 65), "5 TooMany signals"),
+    ("4096 instructions", lambda: with_plan(1, code=entries(4096, WAIT)), None),
+    ("4097 instructions", lambda: with_plan(1, code=entries(4097, WAIT)), "5 TooMany code"),
+    ("4096 rights to cells", lambda: with_rights(4096), None),
+    ("4097 rights to cells", lambda: with_rights(4097), "5 TooMany cells"),
+    ("4096 crowns", lambda: of_each_shard("crowns", '{"shard":"{n}","lead":"gone"}'), None),
+    ("4096 spare replicas", lambda: of_each_shard("spare", '{"shard":"{n}","amount":1}'), None),
+    ("4096 moves", lambda: listed("moves", 4096, MOVE), None),
+    ("4097 moves", lambda: listed("moves", 4097, MOVE), "5 TooMany moves"),
+    ("1048576 cells of two shards", lambda: with_cells(1048570, 6), None),
+    ("1048577 cells of two shards", lambda: with_cells(1048570, 7), "5 TooMany cells"),
+    ("1048576 calls", lambda: listed("calls", 1048576, CALL), None),
+    ("1048577 calls", lambda: listed("calls", 1048577, CALL), "5 TooMany calls"),
+    ("1048576 events", lambda: listed("events", 1048576, EVENT), None),
+    ("1048577 events", lambda: listed("events", 1048577, EVENT), "5 TooMany events"),
+]
+
+
+def is_right(answer, command, printed, status):
+    """The command printed the fault and nothing else; or, where there is none, it got past reading."""
+    if answer is not None:
+        return (printed, status) == (f"bad input: {answer}\n", 2)
+    return (printed, status) == (LACKS[command], 2) or (not printed.startswith("bad input: ") and status in (0, 1))
+
+
+def told(case):
+    """What is wrong with the program's answers to a case, if anything is."""
+    where, text, answer = case
+    if callable(text):
+        text = text()
+    for command in LACKS:
+        run = subprocess.run([program, command], input=text, stdout=subprocess.PIPE)
+        printed = run.stdout.decode()
+        if not is_right(answer, command, printed, run.returncode):
+            wanted = answer or "no fault"
+            return f"{where}: {command} prints {printed[:80]!r}, status {run.returncode}, where {wanted} is wanted"
+    return None
+
+
+files = sorted((documents / "faults").glob("*.json"))
+written = [case for path in files for case in cases_of(path)]
+made = list(cut_and_nested())
+if not written or not made or not SIZES:
+    sys.exit("faults: a table is empty")
+with ThreadPoolExecutor(os.cpu_count()) as workers:
+    answers = list(workers.map(told, written + made))
+# A large document takes over a gigabyte of memory.
+with ThreadPoolExecutor(2) as workers:
+    answers += workers.map(told, SIZES)
+failed = [answer for answer in answers if answer is not None]
+for line in failed[:20]:
+    print(line)
+print(f"faults: {len(written)} of {len(files)} files, {len(made)} cut or nested, {len(SIZES)} large, {len(failed)} failed")
+sys.exit(1 if failed else 0)
