@@ -17,8 +17,6 @@ mod plan;
 mod plan_text;
 mod server;
 mod shard;
-#[cfg(test)]
-mod tests;
 mod writing;
 
 pub use document::{Document, read_document};

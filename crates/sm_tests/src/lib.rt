@@ -16,6 +16,8 @@ mod placement_totals;
 #[cfg(test)]
 mod plan_code;
 #[cfg(test)]
+mod plan_text;
+#[cfg(test)]
 mod server_calls;
 #[cfg(test)]
 mod steps;

@@ -1,5 +1,5 @@
 //! How faults are shown.
-use crate::{Member, TextFault, first_is_answered};
+use sm_plan_text::{Member, TextFault, first_is_answered};
 use std::test::Fail;
 
 #[test]

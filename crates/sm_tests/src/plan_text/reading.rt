@@ -1,7 +1,7 @@
 //! What good documents say.
 use super::fixtures::{EVERYTHING, PLACEMENT};
-use crate::{Document, EventText, MoveText, TextFault, read_document};
 use sm_placement::{Server, Shard};
+use sm_plan_text::{Document, EventText, MoveText, TextFault, read_document};
 use sm_server::{Call, Cell, Role, ServerId, ShardId};
 use std::alloc::{AllocError, Global};
 use std::process::Abort;

@@ -1,7 +1,7 @@
 //! The texts of plans.
-use crate::write_plan;
 use sm_placement::{Config, Lead, Server, Shard};
 use sm_plan_code::{Instr, Parts, Plan, Stream};
+use sm_plan_text::write_plan;
 use sm_reservation::{CellRight, Crown, Lists, Parcel, PlainCell, Room, Spare};
 use sm_server::{Role, ServerId, ShardId};
 use std::alloc::{AllocError, Global};

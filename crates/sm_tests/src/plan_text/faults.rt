@@ -1,6 +1,6 @@
 //! A fault of each kind, of documents and of plans.
 use super::fixtures::PLACEMENT;
-use crate::{Member, TextFault, read_document, read_plan};
+use sm_plan_text::{Member, TextFault, read_document, read_plan};
 use std::alloc::{AllocError, Global};
 use std::test::Fail;
 

@@ -1,7 +1,7 @@
 //! What good plans say.
 use super::fixtures::PLACEMENT;
-use crate::{TextFault, read_document, read_plan};
 use sm_plan_code::{Instr, Plan, Stream};
+use sm_plan_text::{TextFault, read_document, read_plan};
 use sm_reservation::{CellRight, Crown, Lead, PlainCell, Room};
 use sm_server::{Role, ServerId, ShardId};
 use std::process::Abort;

@@ -1,10 +1,7 @@
 //! What a parcel says.
-use crate::fault::Faults;
-use crate::names::Names;
-use crate::parcel::read_parcel;
-use crate::{Member, TextFault};
-use serde_json::Value;
-use sm_placement::Lead;
+use sm_placement::{Config, Lead, Server, Shard};
+use sm_plan_code::Plan;
+use sm_plan_text::{TextFault, read_plan};
 use sm_reservation::{CellRight, Crown, Parcel, PlainCell, Room, Spare};
 use sm_server::{ServerId, ShardId};
 use std::alloc::{AllocError, Global};
@@ -21,38 +18,35 @@ const PARCEL: &str = r#"{"cells":[{"shard":"t","server":"b","state":"absent"},
 "room":[{"server":"b","amount":4294967295},{"server":"a","amount":0}],
 "spare":[{"shard":"t","amount":1},{"shard":"u","amount":0},{"shard":"s","amount":2}]}"#;
 
-/// What was read of a parcel, and its fault.
-#[derive(Drop)]
-struct Outcome {
-    parcel: Parcel,
-    fault: Option<TextFault>,
-}
-
-fn names(alloc: Global, texts: &[&str]) -> Result<Names, AllocError> {
-    let mut names = Names::new(alloc);
-    for text in texts {
-        names.insert(String::from_str(alloc, *text)?)?;
+/// Servers a and b, and shards s to w.
+fn config(alloc: Global) -> Result<Config, AllocError> {
+    let mut servers = Vec::new(alloc);
+    for name in ["a", "b"] {
+        servers.push(Server {
+            name: String::from_str(alloc, name)?,
+            region: String::from_str(alloc, "r")?,
+            room: 0,
+        })?;
     }
-    Ok(names)
+    let mut shards = Vec::new(alloc);
+    for name in ["s", "t", "u", "v", "w"] {
+        shards.push(Shard {
+            name: String::from_str(alloc, name)?,
+            load: 0,
+            want: 0,
+            cap: 0,
+            spread: 0,
+        })?;
+    }
+    Config::new(alloc, &servers, &shards).map_err(|_| AllocError)
 }
 
-/// The parcel of a text that is JSON.
-fn read(alloc: Global, text: &str, shards: &Names) -> Result<Outcome, AllocError> {
-    let Ok(object) = Value::from_str(alloc, text) else {
-        return Err(AllocError);
-    };
-    let servers = names(alloc, &["a", "b"])?;
-    let mut faults = Faults { lowest: None };
-    let parcel = read_parcel(alloc, &object, Member::Holds, shards, &servers, &mut faults)?;
-    Ok(Outcome {
-        parcel,
-        fault: faults.lowest,
-    })
-}
-
-fn read_named(alloc: Global, text: &str) -> Result<Outcome, AllocError> {
-    let shards = names(alloc, &["s", "t", "u", "v", "w"])?;
-    read(alloc, text, &shards)
+/// The plan of one stream that holds the parcel of a text.
+fn read_holding(alloc: Global, parcel: &str) -> Result<Plan, TextFault> {
+    let config = config(alloc).map_err(|_| TextFault::NoMemory)?;
+    let front = r#"{"budget":0,"streams":[{"budget":0,"code":[],"holds":"#;
+    let text = format!(in alloc; "{front}{parcel}}}]}}").map_err(|_| TextFault::NoMemory)?;
+    read_plan(alloc, &config, text.as_bytes())
 }
 
 const fn right(shard: u32, server: u32, state: PlainCell) -> CellRight {
@@ -115,50 +109,31 @@ fn judge_amounts(rt: &impl Abort, parcel: &Parcel) {
 /// Rights go by their keys, and amounts of 0 are left out.
 #[test]
 fn reads_each_right(rt: HostRuntime) -> Result<(), Fail> {
-    let read = read_named(rt.alloc(), PARCEL)?;
-    assert_eq!(rt; read.fault, None);
-    judge_cells(&rt, &read.parcel);
-    judge_crowns(&rt, &read.parcel);
-    judge_amounts(&rt, &read.parcel);
+    let plan = read_holding(rt.alloc(), PARCEL)?;
+    assert_eq!(rt; plan.streams().len(), 1);
+    for stream in plan.streams() {
+        judge_cells(&rt, &stream.holds);
+        judge_crowns(&rt, &stream.holds);
+        judge_amounts(&rt, &stream.holds);
+    }
     Ok(())
+}
+
+fn is_nothing(parcel: &Parcel) -> bool {
+    parcel.cells().is_empty()
+        && parcel.crowns().is_empty()
+        && parcel.room().is_empty()
+        && parcel.spare().is_empty()
 }
 
 #[test]
 fn reads_a_parcel_of_nothing(rt: HostRuntime) -> Result<(), Fail> {
     for text in ["{}", r#"{"spare":[],"crowns":[],"cells":[],"room":[]}"#] {
-        let read = read_named(rt.alloc(), text)?;
-        assert_eq!(rt; read.fault, None);
-        assert!(rt; read.parcel.cells().is_empty());
-        assert!(rt; read.parcel.crowns().is_empty());
-        assert!(rt; read.parcel.room().is_empty());
-        assert!(rt; read.parcel.spare().is_empty());
-    }
-    Ok(())
-}
-
-/// A parcel of so many spare replicas, and the names of their shards.
-fn spared(alloc: Global, count: u32) -> Result<(String, Names), AllocError> {
-    let mut text = String::from_str(alloc, r#"{"spare":["#)?;
-    let mut shards = Names::new(alloc);
-    for n in 0..count {
-        if n > 0 {
-            text.push_str(",")?;
+        let plan = read_holding(rt.alloc(), text)?;
+        assert_eq!(rt; plan.streams().len(), 1);
+        for stream in plan.streams() {
+            assert!(rt; is_nothing(&stream.holds));
         }
-        write!(text, r#"{{"shard":"{n}","amount":1}}"#)?;
-        shards.insert(format!(in alloc; "{n}")?)?;
     }
-    text.push_str("]}")?;
-    Ok((text, shards))
-}
-
-/// No document has so many shards.
-#[test]
-fn refuses_too_many_rights(rt: HostRuntime) -> Result<(), Fail> {
-    let (text, shards) = spared(rt.alloc(), 4097)?;
-    let read = read(rt.alloc(), text.as_str(), &shards)?;
-    let too_many = TextFault::TooMany {
-        member: Member::Spare,
-    };
-    assert_eq!(rt; read.fault, Some(too_many));
     Ok(())
 }
