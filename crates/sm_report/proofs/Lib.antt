@@ -1,3 +1,4 @@
 pub mod CommandLine
 pub mod Reported
 pub mod Texts
+pub mod OneReport

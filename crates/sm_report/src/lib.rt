@@ -18,5 +18,5 @@ mod verdict;
 
 pub use command::{Command, LineFault, Word, command_of};
 pub use input::{InputFault, take_input};
-pub use reporting::report;
+pub use reporting::{one_report, report};
 pub use status::Status;

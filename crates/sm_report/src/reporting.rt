@@ -1,8 +1,9 @@
 //! Reports, from the bytes that are read to the bytes that are written.
-ghost use Rattle.std.specs.Prelude.{◌≡◌, ◌≤◌, ◌<◌, ◌⊎◌, ℕ, take, vec_len, IfOk, IfErr, IfSome};
+ghost use Rattle.std.specs.Prelude.{◌≡◌, ◌≤◌, ◌<◌, ◌⊎◌, ℕ, List, take, vec_len, IfOk, IfErr, IfSome};
 ghost use Rattle.std.specs.Io.KnownBytes.{Appends, Keeps};
 ghost use Rattle.sm_plan_text.specs.Documents.{IsDocument};
 ghost use Rattle.sm_plan_text.specs.Reading.{rows_of};
+ghost use Rattle.sm_report.specs.declared.command.Command.{Command};
 ghost use Rattle.sm_report.specs.Status.{code_of};
 ghost use Rattle.sm_report.specs.Report.{Output};
 ghost use Rattle.sm_report.specs.Output.{IsDocumentReport, IsReport};
@@ -14,6 +15,7 @@ use crate::input::{InputFault, take_input};
 use crate::made::Made;
 use crate::status::Status;
 use sm_plan_text::{Document, TextFault, read_document};
+use sm_verifier::{one_fault, one_holding};
 use std::alloc::{AllocError, Global};
 use std::io::{Read, Write};
 
@@ -85,4 +87,12 @@ pub fn report<R: Read, W: Write>(
         Ok(made) => made.write(writer),
         Err(status) => status,
     }
+}
+
+/// What a command reports of an input is one report, since the verdict on a plan is one.
+pub fn one_report()
+    ensures { (command : Command) (most : ℕ) (bytes : List ℕ) (a b : Output) → IsReport command most bytes a → IsReport command most bytes b → a ≡ b }
+{
+    one_fault();
+    one_holding();
 }

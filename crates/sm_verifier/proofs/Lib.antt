@@ -12,3 +12,5 @@ pub mod FirstRows
 pub mod Judging
 pub mod Beyond
 pub mod DownLemmas
+pub mod Verdicts
+pub mod VerdictCases

@@ -12,3 +12,4 @@ pub mod CheckedView
 pub mod Admission
 pub mod Finding
 pub mod Downs
+pub mod Verdict

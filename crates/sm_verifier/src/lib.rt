@@ -18,9 +18,11 @@ mod steps;
 #[cfg(test)]
 mod tests;
 mod truth;
+mod verdict;
 
 pub use admission::{Holding, admit};
 pub use checked::Checked;
 pub use checking::{Fault, check};
 pub use following::{Bad, follow};
 pub use steps::{StepFault, step};
+pub use verdict::{one_fault, one_holding};
