@@ -10,9 +10,11 @@ build:
 run: build
 	build/smplan calls < examples/placement.json
 
+# (the gate leaves the program that it has proved and run beside its crate)
 test:
 	rt ci
-	$(MAKE) build
+	mkdir -p build
+	cp crates/smplan/out/smplan build/smplan
 	scripts/check-examples
 	scripts/check-documents
 	scripts/check-faults
