@@ -4,11 +4,14 @@ ghost use Rattle.std.specs.List.{AllByRecursion};
 ghost use Rattle.sm_reservation.specs.Rows.{Rises, HasPositive};
 ghost use Rattle.sm_reservation.specs.Key.{cell_place, crown_place, room_place, spare_place, IsOnce, IsOrdered, IsPositive, AreU64, IsSortedFrom, IsInOrder, first_double, lists as rights_in};
 ghost use Rattle.sm_reservation.specs.InOrder.{in_order};
+ghost use Rattle.sm_reservation.specs.HoldOf.{hold_of};
 ghost use Rattle.sm_reservation.specs.Lists.{rights_of};
 ghost use Rattle.sm_reservation.specs.Fault.{IsFaultOf};
 
 use crate::order::{drop_empty, first_twin, sorted_rows};
-use crate::right::{CellRight, Crown, Key, Room, Spare};
+use crate::right::{CellRight, Crown, Key, PlainCell, Room, Spare};
+use crate::rows::row_at;
+use sm_placement::Lead;
 use sm_server::{ServerId, ShardId};
 use std::alloc::{AllocError, Global};
 use std::marker::Model;
@@ -145,6 +148,38 @@ impl Parcel {
         ensures bounded { AllByRecursion (λ x. x.amount < 2 ^ 64) result.now }
     {
         self.spare.as_slice()
+    }
+
+    /// The state of a cell to which there is a right.
+    #[tactic(auto, unfolding(crate::specs::HoldOf::hold_of))]
+    pub fn cell(&self, shard: ShardId, server: ServerId) -> Option<PlainCell>
+        ensures { result ≡ (hold_of self.now).cells shard server }
+    {
+        row_at(self.cells(), (shard.number(), server.number())).map(|right| right.state)
+    }
+
+    /// The lead and the listed server of a shard's crown.
+    #[tactic(auto, unfolding(crate::specs::HoldOf::hold_of))]
+    pub fn crown(&self, shard: ShardId) -> Option<(Lead, Option<ServerId>)>
+        ensures { result ≡ (hold_of self.now).crowns shard }
+    {
+        row_at(self.crowns(), (shard.number(), 0)).map(|crown| (crown.lead, crown.listed))
+    }
+
+    /// How much room of a server there is.
+    #[tactic(auto, unfolding(crate::specs::HoldOf::hold_of))]
+    pub fn room_of(&self, server: ServerId) -> u64
+        ensures { result ≡ (hold_of self.now).room server }
+    {
+        row_at(self.room(), (server.number(), 0)).map_or(0, |room| room.amount)
+    }
+
+    /// How many spare replicas of a shard there are.
+    #[tactic(auto, unfolding(crate::specs::HoldOf::hold_of))]
+    pub fn spare_of(&self, shard: ShardId) -> u64
+        ensures { result ≡ (hold_of self.now).spare shard }
+    {
+        row_at(self.spare(), (shard.number(), 0)).map_or(0, |spare| spare.amount)
     }
 }
 

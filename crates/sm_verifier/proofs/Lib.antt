@@ -7,7 +7,6 @@ pub mod Runs
 pub mod Settled
 pub mod Streams
 pub mod Walks
-pub mod LookUps
 pub mod FirstRows
 pub mod Judging
 pub mod Beyond

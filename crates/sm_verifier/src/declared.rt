@@ -1,53 +1,13 @@
 //! What streams declare: looked up in their parcels, and added up.
 ghost use Rattle.std.specs.Prelude.{◌≡◌, ◌≤◌, ◌<◌, ◌^◌, All, is_some, length};
 ghost use Rattle.std.specs.List.{list_any};
-ghost use Rattle.sm_reservation.specs.Rows.{row_at, amount_at};
-ghost use Rattle.sm_reservation.specs.Key.{cell_place, crown_place, room_place, spare_place};
 ghost use Rattle.sm_reservation.specs.HoldOf.{hold_of};
 ghost use Rattle.sm_plan_code.specs.Plan.{IsSmallStream, IsSmallParcel};
 ghost use Rattle.sm_verifier.specs.Admission.{declared_room, declared_spare};
 
 use sm_plan_code::Stream;
-use sm_reservation::{CellRight, Crown, Parcel, Room, Spare};
+use sm_reservation::Parcel;
 use sm_server::{ServerId, ShardId};
-
-/// One of the rights is to the cell.
-fn has_cell(cells: &[CellRight], shard: ShardId, server: ServerId) -> bool
-    ensures { result ≡ is_some (row_at cell_place cells.now (shard, server)) }
-{
-    for right in cells {
-        if right.shard == shard && right.server == server {
-            return true;
-        }
-    }
-    false
-}
-
-/// One of the crowns is of the shard.
-fn has_crown(crowns: &[Crown], shard: ShardId) -> bool
-    ensures { result ≡ is_some (row_at crown_place crowns.now (shard, 0)) }
-{
-    for crown in crowns {
-        if crown.shard == shard {
-            return true;
-        }
-    }
-    false
-}
-
-/// The parcel has the right to a cell.
-fn has_cell_right(parcel: &Parcel, shard: ShardId, server: ServerId) -> bool
-    ensures { result ≡ is_some ((hold_of parcel.now).cells shard server) }
-{
-    has_cell(parcel.cells(), shard, server)
-}
-
-/// The parcel has the crown of a shard.
-fn has_crown_of(parcel: &Parcel, shard: ShardId) -> bool
-    ensures { result ≡ is_some ((hold_of parcel.now).crowns shard) }
-{
-    has_crown(parcel.crowns(), shard)
-}
 
 /// One of the streams declares the right to a cell.
 pub(crate) fn is_cell_declared(streams: &[Stream], shard: ShardId, server: ServerId) -> bool
@@ -55,7 +15,7 @@ pub(crate) fn is_cell_declared(streams: &[Stream], shard: ShardId, server: Serve
 {
     streams
         .iter()
-        .any(|stream| has_cell_right(&stream.holds, shard, server))
+        .any(|stream| stream.holds.cell(shard, server).is_some())
 }
 
 /// One of the streams declares the crown of a shard.
@@ -64,31 +24,7 @@ pub(crate) fn is_crown_declared(streams: &[Stream], shard: ShardId) -> bool
 {
     streams
         .iter()
-        .any(|stream| has_crown_of(&stream.holds, shard))
-}
-
-/// The amount of a server's room.
-fn room_at(rooms: &[Room], server: ServerId) -> u64
-    ensures { result ≡ amount_at room_place (λ x. x.amount) rooms.now (server, 0) }
-{
-    for room in rooms {
-        if room.server == server {
-            return room.amount;
-        }
-    }
-    0
-}
-
-/// The amount of a shard's spare replicas.
-fn spare_at(spares: &[Spare], shard: ShardId) -> u64
-    ensures { result ≡ amount_at spare_place (λ x. x.amount) spares.now (shard, 0) }
-{
-    for spare in spares {
-        if spare.shard == shard {
-            return spare.amount;
-        }
-    }
-    0
+        .any(|stream| stream.holds.crown(shard).is_some())
 }
 
 /// How much room of a server a parcel has.
@@ -97,7 +33,7 @@ fn room_of(parcel: &Parcel, server: ServerId) -> u64
     ensures value { result ≡ (hold_of parcel.now).room server }
     ensures bound { result ≤ 2 ^ 32 }
 {
-    room_at(parcel.room(), server)
+    parcel.room_of(server)
 }
 
 /// How many spare replicas of a shard a parcel has.
@@ -106,7 +42,7 @@ fn spare_of(parcel: &Parcel, shard: ShardId) -> u64
     ensures value { result ≡ (hold_of parcel.now).spare shard }
     ensures bound { result ≤ 2 ^ 32 }
 {
-    spare_at(parcel.spare(), shard)
+    parcel.spare_of(shard)
 }
 
 /// How much room of a server the streams declare together.

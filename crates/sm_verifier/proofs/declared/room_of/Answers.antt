@@ -1,11 +1,5 @@
-use Rattle.sm_reservation.specs.HoldOf.{hold_of}
 use Rattle.sm_verifier.proofs.Growth.{small_amounts}
 use Rattle.sm_verifier.proofs.declared.room_of.Goals as goal
 
-pub returns-clause-value : goal.returns-clause-value
-unfolding hold_of
-returns-clause-value c = rw c.room.ensures.value at c.room_at.ensures
-
 pub returns-clause-bound : goal.returns-clause-bound
-unfolding hold_of
-returns-clause-bound c = rw (rw c.room.ensures.value at c.room_at.ensures) ((small_amounts c.args.parcel.now c.requires).room c.args.server)
+returns-clause-bound c = rw c.room_of.ensures ((small_amounts c.args.parcel.now c.requires).room c.args.server)
