@@ -412,14 +412,14 @@ fn a_copy_is_equal(rt: HostRuntime) -> Result<(), Fail> {
     Ok(())
 }
 
-/// Whether the small configuration is the one of these rows.
-fn is_small(
+/// What `==` and `!=` say of the small configuration and the one of these rows.
+fn compared(
     alloc: Global,
     servers: &[ServerRow],
     shards: &[ShardRow],
-) -> Result<bool, ConfigFault> {
+) -> Result<[bool; 2], ConfigFault> {
     let small = small_config(alloc)?;
-    config(alloc, servers, shards).map(|other| other == small)
+    config(alloc, servers, shards).map(|other| [small == other, small != other])
 }
 
 /// Asserts whether the small configuration is the one of these rows.
@@ -430,8 +430,8 @@ fn assert_equal(
     shards: &[ShardRow],
     is_equal: bool,
 ) {
-    let told = is_small(alloc, servers, shards);
-    assert_eq!(rt; told, Ok(is_equal), "{servers:?} {shards:?}");
+    let told = compared(alloc, servers, shards);
+    assert_eq!(rt; told, Ok([is_equal, !is_equal]), "{servers:?} {shards:?}");
 }
 
 #[test]

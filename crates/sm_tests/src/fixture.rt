@@ -123,6 +123,11 @@ pub(crate) fn copied(alloc: Global, placement: &Placement) -> Result<Placement, 
     Ok(placement.copy(alloc)?)
 }
 
+/// Whether a placement is of this configuration, with a limit of 1 on the servers that are down.
+pub(crate) fn has_setup(placement: &Placement, config: &Config) -> bool {
+    placement.config() == config && placement.limit() == 1
+}
+
 /// The id of a server, which has to be there.
 pub(crate) fn server_id(rt: &impl Abort, placement: &Placement, server: u32) -> ServerId
     ensures { result < length placement.now.setup.servers }

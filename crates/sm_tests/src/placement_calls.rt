@@ -42,8 +42,8 @@ fn after(answer: &Answer, before: &Cell) -> Cell {
     }
 }
 
-/// Brings the cell of shard 0 at server 1, which is absent, to a state by one or two calls, makes another call there, and
-/// compares its answer and the cell afterwards.
+/// Brings the cell of shard 0 at server 1, which is absent, to a state by these calls, makes another call there, and compares
+/// its answer and the cell afterwards.
 fn test_at(
     rt: &impl Abort,
     alloc: Global,
@@ -400,7 +400,7 @@ fn settled_placements_have_few_servers_down(rt: HostRuntime) -> Result<(), Fail>
 /// Whether a copy of a placement has its configuration, and a limit of 1.
 fn has_same_setup(alloc: Global, placement: &Placement) -> Result<bool, OpenFault> {
     let copy = copied(alloc, placement)?;
-    Ok(copy.config() == placement.config() && copy.limit() == 1)
+    Ok(has_setup(&copy, placement.config()))
 }
 
 /// Copies a placement, and follows the steps from the placement and from the copy.

@@ -58,7 +58,7 @@ fn open_with_one_down(alloc: Global, config: &Config) -> Result<Placement, OpenF
 /// Whether that placement has the configuration and the limit that it is opened with.
 fn keeps_setup(alloc: Global, config: &Config) -> Result<bool, OpenFault> {
     let placement = open_with_one_down(alloc, config)?;
-    Ok(placement.config() == config && placement.limit() == 1)
+    Ok(has_setup(&placement, config))
 }
 
 #[test]
