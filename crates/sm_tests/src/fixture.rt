@@ -51,6 +51,11 @@ pub(crate) fn shard(
     })
 }
 
+/// Whether a server has these members.
+pub(crate) fn is_server(server: &Server, name: &str, region: &str, room: u64) -> bool {
+    server.name.as_str() == name && server.region.as_str() == region && server.room == room
+}
+
 /// As many servers with this room.
 pub(crate) fn many_servers(
     alloc: Global,
@@ -111,6 +116,16 @@ pub(crate) fn small_placement(alloc: Global, config: &Config) -> Result<Placemen
     ];
     let listed = [Some(ServerId::new(0)), Some(ServerId::new(1))];
     Placement::open(alloc, config, &cells, &listed, &[], 1)
+}
+
+/// A copy of a placement.
+pub(crate) fn copied(alloc: Global, placement: &Placement) -> Result<Placement, OpenFault> {
+    Ok(placement.copy(alloc)?)
+}
+
+/// Whether a placement is of this configuration, with a limit of 1 on the servers that are down.
+pub(crate) fn has_setup(placement: &Placement, config: &Config) -> bool {
+    placement.config() == config && placement.limit() == 1
 }
 
 /// The id of a server, which has to be there.

@@ -1,22 +1,44 @@
 //! Calls that take memory. `scripts/check-memory` runs each of these tests with its first allocation refused, then with its
 //! second, and so on: the answer has to be want of memory, or the right one.
 use crate::fixture::*;
-use sm_placement::{Config, ConfigFault, OpenFault, Server, Shard};
+use sm_placement::{Config, ConfigFault, OpenFault, Placement, Server, Shard};
 use sm_server::Cell;
+use std::alloc::Global;
 use std::process::Abort;
 
-/// Asserts that the servers and shards are those that `refused_memory_is_told` made.
-fn assert_small(rt: &impl Abort, servers: &[Server], shards: &[Shard]) {
-    assert_eq!(rt; servers.len(), 2);
-    assert_eq!(rt; servers[0].name.as_str(), "a");
-    assert_eq!(rt; servers[0].region.as_str(), "r1");
-    assert_eq!(rt; servers[0].room, 10);
-    assert_eq!(rt; servers[1].name.as_str(), "b");
-    assert_eq!(rt; servers[1].region.as_str(), "r2");
-    assert_eq!(rt; servers[1].room, 4);
-    assert_eq!(rt; shards.len(), 1);
-    assert_eq!(rt; shards[0].name.as_str(), "s");
-    assert_eq!(rt; shards[0].want, 2);
+/// Whether the servers are those that `a_configuration_is_made_and_copied_or_not` made.
+fn are_made_servers(servers: &[Server]) -> bool {
+    servers.len() == 2
+        && is_server(&servers[0], "a", "r1", 10)
+        && is_server(&servers[1], "b", "r2", 4)
+}
+
+/// Whether the shards are those that `a_configuration_is_made_and_copied_or_not` made.
+fn are_made_shards(shards: &[Shard]) -> bool {
+    shards.len() == 1 && shards[0].name.as_str() == "s" && shards[0].want == 2
+}
+
+/// Asserts that the servers and shards are those that `a_configuration_is_made_and_copied_or_not` made.
+fn assert_made_rows(rt: &impl Abort, servers: &[Server], shards: &[Shard]) {
+    assert!(rt; are_made_servers(servers), "{servers:?}");
+    assert!(rt; are_made_shards(shards), "{shards:?}");
+}
+
+/// Asserts that a copy of the configuration, where it is made, and the configuration are right.
+fn assert_copied(rt: &impl Abort, alloc: Global, config: &Config) {
+    if let Ok(copy) = config.copy(alloc) {
+        assert_made_rows(rt, copy.servers(), copy.shards());
+    }
+    assert_made_rows(rt, config.servers(), config.shards());
+}
+
+/// Asserts that the configuration of these servers and shards is made and copied, or that memory was refused.
+fn assert_made(rt: &impl Abort, alloc: Global, servers: &[Server], shards: &[Shard]) {
+    match Config::new(alloc, servers, shards) {
+        Err(why) => assert_eq!(rt; why, ConfigFault::NoMemory),
+        Ok(config) => assert_copied(rt, alloc, &config),
+    }
+    assert_made_rows(rt, servers, shards);
 }
 
 /// Where an allocation is refused, `new` and `copy` say so, and what they were given is as it was.
@@ -29,29 +51,38 @@ fn a_configuration_is_made_and_copied_or_not(rt: HostRuntime) {
     let Ok(s) = shard(alloc, "s", 4, 2, 1) else {
         return;
     };
-    let (servers, shards) = ([a, b], [s]);
-    match Config::new(alloc, &servers, &shards) {
-        Err(why) => assert_eq!(rt; why, ConfigFault::NoMemory),
-        Ok(config) => {
-            if let Ok(copy) = config.copy(alloc) {
-                assert_small(&rt, copy.servers(), copy.shards());
-            }
-            assert_small(&rt, config.servers(), config.shards());
-        }
+    assert_made(&rt, alloc, &[a, b], &[s]);
+}
+
+/// Asserts that the small placement is opened and settled, or that memory was refused.
+fn assert_opened(rt: &impl Abort, alloc: Global, config: &Config) {
+    match small_placement(alloc, config) {
+        Ok(placement) => assert!(rt; placement.settled()),
+        Err(why) => assert_eq!(rt; why, OpenFault::NoMemory),
     }
-    assert_small(&rt, &servers, &shards);
+    assert_eq!(rt; config.server_count(), 3);
 }
 
 #[test]
 fn a_placement_is_opened_or_not(rt: HostRuntime) {
     let alloc = rt.alloc();
     if let Ok(config) = small_config(alloc) {
-        match small_placement(alloc, &config) {
-            Ok(placement) => assert!(rt; placement.settled()),
-            Err(why) => assert_eq!(rt; why, OpenFault::NoMemory),
-        }
-        assert_eq!(rt; config.server_count(), 3);
+        assert_opened(&rt, alloc, &config);
     }
+}
+
+/// Asserts that a placement is the small one.
+fn assert_small_placement(rt: &impl Abort, placement: &Placement) {
+    assert_eq!(rt; cell(rt, placement, 0, 0), Cell::Primary);
+    assert!(rt; placement.settled());
+}
+
+/// Asserts that a copy of the small placement, where it is made, and the placement are right.
+fn assert_copied_placement(rt: &impl Abort, alloc: Global, placement: &Placement) {
+    if let Ok(copy) = copied(alloc, placement) {
+        assert_small_placement(rt, &copy);
+    }
+    assert_small_placement(rt, placement);
 }
 
 #[test]
@@ -59,11 +90,7 @@ fn a_placement_is_copied_or_not(rt: HostRuntime) {
     let alloc = rt.alloc();
     if let Ok(config) = small_config(alloc) {
         if let Ok(placement) = small_placement(alloc, &config) {
-            if let Ok(copy) = placement.copy(alloc) {
-                assert_eq!(rt; cell(&rt, &copy, 0, 0), Cell::Primary);
-            }
-            assert_eq!(rt; cell(&rt, &placement, 0, 0), Cell::Primary);
-            assert!(rt; placement.settled());
+            assert_copied_placement(&rt, alloc, &placement);
         }
     }
 }

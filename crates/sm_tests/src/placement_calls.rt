@@ -1,8 +1,8 @@
 //! The calls and readers of a placement.
 use crate::fixture::*;
 use crate::steps::Step::*;
-use crate::steps::{Step, follow};
-use sm_placement::{Placement, Serving};
+use crate::steps::{Step, follow, follow_opened, follow_small};
+use sm_placement::{OpenFault, Placement, Serving};
 use sm_server::{Call, Cell, Refusal, Role, ServerId};
 use std::alloc::Global;
 use std::process::Abort;
@@ -10,27 +10,6 @@ use std::test::Fail;
 
 fn id(server: u32) -> ServerId {
     ServerId::new(server)
-}
-
-/// Brings the cell of shard 0 at server 1, which is absent, to this state.
-fn reach(rt: &impl Abort, placement: &mut Placement, state: &Cell) {
-    let first = match state {
-        Cell::Absent => return,
-        Cell::Prepared { from, number } => Call::PrepareAdd {
-            owner: *from,
-            number: *number,
-        },
-        Cell::Secondary => ADD_SECONDARY,
-        _ => ADD_PRIMARY,
-    };
-    assert_eq!(rt; call(rt, placement, 1, 0, first), Ok(()));
-    if let Cell::Forwarding { to, number } = state {
-        let forward = Call::PrepareDrop {
-            new_owner: *to,
-            number: *number,
-        };
-        assert_eq!(rt; call(rt, placement, 1, 0, forward), Ok(()));
-    }
 }
 
 type Answer = Result<Cell, Refusal>;
@@ -47,30 +26,40 @@ const SECONDARY: Answer = Ok(Cell::Secondary);
 
 const PRIMARY: Answer = Ok(Cell::Primary);
 
-/// Makes a call at a cell of this state, and compares its answer and the cell afterwards.
+/// What a call has to tell, by its answer.
+fn told(answer: &Answer) -> Result<(), Refusal> {
+    match answer {
+        Ok(_) => Ok(()),
+        Err(why) => Err(*why),
+    }
+}
+
+/// What a cell has to be after a call, by its answer and what it was before.
+fn after(answer: &Answer, before: &Cell) -> Cell {
+    match answer {
+        Ok(next) => *next,
+        Err(_) => *before,
+    }
+}
+
+/// Brings the cell of shard 0 at server 1, which is absent, to a state by these calls, makes another call there, and compares
+/// its answer and the cell afterwards.
 fn test_at(
     rt: &impl Abort,
     alloc: Global,
-    made: &Call,
+    calls: &[Call],
     before: &Cell,
+    made: &Call,
     answer: &Answer,
 ) -> Result<(), Fail> {
-    let config = small_config(alloc)?;
-    let mut placement = small_placement(alloc, &config)?;
-    reach(rt, &mut placement, before);
-    let told = call(rt, &mut placement, 1, 0, *made);
-    let after = cell(rt, &placement, 0, 1);
-    match answer {
-        Ok(next) => {
-            assert_eq!(rt; told, Ok(()));
-            assert_eq!(rt; after, *next);
-        }
-        Err(why) => {
-            assert_eq!(rt; told, Err(*why));
-            assert_eq!(rt; after, *before);
-        }
+    let mut steps = Vec::new(alloc);
+    for first in calls {
+        steps.push(Made(1, 0, *first, Ok(())))?;
     }
-    Ok(())
+    steps.push(HasCell(1, 0, *before))?;
+    steps.push(Made(1, 0, *made, told(answer)))?;
+    steps.push(HasCell(1, 0, after(answer, before)))?;
+    follow_small(rt, alloc, &steps)
 }
 
 /// The answers to a call, by what the cell is.
@@ -85,19 +74,40 @@ struct Answers {
 
 /// Makes a call at a cell of each state.
 fn test_call(rt: &impl Abort, alloc: Global, made: &Call, answers: &Answers) -> Result<(), Fail> {
-    let prepared = Cell::Prepared {
-        from: id(0),
-        number: 3,
-    };
-    let forwarding = Cell::Forwarding {
-        to: id(2),
-        number: 3,
-    };
-    test_at(rt, alloc, made, &Cell::Absent, &answers.absent)?;
-    test_at(rt, alloc, made, &prepared, &answers.prepared)?;
-    test_at(rt, alloc, made, &Cell::Secondary, &answers.secondary)?;
-    test_at(rt, alloc, made, &Cell::Primary, &answers.primary)?;
-    test_at(rt, alloc, made, &forwarding, &answers.forwarding)
+    let (from, to, number) = (id(0), id(2), 3);
+    let owner = from;
+    let new_owner = to;
+    let prepared = Cell::Prepared { from, number };
+    let forwarding = Cell::Forwarding { to, number };
+    let prepare = Call::PrepareAdd { owner, number };
+    let forward = Call::PrepareDrop { new_owner, number };
+    let to_forwarding = [ADD_PRIMARY, forward];
+    test_at(rt, alloc, &[], &Cell::Absent, made, &answers.absent)?;
+    test_at(rt, alloc, &[prepare], &prepared, made, &answers.prepared)?;
+    test_at(
+        rt,
+        alloc,
+        &[ADD_SECONDARY],
+        &Cell::Secondary,
+        made,
+        &answers.secondary,
+    )?;
+    test_at(
+        rt,
+        alloc,
+        &[ADD_PRIMARY],
+        &Cell::Primary,
+        made,
+        &answers.primary,
+    )?;
+    test_at(
+        rt,
+        alloc,
+        &to_forwarding,
+        &forwarding,
+        made,
+        &answers.forwarding,
+    )
 }
 
 #[test]
@@ -195,14 +205,6 @@ fn handed_over_by_the_table(rt: HostRuntime) -> Result<(), Fail> {
     };
     test_call(&rt, alloc, &prepare, &prepared)?;
     test_call(&rt, alloc, &forward, &forwarded)
-}
-
-/// Opens the small placement, and follows the steps from there.
-fn follow_small(rt: &impl Abort, alloc: Global, steps: &[Step]) -> Result<(), Fail> {
-    let config = small_config(alloc)?;
-    let mut placement = small_placement(alloc, &config)?;
-    follow(rt, &mut placement, steps);
-    Ok(())
 }
 
 /// Server 1 has 4 left, server 2 nothing, and server 0 has 6.
@@ -395,49 +397,69 @@ fn settled_placements_have_few_servers_down(rt: HostRuntime) -> Result<(), Fail>
     )
 }
 
-/// A placement with a handover under way, a published entry and a server down.
-const CHANGES: [Step; 3] = [Published(1, None), SetDown(2), HasDown(1)];
+/// Whether a copy of a placement has its configuration, and a limit of 1.
+fn has_same_setup(alloc: Global, placement: &Placement) -> Result<bool, OpenFault> {
+    let copy = copied(alloc, placement)?;
+    Ok(has_setup(&copy, placement.config()))
+}
 
-/// What that placement and its copies answer.
-const ANSWERS: [Step; 12] = [
-    HasLoad(0, 4),
-    HasLoad(1, 10),
-    HasLoad(2, 4),
-    HasLive(0, 1),
-    HasLive(1, 1),
-    HasListed(0, Some(0), 0),
-    HasListed(1, None, 1),
-    HasCell(0, 0, Cell::Primary),
-    HasCell(2, 0, Cell::Secondary),
-    HasCell(1, 1, Cell::Primary),
-    HasDown(1),
-    IsSettled(false),
-];
+/// Copies a placement, and follows the steps from the placement and from the copy.
+fn follow_copied(
+    rt: &impl Abort,
+    alloc: Global,
+    placement: &mut Placement,
+    steps: &[Step],
+) -> Result<(), OpenFault> {
+    assert_eq!(rt; has_same_setup(alloc, placement), Ok(true));
+    let copy = copied(alloc, placement);
+    follow(rt, placement, steps);
+    follow_opened(rt, copy, steps)
+}
 
-/// A copy answers every reader as its source does, and remembers the numbers of calls.
-#[test]
-fn copies_are_equal(rt: HostRuntime) -> Result<(), Fail> {
-    let alloc = rt.alloc();
+/// Opens the small placement, and follows the first steps from there, and the others from there and from a copy.
+fn follow_then_copied(
+    rt: &impl Abort,
+    alloc: Global,
+    first: &[Step],
+    then: &[Step],
+) -> Result<(), Fail> {
     let config = small_config(alloc)?;
     let mut placement = small_placement(alloc, &config)?;
-    let prepared = Cell::Prepared {
-        from: id(0),
-        number: 5,
-    };
-    let first = [Numbered(1, 0, prepare(5), 8, Ok(true))];
-    let again = [
-        HasCell(1, 0, prepared),
-        HasServing(0, Serving::One(id(0))),
-        Numbered(1, 0, Call::Drop, 8, Ok(false)),
-    ];
-    follow(&rt, &mut placement, &first);
-    follow(&rt, &mut placement, &CHANGES);
-    let mut copy = placement.copy(alloc)?;
-    assert!(rt; copy.config() == placement.config());
-    assert_eq!(rt; copy.limit(), 1);
-    follow(&rt, &mut placement, &ANSWERS);
-    follow(&rt, &mut copy, &ANSWERS);
-    follow(&rt, &mut placement, &again);
-    follow(&rt, &mut copy, &again);
+    follow(rt, &mut placement, first);
+    follow_copied(rt, alloc, &mut placement, then)?;
     Ok(())
+}
+
+/// A copy answers every reader as its source does, and remembers the numbers of calls. The source has a handover under
+/// way, a published entry and a server down.
+#[test]
+fn copies_are_equal(rt: HostRuntime) -> Result<(), Fail> {
+    let (from, number) = (id(0), 5);
+    follow_then_copied(
+        &rt,
+        rt.alloc(),
+        &[
+            Numbered(1, 0, prepare(number), 8, Ok(true)),
+            Published(1, None),
+            SetDown(2),
+            HasDown(1),
+        ],
+        &[
+            HasLoad(0, 4),
+            HasLoad(1, 10),
+            HasLoad(2, 4),
+            HasLive(0, 1),
+            HasLive(1, 1),
+            HasListed(0, Some(0), 0),
+            HasListed(1, None, 1),
+            HasCell(0, 0, Cell::Primary),
+            HasCell(2, 0, Cell::Secondary),
+            HasCell(1, 1, Cell::Primary),
+            HasDown(1),
+            IsSettled(false),
+            HasCell(1, 0, Cell::Prepared { from, number }),
+            HasServing(0, Serving::One(from)),
+            Numbered(1, 0, Call::Drop, 8, Ok(false)),
+        ],
+    )
 }

@@ -1,21 +1,21 @@
 //! Why a placement is not opened: each fault at its limit, and the first of several.
 use crate::fixture::*;
-use sm_placement::{Config, OpenFault, Placement};
+use crate::steps::Step::*;
+use crate::steps::{Step, follow_opened};
+use sm_placement::{Config, ConfigFault, OpenFault, Placement};
 use sm_server::{Cell, ServerId, ShardId};
 use std::alloc::Global;
+use std::process::Abort;
 use std::test::Fail;
+
+type Named = (ShardId, ServerId, Cell);
 
 fn id(server: u32) -> ServerId {
     ServerId::new(server)
 }
 
-/// Why the cells, with the small placement's listed servers, are no placement.
-fn fault(alloc: Global, config: &Config, cells: &[(ShardId, ServerId, Cell)]) -> Option<OpenFault> {
-    Placement::open(alloc, config, cells, &[Some(id(0)), Some(id(1))], &[], 1).err()
-}
-
 /// The cells of the small placement.
-fn cells() -> [(ShardId, ServerId, Cell); 3] {
+fn cells() -> [Named; 3] {
     [
         named(0, 0, Cell::Primary),
         named(0, 2, Cell::Secondary),
@@ -23,116 +23,192 @@ fn cells() -> [(ShardId, ServerId, Cell); 3] {
     ]
 }
 
-#[test]
-fn the_small_placement_opens(rt: HostRuntime) -> Result<(), Fail> {
-    let alloc = rt.alloc();
+/// Asserts why these are no placement of the small configuration, with a limit of 1 on the servers that are down.
+fn assert_fault(
+    rt: &impl Abort,
+    alloc: Global,
+    cells: &[Named],
+    listed: &[Option<ServerId>],
+    down: &[ServerId],
+    fault: OpenFault,
+) -> Result<(), ConfigFault> {
     let config = small_config(alloc)?;
-    let placement = Placement::open(
-        alloc,
-        &config,
-        &cells(),
-        &[Some(id(0)), None],
-        &[id(2), id(2)],
-        1,
-    )?;
-    assert!(rt; placement.settled());
-    assert!(rt; placement.config() == &config);
-    assert_eq!(rt; placement.limit(), 1);
-    assert_eq!(rt; placement.down_count(), 1);
-    assert_eq!(rt; cell(&rt, &placement, 0, 0), Cell::Primary);
-    assert_eq!(rt; cell(&rt, &placement, 0, 1), Cell::Absent);
-    assert_eq!(rt; cell(&rt, &placement, 0, 2), Cell::Secondary);
-    assert_eq!(rt; load(&rt, &placement, 1), 6);
-    assert_eq!(rt; live(&rt, &placement, 0), 1);
-    assert_eq!(rt; listed(&rt, &placement, 0), (Some(0), 0));
-    assert_eq!(rt; listed(&rt, &placement, 1), (None, 0));
+    let told = Placement::open(alloc, &config, cells, listed, down, 1).err();
+    assert_eq!(rt; told, Some(fault));
+    Ok(())
+}
+
+/// Asserts why the cells, with the small placement's listed servers, are no placement.
+fn assert_fault_of_cells(
+    rt: &impl Abort,
+    alloc: Global,
+    cells: &[Named],
+    fault: OpenFault,
+) -> Result<(), ConfigFault> {
+    assert_fault(rt, alloc, cells, &[Some(id(0)), Some(id(1))], &[], fault)
+}
+
+/// The small placement with a shard that isn't listed, and with a server down that is named twice.
+fn open_with_one_down(alloc: Global, config: &Config) -> Result<Placement, OpenFault> {
+    let listed = [Some(id(0)), None];
+    let down = [id(2), id(2)];
+    Placement::open(alloc, config, &cells(), &listed, &down, 1)
+}
+
+/// Whether that placement has the configuration and the limit that it is opened with.
+fn keeps_setup(alloc: Global, config: &Config) -> Result<bool, OpenFault> {
+    let placement = open_with_one_down(alloc, config)?;
+    Ok(has_setup(&placement, config))
+}
+
+#[test]
+fn the_setup_is_kept(rt: HostRuntime) -> Result<(), Fail> {
+    let config = small_config(rt.alloc())?;
+    assert_eq!(rt; keeps_setup(rt.alloc(), &config), Ok(true));
+    Ok(())
+}
+
+/// Follows the steps from that placement.
+fn follow_one_down(rt: &impl Abort, alloc: Global, steps: &[Step]) -> Result<(), Fail> {
+    let config = small_config(alloc)?;
+    follow_opened(rt, open_with_one_down(alloc, &config), steps)?;
     Ok(())
 }
 
 #[test]
-fn ids_are_known(rt: HostRuntime) -> Result<(), Fail> {
-    let alloc = rt.alloc();
-    let config = small_config(alloc)?;
-    let unknown = Some(OpenFault::UnknownName);
-    assert_eq!(rt;
-        fault(alloc, &config, &[named(2, 0, Cell::Absent)]),
-        unknown
-    );
-    assert_eq!(rt;
-        fault(alloc, &config, &[named(0, 3, Cell::Absent)]),
-        unknown
-    );
-    let listed = Placement::open(alloc, &config, &cells(), &[Some(id(3)), None], &[], 1);
-    assert_eq!(rt; listed.err(), unknown);
-    let down = Placement::open(alloc, &config, &cells(), &[None, None], &[id(3)], 1);
-    assert_eq!(rt; down.err(), unknown);
-    // The other server of a handover isn't looked at: the cell is a bad lead.
-    let cell = Cell::Prepared {
-        from: id(9),
-        number: 1,
-    };
-    let lead = Some(OpenFault::BadLead {
-        shard: ShardId::new(1),
-    });
-    assert_eq!(rt; fault(alloc, &config, &[named(1, 0, cell)]), lead);
+fn the_small_placement_opens(rt: HostRuntime) -> Result<(), Fail> {
+    follow_one_down(
+        &rt,
+        rt.alloc(),
+        &[
+            IsSettled(true),
+            HasDown(1),
+            HasCell(0, 0, Cell::Primary),
+            HasCell(1, 0, Cell::Absent),
+            HasCell(2, 0, Cell::Secondary),
+            HasLoad(1, 6),
+            HasLive(0, 1),
+            HasListed(0, Some(0), 0),
+            HasListed(1, None, 0),
+        ],
+    )
+}
+
+#[test]
+fn ids_of_cells_are_known(rt: HostRuntime) -> Result<(), Fail> {
+    let shard = [named(2, 0, Cell::Absent)];
+    let server = [named(0, 3, Cell::Absent)];
+    assert_fault_of_cells(&rt, rt.alloc(), &shard, OpenFault::UnknownName)?;
+    assert_fault_of_cells(&rt, rt.alloc(), &server, OpenFault::UnknownName)?;
+    Ok(())
+}
+
+#[test]
+fn ids_of_lists_are_known(rt: HostRuntime) -> Result<(), Fail> {
+    let listed = [Some(id(3)), None];
+    assert_fault(
+        &rt,
+        rt.alloc(),
+        &cells(),
+        &listed,
+        &[],
+        OpenFault::UnknownName,
+    )?;
+    assert_fault(
+        &rt,
+        rt.alloc(),
+        &cells(),
+        &[None, None],
+        &[id(3)],
+        OpenFault::UnknownName,
+    )?;
+    Ok(())
+}
+
+/// The other server of a handover isn't looked at: the cell is a bad lead.
+#[test]
+fn ids_of_handovers_may_be_unknown(rt: HostRuntime) -> Result<(), Fail> {
+    let from = id(9);
+    let prepared = [named(1, 0, Cell::Prepared { from, number: 1 })];
+    let shard = ShardId::new(1);
+    assert_fault_of_cells(&rt, rt.alloc(), &prepared, OpenFault::BadLead { shard })?;
     Ok(())
 }
 
 #[test]
 fn lists_have_their_lengths(rt: HostRuntime) -> Result<(), Fail> {
-    let alloc = rt.alloc();
-    let config = small_config(alloc)?;
-    let many = Some(OpenFault::TooMany);
-    let one = Placement::open(alloc, &config, &cells(), &[None], &[], 1);
-    assert_eq!(rt; one.err(), many);
-    let three = Placement::open(alloc, &config, &cells(), &[None, None, None], &[], 1);
-    assert_eq!(rt; three.err(), many);
-    let most = vec![in alloc; named(0, 0, Cell::Absent); 1048576]?;
-    let double = Some(OpenFault::DoubleCell {
-        shard: ShardId::new(0),
-        server: id(0),
-    });
-    assert_eq!(rt; fault(alloc, &config, &most), double);
-    let more = vec![in alloc; named(9, 9, Cell::Absent); 1048577]?;
-    assert_eq!(rt; fault(alloc, &config, &more), many);
+    assert_fault(&rt, rt.alloc(), &cells(), &[None], &[], OpenFault::TooMany)?;
+    assert_fault(
+        &rt,
+        rt.alloc(),
+        &cells(),
+        &[None, None, None],
+        &[],
+        OpenFault::TooMany,
+    )?;
     Ok(())
 }
 
-/// A cell stands twice, also as absent: the lowest shard is named, and of it the lowest server.
 #[test]
-fn doubles_name_the_lowest(rt: HostRuntime) -> Result<(), Fail> {
-    let alloc = rt.alloc();
-    let config = small_config(alloc)?;
-    let two_shards = [
+fn the_most_cells_are_read(rt: HostRuntime) -> Result<(), Fail> {
+    let most = vec![in rt.alloc(); named(0, 0, Cell::Absent); 1048576]?;
+    let (shard, server) = (ShardId::new(0), id(0));
+    assert_fault_of_cells(
+        &rt,
+        rt.alloc(),
+        &most,
+        OpenFault::DoubleCell { shard, server },
+    )?;
+    Ok(())
+}
+
+#[test]
+fn more_cells_are_refused(rt: HostRuntime) -> Result<(), Fail> {
+    let more = vec![in rt.alloc(); named(9, 9, Cell::Absent); 1048577]?;
+    assert_fault_of_cells(&rt, rt.alloc(), &more, OpenFault::TooMany)?;
+    Ok(())
+}
+
+/// A cell stands twice, also as absent: the lowest shard is named.
+#[test]
+fn doubles_name_the_lowest_shard(rt: HostRuntime) -> Result<(), Fail> {
+    let double = [
         named(1, 2, Cell::Absent),
         named(1, 2, Cell::Absent),
         named(0, 2, Cell::Secondary),
         named(0, 2, Cell::Absent),
     ];
     let (shard, server) = (ShardId::new(0), id(2));
-    assert_eq!(rt;
-        fault(alloc, &config, &two_shards),
-        Some(OpenFault::DoubleCell { shard, server })
-    );
-    let two_servers = [
+    assert_fault_of_cells(
+        &rt,
+        rt.alloc(),
+        &double,
+        OpenFault::DoubleCell { shard, server },
+    )?;
+    Ok(())
+}
+
+/// Of the shard, the lowest server is named.
+#[test]
+fn doubles_name_the_lowest_server(rt: HostRuntime) -> Result<(), Fail> {
+    let double = [
         named(1, 2, Cell::Absent),
         named(1, 1, Cell::Primary),
         named(1, 2, Cell::Absent),
         named(1, 1, Cell::Primary),
     ];
     let (shard, server) = (ShardId::new(1), id(1));
-    assert_eq!(rt;
-        fault(alloc, &config, &two_servers),
-        Some(OpenFault::DoubleCell { shard, server })
-    );
+    assert_fault_of_cells(
+        &rt,
+        rt.alloc(),
+        &double,
+        OpenFault::DoubleCell { shard, server },
+    )?;
     Ok(())
 }
 
-/// Two primaries, or a handover under way.
 #[test]
-fn bad_leads_name_the_lowest(rt: HostRuntime) -> Result<(), Fail> {
-    let alloc = rt.alloc();
-    let config = small_config(alloc)?;
+fn two_primaries_name_the_lowest(rt: HostRuntime) -> Result<(), Fail> {
     let primaries = [
         named(1, 0, Cell::Primary),
         named(1, 1, Cell::Primary),
@@ -140,51 +216,54 @@ fn bad_leads_name_the_lowest(rt: HostRuntime) -> Result<(), Fail> {
         named(0, 1, Cell::Primary),
     ];
     let shard = ShardId::new(0);
-    assert_eq!(rt;
-        fault(alloc, &config, &primaries),
-        Some(OpenFault::BadLead { shard })
-    );
-    let forwarding = Cell::Forwarding {
-        to: id(1),
-        number: 1,
-    };
-    let handover = [
-        named(1, 1, forwarding),
-        named(0, 0, Cell::Primary),
-        named(0, 2, Cell::Secondary),
-    ];
-    let shard = ShardId::new(1);
-    assert_eq!(rt;
-        fault(alloc, &config, &handover),
-        Some(OpenFault::BadLead { shard })
-    );
+    assert_fault_of_cells(&rt, rt.alloc(), &primaries, OpenFault::BadLead { shard })?;
     Ok(())
 }
 
 #[test]
-fn bad_listings_and_loads_name_the_lowest(rt: HostRuntime) -> Result<(), Fail> {
-    let alloc = rt.alloc();
-    let config = small_config(alloc)?;
-    let secondary = [
+fn handovers_under_way_are_refused(rt: HostRuntime) -> Result<(), Fail> {
+    let to = id(1);
+    let handover = [
+        named(1, 1, Cell::Forwarding { to, number: 1 }),
+        named(0, 0, Cell::Primary),
+        named(0, 2, Cell::Secondary),
+    ];
+    let shard = ShardId::new(1);
+    assert_fault_of_cells(&rt, rt.alloc(), &handover, OpenFault::BadLead { shard })?;
+    Ok(())
+}
+
+/// A listed server is not the shard's primary: of two such shards the lowest is named.
+#[test]
+fn bad_listings_name_the_lowest(rt: HostRuntime) -> Result<(), Fail> {
+    let two = [
         named(0, 0, Cell::Secondary),
         named(0, 2, Cell::Secondary),
         named(1, 0, Cell::Primary),
     ];
-    let shard = ShardId::new(0);
-    assert_eq!(rt;
-        fault(alloc, &config, &secondary),
-        Some(OpenFault::BadListing { shard })
-    );
-    let elsewhere = [
+    let one = [
         named(0, 0, Cell::Primary),
         named(0, 2, Cell::Secondary),
         named(1, 0, Cell::Primary),
     ];
-    let shard = ShardId::new(1);
-    assert_eq!(rt;
-        fault(alloc, &config, &elsewhere),
-        Some(OpenFault::BadListing { shard })
-    );
+    let (first, second) = (ShardId::new(0), ShardId::new(1));
+    assert_fault_of_cells(
+        &rt,
+        rt.alloc(),
+        &two,
+        OpenFault::BadListing { shard: first },
+    )?;
+    assert_fault_of_cells(
+        &rt,
+        rt.alloc(),
+        &one,
+        OpenFault::BadListing { shard: second },
+    )?;
+    Ok(())
+}
+
+#[test]
+fn loads_are_within_the_room(rt: HostRuntime) -> Result<(), Fail> {
     let heavy = [
         named(0, 0, Cell::Primary),
         named(0, 2, Cell::Secondary),
@@ -192,56 +271,86 @@ fn bad_listings_and_loads_name_the_lowest(rt: HostRuntime) -> Result<(), Fail> {
         named(1, 2, Cell::Secondary),
     ];
     let server = id(2);
-    assert_eq!(rt;
-        fault(alloc, &config, &heavy),
-        Some(OpenFault::OverRoom { server })
-    );
+    assert_fault_of_cells(&rt, rt.alloc(), &heavy, OpenFault::OverRoom { server })?;
     Ok(())
 }
 
 #[test]
-fn floors_and_limits_are_kept(rt: HostRuntime) -> Result<(), Fail> {
-    let alloc = rt.alloc();
-    let config = small_config(alloc)?;
+fn floors_are_kept(rt: HostRuntime) -> Result<(), Fail> {
     let none = [None, None];
-    let short = |shard| Some(OpenFault::Short {
-        shard: ShardId::new(shard),
-    });
     let alone = [named(0, 0, Cell::Primary)];
-    assert_eq!(rt;
-        Placement::open(alloc, &config, &alone, &none, &[], 1).err(),
-        short(1)
-    );
-    assert_eq!(rt;
-        Placement::open(alloc, &config, &[], &none, &[], 1).err(),
-        short(0)
-    );
-    let down = [id(1), id(0)];
-    assert_eq!(rt;
-        Placement::open(alloc, &config, &cells(), &none, &down, 1).err(),
-        short(1)
-    );
-    assert_eq!(rt;
-        Placement::open(alloc, &config, &cells(), &none, &[id(2)], 0).err(),
-        Some(OpenFault::TooManyDown)
-    );
-    assert_eq!(rt;
-        Placement::open(alloc, &config, &cells(), &none, &[id(2)], 1).err(),
-        None
-    );
+    let (first, second) = (ShardId::new(0), ShardId::new(1));
+    assert_fault(
+        &rt,
+        rt.alloc(),
+        &alone,
+        &none,
+        &[],
+        OpenFault::Short { shard: second },
+    )?;
+    assert_fault(
+        &rt,
+        rt.alloc(),
+        &[],
+        &none,
+        &[],
+        OpenFault::Short { shard: first },
+    )?;
     Ok(())
+}
+
+/// Two servers are down, which is too many, but a short shard is told first.
+#[test]
+fn floors_are_kept_by_servers_that_are_up(rt: HostRuntime) -> Result<(), Fail> {
+    let shard = ShardId::new(1);
+    let down = [id(1), id(0)];
+    assert_fault(
+        &rt,
+        rt.alloc(),
+        &cells(),
+        &[None, None],
+        &down,
+        OpenFault::Short { shard },
+    )?;
+    Ok(())
+}
+
+/// Asserts why the small placement with a server down is not opened under this limit, if it isn't.
+fn assert_fault_under(
+    rt: &impl Abort,
+    alloc: Global,
+    limit: u32,
+    fault: Option<OpenFault>,
+) -> Result<(), ConfigFault> {
+    let config = small_config(alloc)?;
+    let listed = [None, None];
+    let told = Placement::open(alloc, &config, &cells(), &listed, &[id(2)], limit).err();
+    assert_eq!(rt; told, fault);
+    Ok(())
+}
+
+#[test]
+fn limits_are_kept(rt: HostRuntime) -> Result<(), Fail> {
+    assert_fault_under(&rt, rt.alloc(), 0, Some(OpenFault::TooManyDown))?;
+    assert_fault_under(&rt, rt.alloc(), 1, None)?;
+    Ok(())
+}
+
+/// As many servers and shards as a configuration has, with the greatest numbers.
+fn largest_config(alloc: Global) -> Result<Config, ConfigFault> {
+    let servers = many_servers(alloc, 1024, 4294967295)?;
+    let shards = many_shards(alloc, 4096, 4294967295, 0, 0)?;
+    Config::new(alloc, &servers, &shards)
 }
 
 #[test]
 fn the_largest_configuration_opens(rt: HostRuntime) -> Result<(), Fail> {
     let alloc = rt.alloc();
-    let servers = many_servers(alloc, 1024, 4294967295)?;
-    let shards = many_shards(alloc, 4096, 4294967295, 0, 0)?;
-    let config = Config::new(alloc, &servers, &shards)?;
+    let config = largest_config(alloc)?;
     let listed = vec![in alloc; None; 4096]?;
     let last = [named(4095, 1023, Cell::Primary)];
-    let placement = Placement::open(alloc, &config, &last, &listed, &[], 0)?;
-    assert_eq!(rt; load(&rt, &placement, 1023), 4294967295);
-    assert_eq!(rt; live(&rt, &placement, 4095), 1);
+    let opened = Placement::open(alloc, &config, &last, &listed, &[], 0);
+    let steps = [HasLoad(1023, 4294967295), HasLive(4095, 1)];
+    follow_opened(&rt, opened, &steps)?;
     Ok(())
 }

@@ -1,6 +1,6 @@
 //! Running totals against plain sums, in a large placement with handovers under way.
 use crate::fixture::*;
-use sm_placement::{Config, Placement, Serving};
+use sm_placement::{Config, ConfigFault, OpenFault, Placement, Serving};
 use sm_server::{Call, Cell, Refusal, ServerId};
 use std::alloc::{AllocError, Global};
 use std::process::Abort;
@@ -118,8 +118,64 @@ fn made(rt: &impl Abort, placement: &mut Placement, round: u32, step: u32) -> Re
     }
 }
 
-fn large_config(rt: &HostRuntime) -> Result<Config, Fail> {
-    let alloc = rt.alloc();
+/// How many calls were made, and how many of them were accepted.
+#[derive(Drop)]
+struct Counts {
+    calls: u32,
+    accepted: u32,
+}
+
+/// Sets a server down or up, and in every other round a second one up.
+fn turn(rt: &impl Abort, placement: &mut Placement, round: u32) {
+    let turned = round.wrapping_mul(11) % 32;
+    set_down(rt, placement, turned, round % 2 == 0);
+    if round % 2 == 1 {
+        set_down(rt, placement, (turned + 21) % 32, false);
+    }
+}
+
+/// Makes the calls of a round, and compares the totals after each hundredth call.
+fn make_calls(
+    rt: &impl Abort,
+    alloc: Global,
+    placement: &mut Placement,
+    counts: &mut Counts,
+    round: u32,
+) -> Result<(), AllocError> {
+    for step in 0..8 {
+        if made(rt, placement, round, step).is_ok() {
+            counts.accepted = counts.accepted.wrapping_add(1);
+        }
+        counts.calls = counts.calls.wrapping_add(1);
+        if counts.calls % 100 == 0 {
+            compare(rt, alloc, placement)?;
+        }
+    }
+    Ok(())
+}
+
+/// Makes the calls of every round.
+fn make_rounds(
+    rt: &impl Abort,
+    alloc: Global,
+    placement: &mut Placement,
+) -> Result<(), AllocError> {
+    let mut counts = Counts {
+        calls: 0,
+        accepted: 0,
+    };
+    for round in 0..125u32 {
+        turn(rt, placement, round);
+        make_calls(rt, alloc, placement, &mut counts, round)?;
+    }
+    assert_eq!(rt; counts.calls, 1000);
+    let accepted = counts.accepted;
+    assert!(rt; accepted >= 500, "only {accepted} calls were accepted");
+    assert!(rt; placement.down_count() > 0);
+    Ok(())
+}
+
+fn large_config(alloc: Global) -> Result<Config, ConfigFault> {
     let servers = many_servers(alloc, SERVERS, 40)?;
     let mut shards = many_shards(alloc, SHARDS, 1, 3, 3)?;
     let mut number = 0u64;
@@ -127,35 +183,20 @@ fn large_config(rt: &HostRuntime) -> Result<Config, Fail> {
         shard.load = number % 7 + 1;
         number = number.wrapping_add(1);
     }
-    Ok(Config::new(alloc, &servers, &shards)?)
+    Config::new(alloc, &servers, &shards)
+}
+
+/// The placement of the large configuration that has no replica.
+fn open_empty(alloc: Global, config: &Config) -> Result<Placement, OpenFault> {
+    let listed = vec![in alloc; None; 4096]?;
+    Placement::open(alloc, config, &[], &listed, &[], 16)
 }
 
 #[test]
 fn totals_are_sums(rt: HostRuntime) -> Result<(), Fail> {
     let alloc = rt.alloc();
-    let config = large_config(&rt)?;
-    let listed = vec![in alloc; None; 4096]?;
-    let mut placement = Placement::open(alloc, &config, &[], &listed, &[], 16)?;
-    let mut calls = 0u32;
-    let mut ok = 0u32;
-    for round in 0..125u32 {
-        let turned = round.wrapping_mul(11) % 32;
-        set_down(&rt, &mut placement, turned, round % 2 == 0);
-        if round % 2 == 1 {
-            set_down(&rt, &mut placement, (turned + 21) % 32, false);
-        }
-        for step in 0..8 {
-            if made(&rt, &mut placement, round, step).is_ok() {
-                ok = ok.wrapping_add(1);
-            }
-            calls = calls.wrapping_add(1);
-            if calls % 100 == 0 {
-                compare(&rt, alloc, &placement)?;
-            }
-        }
-    }
-    assert_eq!(rt; calls, 1000);
-    assert!(rt; ok >= 500, "only {ok} calls were made");
-    assert!(rt; placement.down_count() > 0);
+    let config = large_config(alloc)?;
+    let mut placement = open_empty(alloc, &config)?;
+    make_rounds(&rt, alloc, &mut placement)?;
     Ok(())
 }

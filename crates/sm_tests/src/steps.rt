@@ -1,8 +1,10 @@
 //! What is done to a placement, and what it has to answer, one after the other.
 use crate::fixture::*;
-use sm_placement::{Placement, Serving};
+use sm_placement::{OpenFault, Placement, Serving};
 use sm_server::{Call, Cell, Refusal};
+use std::alloc::Global;
 use std::process::Abort;
+use std::test::Fail;
 
 /// One thing done to a placement, or asked of it. Servers and shards stand as numbers, a server before a shard.
 #[derive(Drop)]
@@ -82,4 +84,22 @@ pub(crate) fn follow(rt: &impl Abort, placement: &mut Placement, steps: &[Step])
             ask(rt, placement, step);
         }
     }
+}
+
+/// Follows the steps from a placement, where it was opened.
+pub(crate) fn follow_opened(
+    rt: &impl Abort,
+    opened: Result<Placement, OpenFault>,
+    steps: &[Step],
+) -> Result<(), OpenFault> {
+    let mut placement = opened?;
+    follow(rt, &mut placement, steps);
+    Ok(())
+}
+
+/// Opens the small placement, and follows the steps from there.
+pub(crate) fn follow_small(rt: &impl Abort, alloc: Global, steps: &[Step]) -> Result<(), Fail> {
+    let config = small_config(alloc)?;
+    follow_opened(rt, small_placement(alloc, &config), steps)?;
+    Ok(())
 }
