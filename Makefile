@@ -17,7 +17,7 @@ test:
 	scripts/check-documents
 	scripts/check-command-line
 	scripts/check-memory
-	scripts/check-memory-tests sm_tests sm_reservation sm_verifier sm_plan_text sm_map
+	scripts/check-memory-tests sm_tests sm_reservation sm_plan_text sm_map
 	scripts/refused-programs
 
 bench: build

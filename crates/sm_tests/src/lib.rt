@@ -15,3 +15,5 @@ mod placement_opening;
 mod placement_totals;
 #[cfg(test)]
 mod steps;
+#[cfg(test)]
+mod verifier;

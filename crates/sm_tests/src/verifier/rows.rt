@@ -1,9 +1,9 @@
 //! Streams that follow one instruction of a table of cases: what it leaves, and why it is not made.
-use crate::{Bad, follow};
 use sm_placement::{Config, Server, Shard};
 use sm_plan_code::{Instr, Parts, Plan, Stream, Why, is_call};
 use sm_reservation::{CellRight, Crown, Lead, Lists, Parcel, PlainCell, Room, Spare};
 use sm_server::{ServerId, ShardId};
+use sm_verifier::{Bad, follow};
 use std::alloc::{AllocError, Global};
 use std::process::Abort;
 

@@ -1,8 +1,8 @@
 //! Plans that pass the check, and each fault of another one.
-use super::handover::{assert_end, config, handover, held};
-use super::order::{plan, stream};
-use crate::{Checked, Fault, check};
+use super::handover::{assert_end, handover, held};
+use super::plans::{check_of, fault_of, plan};
 use sm_plan_code::{Instr, Parts, Plan, Stream, Why};
+use sm_verifier::{Checked, Fault};
 use std::alloc::{AllocError, Global};
 use std::process::Abort;
 use std::test::Fail;
@@ -40,28 +40,6 @@ fn handover_plan(alloc: Global, numbers: Numbers, code: &[Instr]) -> Result<Plan
         signals: Vec::new(alloc),
     };
     Plan::new(parts).map_err(|_| AllocError)
-}
-
-/// The plan's check with the two servers and the shard.
-fn check_of(alloc: Global, plan: Plan) -> Result<Checked, (Plan, Fault)> {
-    let Ok(config) = config(alloc) else {
-        return Err((plan, Fault::NoMemory));
-    };
-    if !plan.fits(&config) {
-        return Err((plan, Fault::NoMemory));
-    }
-    check(alloc, &config, plan)
-}
-
-/// Why the plan does not pass.
-fn fault_of(alloc: Global, plan: Result<Plan, AllocError>) -> Option<Fault> {
-    let Ok(plan) = plan else {
-        return Some(Fault::NoMemory);
-    };
-    match check_of(alloc, plan) {
-        Ok(_) => None,
-        Err((_, fault)) => Some(fault),
-    }
 }
 
 /// The plan is the handover's.
@@ -157,10 +135,8 @@ fn handovers_break_off(rt: HostRuntime) {
 }
 
 /// Why a plan of one stream with this code and of two signals does not pass.
-fn misuse_of(alloc: Global, code: &[Instr]) -> Result<Option<Fault>, AllocError> {
-    let mut streams = Vec::new(alloc);
-    streams.push(stream(alloc, code)?).map_err(|_| AllocError)?;
-    Ok(fault_of(alloc, plan(alloc, streams)))
+fn misuse_of(alloc: Global, code: &[Instr]) -> Option<Fault> {
+    fault_of(alloc, plan(alloc, 2, &[code]))
 }
 
 fn counts(signal: u32, posts: u32, waits: u32) -> Option<Fault> {
@@ -172,7 +148,7 @@ fn counts(signal: u32, posts: u32, waits: u32) -> Option<Fault> {
 }
 
 #[test]
-fn signals_are_used_once(rt: HostRuntime) -> Result<(), Fail> {
+fn signals_are_used_once(rt: HostRuntime) {
     let alloc = rt.alloc();
     let code = [
         Instr::Signal { signal: 0 },
@@ -181,36 +157,17 @@ fn signals_are_used_once(rt: HostRuntime) -> Result<(), Fail> {
         Instr::Wait { signal: 1 },
         Instr::Wait { signal: 0 },
     ];
-    assert_eq!(rt; misuse_of(alloc, &code[..0])?, counts(0, 0, 0));
-    assert_eq!(rt; misuse_of(alloc, &code[..1])?, counts(0, 1, 0));
-    assert_eq!(rt; misuse_of(alloc, &code[..3])?, counts(1, 1, 0));
-    assert_eq!(rt; misuse_of(alloc, &code[..4])?, None);
-    assert_eq!(rt; misuse_of(alloc, &code)?, counts(0, 1, 2));
-    Ok(())
-}
-
-#[test]
-fn streams_wait_for_one_another(rt: HostRuntime) -> Result<(), Fail> {
-    let alloc = rt.alloc();
-    let first = [Instr::Wait { signal: 0 }, Instr::Signal { signal: 1 }];
-    let second = [Instr::Wait { signal: 1 }, Instr::Signal { signal: 0 }];
-    let streams = Vec::from_array(alloc, [stream(alloc, &first)?, stream(alloc, &second)?])?;
-    let positions = Vec::from_array(alloc, [0, 0])?;
-    let fault = fault_of(alloc, plan(alloc, streams));
-    assert_eq!(rt; fault, Some(Fault::Stuck { positions }));
-    Ok(())
+    assert_eq!(rt; misuse_of(alloc, &code[..0]), counts(0, 0, 0));
+    assert_eq!(rt; misuse_of(alloc, &code[..1]), counts(0, 1, 0));
+    assert_eq!(rt; misuse_of(alloc, &code[..3]), counts(1, 1, 0));
+    assert_eq!(rt; misuse_of(alloc, &code[..4]), None);
+    assert_eq!(rt; misuse_of(alloc, &code), counts(0, 1, 2));
 }
 
 #[test]
 fn empty_plan_passes(rt: HostRuntime) {
     let alloc = rt.alloc();
-    let parts = Parts {
-        budget: 0,
-        streams: Vec::new(alloc),
-        signals: Vec::new(alloc),
-    };
-    let plan = Plan::new(parts).map_err(|_| AllocError);
-    assert_eq!(rt; fault_of(alloc, plan), None);
+    assert_eq!(rt; fault_of(alloc, plan(alloc, 0, &[])), None);
 }
 
 /// With each allocation refused in turn: a plan passes the check, or it comes back as it was.

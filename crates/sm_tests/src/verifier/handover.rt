@@ -1,9 +1,9 @@
 //! The worked handover followed to its end, and broken off at each of the places where it may be.
-use crate::{Bad, follow};
 use sm_placement::{Config, Server, Shard};
 use sm_plan_code::{Instr, Parts, Plan, Stream, Why};
 use sm_reservation::{CellRight, Crown, Lead, Lists, Parcel, PlainCell, Room};
 use sm_server::{Role, ServerId, ShardId};
+use sm_verifier::{Bad, follow};
 use std::alloc::{AllocError, Global};
 use std::process::Abort;
 use std::test::Fail;

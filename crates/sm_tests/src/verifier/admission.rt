@@ -1,18 +1,17 @@
 //! Plans that may start, and what holds others up. Servers 0 to 3 have room for 10, 10, 4 and 10; shard 0, of load 4, has
 //! its primary at server 0 and a secondary at server 2, and may lose one of them; shard 1, of load 6, has its primary at
 //! server 1, and may lose none.
-ghost use Rattle.std.specs.Prelude.{◌≡◌, IfOk, length};
+ghost use Rattle.std.specs.Prelude.{◌≡◌, IfOk};
 ghost use Rattle.sm_placement.specs.Setup.{sizes_of};
 ghost use Rattle.sm_placement.specs.Layout.{place_of};
 ghost use Rattle.sm_placement.specs.Lead.{IsSettled};
 ghost use Rattle.sm_reservation.specs.Pool.{HasSize};
-ghost use Rattle.sm_plan_code.specs.Plan.{FitsPlan};
 
-use crate::admission::{Holding, admit_plan};
 use sm_placement::{Config, Placement, Server, Shard};
 use sm_plan_code::{Instr, Parts, Plan, Stream};
 use sm_reservation::{CellRight, Crown, Key, Lead, Lists, Parcel, PlainCell, Pool, Room, Spare};
 use sm_server::{Cell, Role, ServerId, ShardId};
+use sm_verifier::{Checked, Holding, admit, check};
 use std::alloc::{AllocError, Global};
 use std::test::Fail;
 
@@ -45,20 +44,7 @@ fn worked_config(alloc: Global) -> Result<Config, AllocError> {
     Config::new(alloc, &servers, &shards).map_err(|_| AllocError)
 }
 
-/// A placement of which two servers may be down.
-fn opened(
-    alloc: Global,
-    config: &Config,
-    cells: &[(ShardId, ServerId, Cell)],
-    listed: &[Option<ServerId>],
-    down: &[ServerId],
-) -> Result<Placement, AllocError>
-    ensures setup { IfOk result (λ placement. placement.setup ≡ config.now) }
-    ensures settled { IfOk result (λ placement. IsSettled (sizes_of config.now) (place_of placement)) }
-{
-    Placement::open(alloc, config, cells, listed, down, 2).map_err(|_| AllocError)
-}
-
+/// The worked placement, of which two servers may be down.
 fn worked_placement(
     alloc: Global,
     config: &Config,
@@ -73,7 +59,7 @@ fn worked_placement(
         (ShardId::new(1), ServerId::new(1), Cell::Primary),
     ];
     let listed = [Some(ServerId::new(0)), Some(ServerId::new(1))];
-    opened(alloc, config, &cells, &listed, down)
+    Placement::open(alloc, config, &cells, &listed, down, 2).map_err(|_| AllocError)
 }
 
 /// Room of server 1.
@@ -160,29 +146,26 @@ fn plan(alloc: Global, first: Parcel, second: Parcel, code: &[Instr]) -> Result<
 /// What holds a plan up once a parcel was taken from the pool.
 fn judged_after(
     alloc: Global,
-    config: &Config,
-    plan: &Plan,
+    checked: &Checked,
     placement: &Placement,
     pool: &mut Pool,
     taken: &Parcel,
 ) -> Result<Option<Holding>, AllocError>
-    requires fits { FitsPlan (length config.now.shards) (length config.now.servers) plan.now }
-    requires size { HasSize (sizes_of config.now) pool.old }
-    requires setup { placement.now.setup ≡ config.now }
+    requires size { HasSize (sizes_of checked.now.setup) pool.old }
+    requires setup { placement.now.setup ≡ checked.now.setup }
 {
     let Ok(grant) = pool.take(alloc, taken) else {
         return Err(AllocError);
     };
-    let answer = admit_plan(config, plan, pool, placement).err();
+    let answer = admit(checked, pool, placement).err();
     pool.give_back(grant);
     Ok(answer)
 }
 
 /// The pool of a placement.
-fn pool_of(alloc: Global, config: &Config, placement: &Placement) -> Result<Pool, AllocError>
-    requires settled { IsSettled (sizes_of config.now) (place_of placement.now) }
-    requires setup { placement.now.setup ≡ config.now }
-    ensures { IfOk result (HasSize (sizes_of config.now)) }
+fn pool_of(alloc: Global, placement: &Placement) -> Result<Pool, AllocError>
+    requires { IsSettled (sizes_of placement.now.setup) (place_of placement.now) }
+    ensures { IfOk result (HasSize (sizes_of placement.now.setup)) }
 {
     Pool::open(alloc, placement)
 }
@@ -190,45 +173,38 @@ fn pool_of(alloc: Global, config: &Config, placement: &Placement) -> Result<Pool
 /// What holds a plan up at a placement, once a parcel was taken from its pool.
 fn judged_at(
     alloc: Global,
-    config: &Config,
-    plan: &Plan,
+    checked: &Checked,
     placement: &Placement,
     taken: &Parcel,
 ) -> Result<Option<Holding>, AllocError>
-    requires fits { FitsPlan (length config.now.shards) (length config.now.servers) plan.now }
-    requires settled { IsSettled (sizes_of config.now) (place_of placement.now) }
-    requires setup { placement.now.setup ≡ config.now }
+    requires settled { IsSettled (sizes_of placement.now.setup) (place_of placement.now) }
+    requires setup { placement.now.setup ≡ checked.now.setup }
 {
-    let mut pool = pool_of(alloc, config, placement)?;
-    judged_after(alloc, config, plan, placement, &mut pool, taken)
+    let mut pool = pool_of(alloc, placement)?;
+    judged_after(alloc, checked, placement, &mut pool, taken)
 }
 
-/// What holds a plan up at the worked placement of a configuration.
-fn judged_of(
-    alloc: Global,
-    config: &Config,
-    plan: &Plan,
-    down: &[ServerId],
-    taken: &Parcel,
-) -> Result<Option<Holding>, AllocError>
-    requires { FitsPlan (length config.now.shards) (length config.now.servers) plan.now }
+/// The plan with its check, which it passes.
+fn checked_of(alloc: Global, config: &Config, plan: Plan) -> Result<Checked, AllocError>
+    ensures { IfOk result (λ checked. checked.setup ≡ config.now) }
 {
-    let placement = worked_placement(alloc, config, down)?;
-    judged_at(alloc, config, plan, &placement, taken)
+    if !plan.fits(config) {
+        return Err(AllocError);
+    }
+    check(alloc, config, plan).map_err(|_| AllocError)
 }
 
 /// What holds a plan up at the worked placement with servers down, once a parcel was taken from its pool.
 fn judged(
     alloc: Global,
-    plan: &Plan,
+    plan: Plan,
     down: &[ServerId],
     taken: &Parcel,
 ) -> Result<Option<Holding>, AllocError> {
     let config = worked_config(alloc)?;
-    if !plan.fits(&config) {
-        return Err(AllocError);
-    }
-    judged_of(alloc, &config, plan, down, taken)
+    let checked = checked_of(alloc, &config, plan)?;
+    let placement = worked_placement(alloc, &config, down)?;
+    judged_at(alloc, &checked, &placement, taken)
 }
 
 /// What holds a plan of these two parcels up, once another was taken.
@@ -238,7 +214,7 @@ fn held_up(
     second: Parcel,
     taken: &Parcel,
 ) -> Result<Option<Holding>, AllocError> {
-    judged(alloc, &plan(alloc, first, second, &[])?, &[], taken)
+    judged(alloc, plan(alloc, first, second, &[])?, &[], taken)
 }
 
 fn empty(alloc: Global) -> Result<Parcel, AllocError> {
@@ -338,38 +314,76 @@ fn what_is_untrue_comes_before_what_is_taken(rt: HostRuntime) -> Result<(), Fail
     Ok(())
 }
 
-/// What holds a plan with a code up where servers 2 and 3 are down.
-fn held_up_by_servers(alloc: Global, code: &[Instr]) -> Result<Option<Holding>, AllocError> {
+/// What holds a plan with a code and its rights up where these servers are down.
+fn held_up_by_servers(
+    alloc: Global,
+    down: &[ServerId],
+    rights: Parcel,
+    code: &[Instr],
+) -> Result<Option<Holding>, AllocError> {
+    let plan = plan(alloc, empty(alloc)?, rights, code)?;
+    judged(alloc, plan, down, &empty(alloc)?)
+}
+
+/// A secondary of shard 0 more.
+const fn add(server: u32) -> Instr {
+    Instr::Add {
+        shard: ShardId::new(0),
+        server: ServerId::new(server),
+        role: Role::Secondary,
+    }
+}
+
+/// One replica of shard 0 less.
+const fn drop_from(server: u32) -> Instr {
+    Instr::Drop {
+        shard: ShardId::new(0),
+        server: ServerId::new(server),
+    }
+}
+
+#[test]
+fn servers_that_are_up_hold_nothing_up(rt: HostRuntime) -> Result<(), Fail> {
+    let alloc = rt.alloc();
     let down = [ServerId::new(2), ServerId::new(3)];
-    let plan = plan(alloc, empty(alloc)?, empty(alloc)?, code)?;
-    judged(alloc, &plan, &down, &empty(alloc)?)
+    let rights = parcel(alloc, &[absent(1)], &[], &[room(4)], &[])?;
+    let answer = held_up_by_servers(alloc, &down, rights, &[add(1)])?;
+    assert_eq!(rt; answer, None);
+    Ok(())
+}
+
+/// The owner of a handover that is prepared and then given up.
+#[test]
+fn owner_that_is_down_is_named(rt: HostRuntime) -> Result<(), Fail> {
+    let alloc = rt.alloc();
+    let prepare = Instr::PrepareAdd {
+        shard: ShardId::new(0),
+        server: ServerId::new(1),
+        owner: ServerId::new(0),
+    };
+    let code = [prepare, drop_from(1)];
+    let answer = held_up_by_servers(alloc, &[ServerId::new(0)], handover(alloc)?, &code)?;
+    let server = ServerId::new(0);
+    assert_eq!(rt; answer, Some(Holding::ServerDown { server }));
+    Ok(())
 }
 
 #[test]
 fn lowest_server_that_is_down_is_named(rt: HostRuntime) -> Result<(), Fail> {
     let alloc = rt.alloc();
-    let add = Instr::Add {
-        shard: ShardId::new(0),
-        server: ServerId::new(1),
-        role: Role::Secondary,
-    };
-    let prepare = Instr::PrepareAdd {
-        shard: ShardId::new(0),
-        server: ServerId::new(1),
-        owner: ServerId::new(3),
-    };
-    let drop = Instr::Drop {
+    let down = [ServerId::new(2), ServerId::new(3)];
+    let secondary = CellRight {
         shard: ShardId::new(0),
         server: ServerId::new(2),
+        state: PlainCell::Secondary,
     };
-    let third = Holding::ServerDown {
+    let room = Room {
         server: ServerId::new(3),
+        amount: 4,
     };
-    let second = Holding::ServerDown {
-        server: ServerId::new(2),
-    };
-    assert_eq!(rt; held_up_by_servers(alloc, &[add])?, None);
-    assert_eq!(rt; held_up_by_servers(alloc, &[add, prepare])?, Some(third));
-    assert_eq!(rt; held_up_by_servers(alloc, &[prepare, drop])?, Some(second));
+    let rights = parcel(alloc, &[secondary, absent(3)], &[], &[room], &[])?;
+    let answer = held_up_by_servers(alloc, &down, rights, &[add(3), drop_from(2)])?;
+    let server = ServerId::new(2);
+    assert_eq!(rt; answer, Some(Holding::ServerDown { server }));
     Ok(())
 }
