@@ -42,31 +42,44 @@ fn handover_plan(alloc: Global, numbers: Numbers, code: &[Instr]) -> Result<Plan
     Plan::new(parts).map_err(|_| AllocError)
 }
 
+/// The stream is the handover's.
+fn is_handover_stream(stream: &Stream) -> bool {
+    stream.budget == 4
+        && stream.retries == 0
+        && stream.code.as_slice() == handover().as_slice()
+        && stream.holds.cells().len() == 1
+        && stream.holds.crowns().len() == 1
+        && stream.holds.room().len() == 1
+        && stream.holds.spare().is_empty()
+}
+
 /// The plan is the handover's.
-fn assert_handover(rt: &impl Abort, plan: &Plan) {
-    assert_eq!(rt; plan.budget(), 4);
-    assert!(rt; plan.signals().is_empty());
-    assert_eq!(rt; plan.streams().len(), 1);
-    for stream in plan.streams() {
-        assert_eq!(rt; stream.budget, 4);
-        assert_eq!(rt; stream.retries, 0);
-        assert!(rt; stream.code.as_slice() == handover().as_slice());
-        assert_eq!(rt; stream.holds.cells().len(), 1);
-        assert_eq!(rt; stream.holds.crowns().len(), 1);
-        assert_eq!(rt; stream.holds.room().len(), 1);
-        assert!(rt; stream.holds.spare().is_empty());
+fn is_handover(plan: &Plan) -> bool {
+    plan.budget() == 4
+        && plan.signals().is_empty()
+        && plan.streams().len() == 1
+        && plan
+            .streams()
+            .iter()
+            .all(|stream| is_handover_stream(stream))
+}
+
+/// The most keys that one list of the first stream's hold has.
+fn room_of(checked: &Checked) -> Option<u32> {
+    if checked.plan().streams().is_empty() {
+        return None;
     }
+    Some(checked.room(0))
 }
 
 /// What the check found out about the handover.
 fn assert_findings(rt: &impl Abort, checked: &Checked) {
     let steps = [(0, 0), (0, 1), (0, 2), (0, 3), (0, 4), (0, 5)];
     assert!(rt; checked.order() == steps.as_slice());
-    assert_eq!(rt; checked.config().server_count(), 2);
-    assert_eq!(rt; checked.plan().streams().len(), 1);
+    assert!(rt; checked.config().server_count() == 2);
+    assert!(rt; room_of(checked) == Some(1));
     if !checked.plan().streams().is_empty() {
         assert_end(rt, checked.final_hold(0));
-        assert_eq!(rt; checked.room(0), 1);
     }
 }
 
@@ -77,7 +90,7 @@ fn handover_passes(rt: HostRuntime) -> Result<(), Fail> {
     match check_of(alloc, plan) {
         Ok(checked) => {
             assert_findings(&rt, &checked);
-            assert_handover(&rt, &checked.into_plan());
+            assert!(rt; is_handover(&checked.into_plan()));
         }
         Err(_) => assert!(rt; false),
     }
@@ -91,15 +104,9 @@ fn room_counts_the_longest_list(rt: HostRuntime) -> Result<(), Fail> {
     let numbers = Numbers { room: 5, ..ENOUGH };
     let plan = handover_plan(alloc, numbers, &handover())?;
     match check_of(alloc, plan) {
-        Ok(checked) => {
-            if !checked.plan().streams().is_empty() {
-                assert_eq!(rt; checked.room(0), 2);
-                return Ok(());
-            }
-        }
-        Err(_) => {}
+        Ok(checked) => assert_eq!(rt; room_of(&checked), Some(2)),
+        Err(_) => assert!(rt; false),
     }
-    assert!(rt; false);
     Ok(())
 }
 
@@ -134,12 +141,36 @@ fn handovers_break_off(rt: HostRuntime) {
     assert_break(&rt, alloc, &code, 3, Why::StillListed);
 }
 
+/// Posts each of two signals and waits for it, and waits for the first one again.
+const fn signals() -> [Instr; 5] {
+    [
+        Instr::Signal { signal: 0 },
+        Instr::Wait { signal: 0 },
+        Instr::Signal { signal: 1 },
+        Instr::Wait { signal: 1 },
+        Instr::Wait { signal: 0 },
+    ]
+}
+
+/// How many instructions of the code are made: which of two signals is misused, and its posts and waits.
+type Misuse = (usize, Option<(u32, u32, u32)>);
+
+static MISUSES: [Misuse; 5] = [
+    (0, Some((0, 0, 0))),
+    (1, Some((0, 1, 0))),
+    (3, Some((1, 1, 0))),
+    (4, None),
+    (5, Some((0, 1, 2))),
+];
+
 /// Why a plan of one stream with this code and of two signals does not pass.
 fn misuse_of(alloc: Global, code: &[Instr]) -> Option<Fault> {
     fault_of(alloc, plan(alloc, 2, &[code]))
 }
 
-fn counts(signal: u32, posts: u32, waits: u32) -> Option<Fault> {
+/// The fault of a signal that is misused.
+fn fault_for(misuse: Option<(u32, u32, u32)>) -> Option<Fault> {
+    let (signal, posts, waits) = misuse?;
     Some(Fault::SignalNotOnce {
         signal,
         posts,
@@ -149,19 +180,11 @@ fn counts(signal: u32, posts: u32, waits: u32) -> Option<Fault> {
 
 #[test]
 fn signals_are_used_once(rt: HostRuntime) {
-    let alloc = rt.alloc();
-    let code = [
-        Instr::Signal { signal: 0 },
-        Instr::Wait { signal: 0 },
-        Instr::Signal { signal: 1 },
-        Instr::Wait { signal: 1 },
-        Instr::Wait { signal: 0 },
-    ];
-    assert_eq!(rt; misuse_of(alloc, &code[..0]), counts(0, 0, 0));
-    assert_eq!(rt; misuse_of(alloc, &code[..1]), counts(0, 1, 0));
-    assert_eq!(rt; misuse_of(alloc, &code[..3]), counts(1, 1, 0));
-    assert_eq!(rt; misuse_of(alloc, &code[..4]), None);
-    assert_eq!(rt; misuse_of(alloc, &code), counts(0, 1, 2));
+    let code = signals();
+    for (length, misuse) in &MISUSES {
+        let fault = misuse_of(rt.alloc(), &code[..(*length).min(5)]);
+        assert!(rt; fault == fault_for(*misuse), "{length}");
+    }
 }
 
 #[test]
@@ -178,10 +201,7 @@ fn a_plan_is_checked_or_not(rt: HostRuntime) {
         return;
     };
     match check_of(alloc, plan) {
-        Ok(checked) => assert_handover(&rt, checked.plan()),
-        Err((plan, fault)) => {
-            assert_eq!(rt; fault, Fault::NoMemory);
-            assert_handover(&rt, &plan);
-        }
+        Ok(checked) => assert!(rt; is_handover(checked.plan())),
+        Err((plan, fault)) => assert!(rt; fault == Fault::NoMemory && is_handover(&plan)),
     }
 }

@@ -115,20 +115,12 @@ fn end_of(alloc: Global, room: u64, budget: u32, code: &[Instr]) -> Result<Parce
     follow(alloc, &config, &plan, 0)
 }
 
-/// Where and why the stream breaks off.
-fn fault_of(alloc: Global, room: u64, budget: u32, code: &[Instr]) -> Option<Bad> {
-    match end_of(alloc, room, budget, code) {
-        Ok(_) => None,
-        Err(bad) => Some(bad),
-    }
+const fn at(at: u32, why: Why) -> Bad {
+    Bad::At { at, why }
 }
 
-fn at(at: u32, why: Why) -> Option<Bad> {
-    Some(Bad::At { at, why })
-}
-
-/// The rights at the end of the handover.
-pub(crate) fn assert_end(rt: &impl Abort, end: &Parcel) {
+/// The parcel has the rights at the end of the handover.
+fn is_end(end: &Parcel) -> bool {
     let absent = CellRight {
         shard: shard(),
         server: old(),
@@ -143,10 +135,15 @@ pub(crate) fn assert_end(rt: &impl Abort, end: &Parcel) {
         server: old(),
         amount: 4,
     };
-    assert!(rt; end.cells() == [absent].as_slice());
-    assert!(rt; end.crowns() == [crown].as_slice());
-    assert!(rt; end.room() == [free].as_slice());
-    assert!(rt; end.spare().is_empty());
+    end.cells() == [absent].as_slice()
+        && end.crowns() == [crown].as_slice()
+        && end.room() == [free].as_slice()
+        && end.spare().is_empty()
+}
+
+/// The rights at the end of the handover.
+pub(crate) fn assert_end(rt: &impl Abort, end: &Parcel) {
+    assert!(rt; is_end(end));
 }
 
 #[test]
@@ -160,14 +157,21 @@ fn handover_is_followed(rt: HostRuntime) -> Result<(), Fail> {
     Ok(())
 }
 
+/// The stream breaks off that makes this code with so much room and so many calls.
+fn assert_break(rt: &impl Abort, alloc: Global, room: u64, budget: u32, code: &[Instr], want: Bad) {
+    match end_of(alloc, room, budget, code) {
+        Ok(_) => assert!(rt; false),
+        Err(bad) => assert!(rt; bad == want),
+    }
+}
+
 #[test]
 fn handover_breaks_off(rt: HostRuntime) {
     let alloc = rt.alloc();
     let mut code = handover();
-    assert_eq!(rt; fault_of(alloc, 4, 4, &code), None);
-    assert_eq!(rt; fault_of(alloc, 3, 4, &code), at(0, Why::NoRoom));
-    assert_eq!(rt; fault_of(alloc, 4, 3, &code), at(4, Why::OverBudget));
-    assert_eq!(rt; fault_of(alloc, 4, 4, &code[..3]), at(3, Why::Unsettled));
+    assert_break(&rt, alloc, 3, 4, &code, at(0, Why::NoRoom));
+    assert_break(&rt, alloc, 4, 3, &code, at(4, Why::OverBudget));
+    assert_break(&rt, alloc, 4, 4, &code[..3], at(3, Why::Unsettled));
     code.swap(3, 4);
-    assert_eq!(rt; fault_of(alloc, 4, 4, &code), at(3, Why::StillListed));
+    assert_break(&rt, alloc, 4, 4, &code, at(3, Why::StillListed));
 }
