@@ -1,5 +1,5 @@
-//! Plans that may start, and what holds others up. Servers 0 to 3 have room for 10, 10, 4 and 10; shard 0, of load 4, has
-//! its primary at server 0 and a secondary at server 2, and may lose one of them; shard 1, of load 6, has its primary at
+//! Plans that may start, and what holds others up. Servers 0 to 3 have room for 10 each; shard 0, of load 4, has its
+//! primary at server 0 and a secondary at server 2, and may lose one of them; shard 1, of load 6, has its primary at
 //! server 1, and may lose none.
 ghost use Rattle.std.specs.Prelude.{◌≡◌, IfOk};
 ghost use Rattle.sm_placement.specs.Setup.{sizes_of};
@@ -7,42 +7,15 @@ ghost use Rattle.sm_placement.specs.Layout.{place_of};
 ghost use Rattle.sm_placement.specs.Lead.{IsSettled};
 ghost use Rattle.sm_reservation.specs.Pool.{HasSize};
 
-use sm_placement::{Config, Placement, Server, Shard};
+use super::rows::config_of;
+use sm_placement::{Config, Placement};
 use sm_plan_code::{Instr, Parts, Plan, Stream};
 use sm_reservation::{CellRight, Crown, Key, Lead, Lists, Parcel, PlainCell, Pool, Room, Spare};
 use sm_server::{Cell, Role, ServerId, ShardId};
 use sm_verifier::{Checked, Holding, admit, check};
 use std::alloc::{AllocError, Global};
+use std::process::Abort;
 use std::test::Fail;
-
-fn server(alloc: Global, name: &str, room: u64) -> Result<Server, AllocError> {
-    Ok(Server {
-        name: String::from_str(alloc, name)?,
-        region: String::from_str(alloc, "r")?,
-        room,
-    })
-}
-
-fn shard(alloc: Global, name: &str, load: u64, want: u32, cap: u32) -> Result<Shard, AllocError> {
-    Ok(Shard {
-        name: String::from_str(alloc, name)?,
-        load,
-        want,
-        cap,
-        spread: 1,
-    })
-}
-
-fn worked_config(alloc: Global) -> Result<Config, AllocError> {
-    let servers = [
-        server(alloc, "a", 10)?,
-        server(alloc, "b", 10)?,
-        server(alloc, "c", 4)?,
-        server(alloc, "d", 10)?,
-    ];
-    let shards = [shard(alloc, "s", 4, 2, 1)?, shard(alloc, "t", 6, 1, 0)?];
-    Config::new(alloc, &servers, &shards).map_err(|_| AllocError)
-}
 
 /// The worked placement, of which two servers may be down.
 fn worked_placement(
@@ -96,48 +69,89 @@ const fn crown() -> Crown {
     }
 }
 
-fn parcel(
-    alloc: Global,
-    cells: &[CellRight],
-    crowns: &[Crown],
-    rooms: &[Room],
-    spares: &[Spare],
-) -> Result<Parcel, AllocError> {
+/// What a parcel has.
+#[derive(Clone, Copy)]
+struct Rights {
+    cells: [Option<CellRight>; 2],
+    crown: Option<Crown>,
+    room: Option<Room>,
+    spare: Option<Spare>,
+}
+
+const NOTHING: Rights = Rights {
+    cells: [None, None],
+    crown: None,
+    room: None,
+    spare: None,
+};
+
+/// What the handover of shard 0 from server 0 to server 1 needs.
+const fn handover() -> Rights {
+    Rights {
+        cells: [Some(absent(1)), None],
+        crown: Some(crown()),
+        room: Some(room(4)),
+        spare: None,
+    }
+}
+
+/// The right to the cell of shard 0 at a server, as if the server had nothing of the shard.
+const fn only_absent(server: u32) -> Rights {
+    Rights {
+        cells: [Some(absent(server)), None],
+        ..NOTHING
+    }
+}
+
+/// Room of server 1.
+const fn only_room(amount: u64) -> Rights {
+    Rights {
+        room: Some(room(amount)),
+        ..NOTHING
+    }
+}
+
+/// The items that are there.
+fn listed<T: Copy + Drop>(alloc: Global, items: &[Option<T>]) -> Result<Vec<T>, AllocError> {
+    let mut list = Vec::new(alloc);
+    for item in items {
+        if let Some(item) = item {
+            list.push(*item).map_err(|_| AllocError)?;
+        }
+    }
+    Ok(list)
+}
+
+fn parcel(alloc: Global, rights: &Rights) -> Result<Parcel, AllocError> {
     let lists = Lists {
-        cells: Vec::from_slice(alloc, cells)?,
-        crowns: Vec::from_slice(alloc, crowns)?,
-        room: Vec::from_slice(alloc, rooms)?,
-        spare: Vec::from_slice(alloc, spares)?,
+        cells: listed(alloc, &rights.cells)?,
+        crowns: listed(alloc, &[rights.crown])?,
+        room: listed(alloc, &[rights.room])?,
+        spare: listed(alloc, &[rights.spare])?,
     };
     Parcel::new(alloc, lists).map_err(|_| AllocError)
 }
 
-/// What the handover of shard 0 from server 0 to server 1 needs.
-fn handover(alloc: Global) -> Result<Parcel, AllocError> {
-    parcel(alloc, &[absent(1)], &[crown()], &[room(4)], &[])
-}
-
-fn stream(alloc: Global, holds: Parcel, code: &[Instr]) -> Result<Stream, AllocError> {
+fn stream(alloc: Global, rights: &Rights, code: &[Instr]) -> Result<Stream, AllocError> {
     Ok(Stream {
         budget: 4,
         retries: 0,
-        holds,
+        holds: parcel(alloc, rights)?,
         code: Vec::from_slice(alloc, code)?,
     })
 }
 
-/// A plan of two streams with these parcels, of which the second has a code.
-fn plan(alloc: Global, first: Parcel, second: Parcel, code: &[Instr]) -> Result<Plan, AllocError> {
-    let mut streams = Vec::new(alloc);
-    streams
-        .push(stream(alloc, first, &[])?)
-        .map_err(|_| AllocError)?;
-    streams
-        .push(stream(alloc, second, code)?)
-        .map_err(|_| AllocError)?;
+/// A plan of two streams with these rights, of which the second has a code.
+fn plan(
+    alloc: Global,
+    first: &Rights,
+    second: &Rights,
+    code: &[Instr],
+) -> Result<Plan, AllocError> {
+    let streams = [stream(alloc, first, &[])?, stream(alloc, second, code)?];
     let parts = Parts {
         budget: 8,
-        streams,
+        streams: Vec::from_array(alloc, streams).map_err(|_| AllocError)?,
         signals: Vec::new(alloc),
     };
     Plan::new(parts).map_err(|_| AllocError)
@@ -185,13 +199,12 @@ fn judged_at(
 }
 
 /// The plan with its check, which it passes.
-fn checked_of(alloc: Global, config: &Config, plan: Plan) -> Result<Checked, AllocError>
-    ensures { IfOk result (λ checked. checked.setup ≡ config.now) }
-{
-    if !plan.fits(config) {
+fn checked_of(alloc: Global, plan: Plan) -> Result<Checked, AllocError> {
+    let config = config_of(alloc, 4, &[4, 6])?;
+    if !plan.fits(&config) {
         return Err(AllocError);
     }
-    check(alloc, config, plan).map_err(|_| AllocError)
+    check(alloc, &config, plan).map_err(|_| AllocError)
 }
 
 /// What holds a plan up at the worked placement with servers down, once a parcel was taken from its pool.
@@ -201,24 +214,31 @@ fn judged(
     down: &[ServerId],
     taken: &Parcel,
 ) -> Result<Option<Holding>, AllocError> {
-    let config = worked_config(alloc)?;
-    let checked = checked_of(alloc, &config, plan)?;
-    let placement = worked_placement(alloc, &config, down)?;
+    let checked = checked_of(alloc, plan)?;
+    let placement = worked_placement(alloc, checked.config(), down)?;
     judged_at(alloc, &checked, &placement, taken)
 }
 
-/// What holds a plan of these two parcels up, once another was taken.
+/// What holds a plan of two streams with these rights up, once others were taken.
 fn held_up(
     alloc: Global,
-    first: Parcel,
-    second: Parcel,
-    taken: &Parcel,
+    first: &Rights,
+    second: &Rights,
+    taken: &Rights,
 ) -> Result<Option<Holding>, AllocError> {
-    judged(alloc, plan(alloc, first, second, &[])?, &[], taken)
+    let taken = parcel(alloc, taken)?;
+    judged(alloc, plan(alloc, first, second, &[])?, &[], &taken)
 }
 
-fn empty(alloc: Global) -> Result<Parcel, AllocError> {
-    parcel(alloc, &[], &[], &[], &[])
+/// What holds a plan with a code and its rights up where these servers are down.
+fn held_up_by_servers(
+    alloc: Global,
+    down: &[ServerId],
+    rights: &Rights,
+    code: &[Instr],
+) -> Result<Option<Holding>, AllocError> {
+    let taken = parcel(alloc, &NOTHING)?;
+    judged(alloc, plan(alloc, &NOTHING, rights, code)?, down, &taken)
 }
 
 /// The key of a cell of shard 0.
@@ -229,100 +249,153 @@ const fn cell_key(server: u32) -> Key {
     }
 }
 
+/// Asserts what holds a plan of two streams with these rights up, once others were taken.
+fn assert_held_up(
+    rt: &impl Abort,
+    alloc: Global,
+    first: Rights,
+    second: Rights,
+    taken: Rights,
+    want: Option<Holding>,
+) -> Result<(), AllocError> {
+    let answer = held_up(alloc, &first, &second, &taken)?;
+    assert_eq!(rt; answer, want);
+    Ok(())
+}
+
 #[test]
 fn handover_is_admitted_once(rt: HostRuntime) -> Result<(), Fail> {
     let alloc = rt.alloc();
-    let nothing = empty(alloc)?;
-    let once = held_up(alloc, handover(alloc)?, empty(alloc)?, &nothing)?;
-    assert_eq!(rt; once, None);
-    let twice = held_up(alloc, handover(alloc)?, handover(alloc)?, &nothing)?;
-    assert_eq!(rt; twice, Some(Holding::Taken { key: cell_key(1) }));
+    assert_held_up(&rt, alloc, handover(), NOTHING, NOTHING, None)?;
+    let taken = Holding::Taken { key: cell_key(1) };
+    assert_held_up(&rt, alloc, handover(), handover(), NOTHING, Some(taken))?;
     Ok(())
 }
 
 #[test]
 fn room_of_both_streams_is_short(rt: HostRuntime) -> Result<(), Fail> {
-    let alloc = rt.alloc();
-    let nothing = empty(alloc)?;
-    let other = parcel(alloc, &[], &[], &[room(4)], &[])?;
-    let answer = held_up(alloc, handover(alloc)?, other, &nothing)?;
     let short = Holding::ShortRoom {
         server: ServerId::new(1),
         free: 4,
         declared: 8,
     };
-    assert_eq!(rt; answer, Some(short));
+    assert_held_up(
+        &rt,
+        rt.alloc(),
+        handover(),
+        only_room(4),
+        NOTHING,
+        Some(short),
+    )?;
     Ok(())
 }
 
 #[test]
 fn cell_of_both_streams_is_taken(rt: HostRuntime) -> Result<(), Fail> {
-    let alloc = rt.alloc();
-    let nothing = empty(alloc)?;
-    let other = parcel(alloc, &[absent(1)], &[], &[], &[])?;
-    let answer = held_up(alloc, handover(alloc)?, other, &nothing)?;
-    assert_eq!(rt; answer, Some(Holding::Taken { key: cell_key(1) }));
+    let taken = Holding::Taken { key: cell_key(1) };
+    assert_held_up(
+        &rt,
+        rt.alloc(),
+        handover(),
+        only_absent(1),
+        NOTHING,
+        Some(taken),
+    )?;
     Ok(())
 }
 
 #[test]
 fn rights_out_of_the_pool_are_taken(rt: HostRuntime) -> Result<(), Fail> {
     let alloc = rt.alloc();
-    let granted = handover(alloc)?;
-    let cells = held_up(alloc, handover(alloc)?, empty(alloc)?, &granted)?;
-    assert_eq!(rt; cells, Some(Holding::Taken { key: cell_key(1) }));
-    let lead = parcel(alloc, &[], &[crown()], &[], &[])?;
-    let crowns = held_up(alloc, empty(alloc)?, lead, &granted)?;
+    let cell = Holding::Taken { key: cell_key(1) };
+    assert_held_up(&rt, alloc, handover(), NOTHING, handover(), Some(cell))?;
+    let lead = Rights {
+        crown: Some(crown()),
+        ..NOTHING
+    };
     let key = Key::Crown {
         shard: ShardId::new(0),
     };
-    assert_eq!(rt; crowns, Some(Holding::Taken { key }));
+    assert_held_up(
+        &rt,
+        alloc,
+        NOTHING,
+        lead,
+        handover(),
+        Some(Holding::Taken { key }),
+    )?;
     Ok(())
 }
 
+/// Room of server 1 and a spare replica of shard 0.
+const fn amounts() -> Rights {
+    Rights {
+        room: Some(room(3)),
+        spare: Some(spare()),
+        ..NOTHING
+    }
+}
+
 #[test]
-fn amounts_out_of_the_pool_are_short(rt: HostRuntime) -> Result<(), Fail> {
-    let alloc = rt.alloc();
-    let granted = parcel(alloc, &[], &[], &[room(3)], &[spare()])?;
-    let room = parcel(alloc, &[], &[], &[room(2)], &[])?;
+fn room_out_of_the_pool_is_short(rt: HostRuntime) -> Result<(), Fail> {
     let short = Holding::ShortRoom {
         server: ServerId::new(1),
         free: 1,
         declared: 2,
     };
-    assert_eq!(rt; held_up(alloc, room, empty(alloc)?, &granted)?, Some(short));
-    let spare = parcel(alloc, &[], &[], &[], &[spare()])?;
+    assert_held_up(
+        &rt,
+        rt.alloc(),
+        only_room(2),
+        NOTHING,
+        amounts(),
+        Some(short),
+    )?;
+    Ok(())
+}
+
+#[test]
+fn spare_replicas_out_of_the_pool_are_short(rt: HostRuntime) -> Result<(), Fail> {
+    let replica = Rights {
+        spare: Some(spare()),
+        ..NOTHING
+    };
     let short = Holding::ShortSpare {
         shard: ShardId::new(0),
         free: 0,
         declared: 1,
     };
-    assert_eq!(rt;
-        held_up(alloc, spare, empty(alloc)?, &granted)?,
-        Some(short)
-    );
+    assert_held_up(&rt, rt.alloc(), replica, NOTHING, amounts(), Some(short))?;
     Ok(())
 }
 
 #[test]
 fn what_is_untrue_comes_before_what_is_taken(rt: HostRuntime) -> Result<(), Fail> {
-    let alloc = rt.alloc();
-    let granted = handover(alloc)?;
-    let untrue = parcel(alloc, &[absent(2)], &[], &[], &[])?;
-    let answer = held_up(alloc, handover(alloc)?, untrue, &granted)?;
-    assert_eq!(rt; answer, Some(Holding::Untrue { key: cell_key(2) }));
+    let untrue = Holding::Untrue { key: cell_key(2) };
+    assert_held_up(
+        &rt,
+        rt.alloc(),
+        handover(),
+        only_absent(2),
+        handover(),
+        Some(untrue),
+    )?;
     Ok(())
 }
 
-/// What holds a plan with a code and its rights up where these servers are down.
-fn held_up_by_servers(
+/// Asserts which server that is down holds a plan with a code and its rights up, where these are down.
+fn assert_down(
+    rt: &impl Abort,
     alloc: Global,
     down: &[ServerId],
-    rights: Parcel,
+    rights: Rights,
     code: &[Instr],
-) -> Result<Option<Holding>, AllocError> {
-    let plan = plan(alloc, empty(alloc)?, rights, code)?;
-    judged(alloc, plan, down, &empty(alloc)?)
+    want: Option<ServerId>,
+) -> Result<(), AllocError> {
+    let answer = held_up_by_servers(alloc, down, &rights, code)?;
+    let holding = want.map(|server| Holding::ServerDown { server });
+    assert_eq!(rt; answer, holding);
+    Ok(())
 }
 
 /// A secondary of shard 0 more.
@@ -344,46 +417,48 @@ const fn drop_from(server: u32) -> Instr {
 
 #[test]
 fn servers_that_are_up_hold_nothing_up(rt: HostRuntime) -> Result<(), Fail> {
-    let alloc = rt.alloc();
     let down = [ServerId::new(2), ServerId::new(3)];
-    let rights = parcel(alloc, &[absent(1)], &[], &[room(4)], &[])?;
-    let answer = held_up_by_servers(alloc, &down, rights, &[add(1)])?;
-    assert_eq!(rt; answer, None);
+    let rights = Rights {
+        cells: [Some(absent(1)), None],
+        room: Some(room(4)),
+        ..NOTHING
+    };
+    assert_down(&rt, rt.alloc(), &down, rights, &[add(1)], None)?;
     Ok(())
 }
 
 /// The owner of a handover that is prepared and then given up.
 #[test]
 fn owner_that_is_down_is_named(rt: HostRuntime) -> Result<(), Fail> {
-    let alloc = rt.alloc();
+    let owner = ServerId::new(0);
     let prepare = Instr::PrepareAdd {
         shard: ShardId::new(0),
         server: ServerId::new(1),
-        owner: ServerId::new(0),
+        owner,
     };
     let code = [prepare, drop_from(1)];
-    let answer = held_up_by_servers(alloc, &[ServerId::new(0)], handover(alloc)?, &code)?;
-    let server = ServerId::new(0);
-    assert_eq!(rt; answer, Some(Holding::ServerDown { server }));
+    assert_down(&rt, rt.alloc(), &[owner], handover(), &code, Some(owner))?;
     Ok(())
 }
 
 #[test]
 fn lowest_server_that_is_down_is_named(rt: HostRuntime) -> Result<(), Fail> {
-    let alloc = rt.alloc();
-    let down = [ServerId::new(2), ServerId::new(3)];
+    let (low, high) = (ServerId::new(2), ServerId::new(3));
     let secondary = CellRight {
         shard: ShardId::new(0),
-        server: ServerId::new(2),
+        server: low,
         state: PlainCell::Secondary,
     };
     let room = Room {
-        server: ServerId::new(3),
+        server: high,
         amount: 4,
     };
-    let rights = parcel(alloc, &[secondary, absent(3)], &[], &[room], &[])?;
-    let answer = held_up_by_servers(alloc, &down, rights, &[add(3), drop_from(2)])?;
-    let server = ServerId::new(2);
-    assert_eq!(rt; answer, Some(Holding::ServerDown { server }));
+    let rights = Rights {
+        cells: [Some(secondary), Some(absent(3))],
+        room: Some(room),
+        ..NOTHING
+    };
+    let code = [add(3), drop_from(2)];
+    assert_down(&rt, rt.alloc(), &[low, high], rights, &code, Some(low))?;
     Ok(())
 }

@@ -1,46 +1,11 @@
 //! Plans that pass the check, and each fault of another one.
-use super::handover::{assert_end, handover, held};
-use super::plans::{check_of, fault_of, plan};
-use sm_plan_code::{Instr, Parts, Plan, Stream, Why};
+use super::handover::{ENOUGH, Numbers, assert_end, handover, handover_plan};
+use super::plans::{check_of, checked_of, fault_of, plan};
+use sm_plan_code::{Instr, Plan, Stream, Why};
 use sm_verifier::{Checked, Fault};
-use std::alloc::{AllocError, Global};
+use std::alloc::Global;
 use std::process::Abort;
 use std::test::Fail;
-
-/// The numbers of a plan with the worked handover: the plan's budget, and its stream's budget, retries and room.
-#[derive(Clone, Copy)]
-struct Numbers {
-    plan: u32,
-    budget: u32,
-    retries: u32,
-    room: u64,
-}
-
-/// As many calls as the handover makes, and the room that it takes.
-const ENOUGH: Numbers = Numbers {
-    plan: 4,
-    budget: 4,
-    retries: 0,
-    room: 4,
-};
-
-/// A plan of one stream with this code and the rights of the handover.
-fn handover_plan(alloc: Global, numbers: Numbers, code: &[Instr]) -> Result<Plan, AllocError> {
-    let stream = Stream {
-        budget: numbers.budget,
-        retries: numbers.retries,
-        holds: held(alloc, numbers.room)?,
-        code: Vec::from_slice(alloc, code)?,
-    };
-    let mut streams = Vec::new(alloc);
-    streams.push(stream).map_err(|_| AllocError)?;
-    let parts = Parts {
-        budget: numbers.plan,
-        streams,
-        signals: Vec::new(alloc),
-    };
-    Plan::new(parts).map_err(|_| AllocError)
-}
 
 /// The stream is the handover's.
 fn is_handover_stream(stream: &Stream) -> bool {
@@ -86,14 +51,9 @@ fn assert_findings(rt: &impl Abort, checked: &Checked) {
 #[test]
 fn handover_passes(rt: HostRuntime) -> Result<(), Fail> {
     let alloc = rt.alloc();
-    let plan = handover_plan(alloc, ENOUGH, &handover())?;
-    match check_of(alloc, plan) {
-        Ok(checked) => {
-            assert_findings(&rt, &checked);
-            assert!(rt; is_handover(&checked.into_plan()));
-        }
-        Err(_) => assert!(rt; false),
-    }
+    let checked = checked_of(alloc, handover_plan(alloc, ENOUGH, &handover())?)?;
+    assert_findings(&rt, &checked);
+    assert!(rt; is_handover(&checked.into_plan()));
     Ok(())
 }
 
@@ -102,11 +62,8 @@ fn handover_passes(rt: HostRuntime) -> Result<(), Fail> {
 fn room_counts_the_longest_list(rt: HostRuntime) -> Result<(), Fail> {
     let alloc = rt.alloc();
     let numbers = Numbers { room: 5, ..ENOUGH };
-    let plan = handover_plan(alloc, numbers, &handover())?;
-    match check_of(alloc, plan) {
-        Ok(checked) => assert_eq!(rt; room_of(&checked), Some(2)),
-        Err(_) => assert!(rt; false),
-    }
+    let checked = checked_of(alloc, handover_plan(alloc, numbers, &handover())?)?;
+    assert!(rt; room_of(&checked) == Some(2));
     Ok(())
 }
 

@@ -1,5 +1,5 @@
 //! Orders of small plans, and where the streams of plans without one stop.
-use super::plans::{check_of, fault_of, plan};
+use super::plans::{checked_of, fault_of, plan};
 use sm_plan_code::Instr;
 use sm_verifier::Fault;
 use std::alloc::{AllocError, Global};
@@ -22,11 +22,8 @@ fn assert_order(
     codes: &[&[Instr]],
     steps: &[(u32, u32)],
 ) -> Result<(), AllocError> {
-    let plan = plan(alloc, signals, codes)?;
-    match check_of(alloc, plan) {
-        Ok(checked) => assert!(rt; checked.order() == steps),
-        Err(_) => assert!(rt; false),
-    }
+    let checked = checked_of(alloc, plan(alloc, signals, codes)?)?;
+    assert!(rt; checked.order() == steps);
     Ok(())
 }
 

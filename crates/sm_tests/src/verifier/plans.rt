@@ -54,6 +54,11 @@ pub(super) fn check_of(alloc: Global, plan: Plan) -> Result<Checked, (Plan, Faul
     check(alloc, &config, plan)
 }
 
+/// The plan with its check, which it passes.
+pub(super) fn checked_of(alloc: Global, plan: Plan) -> Result<Checked, AllocError> {
+    check_of(alloc, plan).map_err(|_| AllocError)
+}
+
 /// Why the plan does not pass.
 pub(super) fn fault_of(alloc: Global, plan: Result<Plan, AllocError>) -> Option<Fault> {
     let Ok(plan) = plan else {
