@@ -20,7 +20,7 @@ test:
 	scripts/check-faults
 	scripts/check-command-line
 	scripts/check-memory
-	scripts/check-memory-tests sm_tests sm_reservation sm_verifier sm_map
+	scripts/check-memory-tests sm_tests sm_reservation sm_map
 	scripts/refused-programs
 
 bench: build

@@ -21,3 +21,5 @@ mod plan_text;
 mod server_calls;
 #[cfg(test)]
 mod steps;
+#[cfg(test)]
+mod verifier;

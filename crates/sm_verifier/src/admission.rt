@@ -3,7 +3,7 @@ ghost use Rattle.std.specs.Prelude.{◌≡◌, ◌≤◌, All, OnOk, OnErr, IfEr
 ghost use Rattle.sm_placement.specs.Setup.{sizes_of};
 ghost use Rattle.sm_placement.specs.Layout.{place_of};
 ghost use Rattle.sm_reservation.specs.Pool.{pool_hold, HasSize};
-ghost use Rattle.sm_plan_code.specs.Plan.{FitsStream, FitsPlan, IsSmallStream};
+ghost use Rattle.sm_plan_code.specs.Plan.{FitsStream, IsSmallStream};
 ghost use Rattle.sm_verifier.specs.Admission.{IsAdmitted, IsHolding};
 
 use crate::Checked;
@@ -12,8 +12,7 @@ use crate::declared::{declared_room, declared_spare};
 use crate::downs::first_down;
 use crate::free::first_taken;
 use crate::truth::first_untrue;
-use sm_placement::{Config, Placement};
-use sm_plan_code::Plan;
+use sm_placement::Placement;
 use sm_reservation::{Key, Pool};
 use sm_server::{ServerId, ShardId};
 use thiserror::Error;
@@ -61,21 +60,19 @@ pub enum Holding {
     },
 }
 
-/// Judges whether a plan may start at a placement with its pool.
-pub(crate) fn admit_plan(
-    config: &Config,
-    plan: &Plan,
-    pool: &Pool,
-    placement: &Placement,
-) -> Result<(), Holding>
-    requires fits { FitsPlan (length config.now.shards) (length config.now.servers) plan.now }
-    requires size { HasSize (sizes_of config.now) pool.now }
-    requires setup { placement.now.setup ≡ config.now }
-    ensures admitted { OnOk result (IsAdmitted (sizes_of config.now) (place_of placement.now) (pool_hold pool.now) plan.now) }
-    ensures holding { IfErr result (λ why. IsHolding (sizes_of config.now) (place_of placement.now) (pool_hold pool.now) plan.now why) }
-    ensures refused { OnErr result (¬ IsAdmitted (sizes_of config.now) (place_of placement.now) (pool_hold pool.now) plan.now) }
+/// Judges whether a checked plan may start at a placement with its pool. Takes no memory.
+///
+/// The rules are looked at in the order of `Holding`, each over all streams: the first one that is not kept is named, at
+/// the first stream and its lowest key, or at the lowest server or shard.
+pub fn admit(checked: &Checked, pool: &Pool, placement: &Placement) -> Result<(), Holding>
+    requires size { HasSize (sizes_of checked.now.setup) pool.now }
+    requires setup { placement.now.setup ≡ checked.now.setup }
+    ensures admitted { OnOk result (IsAdmitted (sizes_of checked.now.setup) (place_of placement.now) (pool_hold pool.now) checked.now.plan) }
+    ensures holding { IfErr result (λ why. IsHolding (sizes_of checked.now.setup) (place_of placement.now) (pool_hold pool.now) checked.now.plan why) }
+    ensures refused { OnErr result (¬ IsAdmitted (sizes_of checked.now.setup) (place_of placement.now) (pool_hold pool.now) checked.now.plan) }
 {
-    let streams = plan.streams();
+    let config = checked.config();
+    let streams = checked.plan().streams();
     if let Some(key) = first_untrue(placement, streams) {
         return Err(Holding::Untrue { key });
     }
@@ -100,18 +97,4 @@ pub(crate) fn admit_plan(
         return Err(Holding::ServerDown { server });
     }
     Ok(())
-}
-
-/// Judges whether a checked plan may start at a placement with its pool. Takes no memory.
-///
-/// The rules are looked at in the order of `Holding`, each over all streams: the first one that is not kept is named, at
-/// the first stream and its lowest key, or at the lowest server or shard.
-pub fn admit(checked: &Checked, pool: &Pool, placement: &Placement) -> Result<(), Holding>
-    requires size { HasSize (sizes_of checked.now.setup) pool.now }
-    requires setup { placement.now.setup ≡ checked.now.setup }
-    ensures admitted { OnOk result (IsAdmitted (sizes_of checked.now.setup) (place_of placement.now) (pool_hold pool.now) checked.now.plan) }
-    ensures holding { IfErr result (λ why. IsHolding (sizes_of checked.now.setup) (place_of placement.now) (pool_hold pool.now) checked.now.plan why) }
-    ensures refused { OnErr result (¬ IsAdmitted (sizes_of checked.now.setup) (place_of placement.now) (pool_hold pool.now) checked.now.plan) }
-{
-    admit_plan(checked.config(), checked.plan(), pool, placement)
 }

@@ -15,8 +15,6 @@ mod lines;
 mod order;
 mod signals;
 mod steps;
-#[cfg(test)]
-mod tests;
 mod truth;
 mod verdict;
 

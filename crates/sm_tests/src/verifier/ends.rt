@@ -1,10 +1,10 @@
 //! Where a stream breaks off for its budget or for its end, and want of memory.
 use super::handover::{assert_end, handover, held};
 use super::rows::*;
-use crate::Bad;
 use sm_plan_code::{Instr, Stream, Why};
 use sm_reservation::Parcel;
 use sm_server::{Role, ShardId};
+use sm_verifier::Bad;
 use std::alloc::Global;
 
 /// The calls: of each kind, and in each role.

@@ -1,9 +1,9 @@
 //! Streams that follow one instruction of a table of cases: what it leaves, and why it is not made.
-use crate::{Bad, follow};
 use sm_placement::{Config, Server, Shard};
 use sm_plan_code::{Instr, Parts, Plan, Stream, Why, is_call};
 use sm_reservation::{CellRight, Crown, Lead, Lists, Parcel, PlainCell, Room, Spare};
 use sm_server::{ServerId, ShardId};
+use sm_verifier::{Bad, follow};
 use std::alloc::{AllocError, Global};
 use std::process::Abort;
 
@@ -67,10 +67,10 @@ pub(super) fn server(number: u32) -> ServerId {
     ServerId::new(number)
 }
 
-/// Three servers and two shards.
-pub(super) fn config(alloc: Global) -> Result<Config, AllocError> {
+/// So many servers with room for 10, and a shard for each load.
+pub(super) fn config_of(alloc: Global, count: u32, loads: &[u64]) -> Result<Config, AllocError> {
     let mut servers = Vec::new(alloc);
-    for number in 0..3 {
+    for number in 0..count {
         servers.push(Server {
             name: format!(in alloc; "server-{number}")?,
             region: String::from_str(alloc, "r1")?,
@@ -78,10 +78,10 @@ pub(super) fn config(alloc: Global) -> Result<Config, AllocError> {
         })?;
     }
     let mut shards = Vec::new(alloc);
-    for number in 0..2 {
+    for (number, load) in loads.iter().enumerate() {
         shards.push(Shard {
             name: format!(in alloc; "shard-{number}")?,
-            load: 4 - number,
+            load: *load,
             want: 2,
             cap: 1,
             spread: 1,
@@ -175,12 +175,8 @@ pub(super) fn parcel(alloc: Global, held: &Held, others: Lists) -> Result<Parcel
     Parcel::new(alloc, lists).map_err(|_| AllocError)
 }
 
-/// What a stream holds at its end, in a plan with these signals in which it is the second one.
-pub(super) fn answer_of(
-    alloc: Global,
-    stream: Stream,
-    signals: Vec<Parcel>,
-) -> Result<Parcel, Bad> {
+/// A plan with these signals, in which the stream is the second one.
+fn plan_of(alloc: Global, stream: Stream, signals: Vec<Parcel>) -> Result<Plan, AllocError> {
     let budget = stream.budget;
     let first = Stream {
         budget: 0,
@@ -193,8 +189,17 @@ pub(super) fn answer_of(
         streams: Vec::from_array(alloc, [first, stream]).map_err(|_| AllocError)?,
         signals,
     };
-    let plan = Plan::new(parts).map_err(|_| AllocError)?;
-    let config = config(alloc)?;
+    Plan::new(parts).map_err(|_| AllocError)
+}
+
+/// What a stream holds at its end, in a plan with these signals in which it is the second one.
+pub(super) fn answer_of(
+    alloc: Global,
+    stream: Stream,
+    signals: Vec<Parcel>,
+) -> Result<Parcel, Bad> {
+    let plan = plan_of(alloc, stream, signals)?;
+    let config = config_of(alloc, 3, &[4, 3])?;
     if !plan.fits(&config) || plan.streams().len() < 2 {
         return Err(Bad::NoMemory);
     }
@@ -260,23 +265,34 @@ pub(super) fn is_under_way(led: Led) -> bool {
     matches!(led, Ready(_, _) | Handing(_, _) | Handed(_, _))
 }
 
-/// The instruction leaves just these rights: all of them may be given away, and then nothing is left.
+/// All rights that are to be held after the instruction may be given away, and then nothing is left.
+fn is_given_away(alloc: Global, row: &Row) -> Result<bool, AllocError> {
+    let answer = end_of(alloc, row, &[IDLE, row.instr, GIVE_ALL]);
+    let nothing = parcel(alloc, &NOTHING, no_rights(alloc))?;
+    Ok(is_end(&answer, &nothing))
+}
+
+/// The stream ends with these rights behind the instruction, or it may not end in a handover.
+fn is_kept(alloc: Global, row: &Row, want: &Held) -> Result<bool, AllocError> {
+    let answer = end_of(alloc, row, &[IDLE, row.instr]);
+    if is_under_way(want.1) {
+        return Ok(breaks_at(&answer, 2, Why::Unsettled));
+    }
+    let want = parcel(alloc, want, other_rights(alloc)?)?;
+    Ok(is_end(&answer, &want))
+}
+
+/// The instruction leaves just these rights.
 pub(super) fn assert_made(
     rt: &impl Abort,
     alloc: Global,
     row: &Row,
     want: &Held,
 ) -> Result<(), AllocError> {
-    let given = end_of(alloc, row, &[IDLE, row.instr, GIVE_ALL]);
-    let nothing = parcel(alloc, &NOTHING, no_rights(alloc))?;
-    assert!(rt; is_end(&given, &nothing), "given away: {row:?}");
-    let kept = end_of(alloc, row, &[IDLE, row.instr]);
-    if is_under_way(want.1) {
-        assert!(rt; breaks_at(&kept, 2, Why::Unsettled), "unsettled: {row:?}");
-    } else {
-        let want = parcel(alloc, want, other_rights(alloc)?)?;
-        assert!(rt; is_end(&kept, &want), "kept: {row:?}");
-    }
+    let is_given_away = is_given_away(alloc, row)?;
+    assert!(rt; is_given_away, "given away: {row:?}");
+    let is_kept = is_kept(alloc, row, want)?;
+    assert!(rt; is_kept, "kept: {row:?}");
     Ok(())
 }
 

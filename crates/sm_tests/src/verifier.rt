@@ -8,6 +8,7 @@ mod ends;
 mod handover;
 mod listing;
 mod order;
+mod plans;
 mod preparing;
 mod rows;
 mod signalling;

@@ -1,12 +1,12 @@
 //! The worked handover followed to its end, and broken off at each of the places where it may be.
-use crate::{Bad, follow};
-use sm_placement::{Config, Server, Shard};
+use super::rows::config_of;
+use sm_placement::Config;
 use sm_plan_code::{Instr, Parts, Plan, Stream, Why};
 use sm_reservation::{CellRight, Crown, Lead, Lists, Parcel, PlainCell, Room};
 use sm_server::{Role, ServerId, ShardId};
+use sm_verifier::{Bad, follow};
 use std::alloc::{AllocError, Global};
 use std::process::Abort;
-use std::test::Fail;
 
 const fn shard() -> ShardId {
     ShardId::new(0)
@@ -21,28 +21,12 @@ const fn new() -> ServerId {
 }
 
 /// Two servers, and a shard with a load of 4.
-pub(crate) fn config(alloc: Global) -> Result<Config, AllocError> {
-    let mut servers = Vec::new(alloc);
-    for number in 0..2 {
-        servers.push(Server {
-            name: format!(in alloc; "server-{number}")?,
-            region: String::from_str(alloc, "r1")?,
-            room: 10,
-        })?;
-    }
-    let mut shards = Vec::new(alloc);
-    shards.push(Shard {
-        name: String::from_str(alloc, "s")?,
-        load: 4,
-        want: 2,
-        cap: 1,
-        spread: 1,
-    })?;
-    Config::new(alloc, &servers, &shards).map_err(|_| AllocError)
+pub(super) fn config(alloc: Global) -> Result<Config, AllocError> {
+    config_of(alloc, 2, &[4])
 }
 
 /// The absent cell at the new server, the crown of the old one, and so much room at the new one.
-pub(crate) fn held(alloc: Global, room: u64) -> Result<Parcel, AllocError> {
+pub(super) fn held(alloc: Global, room: u64) -> Result<Parcel, AllocError> {
     let cell = CellRight {
         shard: shard(),
         server: new(),
@@ -67,7 +51,7 @@ pub(crate) fn held(alloc: Global, room: u64) -> Result<Parcel, AllocError> {
 }
 
 /// The steps of the handover: prepared, forwarded, added, published, dropped.
-pub(crate) fn handover() -> [Instr; 5] {
+pub(super) fn handover() -> [Instr; 5] {
     [
         Instr::PrepareAdd {
             shard: shard(),
@@ -92,22 +76,48 @@ pub(crate) fn handover() -> [Instr; 5] {
     ]
 }
 
-/// What a stream holds at its end that makes this code with so much room and so many calls.
-fn end_of(alloc: Global, room: u64, budget: u32, code: &[Instr]) -> Result<Parcel, Bad> {
+/// The numbers of a plan with the worked handover: the plan's budget, and its stream's budget, retries and room.
+#[derive(Clone, Copy)]
+pub(super) struct Numbers {
+    pub(super) plan: u32,
+    pub(super) budget: u32,
+    pub(super) retries: u32,
+    pub(super) room: u64,
+}
+
+/// As many calls as the handover makes, and the room that it takes.
+pub(super) const ENOUGH: Numbers = Numbers {
+    plan: 4,
+    budget: 4,
+    retries: 0,
+    room: 4,
+};
+
+/// A plan of one stream with this code and the rights of the handover.
+pub(super) fn handover_plan(
+    alloc: Global,
+    numbers: Numbers,
+    code: &[Instr],
+) -> Result<Plan, AllocError> {
     let stream = Stream {
-        budget,
-        retries: 0,
-        holds: held(alloc, room)?,
+        budget: numbers.budget,
+        retries: numbers.retries,
+        holds: held(alloc, numbers.room)?,
         code: Vec::from_slice(alloc, code)?,
     };
     let mut streams = Vec::new(alloc);
     streams.push(stream).map_err(|_| AllocError)?;
     let parts = Parts {
-        budget,
+        budget: numbers.plan,
         streams,
         signals: Vec::new(alloc),
     };
-    let plan = Plan::new(parts).map_err(|_| AllocError)?;
+    Plan::new(parts).map_err(|_| AllocError)
+}
+
+/// What the stream of such a plan holds at its end.
+fn end_of(alloc: Global, numbers: Numbers, code: &[Instr]) -> Result<Parcel, Bad> {
+    let plan = handover_plan(alloc, numbers, code)?;
     let config = config(alloc)?;
     if !plan.fits(&config) || plan.streams().is_empty() {
         return Err(Bad::NoMemory);
@@ -115,20 +125,12 @@ fn end_of(alloc: Global, room: u64, budget: u32, code: &[Instr]) -> Result<Parce
     follow(alloc, &config, &plan, 0)
 }
 
-/// Where and why the stream breaks off.
-fn fault_of(alloc: Global, room: u64, budget: u32, code: &[Instr]) -> Option<Bad> {
-    match end_of(alloc, room, budget, code) {
-        Ok(_) => None,
-        Err(bad) => Some(bad),
-    }
+const fn at(at: u32, why: Why) -> Bad {
+    Bad::At { at, why }
 }
 
-fn at(at: u32, why: Why) -> Option<Bad> {
-    Some(Bad::At { at, why })
-}
-
-/// The rights at the end of the handover.
-pub(crate) fn assert_end(rt: &impl Abort, end: &Parcel) {
+/// The parcel has the rights at the end of the handover.
+fn is_end(end: &Parcel) -> bool {
     let absent = CellRight {
         shard: shard(),
         server: old(),
@@ -143,31 +145,45 @@ pub(crate) fn assert_end(rt: &impl Abort, end: &Parcel) {
         server: old(),
         amount: 4,
     };
-    assert!(rt; end.cells() == [absent].as_slice());
-    assert!(rt; end.crowns() == [crown].as_slice());
-    assert!(rt; end.room() == [free].as_slice());
-    assert!(rt; end.spare().is_empty());
+    end.cells() == [absent].as_slice()
+        && end.crowns() == [crown].as_slice()
+        && end.room() == [free].as_slice()
+        && end.spare().is_empty()
+}
+
+/// The rights at the end of the handover.
+pub(super) fn assert_end(rt: &impl Abort, end: &Parcel) {
+    assert!(rt; is_end(end));
 }
 
 #[test]
-fn handover_is_followed(rt: HostRuntime) -> Result<(), Fail> {
-    let alloc = rt.alloc();
-    let code = handover();
-    match end_of(alloc, 4, 4, &code) {
+fn handover_is_followed(rt: HostRuntime) {
+    match end_of(rt.alloc(), ENOUGH, &handover()) {
         Ok(end) => assert_end(&rt, &end),
         Err(_) => assert!(rt; false),
     }
-    Ok(())
+}
+
+/// The stream of a plan with these numbers and this code breaks off.
+fn assert_break(rt: &impl Abort, alloc: Global, numbers: Numbers, code: &[Instr], want: Bad) {
+    match end_of(alloc, numbers, code) {
+        Ok(_) => assert!(rt; false),
+        Err(bad) => assert!(rt; bad == want),
+    }
 }
 
 #[test]
 fn handover_breaks_off(rt: HostRuntime) {
     let alloc = rt.alloc();
     let mut code = handover();
-    assert_eq!(rt; fault_of(alloc, 4, 4, &code), None);
-    assert_eq!(rt; fault_of(alloc, 3, 4, &code), at(0, Why::NoRoom));
-    assert_eq!(rt; fault_of(alloc, 4, 3, &code), at(4, Why::OverBudget));
-    assert_eq!(rt; fault_of(alloc, 4, 4, &code[..3]), at(3, Why::Unsettled));
+    let little_room = Numbers { room: 3, ..ENOUGH };
+    assert_break(&rt, alloc, little_room, &code, at(0, Why::NoRoom));
+    let few_calls = Numbers {
+        budget: 3,
+        ..ENOUGH
+    };
+    assert_break(&rt, alloc, few_calls, &code, at(4, Why::OverBudget));
+    assert_break(&rt, alloc, ENOUGH, &code[..3], at(3, Why::Unsettled));
     code.swap(3, 4);
-    assert_eq!(rt; fault_of(alloc, 4, 4, &code), at(3, Why::StillListed));
+    assert_break(&rt, alloc, ENOUGH, &code, at(3, Why::StillListed));
 }

@@ -1,0 +1,164 @@
+//! Plans that pass the check, and each fault of another one.
+use super::handover::{ENOUGH, Numbers, assert_end, handover, handover_plan};
+use super::plans::{check_of, checked_of, fault_of, plan};
+use sm_plan_code::{Instr, Plan, Stream, Why};
+use sm_verifier::{Checked, Fault};
+use std::alloc::Global;
+use std::process::Abort;
+use std::test::Fail;
+
+/// The stream is the handover's.
+fn is_handover_stream(stream: &Stream) -> bool {
+    stream.budget == 4
+        && stream.retries == 0
+        && stream.code.as_slice() == handover().as_slice()
+        && stream.holds.cells().len() == 1
+        && stream.holds.crowns().len() == 1
+        && stream.holds.room().len() == 1
+        && stream.holds.spare().is_empty()
+}
+
+/// The plan is the handover's.
+fn is_handover(plan: &Plan) -> bool {
+    plan.budget() == 4
+        && plan.signals().is_empty()
+        && plan.streams().len() == 1
+        && plan
+            .streams()
+            .iter()
+            .all(|stream| is_handover_stream(stream))
+}
+
+/// The most keys that one list of the first stream's hold has.
+fn room_of(checked: &Checked) -> Option<u32> {
+    if checked.plan().streams().is_empty() {
+        return None;
+    }
+    Some(checked.room(0))
+}
+
+/// What the check found out about the handover.
+fn assert_findings(rt: &impl Abort, checked: &Checked) {
+    let steps = [(0, 0), (0, 1), (0, 2), (0, 3), (0, 4), (0, 5)];
+    assert!(rt; checked.order() == steps.as_slice());
+    assert!(rt; checked.config().server_count() == 2);
+    assert!(rt; room_of(checked) == Some(1));
+    if !checked.plan().streams().is_empty() {
+        assert_end(rt, checked.final_hold(0));
+    }
+}
+
+#[test]
+fn handover_passes(rt: HostRuntime) -> Result<(), Fail> {
+    let alloc = rt.alloc();
+    let checked = checked_of(alloc, handover_plan(alloc, ENOUGH, &handover())?)?;
+    assert_findings(&rt, &checked);
+    assert!(rt; is_handover(&checked.into_plan()));
+    Ok(())
+}
+
+/// With one unit of room to spare, its list has two keys at the end.
+#[test]
+fn room_counts_the_longest_list(rt: HostRuntime) -> Result<(), Fail> {
+    let alloc = rt.alloc();
+    let numbers = Numbers { room: 5, ..ENOUGH };
+    let checked = checked_of(alloc, handover_plan(alloc, numbers, &handover())?)?;
+    assert!(rt; room_of(&checked) == Some(2));
+    Ok(())
+}
+
+#[test]
+fn budgets_add_up(rt: HostRuntime) {
+    let alloc = rt.alloc();
+    let cases = [(3, 0, Some((4, 3))), (4, 1, Some((5, 4))), (5, 1, None)];
+    for (plan, retries, over) in cases {
+        let numbers = Numbers {
+            plan,
+            retries,
+            ..ENOUGH
+        };
+        let fault = fault_of(alloc, handover_plan(alloc, numbers, &handover()));
+        let want = over.map(|(streams, plan)| Fault::Budget { streams, plan });
+        assert_eq!(rt; fault, want);
+    }
+}
+
+/// Where and why the handover's stream breaks off with this code.
+fn assert_break(rt: &impl Abort, alloc: Global, code: &[Instr], at: u32, why: Why) {
+    let fault = fault_of(alloc, handover_plan(alloc, ENOUGH, code));
+    assert_eq!(rt; fault, Some(Fault::Stream { stream: 0, at, why }));
+}
+
+#[test]
+fn handovers_break_off(rt: HostRuntime) {
+    let alloc = rt.alloc();
+    let mut code = handover();
+    assert_break(&rt, alloc, &code[..3], 3, Why::Unsettled);
+    code.swap(3, 4);
+    assert_break(&rt, alloc, &code, 3, Why::StillListed);
+}
+
+/// Posts each of two signals and waits for it, and waits for the first one again.
+const fn signals() -> [Instr; 5] {
+    [
+        Instr::Signal { signal: 0 },
+        Instr::Wait { signal: 0 },
+        Instr::Signal { signal: 1 },
+        Instr::Wait { signal: 1 },
+        Instr::Wait { signal: 0 },
+    ]
+}
+
+/// How many instructions of the code are made: which of two signals is misused, and its posts and waits.
+type Misuse = (usize, Option<(u32, u32, u32)>);
+
+static MISUSES: [Misuse; 5] = [
+    (0, Some((0, 0, 0))),
+    (1, Some((0, 1, 0))),
+    (3, Some((1, 1, 0))),
+    (4, None),
+    (5, Some((0, 1, 2))),
+];
+
+/// Why a plan of one stream with this code and of two signals does not pass.
+fn misuse_of(alloc: Global, code: &[Instr]) -> Option<Fault> {
+    fault_of(alloc, plan(alloc, 2, &[code]))
+}
+
+/// The fault of a signal that is misused.
+fn fault_for(misuse: Option<(u32, u32, u32)>) -> Option<Fault> {
+    let (signal, posts, waits) = misuse?;
+    Some(Fault::SignalNotOnce {
+        signal,
+        posts,
+        waits,
+    })
+}
+
+#[test]
+fn signals_are_used_once(rt: HostRuntime) {
+    let code = signals();
+    for (length, misuse) in &MISUSES {
+        let fault = misuse_of(rt.alloc(), &code[..(*length).min(5)]);
+        assert!(rt; fault == fault_for(*misuse), "{length}");
+    }
+}
+
+#[test]
+fn empty_plan_passes(rt: HostRuntime) {
+    let alloc = rt.alloc();
+    assert_eq!(rt; fault_of(alloc, plan(alloc, 0, &[])), None);
+}
+
+/// With each allocation refused in turn: a plan passes the check, or it comes back as it was.
+#[test]
+fn a_plan_is_checked_or_not(rt: HostRuntime) {
+    let alloc = rt.alloc();
+    let Ok(plan) = handover_plan(alloc, ENOUGH, &handover()) else {
+        return;
+    };
+    match check_of(alloc, plan) {
+        Ok(checked) => assert!(rt; is_handover(checked.plan())),
+        Err((plan, fault)) => assert!(rt; fault == Fault::NoMemory && is_handover(&plan)),
+    }
+}
