@@ -111,6 +111,31 @@ fn a_parcel_is_in_order_without_zeros(rt: HostRuntime) -> Result<(), Fail> {
     Ok(())
 }
 
+#[test]
+fn a_parcel_is_looked_up_by_its_keys(rt: HostRuntime) -> Result<(), Fail> {
+    let given = parcel(
+        rt.alloc(),
+        &[
+            cell(1, 1, PlainCell::Absent),
+            cell(0, 2, PlainCell::Secondary),
+        ],
+        &[crown(3, Lead::Gone, Some(ServerId::new(2)))],
+        &[room(1, 4), room(0, 7)],
+        &[spare(5, 1)],
+    )?;
+    let (low, high) = (ShardId::new(0), ShardId::new(5));
+    let (first, third) = (ServerId::new(0), ServerId::new(2));
+    assert_eq!(rt; given.cell(low, third), Some(PlainCell::Secondary));
+    assert_eq!(rt; given.cell(low, first), None);
+    assert!(rt; given.crown(ShardId::new(3)) == Some((Lead::Gone, Some(third))));
+    assert!(rt; given.crown(low).is_none());
+    assert_eq!(rt; given.room_of(first), 7);
+    assert_eq!(rt; given.room_of(third), 0);
+    assert_eq!(rt; given.spare_of(high), 1);
+    assert_eq!(rt; given.spare_of(low), 0);
+    Ok(())
+}
+
 /// Asserts that the lists are refused with a key, and that they come back.
 fn test_double(rt: &impl Abort, alloc: Global, lists: Lists, want: &Lists, key: Key) {
     let outcome = Parcel::new(alloc, lists);

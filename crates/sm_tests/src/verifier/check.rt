@@ -2,7 +2,7 @@
 use super::handover::{ENOUGH, Numbers, assert_end, handover, handover_plan};
 use super::plans::{check_of, checked_of, fault_of, plan};
 use sm_plan_code::{Instr, Plan, Stream, Why};
-use sm_verifier::{Checked, Fault};
+use sm_verifier::{Checked, Fault, one_fault, one_holding};
 use std::alloc::Global;
 use std::process::Abort;
 use std::test::Fail;
@@ -161,4 +161,10 @@ fn a_plan_is_checked_or_not(rt: HostRuntime) {
         Ok(checked) => assert!(rt; is_handover(checked.plan())),
         Err((plan, fault)) => assert!(rt; fault == Fault::NoMemory && is_handover(&plan)),
     }
+}
+
+#[test]
+fn the_verdict_is_one() {
+    one_fault();
+    one_holding();
 }

@@ -1,7 +1,7 @@
 //! Documents and their reports, over memory.
 use super::documents::{REFUSED_CALLS, ROWS, Row};
 use super::plans::PLAN_ROWS;
-use sm_report::{Command, report};
+use sm_report::{Command, one_report, report};
 use std::alloc::Global;
 use std::test::Fail;
 
@@ -52,6 +52,11 @@ fn refuses_each_front(rt: HostRuntime) {
     for end in 0..document.len() {
         assert!(rt; is_not_json(rt.alloc(), &document[..end]), "{end} bytes");
     }
+}
+
+#[test]
+fn the_report_of_an_input_is_one() {
+    one_report();
 }
 
 #[test]

@@ -1,5 +1,5 @@
 //! Running totals against plain sums, in a large placement with handovers under way.
-use crate::fixture::*;
+use super::fixture::*;
 use sm_placement::{Config, ConfigFault, OpenFault, Placement, Serving};
 use sm_server::{Call, Cell, Refusal, ServerId};
 use std::alloc::{AllocError, Global};

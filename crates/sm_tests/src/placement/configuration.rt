@@ -1,5 +1,5 @@
 //! What a configuration accepts, and what it tells of its servers and shards.
-use crate::fixture::{is_server, many_servers, many_shards, server};
+use super::fixture::{is_server, many_servers, many_shards, server};
 use sm_placement::{Config, ConfigFault, Server, Shard};
 use sm_server::{ServerId, ShardId};
 use std::alloc::{AllocError, Global};

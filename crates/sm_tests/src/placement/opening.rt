@@ -1,7 +1,7 @@
 //! Why a placement is not opened: each fault at its limit, and the first of several.
-use crate::fixture::*;
-use crate::steps::Step::*;
-use crate::steps::{Step, follow_opened};
+use super::fixture::*;
+use super::steps::Step::*;
+use super::steps::{Step, follow_opened};
 use sm_placement::{Config, ConfigFault, OpenFault, Placement};
 use sm_server::{Cell, ServerId, ShardId};
 use std::alloc::Global;

@@ -1,6 +1,6 @@
 //! Calls that take memory. `scripts/check-memory` runs each of these tests with its first allocation refused, then with its
 //! second, and so on: the answer has to be want of memory, or the right one.
-use crate::fixture::*;
+use super::fixture::*;
 use sm_placement::{Config, ConfigFault, OpenFault, Placement, Server, Shard};
 use sm_server::Cell;
 use std::alloc::Global;

@@ -1,5 +1,5 @@
 //! What is done to a placement, and what it has to answer, one after the other.
-use crate::fixture::*;
+use super::fixture::*;
 use sm_placement::{OpenFault, Placement, Serving};
 use sm_server::{Call, Cell, Refusal};
 use std::alloc::Global;

@@ -1,7 +1,7 @@
 //! The calls and readers of a placement.
-use crate::fixture::*;
-use crate::steps::Step::*;
-use crate::steps::{Step, follow, follow_opened, follow_small};
+use super::fixture::*;
+use super::steps::Step::*;
+use super::steps::{Step, follow, follow_opened, follow_small};
 use sm_placement::{OpenFault, Placement, Serving};
 use sm_server::{Call, Cell, Refusal, Role, ServerId};
 use std::alloc::Global;
