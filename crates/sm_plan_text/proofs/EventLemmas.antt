@@ -1,5 +1,5 @@
 -- The faults of one event, part after part.
-use Rattle.std.proofs.Common.{◌≡◌, ℕ, List, ◌∷◌, map, Option, Some, option_and_then, ap, sym, ◌∙◌, []}
+use Rattle.std.proofs.Common.{◌≡◌, ℕ, List, ◌∷◌, map, Option, Some, option_and_then, ap, ◌∙◌, []}
 use Rattle.std.specs.List.{flat_map}
 use Rattle.serde_json.specs.Data.{Data}
 use Rattle.sm_plan_text.specs.declared.fault.TextFault.{TextFault}

@@ -1,5 +1,5 @@
 -- A plan without faults: it is within its limits, knows its signals, and each id is below its count.
-use Rattle.std.proofs.Common.{◌≡◌, ◌++◌, ◌<◌, ◌≤◌, ℕ, Bool, true, false, cond, List, [], ◌∷◌, length, map, Option, Some, None, is_some, option_and_then, option_map, unwrap_or, nat_lt, refl, sym, subst, arith, true≢false, All, IfSome}
+use Rattle.std.proofs.Common.{◌≡◌, ◌++◌, ◌<◌, ◌≤◌, ℕ, Bool, true, false, cond, List, [], ◌∷◌, length, map, Option, Some, None, is_some, option_and_then, option_map, unwrap_or, nat_lt, sym, subst, arith, All}
 use Rattle.std.specs.List.{flat_map}
 use Rattle.std.proofs.lemmas.List.{length-map}
 use Rattle.std.proofs.lemmas.List.Elements.{All-map, All-weaker}
@@ -8,16 +8,16 @@ use Rattle.serde_json.specs.Data.{Data, Num}
 use Rattle.serde_json.specs.Find.{as_object, as_number, as_u64}
 use Rattle.sm_reservation.specs.Rights.{Rights, no_rights}
 use Rattle.sm_plan_code.specs.declared.instruction.Instr.{Instr}
-use Rattle.sm_plan_code.specs.Plan.{StreamParts, PlanParts, IsSmallParcel, IsSmallStream, IsSmallPlan, KnowsSignal, KnowsSignals, IsOrderedParcel, IsPlan, FitsParcel, FitsInstr, FitsStream, FitsPlan}
+use Rattle.sm_plan_code.specs.Plan.{StreamParts, PlanParts, IsSmallParcel, IsSmallStream, KnowsSignal, IsOrderedParcel, IsPlan, FitsParcel, FitsInstr, FitsStream, FitsPlan}
 use Rattle.sm_plan_text.specs.declared.fault.TextFault.{TextFault}
-use Rattle.sm_plan_text.specs.declared.fault.TextFault.TheVariants.{Shape, UnknownName}
+use Rattle.sm_plan_text.specs.declared.fault.TextFault.TheVariants.{Shape}
 use Rattle.sm_plan_text.specs.declared.member.Member.{Member}
 use Rattle.sm_plan_text.specs.declared.member.Member.TheVariants as members
 use Rattle.sm_plan_text.specs.declared.instruction.InstrWord.{InstrWord}
 use Rattle.sm_plan_text.specs.declared.instruction.InstrWord.TheVariants as word
 use Rattle.sm_plan_text.specs.Members.{text_of}
-use Rattle.sm_plan_text.specs.Values.{found, text_found, whole_of, under, number_in, number_or, number_below, entries_in, id_of, id_in}
-use Rattle.sm_plan_text.specs.Tables.{one, maybe, whole, known, role, below, format, object, list, below_fault, index_fault, found_faults, row_faults, object_faults, own_faults, by_word, walked}
+use Rattle.sm_plan_text.specs.Values.{found, text_found, whole_of, under, number_or, number_below, entries_in, id_in}
+use Rattle.sm_plan_text.specs.Tables.{one, maybe, whole, known, below, format, object, list, below_fault, index_fault, found_faults, row_faults, object_faults, own_faults, by_word, walked}
 use Rattle.sm_plan_text.specs.Parcels.{parcel_faults, rights_in, HaveIds, parcel_in}
 use Rattle.sm_plan_text.specs.Instructions.{instr_word, instr_table, instr_faults, instr_of, instr_by, instr_in}
 use Rattle.sm_plan_text.specs.Plans.{faults_within, knows_retries, stream_table, stream_faults, stream_in, plan_table, signal_count, plan_faults, plan_in}

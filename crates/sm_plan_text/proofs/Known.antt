@@ -10,12 +10,12 @@ use Rattle.sm_placement.specs.Names.{has_double}
 use Rattle.sm_placement.specs.Setup.{Setup, is_too_large, has_good_names, has_doubled_name, has_good_numbers}
 use Rattle.sm_placement.specs.Config.{config_fault}
 use Rattle.sm_placement.specs.Rows.{IsKnownCall}
-use Rattle.sm_plan_code.specs.Plan.{PlanParts, FitsPlan}
+use Rattle.sm_plan_code.specs.Plan.{FitsPlan}
 use Rattle.sm_plan_text.specs.declared.fault.TextFault.{TextFault}
 use Rattle.sm_plan_text.specs.declared.member.Member.TheVariants as members
 use Rattle.sm_plan_text.specs.Members.{text_of}
 use Rattle.sm_plan_text.specs.Values.{found, text_in, entries_in, list_in, names_in, id_named, ids_in}
-use Rattle.sm_plan_text.specs.Tables.{one, maybe, whole, known, object, list, known_list, found_faults, row_faults, object_faults, own_faults, walked}
+use Rattle.sm_plan_text.specs.Tables.{one, maybe, whole, known, object, list, known_list, row_faults, object_faults, own_faults, walked}
 use Rattle.sm_plan_text.specs.Servers.{server_faults, server_in}
 use Rattle.sm_plan_text.specs.Shards.{shard_faults, shard_in, listed_in, cells_in}
 use Rattle.sm_plan_text.specs.Calls.{NamedCall, call_faults, call_in}

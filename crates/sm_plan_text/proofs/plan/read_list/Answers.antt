@@ -1,4 +1,4 @@
-use Rattle.std.proofs.Common.{◌++◌, ◌∷◌, [], ◌∙◌, ap, append-nil}
+use Rattle.std.proofs.Common.{◌++◌, [], ◌∙◌, ap}
 use Rattle.std.specs.List.{cons_option}
 use Rattle.serde_json.specs.View.{view}
 use Rattle.sm_plan_text.specs.declared.member.Member.TheVariants as members

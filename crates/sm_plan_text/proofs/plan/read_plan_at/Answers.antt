@@ -1,8 +1,7 @@
-use Rattle.std.proofs.Common.{◌≡◌, ◌∙◌, ℕ, List, [], Some, None, ap, sym, subst}
+use Rattle.std.proofs.Common.{◌≡◌, ◌∙◌, ℕ, List, [], Some, ap, sym, subst}
 use Rattle.serde_json.specs.Data.{Data}
 use Rattle.serde_json.specs.View.{view}
 use Rattle.sm_plan_code.specs.Plan.{IsPlan}
-use Rattle.sm_plan_text.specs.declared.fault.TextFault.{TextFault}
 use Rattle.sm_plan_text.specs.Plans.{plan_faults}
 use Rattle.sm_plan_text.proofs.PlanLemmas.{none_at_all}
 use Rattle.sm_plan_text.proofs.FaultlessPlan.{plan_good}

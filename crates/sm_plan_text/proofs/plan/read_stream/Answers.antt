@@ -1,9 +1,6 @@
-use Rattle.std.proofs.Common.{◌≡◌, ◌∙◌, [], None, map, option_map, unwrap_or, ap}
-use Rattle.serde_json.specs.Data.{Data}
+use Rattle.std.proofs.Common.{◌∙◌, [], map, option_map, unwrap_or, ap}
 use Rattle.serde_json.specs.View.{view}
 use Rattle.sm_reservation.specs.Rights.{no_rights}
-use Rattle.sm_plan_text.specs.declared.member.Member.TheVariants as members
-use Rattle.sm_plan_text.specs.Values.{entries_in}
 use Rattle.sm_plan_text.specs.Tables.{walked}
 use Rattle.sm_plan_text.specs.Parcels.{parcel_in}
 use Rattle.sm_plan_text.specs.Instructions.{instr_faults, instr_in}

@@ -2,7 +2,7 @@ use Rattle.std.proofs.Common.{◌≡◌, ◌≤◌, ◌∙◌, ℕ, List, [], le
 use Rattle.std.proofs.lemmas.List.{length-map}
 use Rattle.serde_json.specs.Data.{Data}
 use Rattle.serde_json.specs.View.{view}
-use Rattle.sm_placement.specs.Setup.{Setup, IsSetup, ServerRow, ShardRow, names_of_servers, names_of_shards}
+use Rattle.sm_placement.specs.Setup.{Setup, IsSetup, ServerRow, ShardRow}
 use Rattle.sm_plan_code.specs.Plan.{FitsPlan}
 use Rattle.sm_plan_text.specs.declared.member.Member.TheVariants as members
 use Rattle.sm_plan_text.specs.Parcels.{HaveIds}
