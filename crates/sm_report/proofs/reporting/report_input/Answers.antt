@@ -1,4 +1,4 @@
-use Rattle.std.proofs.Common.{◌≡◌, ◌≤◌, length, sym, subst}
+use Rattle.std.proofs.Common.{◌≤◌, length, sym, subst}
 use Rattle.sm_plan_text.specs.Reading.{rows_of}
 use Rattle.sm_report.proofs.Reported.{document_reported, ok_weaker}
 use Rattle.sm_report.specs.Output.{IsDocumentReport, IsReport}
