@@ -1,7 +1,8 @@
 # make build: proves and builds build/smplan.    make run: prints the report of a bundled example.
 # make test: the gate, and what must run beside it.    make bench: seconds and memory of a large run.
+# make more-edits: the wrong versions that the gate has no time for.
 
-.PHONY: build run test bench
+.PHONY: build run test bench more-edits
 
 build:
 	mkdir -p build
@@ -22,6 +23,9 @@ test:
 	scripts/check-memory
 	scripts/check-memory-tests sm_tests sm_reservation sm_map
 	scripts/refused-programs
+
+more-edits:
+	scripts/more-edits
 
 bench: build
 	scripts/bench
