@@ -4,20 +4,20 @@ use Rattle.std.specs.Prelude.{slice_index, slice_index_or, if◌then◌else◌, 
 use Rattle.std.proofs.lemmas.List.Elements.{All-nil, All-cons, All-head, All-tail}
 use mathlib.Core.Logic.{dite}
 use native.Mathlib.Decide.{ℕ_discrete}
-use Rattle.sm_map.specs.declared.entry.Entry.{Entry}
-use Rattle.sm_map.specs.Entry.{word_for, IsServerBelow, IsInRange}
-use Rattle.sm_map.specs.History.{opened_at, entries_of, newest, Follows, Rises, NoneNewer, AllStand, word_at, words_for}
+use Rattle.sm_placement.specs.declared.entry.Entry.{Entry}
+use Rattle.sm_map.specs.Entry.{word_for, IsKnownServer, IsInRange}
+use Rattle.sm_map.specs.History.{opened_at, entries_of_shard, newest, Follows, VersionsRise, NoneNewer, AllStand, word_at, words_for}
 
 -- an entry that is in range stays so for a larger count
 pub in_range_more : (few many : ℕ) (entry : Entry) → few ≤ many → IsInRange few entry → IsInRange many entry
 in_range_more few many entry more good = (below_more entry.server good.0, good.1)
   where
-    below_more : (server : Option ℕ) → IsServerBelow few server → IsServerBelow many server
+    below_more : (server : Option ℕ) → IsKnownServer few server → IsKnownServer many server
     below_more None below = tt
     below_more (Some server) below = omega arith
 
 -- an entry of a rising list is no newer than the first
-no_newer : (first : Entry) (rest : List Entry) (entry : Entry) → Rises (first ∷ rest) → Contains (first ∷ rest) entry → entry.version ≤ first.version
+no_newer : (first : Entry) (rest : List Entry) (entry : Entry) → VersionsRise (first ∷ rest) → Contains (first ∷ rest) entry → entry.version ≤ first.version
 no_newer first rest entry rises (zero, inside, is) = let same : first.version ≡ entry.version = ap (λ (e : Entry). e.version) is in omega arith
 no_newer first [] entry rises (suc k, inside, is) = absurd (omega arith)
 no_newer first (next ∷ rest) entry rises (suc k, inside, is) =
@@ -29,22 +29,22 @@ opened_some (first ∷ opening) zero inside = (first, refl)
 opened_some (first ∷ opening) (suc shard) inside = opened_some opening shard (omega arith)
 
 -- a shard's list begins with some entry
-pub some_newest : (opening : List Entry) (stores : List (ℕ × Entry)) (shard : ℕ) → shard < length opening → (entry : Entry) × (rest : List Entry) × (entries_of opening stores shard ≡ entry ∷ rest)
+pub some_newest : (opening : List Entry) (stores : List (ℕ × Entry)) (shard : ℕ) → shard < length opening → (entry : Entry) × (rest : List Entry) × (entries_of_shard opening stores shard ≡ entry ∷ rest)
 some_newest opening [] shard inside = let first = opened_some opening shard inside in (first.0, [], first.1)
 some_newest opening (x ∷ xs) shard inside = begins (eqb x.0 shard) (some_newest opening xs shard inside)
   where
     before : List Entry
-    before = entries_of opening xs shard
+    before = entries_of_shard opening xs shard
 
     begins : (here : Bool) → (entry : Entry) × (rest : List Entry) × (before ≡ entry ∷ rest) → (entry : Entry) × (rest : List Entry) × ((if here then x.1 ∷ before else before) ≡ entry ∷ rest)
     begins true was = (x.1, before, refl)
     begins false was = was
 
 -- the list of a shard after a store, by the two cases that it may be of this shard or of another
-pub after_store : (opening : List Entry) (stores : List (ℕ × Entry)) (stored shard : ℕ) (entry : Entry) (P : List Entry → Type 0) → (stored ≡ shard → P (entry ∷ entries_of opening stores shard)) → (stored ≢ shard → P (entries_of opening stores shard)) → P (entries_of opening ((stored, entry) ∷ stores) shard)
+pub after_store : (opening : List Entry) (stores : List (ℕ × Entry)) (stored shard : ℕ) (entry : Entry) (P : List Entry → Type 0) → (stored ≡ shard → P (entry ∷ entries_of_shard opening stores shard)) → (stored ≢ shard → P (entries_of_shard opening stores shard)) → P (entries_of_shard opening ((stored, entry) ∷ stores) shard)
 after_store opening stores stored shard entry P here there = dite (ℕ_discrete stored shard)
-    (λ t. subst (λ (b : Bool). P (if b then entry ∷ entries_of opening stores shard else entries_of opening stores shard)) (sym (eq-eqb stored shard t)) (here t))
-    (λ t. subst (λ (b : Bool). P (if b then entry ∷ entries_of opening stores shard else entries_of opening stores shard)) (sym (ne_eqb stored shard t)) (there t))
+    (λ t. subst (λ (b : Bool). P (if b then entry ∷ entries_of_shard opening stores shard else entries_of_shard opening stores shard)) (sym (eq-eqb stored shard t)) (here t))
+    (λ t. subst (λ (b : Bool). P (if b then entry ∷ entries_of_shard opening stores shard else entries_of_shard opening stores shard)) (sym (ne_eqb stored shard t)) (there t))
 
 contains_more : (first entry : Entry) (rest : List Entry) → Contains rest entry → Contains (first ∷ rest) entry
 contains_more first entry rest (k, inside, is) = (suc k, omega arith, is)
@@ -53,21 +53,21 @@ contains_more first entry rest (k, inside, is) = (suc k, omega arith, is)
 pub stand_after : (opening : List Entry) (stores : List (ℕ × Entry)) (stored : ℕ) (entry : Entry) (seen : List (ℕ × Entry)) → AllStand opening stores seen → AllStand opening ((stored, entry) ∷ stores) seen
 stand_after opening stores stored entry seen stand k d inside =
     let x = slice_index_or seen k d in
-    after_store opening stores stored x.0 entry (λ l. Contains l x.1) (λ _. contains_more entry x.1 (entries_of opening stores x.0) (stand k d inside)) (λ _. stand k d inside)
+    after_store opening stores stored x.0 entry (λ l. Contains l x.1) (λ _. contains_more entry x.1 (entries_of_shard opening stores x.0) (stand k d inside)) (λ _. stand k d inside)
 
 -- one more entry that stands
-pub stand_more : (opening : List Entry) (stores : List (ℕ × Entry)) (shard : ℕ) (entry : Entry) (rest : List Entry) (seen : List (ℕ × Entry)) → entries_of opening stores shard ≡ entry ∷ rest → AllStand opening stores seen → AllStand opening stores ((shard, entry) ∷ seen)
+pub stand_more : (opening : List Entry) (stores : List (ℕ × Entry)) (shard : ℕ) (entry : Entry) (rest : List Entry) (seen : List (ℕ × Entry)) → entries_of_shard opening stores shard ≡ entry ∷ rest → AllStand opening stores seen → AllStand opening stores ((shard, entry) ∷ seen)
 stand_more opening stores shard entry rest seen is stand =
-    All-cons (λ (x : ℕ × Entry). Contains (entries_of opening stores x.0) x.1) (shard, entry) seen (subst (λ (l : List Entry). Contains l entry) (sym is) (zero, omega arith, refl)) stand
+    All-cons (λ (x : ℕ × Entry). Contains (entries_of_shard opening stores x.0) x.1) (shard, entry) seen (subst (λ (l : List Entry). Contains l entry) (sym is) (zero, omega arith, refl)) stand
 
 -- what was seen of a shard is no newer than its newest entry
-pub none_newer : (opening : List Entry) (stores seen : List (ℕ × Entry)) (shard : ℕ) (entry : Entry) (rest : List Entry) → Rises (entry ∷ rest) → entries_of opening stores shard ≡ entry ∷ rest → AllStand opening stores seen → NoneNewer seen shard entry
+pub none_newer : (opening : List Entry) (stores seen : List (ℕ × Entry)) (shard : ℕ) (entry : Entry) (rest : List Entry) → VersionsRise (entry ∷ rest) → entries_of_shard opening stores shard ≡ entry ∷ rest → AllStand opening stores seen → NoneNewer seen shard entry
 none_newer opening stores seen shard entry rest rises is stand k d inside same =
     let x = slice_index_or seen k d in
-    no_newer entry rest x.1 rises (subst (λ (l : List Entry). Contains l x.1) is (subst (λ (j : ℕ). Contains (entries_of opening stores j) x.1) same (stand k d inside)))
+    no_newer entry rest x.1 rises (subst (λ (l : List Entry). Contains l x.1) is (subst (λ (j : ℕ). Contains (entries_of_shard opening stores j) x.1) same (stand k d inside)))
 
 -- a list that rises goes on rising by an entry that follows
-pub rises_more : (entries : List Entry) (entry : Entry) → Follows entries entry → Rises entries → Rises (entry ∷ entries)
+pub rises_more : (entries : List Entry) (entry : Entry) → Follows entries entry → VersionsRise entries → VersionsRise (entry ∷ entries)
 rises_more [] entry follows rises = tt
 rises_more (last ∷ entries) entry follows rises = (follows, rises)
 
@@ -96,7 +96,7 @@ first_words [] zero = refl
 first_words [] (suc shard) = refl
 first_words (entry ∷ opening) shard = word_of_each (entry ∷ opening) shard
 
-pub first_rises : (opening : List Entry) (shard : ℕ) → Rises (opened_at opening shard)
+pub first_rises : (opening : List Entry) (shard : ℕ) → VersionsRise (opened_at opening shard)
 first_rises [] shard = tt
 first_rises (entry ∷ opening) zero = tt
 first_rises (entry ∷ opening) (suc shard) = first_rises opening shard

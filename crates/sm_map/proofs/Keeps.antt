@@ -7,10 +7,10 @@ use lib.ListN.{get_elem?}
 use lib.Seq.{set-get_or}
 use Rattle.atomic_table.specs.Table.{State, Me, step, keeps, stepped, opening, Allows, Splits, Joins}
 use Rattle.atomic_table.proofs.Lists.{at_set, at_snoc}
-use Rattle.sm_map.specs.declared.entry.Entry.{Entry}
+use Rattle.sm_placement.specs.declared.entry.Entry.{Entry}
 use Rattle.sm_map.specs.declared.rule.View.{View}
 use Rattle.sm_map.specs.Entry.{IsInRange, word_for, entry_for}
-use Rattle.sm_map.specs.History.{entries_of, newest, Follows, Rises, AllStand, word_at, words_for}
+use Rattle.sm_map.specs.History.{entries_of_shard, newest, Follows, VersionsRise, AllStand, word_at, words_for}
 use Rattle.sm_map.specs.Rule.{publisher_view, pass_view, spent, joined, publisher_part, pass_part, with_seen, with_store, Fits, Kept, Finds, Looks, Meets, Stores}
 use Rattle.sm_map.proofs.Histories.{some_newest, after_store, stand_after, stand_more, none_newer, rises_more, enough_words, first_words, first_rises, first_in_range}
 
@@ -20,7 +20,7 @@ pass_fits servers opened publisher stores seat n o seen stand = record { one = �
 
 -- where nothing was seen, all of it stands
 none_seen : (opened : List Entry) (stores : List (ℕ × Entry)) → AllStand opened stores []
-none_seen opened stores = All-nil (λ (x : ℕ × Entry). Contains (entries_of opened stores x.0) x.1)
+none_seen opened stores = All-nil (λ (x : ℕ × Entry). Contains (entries_of_shard opened stores x.0) x.1)
 
 module _ (S : Type 0) (servers : ℕ) (opened : List Entry) where
   abbrev Rule : State S View → Type 0
@@ -48,21 +48,21 @@ module _ (S : Type 0) (servers : ℕ) (opened : List Entry) where
 
   -- what a load finds: the shard's newest entry. The view fits with it seen, and the step tells what it should
   finds : (s : State S View) (r : Rule s) (slots id : ℕ) (m : Me S View) (shard : ℕ) → shard < length opened → m.0.servers ≡ servers → get_elem? s.views id ≡ some m.0
-      → (entry : Entry) × (newest (entries_of opened r.stores shard) ≡ Some entry) × Fits servers opened r.publisher r.stores id (with_seen m.0 shard entry) × Finds (step slots shard 0 0 none) m (get_or s.words shard 0) (with_seen m.0 shard entry, m.1) entry
+      → (entry : Entry) × (newest (entries_of_shard opened r.stores shard) ≡ Some entry) × Fits servers opened r.publisher r.stores id (with_seen m.0 shard entry) × Finds (step slots shard 0 0 none) m (get_or s.words shard 0) (with_seen m.0 shard entry, m.1) entry
   finds s r slots id m shard inside count at =
       let first = some_newest opened r.stores shard inside in
       let entry : Entry = first.0 in
       let rest : List Entry = first.1 in
-      let is : entries_of opened r.stores shard ≡ entry ∷ rest = first.2 in
+      let is : entries_of_shard opened r.stores shard ≡ entry ∷ rest = first.2 in
       let mine : Fits servers opened r.publisher r.stores id m.0 = r.each id m.0 at in
-      let good : IsInRange servers entry = All-head (IsInRange servers) entry rest (All-same (IsInRange servers) (entry ∷ rest) (entries_of opened r.stores shard) (sym is) (r.in_range shard)) in (
+      let good : IsInRange servers entry = All-head (IsInRange servers) entry rest (All-same (IsInRange servers) (entry ∷ rest) (entries_of_shard opened r.stores shard) (sym is) (r.in_range shard)) in (
         entry,
         ap newest is,
         record { one = mine.one; stand = stand_more opened r.stores shard entry rest m.0.seen is mine.stand },
         record {
           word = r.words shard ∙ ap (λ (l : List Entry). word_at (newest l)) is;
           in_range = subst (λ (n : ℕ). IsInRange n entry) (sym count) good;
-          not_older = none_newer opened r.stores m.0.seen shard entry rest (subst Rises is (r.rises shard)) is mine.stand;
+          not_older = none_newer opened r.stores m.0.seen shard entry rest (subst VersionsRise is (r.rises shard)) is mine.stand;
           view = refl;
           slots = refl;
         },
@@ -87,18 +87,18 @@ module _ (S : Type 0) (servers : ℕ) (opened : List Entry) where
         record {
           entry = found.0;
           finds = found.3;
-          last = (λ k. newest (entries_of (one.2 k) (one.3 k) shard)) ∙ found.1;
+          last = (λ k. newest (entries_of_shard (one.2 k) (one.3 k) shard)) ∙ found.1;
           stand = subst (λ (x : List Entry × List (ℕ × Entry)). AllStand x.0 x.1 m.0.seen) (λ k. (sym one.2 k, sym one.3 k)) mine.stand;
         },
       )
 
   -- a store by the publisher's seat
-  pub stores : (slots id : ℕ) (m : Me S View) (shard word : ℕ) (entry : Entry) → m.0.publishes ≡ true → word ≡ word_for entry → entry_for word ≡ entry → IsInRange servers entry → Follows (entries_of m.0.opening m.0.stores shard) entry → shard < length opened
+  pub stores : (slots id : ℕ) (m : Me S View) (shard word : ℕ) (entry : Entry) → m.0.publishes ≡ true → word ≡ word_for entry → entry_for word ≡ entry → IsInRange servers entry → Follows (entries_of_shard m.0.opening m.0.stores shard) entry → shard < length opened
       → Allows Rule slots id m shard (λ _. word) (λ _. Stores (step slots shard word 0 none) m word)
   stores slots id m shard word entry publishes is back good follows inside s r _ at _ =
       let mine : Fits servers opened r.publisher r.stores id m.0 = r.each id m.0 at in
       let one = mine.one publishes in
-      let follows' : Follows (entries_of opened r.stores shard) entry = subst (λ (x : List Entry × List (ℕ × Entry)). Follows (entries_of x.0 x.1 shard) entry) (λ k. (one.2 k, one.3 k)) follows in
+      let follows' : Follows (entries_of_shard opened r.stores shard) entry = subst (λ (x : List Entry × List (ℕ × Entry)). Follows (entries_of_shard x.0 x.1 shard) entry) (λ k. (one.2 k, one.3 k)) follows in
       let enough : length opened ≤ length s.words = r.enough in
       let w : View = with_store m.0 shard entry in (
         w,
@@ -111,8 +111,8 @@ module _ (S : Type 0) (servers : ℕ) (opened : List Entry) where
           words = λ j. after_store opened r.stores shard j entry (λ l. get_or (set s.words shard word) j 0 ≡ word_at (newest l))
               (λ t. ap (λ (k : ℕ). get_or (set s.words shard word) k 0) (sym t) ∙ (get_or-set_same s.words shard word 0 (omega arith) ∙ is))
               (λ t. get_or-set_other s.words shard j word 0 (λ z. t (sym z)) ∙ r.words j);
-          rises = λ j. after_store opened r.stores shard j entry Rises (λ t. rises_more (entries_of opened r.stores j) entry (subst (λ (k : ℕ). Follows (entries_of opened r.stores k) entry) t follows') (r.rises j)) (λ t. r.rises j);
-          in_range = λ j. after_store opened r.stores shard j entry (All (IsInRange servers)) (λ t. All-cons (IsInRange servers) entry (entries_of opened r.stores j) good (r.in_range j)) (λ t. r.in_range j);
+          rises = λ j. after_store opened r.stores shard j entry VersionsRise (λ t. rises_more (entries_of_shard opened r.stores j) entry (subst (λ (k : ℕ). Follows (entries_of_shard opened r.stores k) entry) t follows') (r.rises j)) (λ t. r.rises j);
+          in_range = λ j. after_store opened r.stores shard j entry (All (IsInRange servers)) (λ t. All-cons (IsInRange servers) entry (entries_of_shard opened r.stores j) good (r.in_range j)) (λ t. r.in_range j);
           each = fits_set r.publisher ((shard, entry) ∷ r.stores) s.views id w
               (λ j u apart there. let f : Fits servers opened r.publisher r.stores j u = r.each j u there in record { one = λ t. absurd (apart ((f.one t).0 ∙ sym one.0)); stand = stand_after opened r.stores shard entry u.seen f.stand })
               record { one = λ _. (one.0, one.1, one.2, ap (λ l. (shard, entry) ∷ l) one.3); stand = stand_after opened r.stores shard entry m.0.seen mine.stand };

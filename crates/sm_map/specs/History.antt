@@ -1,6 +1,6 @@
 -- The entries of each shard, the newest first, and what a pass has seen of them.
 use Rattle.std.specs.Prelude.{◌≡◌, ℕ, zero, suc, ◌+◌, ◌≤◌, ◌==◌, List, [], ◌∷◌, if◌then◌else◌, Option, Some, None, IsSomeAnd, All, Contains, map}
-use Rattle.sm_map.specs.declared.entry.Entry.{Entry}
+use Rattle.sm_placement.specs.declared.entry.Entry.{Entry}
 use Rattle.sm_map.specs.Entry.{word_for}
 
 -- the entry of a shard at the opening, alone in a list; none where there is no such shard
@@ -10,9 +10,9 @@ opened_at (entry ∷ entries) zero = entry ∷ []
 opened_at (entry ∷ entries) (suc shard) = opened_at entries shard
 
 -- a shard's entries: those that were stored of it, and last that of the opening
-abbrev pub entries_of : List Entry → List (ℕ × Entry) → ℕ → List Entry
-entries_of opening [] shard = opened_at opening shard
-entries_of opening (x ∷ xs) shard = if x.0 == shard then x.1 ∷ entries_of opening xs shard else entries_of opening xs shard
+abbrev pub entries_of_shard : List Entry → List (ℕ × Entry) → ℕ → List Entry
+entries_of_shard opening [] shard = opened_at opening shard
+entries_of_shard opening (x ∷ xs) shard = if x.0 == shard then x.1 ∷ entries_of_shard opening xs shard else entries_of_shard opening xs shard
 
 -- the newest entry
 abbrev pub newest : List Entry → Option Entry
@@ -24,10 +24,10 @@ abbrev pub Follows : List Entry → Entry → Type 0
 Follows entries entry = IsSomeAnd (newest entries) (λ last. entry.version ≡ last.version + 1)
 
 -- along the list the versions rise by one
-abbrev pub Rises : List Entry → Type 0
-Rises [] = Unit {0}
-Rises (entry ∷ []) = Unit {0}
-Rises (entry ∷ last ∷ entries) = (entry.version ≡ last.version + 1) × Rises (last ∷ entries)
+abbrev pub VersionsRise : List Entry → Type 0
+VersionsRise [] = Unit {0}
+VersionsRise (entry ∷ []) = Unit {0}
+VersionsRise (entry ∷ last ∷ entries) = (entry.version ≡ last.version + 1) × VersionsRise (last ∷ entries)
 
 -- no entry that was seen of the shard is newer than this one
 abbrev pub NoneNewer : List (ℕ × Entry) → ℕ → Entry → Type 0
@@ -35,7 +35,7 @@ NoneNewer seen shard entry = All (λ x. x.0 ≡ shard → x.1.version ≤ entry.
 
 -- each entry that was seen of a shard is one of the shard's
 abbrev pub AllStand : List Entry → List (ℕ × Entry) → List (ℕ × Entry) → Type 0
-AllStand opening stores seen = All (λ x. Contains (entries_of opening stores x.0) x.1) seen
+AllStand opening stores seen = All (λ x. Contains (entries_of_shard opening stores x.0) x.1) seen
 
 -- the word of a shard whose newest entry this is; 0 where there is none
 abbrev pub word_at : Option Entry → ℕ

@@ -1,8 +1,8 @@
 -- What contracts see of the words, of the publisher and of a pass.
 use Rattle.std.specs.Prelude.{ℕ, List}
 use Rattle.atomic_table.specs.Seated.{TableId}
-use Rattle.sm_map.specs.declared.entry.Entry.{Entry}
-use Rattle.sm_map.specs.History.{AllStand, entries_of}
+use Rattle.sm_placement.specs.declared.entry.Entry.{Entry}
+use Rattle.sm_map.specs.History.{AllStand, entries_of_shard}
 
 -- which words: their table, how many servers there are, and each shard's entry at the opening
 pub record WordsModel : Type 0 where
@@ -26,7 +26,7 @@ pub record PassModel : Type 0 where
 
 -- the publisher's list of a shard: its entries, the newest first
 abbrev pub history : PublisherModel → ℕ → List Entry
-history publisher shard = entries_of publisher.words.opening publisher.stores shard
+history publisher shard = entries_of_shard publisher.words.opening publisher.stores shard
 
 -- each entry that the pass has seen stands in the publisher's list of its shard
 abbrev pub HasAllSeen : PublisherModel → PassModel → Type 0

@@ -4,17 +4,18 @@ use mathlib.Core.Option.{some}
 use lib.ListN.{get_elem?}
 use Rattle.atomic_table.specs.Seated.{TableId}
 use Rattle.atomic_table.specs.Table.{State, Me, Step}
-use Rattle.sm_map.specs.declared.entry.Entry.{Entry}
+use Rattle.sm_placement.specs.declared.entry.Entry.{Entry}
 use Rattle.sm_map.specs.declared.rule.View.{View}
 use Rattle.sm_map.specs.Entry.{IsInRange, entry_for, word_for}
-use Rattle.sm_map.specs.History.{AllStand, NoneNewer, Rises, entries_of, newest, word_at}
+use Rattle.sm_map.specs.History.{AllStand, NoneNewer, VersionsRise, entries_of_shard, newest, word_at}
 use Rattle.sm_map.specs.Models.{PublisherModel, PassModel, words_model}
+use Rattle.sm_placement.specs.declared.limits.TheConstants.{MOST_SERVERS}
 
 -- a table has a word for each shard, and at least one
 pub record HasWords (table : TableId) (servers : ℕ) (opening : List Entry) : Type 0 where
   pub some : 0 < table.words
   pub enough : length opening ≤ table.words
-  pub few_servers : servers ≤ 1024
+  pub few_servers : servers ≤ MOST_SERVERS
 
 -- the publisher's view
 abbrev pub publisher_view : ℕ → List Entry → List (ℕ × Entry) → View
@@ -39,8 +40,8 @@ abbrev pub publisher_of : TableId → View → PublisherModel
 publisher_of table view = record { words = words_model table view.servers view.opening; stores = view.stores }
 
 -- what contracts see of a pass
-abbrev pub pass_of : TableId → View → PassModel
-pass_of table view = record { words = words_model table view.servers view.opening; seen = view.seen }
+abbrev pub pass_model : TableId → View → PassModel
+pass_model table view = record { words = words_model table view.servers view.opening; seen = view.seen }
 
 -- the view that a pass leaves behind where it joins the publisher: nothing seen
 abbrev pub spent : View
@@ -79,9 +80,9 @@ pub record Kept {S : Type 0} (servers : ℕ) (opening : List Entry) (state : Sta
   pub publisher : ℕ
   pub stores : List (ℕ × Entry)
   pub enough : length opening ≤ length state.words
-  pub words : (shard : ℕ) → slice_index state.words shard ≡ word_at (newest (entries_of opening stores shard))
-  pub rises : (shard : ℕ) → Rises (entries_of opening stores shard)
-  pub in_range : (shard : ℕ) → All (IsInRange servers) (entries_of opening stores shard)
+  pub words : (shard : ℕ) → slice_index state.words shard ≡ word_at (newest (entries_of_shard opening stores shard))
+  pub rises : (shard : ℕ) → VersionsRise (entries_of_shard opening stores shard)
+  pub in_range : (shard : ℕ) → All (IsInRange servers) (entries_of_shard opening stores shard)
   pub each : (seat : ℕ) (view : View) → get_elem? state.views seat ≡ some view → Fits servers opening publisher stores seat view
 
 -- a load finds the word of this entry, which is no older than what was seen of the shard, and which is then seen too
@@ -100,7 +101,7 @@ Looks step before found after = (entry : Entry) × Finds step before found after
 pub record Meets {S : Type 0} (step : Step S) (before : Me S View) (found : ℕ) (after : Me S View) : Type 0 where
   pub entry : Entry
   pub finds : Finds step before found after entry
-  pub last : newest (entries_of before.0.opening before.0.stores step.word) ≡ Some entry
+  pub last : newest (entries_of_shard before.0.opening before.0.stores step.word) ≡ Some entry
   pub stand : AllStand before.0.opening before.0.stores before.0.seen
 
 -- what a store tells the publisher: its list of the shard has the word's entry as its newest

@@ -1,15 +1,9 @@
-//! An entry of the map, and the word that stands for it.
+//! The word that stands for an entry of the map.
 ghost use Rattle.std.specs.Prelude.{◌≡◌};
 ghost use Rattle.sm_map.specs.Entry.{IsInRange, entry_for, word_for};
 
+use sm_placement::Entry;
 use sm_server::ServerId;
-
-/// Where a shard is listed, and how often that has changed.
-#[derive(Clone, Copy, Debug, PartialEq, Eq)]
-pub struct Entry {
-    pub server: Option<ServerId>,
-    pub version: u64,
-}
 
 /// A word is the version times this, plus the server's number and one, or plus 0 for no server.
 const VERSION_UNIT: u64 = 65_536;

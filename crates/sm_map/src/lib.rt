@@ -7,5 +7,6 @@ mod entry;
 mod map;
 mod rule;
 
-pub use entry::{Entry, entry_of, word_of};
+pub use entry::{entry_of, word_of};
 pub use map::{Pass, Publisher, Words};
+pub use sm_placement::Entry;

@@ -8,9 +8,10 @@ ghost use Rattle.sm_map.specs.Entry.{IsInRange};
 ghost use Rattle.sm_map.specs.History.{Follows, NoneNewer, newest, words_for};
 ghost use Rattle.sm_map.specs.Models.{HasAllSeen, history};
 
-use crate::entry::{Entry, entry_of, word_of};
+use crate::entry::{entry_of, word_of};
 use crate::rule::{Look, Meet, Opening, Parts, Published, Store, View};
 use atomic_table::{Seat, Table};
+use sm_placement::Entry;
 use sm_server::ShardId;
 use std::alloc::{AllocError, Global};
 use std::marker::Model;
@@ -58,11 +59,11 @@ pub struct Pass {
 
 impl Model for Pass {
     ghost use Rattle.sm_map.specs.Models.{PassModel};
-    ghost use Rattle.sm_map.specs.Rule.{IsPassSeat, pass_of};
+    ghost use Rattle.sm_map.specs.Rule.{IsPassSeat, pass_model};
 
     ghost Value = { PassModel };
 
-    ghost view = { λ p. pass_of p.seat.table_id p.seat.me.0 };
+    ghost view = { λ p. pass_model p.seat.table_id p.seat.me.0 };
 
     ghost invariant = { λ p. IsPassSeat p.seat.me };
 }

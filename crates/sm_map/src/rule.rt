@@ -15,8 +15,8 @@
 //! - A load parts a pass from the publisher (`Parts`, as a `Split`). The pass has what was seen: nothing where it is new.
 //! - A pass joins the publisher (`Parts`, as a `Join`), and the two load a shard's word as one (`Meet`).
 //!   They then know that the entry is the newest. The pass's old seat stays behind, with nothing seen.
-use crate::entry::Entry;
 use atomic_table::{Join, Play, Split, TableRule};
+use sm_placement::Entry;
 use sm_server::ShardId;
 use std::collections::LinkedList;
 

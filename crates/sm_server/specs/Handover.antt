@@ -8,28 +8,28 @@ use Rattle.sm_server.specs.declared.handover.HandoverCells.{HandoverCells}
 use Rattle.sm_server.specs.Call.{served}
 
 -- a shard and the server that is its primary
-pub record Home : Type 0 where
+pub record SteadyModel : Type 0 where
   pub shard : ℕ
   pub server : ℕ
 
 -- a handover under way: who has the primary, who is to have it, and the handover's number
-pub record Transfer : Type 0 where
+pub record HandoverModel : Type 0 where
   pub shard : ℕ
   pub owner : ℕ
   pub new_server : ℕ
   pub number : ℕ
 
 -- the two cells once the new server is prepared
-abbrev pub ready_cells : Transfer → HandoverCells
+abbrev pub ready_cells : HandoverModel → HandoverCells
 ready_cells t = record { owner = Primary; new_server = Prepared t.owner t.number }
 
 -- the two cells once the owner forwards
-abbrev pub handing_cells : Transfer → HandoverCells
+abbrev pub handing_cells : HandoverModel → HandoverCells
 handing_cells t =
     record { owner = Forwarding t.new_server t.number; new_server = Prepared t.owner t.number }
 
 -- the two cells once the new server is the primary
-abbrev pub handed_cells : Transfer → HandoverCells
+abbrev pub handed_cells : HandoverModel → HandoverCells
 handed_cells t = record { owner = Forwarding t.new_server t.number; new_server = Primary }
 
 -- a server that is up and has room answers the call by this change of its cell

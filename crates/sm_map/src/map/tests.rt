@@ -4,8 +4,9 @@ ghost use Rattle.std.specs.Thread.{IsSync};
 ghost use Rattle.sm_map.specs.History.{newest};
 ghost use Rattle.sm_map.specs.Models.{history};
 
-use crate::entry::{Entry, entry_of, word_of};
+use crate::entry::{entry_of, word_of};
 use crate::map::{Pass, Publisher, Words};
+use sm_placement::Entry;
 use sm_server::{ServerId, ShardId};
 use std::alloc::{AllocError, Global};
 use std::sync::atomic::{AtomicU64, Ordering};
@@ -53,7 +54,7 @@ fn words_stand_for_entries(rt: HostRuntime) {
     }
 }
 
-/// A map whose memory is refused is not opened. `scripts/check-memory` refuses each allocation of this test in turn.
+/// A map whose memory is refused is not opened. `scripts/check-memory-tests` refuses each allocation of this test in turn.
 #[test]
 fn a_map_is_opened_or_not(rt: HostRuntime) {
     if let Ok((words, mut publisher)) = open_one(rt.alloc()) {

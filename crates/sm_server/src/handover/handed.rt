@@ -14,9 +14,9 @@ pub struct Handed {
 }
 
 impl Model for Handed {
-    ghost use Rattle.sm_server.specs.Handover.{Transfer};
+    ghost use Rattle.sm_server.specs.Handover.{HandoverModel};
 
-    ghost Value = { Transfer };
+    ghost Value = { HandoverModel };
 
     ghost view = { λ t. record { shard = t.shard; owner = t.owner; new_server = t.new_server; number = t.number } };
 }

@@ -12,9 +12,9 @@ pub struct Steady {
 }
 
 impl Model for Steady {
-    ghost use Rattle.sm_server.specs.Handover.{Home};
+    ghost use Rattle.sm_server.specs.Handover.{SteadyModel};
 
-    ghost Value = { Home };
+    ghost Value = { SteadyModel };
 
     ghost view = { λ s. record { shard = s.shard; server = s.server } };
 }

@@ -1,5 +1,5 @@
 use Rattle.std.proofs.Common.{◌<◌, ap, ◌∙◌, sym, subst, length, ℕ, List, arith}
-use Rattle.sm_map.specs.declared.entry.Entry.{Entry}
+use Rattle.sm_placement.specs.declared.entry.Entry.{Entry}
 use Rattle.sm_map.specs.declared.rule.View.{View}
 use Rattle.sm_map.specs.History.{AllStand}
 use Rattle.sm_map.specs.Rule.{joined}

@@ -1,6 +1,6 @@
 use Rattle.std.proofs.Common.{[], ℕ, List, ◌∙◌, sym, subst}
 use Rattle.atomic_table.specs.Table.{opening}
-use Rattle.sm_map.specs.declared.entry.Entry.{Entry}
+use Rattle.sm_placement.specs.declared.entry.Entry.{Entry}
 use Rattle.sm_map.specs.Rule.{publisher_view, Kept}
 use Rattle.sm_map.proofs.Keeps as keep
 use Rattle.sm_map.proofs.map.Words.open.Goals as goal
