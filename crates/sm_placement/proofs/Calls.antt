@@ -2,7 +2,7 @@
 use Rattle.std.proofs.Common.{◌≡◌, ◌≢◌, ℕ, ◌+◌, ◌-◌, ◌<◌, ◌≤◌, Bool, true, false, not, eqb, ltb, refl, sym, ap, ◌∙◌, arith, inl, inr, subst, ◌⊎◌, ◌↔◌, Option, Some, None}
 use Rattle.std.specs.Prelude.{Result, Ok, Err, IfOk}
 use Rattle.std.proofs.Math.Path.{fun_ext}
-use Rattle.std.proofs.lemmas.Bool.{cases_eq, cases_Bool, ltb-false, le-ltb}
+use Rattle.std.proofs.lemmas.Bool.{cases_eq, cases_Bool, eq-eqb, ne_eqb, ltb-false, le-ltb}
 use Rattle.sm_server.specs.declared.call.Cell.{Cell}
 use Rattle.sm_server.specs.declared.call.Cell.TheVariants.{Absent, Prepared, Secondary, Primary, Forwarding}
 use Rattle.sm_server.specs.declared.call.Role.{Role}
@@ -15,7 +15,8 @@ use Rattle.sm_server.specs.Cell.{is_absent, is_forwarding, cell_in}
 use Rattle.sm_server.specs.Call.{Leads, led_to, served}
 use Rattle.sm_placement.specs.Setup.{Sizes}
 use Rattle.sm_placement.specs.Rows.{IsKnownCell, IsKnownCall}
-use Rattle.sm_placement.specs.Place.{Place, weight, load_of, load_at, set_cell, set_last, answer_at, numbered_answer_at, IsAllowed}
+use Rattle.sm_placement.specs.Place.{Place, weight, load_of, load_at, set_cell, set_last, answer_at, with_answer, called, numbered_answer_at, called_numbered, with_number, NumberedAsCalled, with_lasts, outcome_with, LooksAtNoLasts, IsAllowed}
+use Rattle.sm_placement.specs.Lead.{IsSettled}
 use Rattle.sm_placement.specs.Layout.{IsPlacement}
 use Rattle.sm_placement.specs.Sums.{put2}
 use Rattle.sm_placement.proofs.Sums.{put2-here, put2-row, put2-apart, same_sum, sum_apart}
@@ -127,7 +128,8 @@ served_from cell free_room load call next q room = go (is_absent cell) refl
     go true qa = rw (q, qa, le-ltb free_room load (room qa)) refl
     go false qa = rw (q, qa) refl
 
-weight_within : (cell : Cell) (load : ℕ) → weight cell load ≤ load
+-- a cell weighs no more than its shard's load
+pub weight_within : (cell : Cell) (load : ℕ) → weight cell load ≤ load
 weight_within Absent load = omega arith
 weight_within Secondary load = omega arith
 weight_within Primary load = omega arith
@@ -140,6 +142,8 @@ pub called_keeps : (c : Sizes) (p : Place) (s v : ℕ) (call : Call) (next : Cel
 called_keeps c p s v call next is hs hv known e = record {
   no_server = λ r w l. kept (λ y. y ≡ Absent) r w (λ a b. absurd (omega arith)) (is.no_server r w l);
   no_shard = λ r w l. kept (λ y. y ≡ Absent) r w (λ a b. absurd (omega arith)) (is.no_shard r w l);
+  no_entry = is.no_entry;
+  no_down = is.no_down;
   known = λ r w. kept (λ y. IsKnownCell c.servers y) r w (λ a b. led_to_known c.servers call (p.cells s v) next known ok.1) (is.known r w);
   listed = is.listed;
   rooms = λ w l. elim (cases_eq w v) [
@@ -249,13 +253,65 @@ put2-same {A} f s v = fun_ext (λ r. fun_ext (λ w. at r w))
       | inr d ↦ put2-apart f s v (f s v) r w d
     ]
 
-pub numbered_again : (c : Sizes) (p : Place) (s v : ℕ) (call : Call) (number : ℕ) (r : Result Served Refusal) → r ≡ numbered_answer_at c p s v call number →
+pub numbered_before : (c : Sizes) (p : Place) (s v : ℕ) (call : Call) (number : ℕ) (r : Result Served Refusal) → r ≡ numbered_answer_at c p s v call number →
     IfOk r (λ served. served.fresh ≡ false → set_last (set_cell p s v served.cell) s v served.last ≡ p)
-numbered_again c p s v call number (Err why) e = tt
-numbered_again c p s v call number (Ok served) e = λ f. elim (numbered_cases c p s v call number served e) [
+numbered_before c p s v call number (Err why) e = tt
+numbered_before c p s v call number (Ok served) e = λ f. elim (numbered_cases c p s v call number served e) [
   | inl w ↦ absurd (cc (f, w.0))
   | inr w ↦
       let cells : put2 p.cells s v served.cell ≡ p.cells = ap (put2 p.cells s v) w.1 ∙ put2-same p.cells s v in
       let lasts : put2 p.last s v served.last ≡ p.last = ap (put2 p.last s v) w.2 ∙ put2-same p.last s v in
       ap (λ (g : ℕ → ℕ → Cell). record p { cells = g; last = put2 p.last s v served.last }) cells ∙ ap (λ (g : ℕ → ℕ → ℕ). record p { last = g }) lasts
 ]
+
+-- a call under another number than the last one is the call itself, with its number last then
+with_another : (c : Sizes) (p : Place) (s v : ℕ) (call : Call) (number : ℕ) → number ≢ p.last s v → called_numbered c p s v call number ≡ with_number s v number (called c p s v call)
+with_another c p s v call number d = go (p.down v) refl (answer_at c p s v call) refl
+  where
+    go : (b : Bool) → p.down v ≡ b → (r : Result Cell Refusal) → answer_at c p s v call ≡ r → called_numbered c p s v call number ≡ with_number s v number (called c p s v call)
+    go true q r qr = rw q refl
+    go false q (Ok next) qr = let z = rw q at qr in rw (q, ne_eqb number (p.last s v) d, z) refl
+    go false q (Err why) qr = let z = rw q at qr in rw (q, ne_eqb number (p.last s v) d, z) refl
+
+pub numbered_first : (c : Sizes) (p : Place) (s v : ℕ) (call : Call) (number : ℕ) (q : Place) → number ≢ p.last s v → called c p s v call ≡ Ok q →
+    called_numbered c p s v call number ≡ Ok (record { place = set_last q s v number; fresh = true })
+numbered_first c p s v call number q d e = with_another c p s v call number d ∙ ap (with_number s v number) e
+
+-- under the last number, at a server that is up, nothing changes
+pub numbered_again : (c : Sizes) (p : Place) (s v : ℕ) (call : Call) (number : ℕ) → p.down v ≡ false → number ≡ p.last s v →
+    called_numbered c p s v call number ≡ Ok (record { place = p; fresh = false })
+numbered_again c p s v call number up e =
+    let cells : put2 p.cells s v (p.cells s v) ≡ p.cells = put2-same p.cells s v in
+    let lasts : put2 p.last s v (p.last s v) ≡ p.last = put2-same p.last s v in
+    let same : set_last (set_cell p s v (p.cells s v)) s v (p.last s v) ≡ p =
+    ap (λ (g : ℕ → ℕ → Cell). record p { cells = g; last = put2 p.last s v (p.last s v) }) cells ∙ ap (λ (g : ℕ → ℕ → ℕ). record p { last = g }) lasts in
+    rw (up, eq-eqb number (p.last s v) e) (ap (λ (q : Place). Ok (record { place = q; fresh = false })) same)
+
+pub numbered_as_called : (c : Sizes) (p : Place) (s v : ℕ) (call : Call) (number : ℕ) → NumberedAsCalled c p s v call number
+numbered_as_called c p s v call number = record { first = with_another c p s v call number; again = numbered_again c p s v call number }
+
+-- calls look at no last numbers
+pub called_with_lasts : (c : Sizes) (p : Place) → LooksAtNoLasts c p
+called_with_lasts c p last s v call = go (answer_at c p s v call)
+  where
+    go : (r : Result Cell Refusal) → with_answer (with_lasts last p) s v r ≡ outcome_with last (with_answer p s v r)
+    go (Ok next) = refl
+    go (Err why) = refl
+
+-- nor do what a call is allowed by, and what a placement keeps
+pub allowed_with_lasts : (c : Sizes) (p : Place) (last : ℕ → ℕ → ℕ) (s v : ℕ) (call : Call) (to : Cell) → IsAllowed c p s v call to → IsAllowed c (with_lasts last p) s v call to
+allowed_with_lasts c p last s v call to is = record { leads = is.leads; up = is.up; room = is.room }
+
+pub placement_with_lasts : (c : Sizes) (p : Place) (last : ℕ → ℕ → ℕ) → IsPlacement c p → IsPlacement c (with_lasts last p)
+placement_with_lasts c p last is = record {
+  no_server = is.no_server;
+  no_shard = is.no_shard;
+  no_entry = is.no_entry;
+  no_down = is.no_down;
+  known = is.known;
+  listed = is.listed;
+  rooms = is.rooms;
+}
+
+pub settled_with_lasts : (c : Sizes) (p : Place) (last : ℕ → ℕ → ℕ) → IsSettled c p → IsSettled c (with_lasts last p)
+settled_with_lasts c p last is = record { leads = is.leads; listed = is.listed; rooms = is.rooms; floors = is.floors; down = is.down; versions = is.versions }

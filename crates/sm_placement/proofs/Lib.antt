@@ -17,3 +17,5 @@ pub mod Tallies
 pub mod Layouts
 pub mod Servings
 pub mod NamedLemmas
+pub mod Lives
+pub mod SizesLemmas

@@ -6,19 +6,18 @@ use Rattle.std.proofs.Math.Path.{fun_ext}
 use Rattle.std.proofs.lemmas.List.Sums.{sum_by-cons}
 use Rattle.std.proofs.lemmas.Bool.{cases_eq, cases_lt, cases_Bool, or_parts, and_parts, not-false, eqb-true, ltb-true, ltb-false, eq-eqb, ne_eqb}
 use Rattle.sm_server.specs.declared.call.Cell.{Cell}
-use Rattle.sm_server.specs.declared.call.Cell.TheVariants.{Absent, Prepared, Secondary, Primary, Forwarding}
+use Rattle.sm_server.specs.declared.call.Cell.TheVariants.{Absent}
 use Rattle.sm_server.specs.Cell.{is_primary}
 use Rattle.sm_placement.specs.declared.opening.OpenFault.{OpenFault}
 use Rattle.sm_placement.specs.declared.opening.OpenFault.TheVariants.{TooMany, UnknownName, DoubleCell, BadLead, BadListing, OverRoom, Short, TooManyDown}
 use Rattle.sm_placement.specs.Setup.{Sizes, sizes_of}
 use Rattle.sm_placement.specs.Sums.{put2, count_below, bit, any_below, first_from}
-use Rattle.sm_placement.specs.Rows.{IsKnownCell}
 use Rattle.sm_placement.specs.Place.{Place, down_count}
-use Rattle.sm_placement.specs.Layout.{Layout, IsPlacement, entries_of, place_of}
-use Rattle.sm_placement.specs.Grid.{Grid, IsGrid, cells_of, lasts_of, down_of}
-use Rattle.sm_placement.proofs.GridLemmas.{entries_of-empty}
+use Rattle.sm_placement.specs.Layout.{PlacementModel, IsPlacement, entries_of, place_of}
+use Rattle.sm_placement.specs.Grid.{TableModel, IsGrid, cells_of, lasts_of, down_of}
+use Rattle.sm_placement.proofs.GridLemmas.{entries_of-empty, entries_of-past}
 use Rattle.sm_placement.specs.Lead.{IsSettled}
-use Rattle.sm_placement.specs.Opening.{NamedCell, Opening, is_of, cell_named, opened, is_wrong_size, is_unknown, is_unknown_cell, AreKnown, IsNamedOnce, has_unknown, is_double, is_handing, tally, put_all, first_below, double_of, has_bad_lead, has_bad_listing, is_over_room, is_short, first_fault, fault_if, list_faults, standing_faults, open_fault, unpublished}
+use Rattle.sm_placement.specs.Opening.{NamedCell, Opening, is_of, cell_named, opened_place, is_wrong_size, is_unknown, is_unknown_cell, AreKnown, IsNamedOnce, has_unknown_id, is_double, is_handing, tally, put_all, first_below, double_of, has_bad_lead, has_bad_listing, is_over_room, is_short, first_fault, fault_if, list_faults, standing_faults, open_fault, unpublished}
 use Rattle.sm_placement.proofs.Sums.{put2-here, put2-row, put2-apart, sum_apart, same_sum}
 use Rattle.sm_placement.proofs.Searches.{first_none, first_from_none, any_none, count_none}
 use Rattle.sm_placement.proofs.Settling.{settled_from}
@@ -200,13 +199,6 @@ named_rests m n xs k once e i d l =
     row_rests n (cell_named xs y.0) y.1 (first_none m (λ s. has_bad_lead n (cell_named xs s)) e y.0 (known_shard m n xs i d k l)) (known_server m n xs i d k l) in
     rw (cell_named-at xs i d once l) at rests
 
-resting_known : (n : ℕ) (x : Cell) → is_handing x ≡ false → IsKnownCell n x
-resting_known n Absent e = tt
-resting_known n Secondary e = tt
-resting_known n Primary e = tt
-resting_known n (Prepared a b) e = cc
-resting_known n (Forwarding a b) e = cc
-
 -- a list of known servers lists no other
 pub listed_known : (n : ℕ) (xs : List (Option ℕ)) (s u : ℕ) → list_any (is_unknown n) xs ≡ false → get_or xs s None ≡ Some u → u < n
 listed_known n [] s u k e = cc
@@ -222,66 +214,43 @@ unfolding entries_of
 entries_of-get none xs k = refl
 
 -- the parts of what is unknown
-pub cells_known : (c : Sizes) (o : Opening) → has_unknown c o ≡ false → AreKnown c.shards c.servers o.cells
+pub cells_known : (c : Sizes) (o : Opening) → has_unknown_id c o ≡ false → AreKnown c.shards c.servers o.cells
 cells_known c o e = (or_parts (list_any (is_unknown_cell c.shards c.servers) o.cells) (list_any (is_unknown c.servers) o.listed || list_any (λ v. not (ltb v c.servers)) o.down) e).0
 
--- what is named, where no fault is found, is a placement
-pub opened_placement : (c : Sizes) (o : Opening) → has_unknown c o ≡ false → first_from 0 c.shards (double_of c.servers o.cells) ≡ None →
-    first_below c.shards (λ s. has_bad_lead c.servers (cell_named o.cells s)) ≡ None →
-    first_below c.servers (is_over_room c (cell_named o.cells)) ≡ None → IsPlacement c (opened o)
-opened_placement c o unknown doubles leads rooms = record {
-  no_server = λ s v l. nothing s v (λ a b. absurd (omega arith));
-  no_shard = λ s v l. nothing s v (λ a b. absurd (omega arith));
-  known = λ s v. elim (cases_lt s c.shards) [
-    | inl l ↦ elim (cases_lt v c.servers) [
-      | inl m ↦ resting_known c.servers (cell_named o.cells s v) (row_rests c.servers (cell_named o.cells s) v (first_none c.shards (λ r. has_bad_lead c.servers (cell_named o.cells r)) leads s l) m)
-      | inr m ↦ rw (nothing s v (λ a b. absurd (omega arith))) tt
-    ]
-    | inr l ↦ rw (nothing s v (λ a b. absurd (omega arith))) tt
-  ];
-  listed = λ s u e. listed_known c.servers o.listed s u listings (sym (entries_of-get None o.listed s) ∙ e);
-  rooms = λ v l. ltb-false (c.room v) _ (first_none c.servers (is_over_room c (cell_named o.cells)) rooms v l);
-}
-  where
-    known : AreKnown c.shards c.servers o.cells
-    known = cells_known c o unknown
-
-    nothing : (s v : ℕ) → (s < c.shards → v < c.servers → ⊥) → cell_named o.cells s v ≡ Absent
-    nothing s v out = cell_named-apart o.cells s v (none_unknown c.shards c.servers o.cells s v known out)
-
-    listings : list_any (is_unknown c.servers) o.listed ≡ false
-    listings = (or_parts (list_any (is_unknown c.servers) o.listed) (list_any (λ v. not (ltb v c.servers)) o.down) (or_parts (list_any (is_unknown_cell c.shards c.servers) o.cells) (list_any (is_unknown c.servers) o.listed || list_any (λ v. not (ltb v c.servers)) o.down) unknown).1).0
+-- nothing is named beyond the servers and shards
+pub opened_nothing : (c : Sizes) (o : Opening) → has_unknown_id c o ≡ false → (s v : ℕ) → c.servers ≤ v → cell_named o.cells s v ≡ Absent
+opened_nothing c o unknown s v l = cell_named-apart o.cells s v (none_unknown c.shards c.servers o.cells s v (cells_known c o unknown) (λ a b. absurd (omega arith)))
 
 -- the faults of the lists in their order
 pub fault_of_size : (c : Sizes) (o : Opening) → is_wrong_size c o ≡ true → first_fault (list_faults c o) ≡ Some TooMany
 fault_of_size c o e = rw e refl
 
-pub fault_of_ids : (c : Sizes) (o : Opening) → is_wrong_size c o ≡ false → has_unknown c o ≡ true → first_fault (list_faults c o) ≡ Some UnknownName
+pub fault_of_ids : (c : Sizes) (o : Opening) → is_wrong_size c o ≡ false → has_unknown_id c o ≡ true → first_fault (list_faults c o) ≡ Some UnknownName
 fault_of_ids c o e f = rw (e, f) refl
 
-pub fault_of_pairs : (c : Sizes) (o : Opening) (why : OpenFault) → is_wrong_size c o ≡ false → has_unknown c o ≡ false → first_from 0 c.shards (double_of c.servers o.cells) ≡ Some why →
+pub fault_of_pairs : (c : Sizes) (o : Opening) (why : OpenFault) → is_wrong_size c o ≡ false → has_unknown_id c o ≡ false → first_from 0 c.shards (double_of c.servers o.cells) ≡ Some why →
     first_fault (list_faults c o) ≡ Some why
 fault_of_pairs c o why e f g = rw (e, f, g) refl
 
-pub fault_of_leads : (c : Sizes) (o : Opening) (s : ℕ) → is_wrong_size c o ≡ false → has_unknown c o ≡ false → first_from 0 c.shards (double_of c.servers o.cells) ≡ None →
+pub fault_of_leads : (c : Sizes) (o : Opening) (s : ℕ) → is_wrong_size c o ≡ false → has_unknown_id c o ≡ false → first_from 0 c.shards (double_of c.servers o.cells) ≡ None →
     first_below c.shards (λ r. has_bad_lead c.servers (cell_named o.cells r)) ≡ Some s → first_fault (list_faults c o) ≡ Some (BadLead s)
 fault_of_leads c o s e f g h = rw (e, f, g, h) refl
 
-pub no_fault : (c : Sizes) (o : Opening) → is_wrong_size c o ≡ false → has_unknown c o ≡ false → first_from 0 c.shards (double_of c.servers o.cells) ≡ None →
+pub no_fault : (c : Sizes) (o : Opening) → is_wrong_size c o ≡ false → has_unknown_id c o ≡ false → first_from 0 c.shards (double_of c.servers o.cells) ≡ None →
     first_below c.shards (λ r. has_bad_lead c.servers (cell_named o.cells r)) ≡ None → first_fault (list_faults c o) ≡ None
 no_fault c o e f g h = rw (e, f, g, h) refl
 
 -- what it means that the lists have none
 pub record AreGood (c : Sizes) (o : Opening) : Type 0 where
   pub size : is_wrong_size c o ≡ false
-  pub ids : has_unknown c o ≡ false
+  pub ids : has_unknown_id c o ≡ false
   pub pairs : first_from 0 c.shards (double_of c.servers o.cells) ≡ None
   pub leads : first_below c.shards (λ r. has_bad_lead c.servers (cell_named o.cells r)) ≡ None
 
 pub good_lists : (c : Sizes) (o : Opening) → first_fault (list_faults c o) ≡ None → AreGood c o
-good_lists c o e = go (is_wrong_size c o) (has_unknown c o) (first_from 0 c.shards (double_of c.servers o.cells)) (first_below c.shards (λ r. has_bad_lead c.servers (cell_named o.cells r))) refl refl refl refl e
+good_lists c o e = go (is_wrong_size c o) (has_unknown_id c o) (first_from 0 c.shards (double_of c.servers o.cells)) (first_below c.shards (λ r. has_bad_lead c.servers (cell_named o.cells r))) refl refl refl refl e
   where
-    go : (a b : Bool) (d : Option OpenFault) (h : Option ℕ) → is_wrong_size c o ≡ a → has_unknown c o ≡ b → first_from 0 c.shards (double_of c.servers o.cells) ≡ d →
+    go : (a b : Bool) (d : Option OpenFault) (h : Option ℕ) → is_wrong_size c o ≡ a → has_unknown_id c o ≡ b → first_from 0 c.shards (double_of c.servers o.cells) ≡ d →
         first_below c.shards (λ r. has_bad_lead c.servers (cell_named o.cells r)) ≡ h →
         first_fault (fault_if a TooMany ∷ fault_if b UnknownName ∷ d ∷ option_map (λ s. BadLead s) h ∷ []) ≡ None → AreGood c o
     go true b d h qa qb qd qh e = cc
@@ -301,10 +270,10 @@ first_none-append (None ∷ xs) ys e = first_none-append xs ys e
 first_none-append (Some x ∷ xs) ys e = cc
 
 pub fault_of_lists : (c : Sizes) (o : Opening) (why : OpenFault) → first_fault (list_faults c o) ≡ Some why → open_fault c o ≡ Some why
-fault_of_lists c o why e = first_some-append (list_faults c o) (standing_faults c (opened o)) why e
+fault_of_lists c o why e = first_some-append (list_faults c o) (standing_faults c (opened_place o)) why e
 
-pub fault_of_rest : (c : Sizes) (o : Opening) → first_fault (list_faults c o) ≡ None → open_fault c o ≡ first_fault (standing_faults c (opened o))
-fault_of_rest c o e = first_none-append (list_faults c o) (standing_faults c (opened o)) e
+pub fault_of_rest : (c : Sizes) (o : Opening) → first_fault (list_faults c o) ≡ None → open_fault c o ≡ first_fault (standing_faults c (opened_place o))
+fault_of_rest c o e = first_none-append (list_faults c o) (standing_faults c (opened_place o)) e
 
 -- what it means that nothing is wrong with the placement itself
 pub record Stands (c : Sizes) (p : Place) : Type 0 where
@@ -327,41 +296,43 @@ stands_from c p e =
     go None None None false qa qb qd qf e = record { listings = qa; rooms = qb; floors = qd; few = ltb-false p.limit (down_count c p) qf }
 
 -- a table's cells with good listings and loads are a placement
-pub grid_placement : (g : Grid) (listed : List (Option ℕ)) (limit : ℕ) → IsGrid g → list_any (is_unknown (length g.setup.servers)) listed ≡ false → Stands (sizes_of g.setup) (unpublished g listed limit) →
+pub grid_placement : (g : TableModel) (listed : List (Option ℕ)) (limit : ℕ) → IsGrid g → length listed ≡ length g.setup.shards → list_any (is_unknown (length g.setup.servers)) listed ≡ false → Stands (sizes_of g.setup) (unpublished g listed limit) →
     IsPlacement (sizes_of g.setup) (unpublished g listed limit)
-grid_placement g listed limit is known stands = record {
+grid_placement g listed limit is many known stands = record {
   no_server = is.no_server;
   no_shard = is.no_shard;
+  no_entry = λ s l. entries_of-past None listed s (omega (arith, many));
+  no_down = is.up;
   known = is.known;
   listed = λ s u e. listed_known (length g.setup.servers) listed s u known (sym (entries_of-get None listed s) ∙ e);
   rooms = λ v l. ltb-false _ _ (first_none (length g.setup.servers) (is_over_room (sizes_of g.setup) (cells_of g)) stands.rooms v l);
 }
 
 -- the lists of a placement of which nothing has been published
-pub unpublished_is : (g : Grid) (listed : List (Option ℕ)) (versions : List ℕ) (n limit : ℕ) → versions ≡ replicate n 0 →
+pub unpublished_is : (g : TableModel) (listed : List (Option ℕ)) (versions : List ℕ) (n limit : ℕ) → versions ≡ replicate n 0 →
     place_of (record { setup = g.setup; cells = g.cells; lasts = g.lasts; down = g.down; listed = listed; versions = versions; limit = limit }) ≡ unpublished g listed limit
 unpublished_is g listed versions n limit e =
     let none : entries_of 0 versions ≡ (λ s. 0) = rw e (entries_of-empty 0 n) in
     ap (λ (f : ℕ → ℕ). record (unpublished g listed limit) { version = f }) none
 
 -- a table in which the named cells and servers down were put is what is opened
-pub unpublished_opened : (c : Sizes) (o : Opening) (g : Grid) → AreKnown c.shards c.servers o.cells → first_from 0 c.shards (double_of c.servers o.cells) ≡ None → cells_of g ≡ put_all o.cells (λ s v. Absent) →
-    lasts_of g ≡ (λ s v. 0) → down_of g ≡ (λ v. list_any (λ x. x == v) o.down) → unpublished g o.listed o.limit ≡ opened o
+pub unpublished_opened : (c : Sizes) (o : Opening) (g : TableModel) → AreKnown c.shards c.servers o.cells → first_from 0 c.shards (double_of c.servers o.cells) ≡ None → cells_of g ≡ put_all o.cells (λ s v. Absent) →
+    lasts_of g ≡ (λ s v. 0) → down_of g ≡ (λ v. list_any (λ x. x == v) o.down) → unpublished g o.listed o.limit ≡ opened_place o
 unpublished_opened c o g known pairs cells lasts down =
     ap (λ (f : ℕ → ℕ → Cell). record (unpublished g o.listed o.limit) { cells = f }) (cells ∙ put_all-is o.cells (once_from c.shards c.servers o.cells known pairs))
     ∙ ap (λ (f : ℕ → ℕ → ℕ). record (unpublished g o.listed o.limit) { cells = cell_named o.cells; last = f }) lasts
-    ∙ ap (λ (f : ℕ → Bool). record (opened o) { down = f }) down
+    ∙ ap (λ (f : ℕ → Bool). record (opened_place o) { down = f }) down
 
 -- what is opened is settled
-pub opened_settled : (c : Sizes) (o : Opening) → AreGood c o → first_fault (standing_faults c (opened o)) ≡ None → IsSettled c (opened o)
+pub opened_settled : (c : Sizes) (o : Opening) → AreGood c o → first_fault (standing_faults c (opened_place o)) ≡ None → IsSettled c (opened_place o)
 opened_settled c o good e =
-    let stands = stands_from c (opened o) e in
-    settled_from c (opened o) (opened_placement c o good.ids good.pairs good.leads stands.rooms).no_server good.leads stands.listings stands.rooms stands.floors stands.few (λ s l. omega arith)
+    let stands = stands_from c (opened_place o) e in
+    settled_from c (opened_place o) (opened_nothing c o good.ids) good.leads stands.listings stands.rooms stands.floors stands.few (λ s l. omega arith)
 
-pub listings_known : (c : Sizes) (o : Opening) → has_unknown c o ≡ false → list_any (is_unknown c.servers) o.listed ≡ false
+pub listings_known : (c : Sizes) (o : Opening) → has_unknown_id c o ≡ false → list_any (is_unknown c.servers) o.listed ≡ false
 listings_known c o e = (or_parts (list_any (is_unknown c.servers) o.listed) (list_any (λ v. not (ltb v c.servers)) o.down) (or_parts (list_any (is_unknown_cell c.shards c.servers) o.cells) (list_any (is_unknown c.servers) o.listed || list_any (λ v. not (ltb v c.servers)) o.down) e).1).0
 
-pub settled_result : (c : Sizes) (o : Opening) (r : Result Layout OpenFault) → AreGood c o → IfOk r (λ p. place_of p ≡ opened o) → OnOk r (first_fault (standing_faults c (opened o)) ≡ None) →
+pub settled_result : (c : Sizes) (o : Opening) (r : Result PlacementModel OpenFault) → AreGood c o → IfOk r (λ p. place_of p ≡ opened_place o) → OnOk r (first_fault (standing_faults c (opened_place o)) ≡ None) →
     IfOk r (λ p. IsSettled c (place_of p))
 settled_result c o (Ok p) good at e = subst (λ (q : Place). IsSettled c q) (sym at) (opened_settled c o good e)
 settled_result c o (Err why) good at e = tt

@@ -4,7 +4,6 @@ use Rattle.std.specs.List.{find, filter, range_with_len}
 use Rattle.std.proofs.lemmas.Bool.{cases_eq, cases_Bool, or_parts, or_from, or_left, or_right, false_from_ne_true, lt-ltb, le-ltb}
 use Rattle.sm_placement.specs.Sums.{put, sum_below, count_below, bit, any_below, first_from}
 use Rattle.sm_placement.specs.Opening.{first_below}
-use Rattle.sm_placement.specs.Lead.{last_below}
 use Rattle.sm_placement.proofs.Sums.{put-here, put-apart, same_sum, sum_apart, sum_zero, part_of_sum}
 
 pub cases_Option : {A : Type 0} (o : Option A) → (o ≡ None) ⊎ ((x : A) × (o ≡ Some x))
@@ -148,24 +147,6 @@ any_by_count n t = elim (cases_Bool (any_below n t)) [
   | inr e ↦ e ∙ sym (le-ltb 0 (count_below n t) (let z : count_below n t ≡ 0 = count_none n t (any_none n t e) in omega arith))
 ]
 
--- the greatest that passes is below n, and where there is none nothing passes
-pub last_some : (n : ℕ) (t : ℕ → Bool) (u : ℕ) → last_below n t ≡ Some u → (u < n) × (t u ≡ true)
-last_some zero t u e = cc
-last_some (suc n) t u e = elim (cases_Bool (t n)) [
-  | inl q ↦ let same : n ≡ u = (let z = rw q at e in cc) in (omega arith, rw (← same) q)
-  | inr q ↦ let rest = last_some n t u (rw q at e) in let l : u < n = rest.0 in (omega arith, rest.1)
-]
-
-pub last_none_at : (n : ℕ) (t : ℕ → Bool) → last_below n t ≡ None → (k : ℕ) → k < n → t k ≡ false
-last_none_at zero t e k l = absurd (omega arith)
-last_none_at (suc n) t e k l = elim (cases_Bool (t n)) [
-  | inl q ↦ absurd (let z = rw q at e in cc)
-  | inr q ↦ elim (cases_eq k n) [
-    | inl d ↦ rw d q
-    | inr d ↦ last_none_at n t (rw q at e) k (omega arith)
-  ]
-]
-
 -- as many numbers are listed as are counted
 filter_length : (t : ℕ → Bool) (a n : ℕ) → length (filter t (range_with_len a n)) ≡ sum_below n (λ k. bit (t (a + k)))
 filter_length t a zero = refl
@@ -193,3 +174,57 @@ find_filter t (x ∷ xs) ys v e = elim (cases_Bool (t x)) [
   | inl q ↦ rw q (let z = rw q at e in cc)
   | inr q ↦ rw q (find_filter t xs ys v (rw q at e))
 ]
+
+-- nothing is listed where nothing passes
+pub none_listed : (t : ℕ → Bool) (a n : ℕ) → ((k : ℕ) → a ≤ k → k < a + n → t k ≡ false) → filter t (range_with_len a n) ≡ []
+none_listed t a zero h = refl
+none_listed t a (suc n) h = rw (h a (omega arith) (omega arith)) (none_listed t (a + 1) n (λ k l m. h k (omega arith) (omega arith)))
+
+pub none_passes : (t : ℕ → Bool) (a n : ℕ) → filter t (range_with_len a n) ≡ [] → (k : ℕ) → a ≤ k → k < a + n → t k ≡ false
+none_passes t a zero e k l m = absurd (omega arith)
+none_passes t a (suc n) e k l m = elim (cases_Bool (t a)) [
+  | inl q ↦ absurd (let z = rw q at e in cc)
+  | inr q ↦ elim (cases_eq k a) [
+    | inl d ↦ rw d q
+    | inr d ↦ none_passes t (a + 1) n (rw q at e) k (omega arith) (omega arith)
+  ]
+]
+
+-- the first that passes is listed first, and then those after it
+pub first_listed : (t : ℕ → Bool) (a n u : ℕ) → a ≤ u → u < a + n → t u ≡ true → ((k : ℕ) → a ≤ k → k < u → t k ≡ false) →
+    filter t (range_with_len a n) ≡ u ∷ filter t (range_with_len (u + 1) (a + n - (u + 1)))
+first_listed t a zero u l m e h = absurd (omega arith)
+first_listed t a (suc n) u l m e h = elim (cases_eq a u) [
+  | inl d ↦
+      let here : t a ≡ true = rw d e in
+      let more : n ≡ a + suc n - (a + 1) = omega arith in
+      rw here (ap (λ k. a ∷ filter t (range_with_len (a + 1) k)) more ∙ ap (λ v. v ∷ filter t (range_with_len (v + 1) (a + suc n - (v + 1)))) d)
+  | inr d ↦
+      let past : t a ≡ false = h a (omega arith) (omega arith) in
+      let same : a + 1 + n - (u + 1) ≡ a + suc n - (u + 1) = omega arith in
+      rw past (first_listed t (a + 1) n u (omega arith) (omega arith) e (λ k x y. h k (omega arith) y) ∙ ap (λ k. u ∷ filter t (range_with_len (u + 1) k)) same)
+]
+
+pub first_passes : (t : ℕ → Bool) (a n u : ℕ) (xs : List ℕ) → filter t (range_with_len a n) ≡ u ∷ xs →
+    (a ≤ u) × (u < a + n) × (t u ≡ true) × ((k : ℕ) → a ≤ k → k < u → t k ≡ false) × (filter t (range_with_len (u + 1) (a + n - (u + 1))) ≡ xs)
+first_passes t a zero u xs e = cc
+first_passes t a (suc n) u xs e = elim (cases_Bool (t a)) [
+  | inl q ↦
+      let z : a ∷ filter t (range_with_len (a + 1) n) ≡ u ∷ xs = rw q at e in
+      let d : a ≡ u = cc in
+      let rest : filter t (range_with_len (a + 1) n) ≡ xs = cc in
+      let more : a + suc n - (u + 1) ≡ n = omega arith in
+      (omega arith, omega arith, rw (← d) q, λ k l m. absurd (omega arith), ap (λ k. filter t (range_with_len (u + 1) k)) more ∙ ap (λ v. filter t (range_with_len (v + 1) n)) (sym d) ∙ rest)
+  | inr q ↦
+      let r = first_passes t (a + 1) n u xs (rw q at e) in
+      let l : a + 1 ≤ u = r.0 in
+      let m : u < a + 1 + n = r.1 in
+      let same : a + suc n - (u + 1) ≡ a + 1 + n - (u + 1) = omega arith in
+      (omega arith, omega arith, r.2, λ k x y. elim (cases_eq k a) [ inl d ↦ rw d q | inr d ↦ r.3 k (omega arith) y ], ap (λ k. filter t (range_with_len (u + 1) k)) same ∙ r.4)
+]
+
+-- the one that passes is listed alone
+pub one_listed : (t : ℕ → Bool) (n u : ℕ) → u < n → t u ≡ true → ((k : ℕ) → k ≢ u → t k ≡ false) → filter t (range_with_len 0 n) ≡ u ∷ []
+one_listed t n u l e h =
+    first_listed t 0 n u (omega arith) (omega arith) e (λ k x y. h k (λ d. absurd (omega arith)))
+    ∙ ap (λ xs. u ∷ xs) (none_listed t (u + 1) (0 + n - (u + 1)) (λ k x y. h k (λ d. absurd (omega arith))))

@@ -12,12 +12,11 @@ use Rattle.sm_placement.specs.declared.lead.Lead.TheVariants.{Gone, At, Ready, H
 use Rattle.sm_placement.specs.Setup.{Sizes, sizes_of}
 use Rattle.sm_placement.specs.Sums.{count_below, any_below}
 use Rattle.sm_placement.specs.Place.{Place, load_of, down_count}
-use Rattle.sm_placement.specs.Layout.{Layout, place_of, entries_of, IsPlacement}
+use Rattle.sm_placement.specs.Layout.{PlacementModel, place_of, entries_of, IsPlacement}
 use Rattle.sm_placement.proofs.GridLemmas.{entries_of-is}
-use Rattle.sm_placement.specs.Lead.{IsPlain, Describes, is_at_rest, IsSettled, last_below}
+use Rattle.sm_placement.specs.Lead.{IsPlain, Describes, is_at_rest, IsSettled}
 use Rattle.sm_placement.specs.Opening.{first_below, has_bad_lead, has_bad_listing, is_over_room, is_short}
-use Rattle.sm_placement.proofs.LeadOf.{plain_not_primary, plain_not_prepared, plain_not_forwarding}
-use Rattle.sm_placement.proofs.Searches.{cases_Option, first_none, first_none_from, any_none, any_none_from, count_two, count_one, count_none, last_some, last_none_at}
+use Rattle.sm_placement.proofs.Searches.{cases_Option, first_none, first_none_from, any_none, any_none_from, count_two, count_one, count_none, first_some}
 
 -- a cell that has no part in a handover and is no primary is plain
 pub plain_from : (x : Cell) → is_primary x ≡ false → (is_prepared x || is_forwarding x) ≡ false → IsPlain x
@@ -34,13 +33,28 @@ primary_from Secondary e = cc
 primary_from (Prepared a b) e = cc
 primary_from (Forwarding a b) e = cc
 
+-- a plain cell is no primary, and has no part in a handover
+plain_not_primary : (x : Cell) → IsPlain x → is_primary x ≡ false
+plain_not_primary Absent h = refl
+plain_not_primary Secondary h = refl
+plain_not_primary Primary h = absurd h
+plain_not_primary (Prepared a b) h = refl
+plain_not_primary (Forwarding a b) h = refl
+
+plain_not_handing : (x : Cell) → IsPlain x → (is_prepared x || is_forwarding x) ≡ false
+plain_not_handing Absent h = refl
+plain_not_handing Secondary h = refl
+plain_not_handing Primary h = refl
+plain_not_handing (Prepared a b) h = absurd h
+plain_not_handing (Forwarding a b) h = absurd h
+
 -- a row with at most one primary and no handover is described by a lead at rest
 pub rest_from : (n m : ℕ) (row : ℕ → Cell) → ((v : ℕ) → n ≤ v → row v ≡ Absent) → has_bad_lead n row ≡ false → (lead : Lead) × (is_at_rest lead ≡ true) × Describes lead m row
-rest_from n m row out e = elim (cases_Option (last_below n primary)) [
-  | inl q ↦ (Gone, refl, λ x. plain x (last_none_at n primary q x))
+rest_from n m row out e = elim (cases_Option (first_below n primary)) [
+  | inl q ↦ (Gone, refl, λ x. plain x (first_none n primary q x))
   | inr q ↦
       let u : ℕ = q.0 in
-      let at = last_some n primary u q.1 in (
+      let at = first_some n primary u q.1 in (
         At u,
         refl,
         (
@@ -81,17 +95,14 @@ rest_to n m row lead r d = go lead r d
     handing : ℕ → Bool
     handing v = is_prepared (row v) || is_forwarding (row v)
 
-    no_part : (x : ℕ) → IsPlain (row x) → handing x ≡ false
-    no_part x h = or_from (is_prepared (row x)) (is_forwarding (row x)) (plain_not_prepared (row x) h) (plain_not_forwarding (row x) h)
-
     both : count_below n primary ≤ 1 → ((x : ℕ) → handing x ≡ false) → has_bad_lead n row ≡ false
     both few none = or_from (ltb 1 (count_below n primary)) (any_below n handing) (le-ltb 1 (count_below n primary) few) (any_none_from n handing (λ k l. none k))
 
     go : (lead : Lead) → is_at_rest lead ≡ true → Describes lead m row → has_bad_lead n row ≡ false
-    go Gone r d = both (let z : count_below n primary ≡ 0 = count_none n primary (λ k l. plain_not_primary (row k) (d k)) in omega arith) (λ x. no_part x (d x))
+    go Gone r d = both (let z : count_below n primary ≡ 0 = count_none n primary (λ k l. plain_not_primary (row k) (d k)) in omega arith) (λ x. plain_not_handing (row x) (d x))
     go (At u) r d = both (count_one n primary u (λ k l e. plain_not_primary (row k) (d.1 k e))) (λ x. elim (cases_eq x u) [
       | inl q ↦ rw (q, d.0) refl
-      | inr q ↦ no_part x (d.1 x q)
+      | inr q ↦ plain_not_handing (row x) (d.1 x q)
     ])
     go (Ready u v) r d = cc
     go (Handing u v) r d = cc
@@ -157,11 +168,11 @@ some_found None b e f g = cc
 some_found (Some x) b e f g = cc
 
 -- What holds of the lists holds of the placement as its callers see it.
-pub settled_read : {l now : Layout} → l ≡ now → IsSettled (sizes_of now.setup) (place_of now) → IsSettled (sizes_of l.setup) (place_of l)
-settled_read {l} {now} e = subst (λ (n : Layout). IsSettled (sizes_of n.setup) (place_of n) → IsSettled (sizes_of l.setup) (place_of l)) e (λ is. is)
+pub settled_read : {l now : PlacementModel} → l ≡ now → IsSettled (sizes_of now.setup) (place_of now) → IsSettled (sizes_of l.setup) (place_of l)
+settled_read {l} {now} e = subst (λ (n : PlacementModel). IsSettled (sizes_of n.setup) (place_of n) → IsSettled (sizes_of l.setup) (place_of l)) e (λ is. is)
 
-pub settled_seen : {l now : Layout} → l ≡ now → IsSettled (sizes_of l.setup) (place_of l) → IsSettled (sizes_of now.setup) (place_of now)
-settled_seen {l} {now} e is = subst (λ (n : Layout). IsSettled (sizes_of n.setup) (place_of n)) e is
+pub settled_seen : {l now : PlacementModel} → l ≡ now → IsSettled (sizes_of l.setup) (place_of l) → IsSettled (sizes_of now.setup) (place_of now)
+settled_seen {l} {now} e is = subst (λ (n : PlacementModel). IsSettled (sizes_of n.setup) (place_of n)) e is
 
-pub not_settled : {l now : Layout} → l ≡ now → (IsSettled (sizes_of l.setup) (place_of l) → ⊥) → IsTrue false ↔ IsSettled (sizes_of now.setup) (place_of now)
+pub not_settled : {l now : PlacementModel} → l ≡ now → (IsSettled (sizes_of l.setup) (place_of l) → ⊥) → IsTrue false ↔ IsSettled (sizes_of now.setup) (place_of now)
 not_settled {l} {now} e never = (λ t. absurd (cc), λ is. absurd (never (settled_read e is)))

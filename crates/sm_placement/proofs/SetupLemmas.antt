@@ -1,35 +1,35 @@
 -- Servers and shards without a fault are a configuration.
-use Rattle.std.proofs.Common.{◌≡◌, ◌≤◌, ◌<◌, ◌^◌, ◌&&◌, ◌||◌, ℕ, Bool, true, false, length, get_or, nat_lt, nat_le, ltb-true, leb-true, refl, sym, true≢false, arith}
+use Rattle.std.proofs.Common.{◌≡◌, ◌≤◌, ◌&&◌, ◌||◌, ℕ, Bool, true, false, length, get_or, nat_lt, nat_le, leb-true, refl, sym, true≢false, arith}
 use Rattle.std.specs.List.{list_all}
 use Rattle.std.proofs.lemmas.List.Sums.{AllPass-from_list_all}
 use Rattle.std.proofs.lemmas.Bool.Decides.{nat_tests}
 use Rattle.sm_placement.specs.Setup.{Setup, ServerRow, ShardRow, IsSetup, is_too_large, has_good_names, has_doubled_name, has_good_numbers, is_good_server, is_good_shard}
 
-and_first : (a b : Bool) → (a && b) ≡ true → a ≡ true
+pub and_first : (a b : Bool) → (a && b) ≡ true → a ≡ true
 and_first true b h = refl
 and_first false b h = h
 
-and_second : (a b : Bool) → (a && b) ≡ true → b ≡ true
+pub and_second : (a b : Bool) → (a && b) ≡ true → b ≡ true
 and_second true b h = h
 and_second false b h = absurd (true≢false (sym h))
 
-server_within : (r : ServerRow) → is_good_server r ≡ true → r.room < 2 ^ 32
-server_within r h = ltb-true r.room (2 ^ 32) h
+server_within : (r : ServerRow) → is_good_server r ≡ true → r.room ≤ 4294967295
+server_within r h = leb-true r.room 4294967295 h
 
 -- the numbers of a good shard
 record IsWithin (r : ShardRow) : Type 0 where
-  load : r.load < 2 ^ 32
+  load : r.load ≤ 4294967295
   want : r.want ≤ 1024
   cap : r.cap ≤ r.want
   spread : r.spread ≤ 1024
 
 shard_within : (r : ShardRow) → is_good_shard r ≡ true → IsWithin r
 shard_within r h =
-    let h1 = and_second (nat_lt r.load (2 ^ 32)) _ h in
+    let h1 = and_second (nat_le r.load 4294967295) _ h in
     let h2 = and_second (nat_le r.want 1024) _ h1 in
     let h3 = and_second (nat_le r.cap 1024) _ h2 in
     record {
-      load = ltb-true _ _ (and_first (nat_lt r.load (2 ^ 32)) _ h);
+      load = leb-true _ _ (and_first (nat_le r.load 4294967295) _ h);
       want = leb-true _ _ (and_first (nat_le r.want 1024) _ h1);
       cap = leb-true _ _ (and_second (nat_le r.spread 1024) _ h3);
       spread = leb-true _ _ (and_first (nat_le r.spread 1024) _ h3);

@@ -1,39 +1,30 @@
 -- A table's totals: that they fit, where nothing stands anywhere, and after a write.
-use Rattle.std.proofs.Common.{◌≡◌, ◌≢◌, ℕ, ◌+◌, ◌-◌, ◌*◌, ◌^◌, ◌<◌, ◌≤◌, Bool, true, false, not, List, length, set, get_or, replicate, refl, sym, ap, subst, ◌∙◌, arith, inl, inr}
+use Rattle.std.proofs.Common.{◌≡◌, ◌≢◌, ℕ, ◌+◌, ◌-◌, ◌*◌, ◌^◌, ◌<◌, ◌≤◌, Bool, true, false, not, List, length, set, get_or, take, drop, replicate, refl, sym, ap, subst, ◌∙◌, arith, inl, inr}
 use Rattle.std.specs.Bool.{beq}
 use Rattle.std.proofs.lemmas.Bool.{cases_eq, true≢false}
 use Rattle.std.proofs.lemmas.List.{length-replicate, length-set}
-use Rattle.std.proofs.lemmas.List.Elements.{All-get_or}
+use Rattle.std.proofs.lemmas.Nat.{row_fits}
 use Rattle.sm_server.specs.declared.call.Cell.{Cell}
-use Rattle.sm_server.specs.declared.call.Cell.TheVariants.{Absent, Prepared, Secondary, Primary, Forwarding}
+use Rattle.sm_server.specs.declared.call.Cell.TheVariants.{Absent}
 use Rattle.sm_placement.specs.declared.row.Counts.{Counts}
 use Rattle.sm_placement.specs.Counts.{counts_in, AreLives}
 use Rattle.sm_placement.specs.Sums.{put, put2, bit, count_below}
-use Rattle.sm_placement.specs.Setup.{Setup, Sizes, ShardRow, IsSetup, sizes_of, no_shard}
+use Rattle.sm_placement.specs.Setup.{Setup, Sizes, IsSetup, sizes_of}
 use Rattle.sm_placement.specs.Rows.{live_in, serving_in, serves, is_live, IsKnownCell}
 use Rattle.sm_placement.specs.Place.{weight, load_of}
 use Rattle.sm_placement.specs.Layout.{grid_of, entries_of}
-use Rattle.sm_placement.specs.Grid.{Grid, Totals, IsCounted, IsGrid, cells_of, lasts_of, down_of}
-use Rattle.sm_placement.proofs.Sums.{put-here, put-apart, put2-here, put2-row, put2-apart, same_sum, sum_apart, count-le, sum-le, sum_zero}
-use Rattle.sm_placement.proofs.GridLemmas.{grid_of-beside, grid_of-below, grid_of-empty, grid_of-read, grid_of-set, place_within, entries_of-past, entries_of-set, entries_of-empty, entries_of-read}
-
--- no shard has a load of 2 ^ 32
-pub shard_load-small : (setup : Setup) (s : ℕ) → IsSetup setup → s < length setup.shards → (sizes_of setup).load s < 2 ^ 32
-shard_load-small setup s h l = All-get_or (λ (r : ShardRow). r.load < 2 ^ 32) setup.shards s no_shard l h.good_loads
-
-weight-le : (cell : Cell) (load : ℕ) → weight cell load ≤ load
-weight-le Absent load = omega arith
-weight-le (Prepared from number) load = omega arith
-weight-le Secondary load = omega arith
-weight-le Primary load = omega arith
-weight-le (Forwarding to number) load = omega arith
+use Rattle.sm_placement.specs.Grid.{TableModel, Totals, IsCounted, IsGrid, cells_of, lasts_of, down_of}
+use Rattle.sm_placement.proofs.Sums.{put-here, put-apart, put2-here, put2-row, put2-apart, sum_apart, count-le, sum-le, sum_zero}
+use Rattle.sm_placement.proofs.Calls.{load_of-put, load_of-apart, weight_within}
+use Rattle.sm_placement.proofs.SizesLemmas.{load_small}
+use Rattle.sm_placement.proofs.GridLemmas.{grid_of-beside, grid_of-below, grid_of-empty, grid_of-read, grid_of-set, place_within, entries_of-past, entries_of-row, entries_of-set, entries_of-empty, entries_of-read}
 
 -- no server has a load of 2 ^ 45
 pub load-small : (setup : Setup) (cells : ℕ → ℕ → Cell) (v : ℕ) → IsSetup setup → load_of (sizes_of setup) cells v < 2 ^ 45
 load-small setup cells v h =
     let c = sizes_of setup in
     let a : load_of c cells v ≤ length setup.shards * 2 ^ 32 = sum-le (length setup.shards) (2 ^ 32) (λ s. weight (cells s v) (c.load s))
-    (λ s l. let p : c.load s < 2 ^ 32 = shard_load-small setup s h l in let q : weight (cells s v) (c.load s) ≤ c.load s = weight-le (cells s v) (c.load s) in omega arith) in
+    (λ s l. let p : c.load s < 2 ^ 32 = load_small setup s h in let q : weight (cells s v) (c.load s) ≤ c.load s = weight_within (cells s v) (c.load s) in omega arith) in
     let b : length setup.shards ≤ 4096 = h.shards in
     omega arith
 
@@ -56,7 +47,7 @@ down-small setup down h =
     omega arith
 
 -- what callers know of each table
-pub IsGrid-from_counted : (g : Grid) (t : Totals) → IsCounted g t → IsGrid g
+pub IsGrid-from_counted : (g : TableModel) (t : Totals) → IsCounted g t → IsGrid g
 IsGrid-from_counted g t h = record {
   no_server = λ s v l. grid_of-beside (length g.setup.servers) Absent g.cells s v l;
   no_shard = λ s v l. grid_of-below (length g.setup.servers) (length g.setup.shards) Absent g.cells s v h.cells_length l;
@@ -65,7 +56,7 @@ IsGrid-from_counted g t h = record {
 }
 
 -- the lists of a table with nothing in each cell
-abbrev pub empty_grid : Setup → Grid
+abbrev pub empty_grid : Setup → TableModel
 empty_grid setup = record {
   setup = setup;
   cells = replicate (length setup.shards * length setup.servers) Absent;
@@ -107,40 +98,51 @@ IsCounted-empty setup h = record {
 }
 
 -- What a reader finds in the lists is what the table says. `now` is the table as its callers see it.
-pub cells_of-read : {g now : Grid} {t : Totals} (s v : ℕ) (x : Cell) → IsCounted g t → g ≡ now → s < length now.setup.shards → v < length now.setup.servers →
+pub cells_of-read : {g now : TableModel} {t : Totals} (s v : ℕ) (x : Cell) → IsCounted g t → g ≡ now → s < length now.setup.shards → v < length now.setup.servers →
     x ≡ get_or g.cells (s * length now.setup.servers + v) x → x ≡ cells_of now s v
-cells_of-read {g} {now} {t} s v x h e = subst (λ (n : Grid). s < length n.setup.shards → v < length n.setup.servers → x ≡ get_or g.cells (s * length n.setup.servers + v) x → x ≡ cells_of n s v) e
+cells_of-read {g} {now} {t} s v x h e = subst (λ (n : TableModel). s < length n.setup.shards → v < length n.setup.servers → x ≡ get_or g.cells (s * length n.setup.servers + v) x → x ≡ cells_of n s v) e
     (λ l m r. grid_of-read (length g.setup.servers) (length g.setup.shards) Absent g.cells s v x h.cells_length l m r)
 
-pub lasts_of-read : {g now : Grid} {t : Totals} (s v x : ℕ) → IsCounted g t → g ≡ now → s < length now.setup.shards → v < length now.setup.servers →
+pub lasts_of-read : {g now : TableModel} {t : Totals} (s v x : ℕ) → IsCounted g t → g ≡ now → s < length now.setup.shards → v < length now.setup.servers →
     x ≡ get_or g.lasts (s * length now.setup.servers + v) x → x ≡ lasts_of now s v
-lasts_of-read {g} {now} {t} s v x h e = subst (λ (n : Grid). s < length n.setup.shards → v < length n.setup.servers → x ≡ get_or g.lasts (s * length n.setup.servers + v) x → x ≡ lasts_of n s v) e
+lasts_of-read {g} {now} {t} s v x h e = subst (λ (n : TableModel). s < length n.setup.shards → v < length n.setup.servers → x ≡ get_or g.lasts (s * length n.setup.servers + v) x → x ≡ lasts_of n s v) e
     (λ l m r. grid_of-read (length g.setup.servers) (length g.setup.shards) 0 g.lasts s v x h.lasts_length l m r)
 
-pub down_of-read : {g now : Grid} {t : Totals} (v : ℕ) (x : Bool) → IsCounted g t → g ≡ now → v < length now.setup.servers → x ≡ get_or g.down v x → x ≡ down_of now v
-down_of-read {g} {now} {t} v x h e = subst (λ (n : Grid). v < length n.setup.servers → x ≡ get_or g.down v x → x ≡ down_of n v) e
+pub down_of-read : {g now : TableModel} {t : Totals} (v : ℕ) (x : Bool) → IsCounted g t → g ≡ now → v < length now.setup.servers → x ≡ get_or g.down v x → x ≡ down_of now v
+down_of-read {g} {now} {t} v x h e = subst (λ (n : TableModel). v < length n.setup.servers → x ≡ get_or g.down v x → x ≡ down_of n v) e
     (λ l r. entries_of-read false g.down v (length g.setup.servers) x h.down_length l r)
 
-pub load_of-read : {g now : Grid} {t : Totals} (v x : ℕ) → IsCounted g t → g ≡ now → v < length now.setup.servers → x ≡ get_or t.loads v x → x ≡ load_of (sizes_of now.setup) (cells_of now) v
-load_of-read {g} {now} {t} v x h e = subst (λ (n : Grid). v < length n.setup.servers → x ≡ get_or t.loads v x → x ≡ load_of (sizes_of n.setup) (cells_of n) v) e
+pub load_of-read : {g now : TableModel} {t : Totals} (v x : ℕ) → IsCounted g t → g ≡ now → v < length now.setup.servers → x ≡ get_or t.loads v x → x ≡ load_of (sizes_of now.setup) (cells_of now) v
+load_of-read {g} {now} {t} v x h e = subst (λ (n : TableModel). v < length n.setup.servers → x ≡ get_or t.loads v x → x ≡ load_of (sizes_of n.setup) (cells_of n) v) e
     (λ l r. entries_of-read 0 t.loads v (length g.setup.servers) x h.loads_length l r ∙ h.loads v l)
 
-pub live_in-read : {g now : Grid} {t : Totals} (s x : ℕ) → IsCounted g t → g ≡ now → s < length now.setup.shards → x ≡ get_or t.lives s x → x ≡ live_in (length now.setup.servers) (cells_of now s) (down_of now)
-live_in-read {g} {now} {t} s x h e = subst (λ (n : Grid). s < length n.setup.shards → x ≡ get_or t.lives s x → x ≡ live_in (length n.setup.servers) (cells_of n s) (down_of n)) e
+-- the slice that is a shard's row
+pub row_of-read : {g now : TableModel} {t : Totals} (s k w : ℕ) (xs : List Cell) → IsCounted g t → g ≡ now → s < length now.setup.shards → k ≡ s → w ≡ length g.down → xs ≡ g.cells →
+    entries_of Absent (take (k * w + w - k * w) (drop (k * w) xs)) ≡ cells_of now s
+row_of-read {g} {now} {t} s k w xs h e l d f b = subst (λ (n : TableModel). s < length n.setup.shards → entries_of Absent (take (k * w + w - k * w) (drop (k * w) xs)) ≡ cells_of n s) e at l
+  where
+    at : s < length g.setup.shards → entries_of Absent (take (k * w + w - k * w) (drop (k * w) xs)) ≡ cells_of g s
+    at m =
+        let wide : w ≡ length g.setup.servers = f ∙ h.down_length in
+        let fits : s * length g.setup.servers + length g.setup.servers ≤ length g.cells = omega (arith, row_fits s (length g.setup.servers) (length g.setup.shards) (length g.setup.servers) m (omega arith), h.cells_length) in
+        rw (d, wide, b) (entries_of-row (length g.setup.servers) (s * length g.setup.servers) Absent g.cells s refl fits)
+
+pub live_in-read : {g now : TableModel} {t : Totals} (s x : ℕ) → IsCounted g t → g ≡ now → s < length now.setup.shards → x ≡ get_or t.lives s x → x ≡ live_in (length now.setup.servers) (cells_of now s) (down_of now)
+live_in-read {g} {now} {t} s x h e = subst (λ (n : TableModel). s < length n.setup.shards → x ≡ get_or t.lives s x → x ≡ live_in (length n.setup.servers) (cells_of n s) (down_of n)) e
     (λ l r. entries_of-read 0 t.lives s (length g.setup.shards) x h.lives_length l r ∙ h.lives s l)
 
-pub serving_in-read : {g now : Grid} {t : Totals} (s x : ℕ) → IsCounted g t → g ≡ now → s < length now.setup.shards → x ≡ get_or t.servings s x → x ≡ serving_in (length now.setup.servers) (cells_of now s)
-serving_in-read {g} {now} {t} s x h e = subst (λ (n : Grid). s < length n.setup.shards → x ≡ get_or t.servings s x → x ≡ serving_in (length n.setup.servers) (cells_of n s)) e
+pub serving_in-read : {g now : TableModel} {t : Totals} (s x : ℕ) → IsCounted g t → g ≡ now → s < length now.setup.shards → x ≡ get_or t.servings s x → x ≡ serving_in (length now.setup.servers) (cells_of now s)
+serving_in-read {g} {now} {t} s x h e = subst (λ (n : TableModel). s < length n.setup.shards → x ≡ get_or t.servings s x → x ≡ serving_in (length n.setup.servers) (cells_of n s)) e
     (λ l r. entries_of-read 0 t.servings s (length g.setup.shards) x h.servings_length l r ∙ h.servings s l)
 
-pub IsGrid-read : {g now : Grid} {t : Totals} → IsCounted g t → g ≡ now → IsGrid now
-IsGrid-read {g} {now} {t} h e = subst (λ (n : Grid). IsGrid n) e (IsGrid-from_counted g t h)
+pub IsGrid-read : {g now : TableModel} {t : Totals} → IsCounted g t → g ≡ now → IsGrid now
+IsGrid-read {g} {now} {t} h e = subst (λ (n : TableModel). IsGrid n) e (IsGrid-from_counted g t h)
 
-pub IsSetup-read : {g now : Grid} {t : Totals} → IsCounted g t → g ≡ now → IsSetup now.setup
-IsSetup-read {g} {now} {t} h e = subst (λ (n : Grid). IsSetup n.setup) e h.setup
+pub IsSetup-read : {g now : TableModel} {t : Totals} → IsCounted g t → g ≡ now → IsSetup now.setup
+IsSetup-read {g} {now} {t} h e = subst (λ (n : TableModel). IsSetup n.setup) e h.setup
 
 -- other last numbers leave the totals as they are
-pub IsCounted-with_lasts : {g : Grid} {t : Totals} (lasts : List ℕ) → IsCounted g t → length lasts ≡ length g.lasts → IsCounted (record g { lasts = lasts }) t
+pub IsCounted-with_lasts : {g : TableModel} {t : Totals} (lasts : List ℕ) → IsCounted g t → length lasts ≡ length g.lasts → IsCounted (record g { lasts = lasts }) t
 IsCounted-with_lasts {g} {t} lasts h e = record {
   setup = h.setup;
   cells_length = h.cells_length;
@@ -157,30 +159,12 @@ IsCounted-with_lasts {g} {t} lasts h e = record {
 }
 
 -- a write to a list is the write to the table. `old` is the table as its callers saw it
-pub lasts_of-set : {g old : Grid} {t : Totals} (s v x : ℕ) → IsCounted g t → g ≡ old → s < length old.setup.shards → v < length old.setup.servers →
+pub lasts_of-set : {g old : TableModel} {t : Totals} (s v x : ℕ) → IsCounted g t → g ≡ old → s < length old.setup.shards → v < length old.setup.servers →
     lasts_of (record g { lasts = set g.lasts (s * length old.setup.servers + v) x }) ≡ put2 (lasts_of old) s v x
-lasts_of-set {g} {old} {t} s v x h e = subst (λ (n : Grid). s < length n.setup.shards → v < length n.setup.servers → lasts_of (record g { lasts = set g.lasts (s * length n.setup.servers + v) x }) ≡ put2 (lasts_of n) s v x) e
+lasts_of-set {g} {old} {t} s v x h e = subst (λ (n : TableModel). s < length n.setup.shards → v < length n.setup.servers → lasts_of (record g { lasts = set g.lasts (s * length n.setup.servers + v) x }) ≡ put2 (lasts_of n) s v x) e
     (λ l m. grid_of-set (length g.setup.servers) 0 g.lasts s v x m (place_within g.lasts (length g.setup.servers) (length g.setup.shards) s v h.lasts_length l m))
 
 -- ---- one cell changed ----
-
--- the load of the cell's server changes by the weights of the old and the new cell
-pub load_of-put : (c : Sizes) (cells : ℕ → ℕ → Cell) (s v : ℕ) (next : Cell) → s < c.shards →
-    load_of c (put2 cells s v next) v + weight (cells s v) (c.load s) ≡ load_of c cells v + weight next (c.load s)
-load_of-put c cells s v next l =
-    sum_apart c.shards (λ r. weight (put2 cells s v next r v) (c.load r)) (λ r. weight (cells r v) (c.load r)) s (weight (cells s v) (c.load s)) (weight next (c.load s)) l
-    (λ r d. ap (λ (x : Cell). weight x (c.load r)) (put2-apart cells s v next r v d))
-    (let e : weight (put2 cells s v next s v) (c.load s) ≡ weight next (c.load s) = ap (λ (x : Cell). weight x (c.load s)) (put2-here cells s v next) in omega arith)
-
--- and the load of no other server does
-pub load_of-beside : (c : Sizes) (cells : ℕ → ℕ → Cell) (s v u : ℕ) (next : Cell) → u ≢ v → load_of c (put2 cells s v next) u ≡ load_of c cells u
-load_of-beside c cells s v u next d = same_sum c.shards (λ r. weight (put2 cells s v next r u) (c.load r)) (λ r. weight (cells r u) (c.load r)) (λ r l. ap (λ (x : Cell). weight x (c.load r)) (at r))
-  where
-    at : (r : ℕ) → put2 cells s v next r u ≡ cells r u
-    at r = elim (cases_eq r s) [
-      | inl e ↦ rw e (put2-row cells s v next u d)
-      | inr e ↦ put2-apart cells s v next r u e
-    ]
 
 -- a property of each cell
 known-put : (n : ℕ) (cells : ℕ → ℕ → Cell) (s v : ℕ) (next : Cell) → ((r u : ℕ) → IsKnownCell n (cells r u)) → IsKnownCell n next → (r u : ℕ) → IsKnownCell n (put2 cells s v next r u)
@@ -201,7 +185,7 @@ total-set xs f g n k x e l h others here j m = ap (λ (q : ℕ → ℕ). q j) (e
 ]
 
 -- a table whose totals are corrected with the cell
-pub IsCounted-set : {g : Grid} {t : Totals} (s v : ℕ) (next : Cell) (load : ℕ) (counts : Counts) → IsCounted g t → s < length g.setup.shards → v < length g.setup.servers →
+pub IsCounted-set : {g : TableModel} {t : Totals} (s v : ℕ) (next : Cell) (load : ℕ) (counts : Counts) → IsCounted g t → s < length g.setup.shards → v < length g.setup.servers →
     IsKnownCell (length g.setup.servers) next →
     load ≡ load_of (sizes_of g.setup) (put2 (cells_of g) s v next) v →
     counts ≡ counts_in (length g.setup.servers) (put (cells_of g s) v next) (down_of g) →
@@ -216,7 +200,7 @@ IsCounted-set {g} {t} s v next load counts h l m known by_load by_counts = recor
   lives_length = length-set t.lives s counts.live ∙ h.lives_length;
   servings_length = length-set t.servings s counts.serving ∙ h.servings_length;
   known = λ r u. rw written (known-put n (cells_of g) s v next h.known known r u);
-  loads = λ u k. rw written (total-set t.loads (λ j. load_of c (cells_of g) j) (λ j. load_of c cells j) n v load h.loads_length m h.loads (λ j d. load_of-beside c (cells_of g) s v j next d) by_load u k);
+  loads = λ u k. rw written (total-set t.loads (λ j. load_of c (cells_of g) j) (λ j. load_of c cells j) n v load h.loads_length m h.loads (λ j d. load_of-apart c (cells_of g) s v next j d) by_load u k);
   lives = λ r k. rw written (total-set t.lives (λ j. live_in n (cells_of g j) (down_of g)) (λ j. live_in n (cells j) (down_of g)) (length g.setup.shards) s counts.live h.lives_length l h.lives
       (λ j d. ap (λ (f : ℕ → Cell). live_in n f (down_of g)) (other j d)) (ap (λ (q : Counts). q.live) by_counts ∙ ap (λ (f : ℕ → Cell). live_in n f (down_of g)) (sym own)) r k);
   servings = λ r k. rw written (total-set t.servings (λ j. serving_in n (cells_of g j)) (λ j. serving_in n (cells j)) (length g.setup.shards) s counts.serving h.servings_length l h.servings
@@ -245,7 +229,7 @@ IsCounted-set {g} {t} s v next load counts h l m known by_load by_counts = recor
 -- ---- what the code reads and writes for it, over the lists of the table ----
 
 -- the totals of a shard are the counts of its row
-pub counts_in-read : {g : Grid} {t : Totals} (s live serving : ℕ) (cells : List Cell) (down : List Bool) → IsCounted g t → s < length g.setup.shards → cells ≡ g.cells → down ≡ g.down →
+pub counts_in-read : {g : TableModel} {t : Totals} (s live serving : ℕ) (cells : List Cell) (down : List Bool) → IsCounted g t → s < length g.setup.shards → cells ≡ g.cells → down ≡ g.down →
     live ≡ get_or t.lives s live → serving ≡ get_or t.servings s serving →
     ◌≡◌ {A = Counts} (record { live = live; serving = serving }) (counts_in (length down) (grid_of (length down) Absent cells s) (entries_of false down))
 counts_in-read {g} {t} s live serving cells down h l ce de a b =
@@ -255,7 +239,7 @@ counts_in-read {g} {t} s live serving cells down h l ce de a b =
     rw (x, y, ce, de, h.down_length) refl
 
 -- the list and the counts after a cell is set in its row
-pub set_in_row-is : {g : Grid} {t : Totals} (s v : ℕ) (next : Cell) (counts : Counts) (cells now : List Cell) (down : List Bool) → IsCounted g t → cells ≡ g.cells → down ≡ g.down →
+pub set_in_row-is : {g : TableModel} {t : Totals} (s v : ℕ) (next : Cell) (counts : Counts) (cells now : List Cell) (down : List Bool) → IsCounted g t → cells ≡ g.cells → down ≡ g.down →
     now ≡ set cells (s * length down + v) next → counts ≡ counts_in (length down) (put (grid_of (length down) Absent cells s) v next) (entries_of false down) →
     (now ≡ set g.cells (s * length g.setup.servers + v) next) × (counts ≡ counts_in (length g.setup.servers) (put (cells_of g s) v next) (down_of g))
 set_in_row-is {g} {t} s v next counts cells now down h ce de a b =
@@ -269,7 +253,7 @@ pub record IsCorrected (load added removed after : ℕ) : Type 0 where
   pub enough : removed ≤ load + added
   pub is : load + added - removed ≡ after
 
-pub load_of-corrected : {g : Grid} {t : Totals} (s v : ℕ) (next : Cell) (load added removed : ℕ) → IsCounted g t → s < length g.setup.shards → v < length g.setup.servers →
+pub load_of-corrected : {g : TableModel} {t : Totals} (s v : ℕ) (next : Cell) (load added removed : ℕ) → IsCounted g t → s < length g.setup.shards → v < length g.setup.servers →
     load ≡ get_or t.loads v load → added ≡ weight next ((sizes_of g.setup).load s) → removed ≡ weight (cells_of g s v) ((sizes_of g.setup).load s) →
     IsCorrected load added removed (load_of (sizes_of g.setup) (put2 (cells_of g) s v next) v)
 load_of-corrected {g} {t} s v next load added removed h l m a b d =
@@ -277,13 +261,13 @@ load_of-corrected {g} {t} s v next load added removed h l m a b d =
     let x : load ≡ load_of c (cells_of g) v = entries_of-read 0 t.loads v (length g.setup.servers) load h.loads_length m a ∙ h.loads v m in
     let e : load_of c (put2 (cells_of g) s v next) v + weight (cells_of g s v) (c.load s) ≡ load_of c (cells_of g) v + weight next (c.load s) = load_of-put c (cells_of g) s v next l in
     let p : load_of c (cells_of g) v < 2 ^ 45 = load-small g.setup (cells_of g) v h.setup in
-    let q : weight next (c.load s) ≤ c.load s = weight-le next (c.load s) in
-    let r : c.load s < 2 ^ 32 = shard_load-small g.setup s h.setup l in
+    let q : weight next (c.load s) ≤ c.load s = weight_within next (c.load s) in
+    let r : c.load s < 2 ^ 32 = load_small g.setup s h.setup in
     record { fits = omega arith; enough = omega arith; is = omega arith }
 
-pub cells_of-set : {g old : Grid} {t : Totals} (s v : ℕ) (next : Cell) → IsCounted g t → g ≡ old → s < length old.setup.shards → v < length old.setup.servers →
+pub cells_of-set : {g old : TableModel} {t : Totals} (s v : ℕ) (next : Cell) → IsCounted g t → g ≡ old → s < length old.setup.shards → v < length old.setup.servers →
     grid_of (length g.setup.servers) Absent (set g.cells (s * length g.setup.servers + v) next) ≡ put2 (cells_of old) s v next
-cells_of-set {g} {old} {t} s v next h e = subst (λ (n : Grid). s < length n.setup.shards → v < length n.setup.servers → grid_of (length g.setup.servers) Absent (set g.cells (s * length g.setup.servers + v) next) ≡ put2 (cells_of n) s v next) e
+cells_of-set {g} {old} {t} s v next h e = subst (λ (n : TableModel). s < length n.setup.shards → v < length n.setup.servers → grid_of (length g.setup.servers) Absent (set g.cells (s * length g.setup.servers + v) next) ≡ put2 (cells_of n) s v next) e
     (λ l m. grid_of-set (length g.setup.servers) Absent g.cells s v next m (place_within g.cells (length g.setup.servers) (length g.setup.shards) s v h.cells_length l m))
 
 -- ---- a server comes up or goes down ----
@@ -297,8 +281,8 @@ count_below-toggle n down v b l e =
     sum_apart n (λ q. bit (put down v b q)) (λ q. bit (down q)) v (bit (not b)) (bit b) l (λ q d. ap bit (put-apart down v b q d))
     (let x : bit (put down v b v) ≡ bit b = ap bit (put-here down v b v refl) in let y : bit (down v) ≡ bit (not b) = ap bit e in omega arith)
 
-pub down_of-set : {g old : Grid} {t : Totals} (v : ℕ) (b : Bool) → IsCounted g t → g ≡ old → v < length old.setup.servers → down_of (record g { down = set g.down v b }) ≡ put (down_of old) v b
-down_of-set {g} {old} {t} v b h e = subst (λ (n : Grid). v < length n.setup.servers → down_of (record g { down = set g.down v b }) ≡ put (down_of n) v b) e
+pub down_of-set : {g old : TableModel} {t : Totals} (v : ℕ) (b : Bool) → IsCounted g t → g ≡ old → v < length old.setup.servers → down_of (record g { down = set g.down v b }) ≡ put (down_of old) v b
+down_of-set {g} {old} {t} v b h e = subst (λ (n : TableModel). v < length n.setup.servers → down_of (record g { down = set g.down v b }) ≡ put (down_of n) v b) e
     (λ l. entries_of-set false g.down v b (omega (arith, h.down_length)))
 
 pub same-from_beq : (a b : Bool) → beq a b ≡ true → a ≡ b
@@ -314,19 +298,19 @@ not-from_beq false true e = refl
 not-from_beq false false e = absurd (true≢false e)
 
 -- the count of the servers that are down, where a server's state turns
-pub down-toggled : {g old : Grid} {t : Totals} (v : ℕ) (b was : Bool) → IsCounted g t → g ≡ old → v < length old.setup.servers → was ≡ down_of old v → was ≡ not b →
+pub down-toggled : {g old : TableModel} {t : Totals} (v : ℕ) (b was : Bool) → IsCounted g t → g ≡ old → v < length old.setup.servers → was ≡ down_of old v → was ≡ not b →
     count_below (length g.setup.servers) (put (down_of g) v b) + bit (not b) ≡ t.down + bit b
 down-toggled {g} {old} {t} v b was h e l r w =
-    let m : v < length g.setup.servers = omega (arith, ap (λ (n : Grid). length n.setup.servers) e) in
-    let d : down_of g v ≡ not b = ap (λ (n : Grid). down_of n v) e ∙ sym r ∙ w in
+    let m : v < length g.setup.servers = omega (arith, ap (λ (n : TableModel). length n.setup.servers) e) in
+    let d : down_of g v ≡ not b = ap (λ (n : TableModel). down_of n v) e ∙ sym r ∙ w in
     let k : count_below (length g.setup.servers) (put (down_of g) v b) + bit (not b) ≡ count_below (length g.setup.servers) (down_of g) + bit b = count_below-toggle (length g.setup.servers) (down_of g) v b m d in
     k ∙ ap (λ (n : ℕ). n + bit b) (sym h.down)
 
-pub down_count-small : {g : Grid} {t : Totals} → IsCounted g t → t.down ≤ 1024
+pub down_count-small : {g : TableModel} {t : Totals} → IsCounted g t → t.down ≤ 1024
 down_count-small {g} {t} h = rw h.down (down-small g.setup (down_of g) h.setup)
 
 -- the table with corrected counts
-pub IsCounted-toggle : {g old : Grid} {t : Totals} (v : ℕ) (b was : Bool) (cells : List Cell) (down : List Bool) (lives : List ℕ) (count : ℕ) → IsCounted g t → g ≡ old → v < length old.setup.servers →
+pub IsCounted-toggle : {g old : TableModel} {t : Totals} (v : ℕ) (b was : Bool) (cells : List Cell) (down : List Bool) (lives : List ℕ) (count : ℕ) → IsCounted g t → g ≡ old → v < length old.setup.servers →
     was ≡ down_of old v → was ≡ not b → cells ≡ g.cells → down ≡ g.down → length lives ≡ length t.lives →
     AreLives lives (length down) (grid_of (length down) Absent cells) (put (entries_of false down) v (not (entries_of false down v))) →
     count + bit (not b) ≡ t.down + bit b →
@@ -347,10 +331,10 @@ IsCounted-toggle {g} {old} {t} v b was cells down lives count h e l r w ce de le
 }
   where
     m : v < length g.setup.servers
-    m = omega (arith, ap (λ (n : Grid). length n.setup.servers) e)
+    m = omega (arith, ap (λ (n : TableModel). length n.setup.servers) e)
 
     d : not (down_of g v) ≡ b
-    d = ap not (ap (λ (n : Grid). down_of n v) e ∙ sym r ∙ w) ∙ not-not b
+    d = ap not (ap (λ (n : TableModel). down_of n v) e ∙ sym r ∙ w) ∙ not-not b
 
     written : entries_of false (set g.down v b) ≡ put (down_of g) v b
     written = entries_of-set false g.down v b (omega (arith, h.down_length, m))

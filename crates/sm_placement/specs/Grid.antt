@@ -8,19 +8,19 @@ use Rattle.sm_placement.specs.Sums.{count_below}
 use Rattle.sm_placement.specs.Place.{load_of}
 use Rattle.sm_placement.specs.Layout.{grid_of, entries_of}
 
-pub record Grid : Type 0 where
+pub record TableModel : Type 0 where
   pub setup : Setup
   pub cells : List Cell
   pub lasts : List ℕ
   pub down : List Bool
 
-abbrev pub cells_of : Grid → ℕ → ℕ → Cell
+abbrev pub cells_of : TableModel → ℕ → ℕ → Cell
 cells_of g = grid_of (length g.setup.servers) Absent g.cells
 
-abbrev pub lasts_of : Grid → ℕ → ℕ → ℕ
+abbrev pub lasts_of : TableModel → ℕ → ℕ → ℕ
 lasts_of g = grid_of (length g.setup.servers) 0 g.lasts
 
-abbrev pub down_of : Grid → ℕ → Bool
+abbrev pub down_of : TableModel → ℕ → Bool
 down_of g = entries_of false g.down
 
 -- the totals that are kept beside the cells
@@ -31,7 +31,7 @@ pub record Totals : Type 0 where
   pub down : ℕ
 
 -- each list has an entry for each shard, server or pair, and each total is the sum that it stands for
-pub record IsCounted (g : Grid) (t : Totals) : Type 0 where
+pub record IsCounted (g : TableModel) (t : Totals) : Type 0 where
   pub setup : IsSetup g.setup
   pub cells_length : length g.cells ≡ length g.setup.shards * length g.setup.servers
   pub lasts_length : length g.lasts ≡ length g.setup.shards * length g.setup.servers
@@ -46,7 +46,7 @@ pub record IsCounted (g : Grid) (t : Totals) : Type 0 where
   pub down : t.down ≡ count_below (length g.setup.servers) (down_of g)
 
 -- beyond its servers and shards a grid has nothing, and each server that a cell names is known
-pub record IsGrid (g : Grid) : Type 0 where
+pub record IsGrid (g : TableModel) : Type 0 where
   pub no_server : (s v : ℕ) → length g.setup.servers ≤ v → cells_of g s v ≡ Absent
   pub no_shard : (s v : ℕ) → length g.setup.shards ≤ s → cells_of g s v ≡ Absent
   pub known : (s v : ℕ) → IsKnownCell (length g.setup.servers) (cells_of g s v)

@@ -6,7 +6,7 @@ use Rattle.sm_placement.specs.Setup.{Setup, Sizes}
 use Rattle.sm_placement.specs.Rows.{IsKnownCell}
 use Rattle.sm_placement.specs.Place.{Place, load_at}
 
-pub record Layout : Type 0 where
+pub record PlacementModel : Type 0 where
   pub setup : Setup
   pub cells : List Cell
   pub lasts : List ℕ
@@ -24,7 +24,7 @@ unfoldable pub entries_of : {A : Type 0} → A → List A → ℕ → A
 entries_of none xs k = slice_index_or xs k none
 
 -- the placement that the lists stand for
-abbrev pub place_of : Layout → Place
+abbrev pub place_of : PlacementModel → Place
 place_of l = record {
   cells = grid_of (length l.setup.servers) Absent l.cells;
   last = grid_of (length l.setup.servers) 0 l.lasts;
@@ -34,11 +34,13 @@ place_of l = record {
   limit = l.limit;
 }
 
--- What every placement keeps: beyond its servers and shards there is nothing, each server that a cell or the map
--- names is known, and no load is above its room.
+-- What every placement keeps: beyond its servers and shards there is nothing, nobody is down and nothing is listed,
+-- each server that a cell or the map names is known, and no load is above its room.
 pub record IsPlacement (c : Sizes) (p : Place) : Type 0 where
   pub no_server : (s v : ℕ) → c.servers ≤ v → p.cells s v ≡ Absent
   pub no_shard : (s v : ℕ) → c.shards ≤ s → p.cells s v ≡ Absent
+  pub no_entry : (s : ℕ) → c.shards ≤ s → p.listed s ≡ None
+  pub no_down : (v : ℕ) → c.servers ≤ v → p.down v ≡ false
   pub known : (s v : ℕ) → IsKnownCell c.servers (p.cells s v)
   pub listed : (s u : ℕ) → p.listed s ≡ Some u → u < c.servers
   pub rooms : (v : ℕ) → v < c.servers → load_at c p v ≤ c.room v

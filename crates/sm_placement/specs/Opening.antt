@@ -12,7 +12,8 @@ use Rattle.sm_placement.specs.Sums.{put2, count_below, any_below, first_from}
 use Rattle.sm_placement.specs.Rows.{live_in}
 use Rattle.sm_placement.specs.Place.{Place, load_of, down_count}
 use Rattle.sm_placement.specs.Layout.{entries_of}
-use Rattle.sm_placement.specs.Grid.{Grid, cells_of, lasts_of, down_of}
+use Rattle.sm_placement.specs.Grid.{TableModel, cells_of, lasts_of, down_of}
+use Rattle.sm_placement.specs.declared.limits.TheConstants.{MOST_CELLS}
 
 -- a cell, with the shard and the server that it is of
 abbrev pub NamedCell : Type 0
@@ -34,8 +35,8 @@ cell_named [] s v = Absent
 cell_named (named ∷ rest) s v = if is_of s v named then named.2 else cell_named rest s v
 
 -- the placement that is named: no call has been made, and nothing was published
-abbrev pub opened : Opening → Place
-opened o = record {
+abbrev pub opened_place : Opening → Place
+opened_place o = record {
   cells = cell_named o.cells;
   last = λ s v. 0;
   down = λ v. list_any (λ x. x == v) o.down;
@@ -46,7 +47,7 @@ opened o = record {
 
 -- the lists are longer than a placement has, or don't list each shard
 abbrev pub is_wrong_size : Sizes → Opening → Bool
-is_wrong_size c o = nat_lt 1048576 (length o.cells) || not (length o.listed == c.shards)
+is_wrong_size c o = nat_lt MOST_CELLS (length o.cells) || not (length o.listed == c.shards)
 
 -- a number is given, and it is not below n
 abbrev pub is_unknown : ℕ → Option ℕ → Bool
@@ -62,8 +63,8 @@ abbrev pub AreKnown : ℕ → ℕ → List NamedCell → Type 0
 AreKnown shards servers cells = list_any (is_unknown_cell shards servers) cells ≡ false
 
 -- an id is not below its count
-abbrev pub has_unknown : Sizes → Opening → Bool
-has_unknown c o =
+abbrev pub has_unknown_id : Sizes → Opening → Bool
+has_unknown_id c o =
     list_any (is_unknown_cell c.shards c.servers) o.cells
     || (list_any (is_unknown c.servers) o.listed || list_any (λ v. not (nat_lt v c.servers)) o.down)
 
@@ -134,7 +135,7 @@ fault_if false fault = None
 abbrev pub list_faults : Sizes → Opening → List (Option OpenFault)
 list_faults c o =
     fault_if (is_wrong_size c o) TooMany ∷
-    fault_if (has_unknown c o) UnknownName ∷
+    fault_if (has_unknown_id c o) UnknownName ∷
     first_from 0 c.shards (double_of c.servers o.cells) ∷
     option_map (λ s. BadLead s) (first_below c.shards (λ s. has_bad_lead c.servers (cell_named o.cells s))) ∷ []
 
@@ -148,8 +149,8 @@ standing_faults c p =
 
 -- why a placement is not opened: the first fault in the order of these lines, each with its lowest shard and server
 abbrev pub open_fault : Sizes → Opening → Option OpenFault
-open_fault c o = first_fault (list_faults c o ++ standing_faults c (opened o))
+open_fault c o = first_fault (list_faults c o ++ standing_faults c (opened_place o))
 
 -- the placement of a table's cells, of which nothing has been published
-abbrev pub unpublished : Grid → List (Option ℕ) → ℕ → Place
+abbrev pub unpublished : TableModel → List (Option ℕ) → ℕ → Place
 unpublished g listed limit = record { cells = cells_of g; last = lasts_of g; down = down_of g; listed = entries_of None listed; version = λ s. 0; limit = limit }

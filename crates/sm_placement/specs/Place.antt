@@ -1,5 +1,5 @@
 -- A placement: what each server has of each shard, who is down, and what the published map says.
-use Rattle.std.specs.Prelude.{◌≡◌, ℕ, suc, ◌+◌, ◌-◌, ◌≤◌, Bool, false, not, Option, Result, Ok, Err, if◌then◌else◌}
+use Rattle.std.specs.Prelude.{◌≡◌, ◌≢◌, ℕ, suc, ◌+◌, ◌-◌, ◌<◌, ◌≤◌, Bool, true, false, not, Option, Result, Ok, Err, if◌then◌else◌}
 use Rattle.sm_server.specs.declared.call.Cell.{Cell}
 use Rattle.sm_server.specs.declared.call.Cell.TheVariants.{Absent}
 use Rattle.sm_server.specs.declared.call.Call.{Call}
@@ -7,9 +7,10 @@ use Rattle.sm_server.specs.declared.call.Refusal.{Refusal}
 use Rattle.sm_server.specs.declared.call.Served.{Served}
 use Rattle.sm_server.specs.Cell.{is_absent}
 use Rattle.sm_server.specs.Call.{Leads, served, served_numbered}
-use Rattle.sm_placement.specs.Sums.{put, put2, sum_below, count_below}
+use Rattle.sm_placement.specs.declared.entry.Entry.{Entry}
+use Rattle.sm_placement.specs.Sums.{put, put2, bit, sum_below, count_below}
 use Rattle.sm_placement.specs.Setup.{Sizes}
-use Rattle.sm_placement.specs.Rows.{live_in}
+use Rattle.sm_placement.specs.Rows.{is_live, live_in}
 
 pub record Place : Type 0 where
   -- by shard, then by server
@@ -23,6 +24,10 @@ pub record Place : Type 0 where
   -- how many servers may be down at once
   pub limit : ℕ
 
+-- the map's entry of a shard
+abbrev pub entry_at : Place → ℕ → Entry
+entry_at p s = record { server = p.listed s; version = p.version s }
+
 -- what a cell weighs on its server
 abbrev pub weight : Cell → ℕ → ℕ
 weight cell load = if is_absent cell then 0 else load
@@ -33,6 +38,10 @@ load_of c cells v = sum_below c.shards (λ s. weight (cells s v) (c.load s))
 
 abbrev pub load_at : Sizes → Place → ℕ → ℕ
 load_at c p v = load_of c p.cells v
+
+-- the server counts as live for a shard: it is up, and has a secondary or serves
+abbrev pub is_live_at : Place → ℕ → ℕ → Bool
+is_live_at p s v = is_live (p.cells s) p.down v
 
 -- how many replicas of a shard are live
 abbrev pub live_at : Sizes → Place → ℕ → ℕ
@@ -66,7 +75,8 @@ forget_numbers p = record p { last = λ s v. 0 }
 abbrev pub answer_at : Sizes → Place → ℕ → ℕ → Call → Result Cell Refusal
 answer_at c p s v call = served (p.cells s v) (c.room v - load_at c p v) (c.load s) (not (p.down v)) call
 
-abbrev with_answer : Place → ℕ → ℕ → Result Cell Refusal → Result Place Refusal
+-- the placement after an answer
+abbrev pub with_answer : Place → ℕ → ℕ → Result Cell Refusal → Result Place Refusal
 with_answer p s v (Ok next) = Ok (set_cell p s v next)
 with_answer p s v (Err why) = Err why
 
@@ -79,19 +89,49 @@ abbrev pub numbered_answer_at : Sizes → Place → ℕ → ℕ → Call → ℕ
 numbered_answer_at c p s v call number = served_numbered (p.cells s v) (p.last s v) number (c.room v - load_at c p v) (c.load s) (not (p.down v)) call
 
 -- the placement after a numbered call, and whether the call had its effect now
-pub record Effect : Type 0 where
+pub record CallEffect : Type 0 where
   pub place : Place
   pub fresh : Bool
 
-abbrev with_served : Place → ℕ → ℕ → Result Served Refusal → Result Effect Refusal
+-- the placement after an answer to a numbered call
+abbrev pub with_served : Place → ℕ → ℕ → Result Served Refusal → Result CallEffect Refusal
 with_served p s v (Ok served) = Ok (record { place = set_last (set_cell p s v served.cell) s v served.last; fresh = served.fresh })
 with_served p s v (Err why) = Err why
 
-abbrev pub called_numbered : Sizes → Place → ℕ → ℕ → Call → ℕ → Result Effect Refusal
+abbrev pub called_numbered : Sizes → Place → ℕ → ℕ → Call → ℕ → Result CallEffect Refusal
 called_numbered c p s v call number = with_served p s v (numbered_answer_at c p s v call number)
+
+-- what a numbered call that had no effect yet is answered, by what the call alone is
+abbrev pub with_number : ℕ → ℕ → ℕ → Result Place Refusal → Result CallEffect Refusal
+with_number s v number (Ok next) = Ok (record { place = set_last next s v number; fresh = true })
+with_number s v number (Err why) = Err why
+
+-- A numbered call under another number than the cell's last one is the call itself, with its number last then, and
+-- its effect is now. Under the last number, at a server that is up, it changes nothing, and its effect was before.
+pub record NumberedAsCalled (c : Sizes) (p : Place) (s v : ℕ) (call : Call) (number : ℕ) : Type 0 where
+  pub first : number ≢ p.last s v → called_numbered c p s v call number ≡ with_number s v number (called c p s v call)
+  pub again : p.down v ≡ false → number ≡ p.last s v → called_numbered c p s v call number ≡ Ok (record { place = p; fresh = false })
+
+-- the placement with other last numbers
+abbrev pub with_lasts : (ℕ → ℕ → ℕ) → Place → Place
+with_lasts last p = record p { last = last }
+
+-- the outcome of a call with other last numbers
+abbrev pub outcome_with : (ℕ → ℕ → ℕ) → Result Place Refusal → Result Place Refusal
+outcome_with last (Ok next) = Ok (with_lasts last next)
+outcome_with last (Err why) = Err why
+
+-- a call has the same outcome under any last numbers, and leaves them as they are
+abbrev pub LooksAtNoLasts : Sizes → Place → Type 0
+LooksAtNoLasts c p = (last : ℕ → ℕ → ℕ) (s v : ℕ) (call : Call) → called c (with_lasts last p) s v call ≡ outcome_with last (called c p s v call)
 
 -- A call is allowed: it leads to a next cell, the server is up, and has room where it had nothing of the shard.
 pub record IsAllowed (c : Sizes) (p : Place) (s v : ℕ) (call : Call) (to : Cell) : Type 0 where
   pub leads : Leads call (p.cells s v) to
   pub up : p.down v ≡ false
   pub room : p.cells s v ≡ Absent → load_at c p v + c.load s ≤ c.room v
+
+-- a server that goes down or comes up: its own replica of a shard counts or not, and each other one as before
+abbrev pub LiveMoves : Sizes → Place → Type 0
+LiveMoves c p = (s v : ℕ) (down : Bool) → v < c.servers →
+    live_at c (set_down p v down) s + bit (is_live_at p s v) ≡ live_at c p s + bit (is_live_at (set_down p v down) s v)

@@ -1,11 +1,12 @@
 -- What a configuration says: its servers and its shards, each at its number.
-use Rattle.std.specs.Prelude.{◌≡◌, ◌≤◌, ◌<◌, ◌^◌, ◌-◌, ◌&&◌, ◌||◌, ◌==◌, ℕ, Bool, true, false, List, [], length, Option, nat_lt, nat_le, map, position, slice_index_or, All}
+use Rattle.std.specs.Prelude.{◌≡◌, ◌≤◌, ◌-◌, ◌&&◌, ◌||◌, ◌==◌, ℕ, Bool, true, false, List, [], length, Option, nat_lt, nat_le, map, position, slice_index_or, All}
 use Rattle.std.specs.Cmp.{IsEquivalence}
 use Rattle.std.specs.Cmp.Lexicographic.{pointwise}
 use Rattle.std.specs.List.{list_all}
 use Rattle.std.specs.Str.{bytes_eq}
 use Rattle.std.proofs.lemmas.Cmp.{nat_eq_equiv, nat_list_eq_equiv, lists_equiv, on_equiv, and_equiv}
 use Rattle.sm_placement.specs.Names.{is_name, has_double}
+use Rattle.sm_placement.specs.declared.limits.TheConstants.{MOST_SERVERS, MOST_SHARDS, MOST_LOAD, MOST_REPLICAS}
 
 -- a server: its name, the region that it stands in, and the load that it has room for
 pub record ServerRow : Type 0 where
@@ -42,7 +43,7 @@ shard_named setup name = position (λ n. bytes_eq name n) (names_of_shards setup
 
 -- more servers or shards than a configuration has
 abbrev pub is_too_large : Setup → Bool
-is_too_large setup = nat_lt 1024 (length setup.servers) || nat_lt 4096 (length setup.shards)
+is_too_large setup = nat_lt MOST_SERVERS (length setup.servers) || nat_lt MOST_SHARDS (length setup.shards)
 
 -- a server's name and region are names
 abbrev pub is_well_named_server : ServerRow → Bool
@@ -62,26 +63,26 @@ has_doubled_name setup = has_double (names_of_servers setup) || has_double (name
 
 -- a server's room is within its limit
 abbrev pub is_good_server : ServerRow → Bool
-is_good_server r = nat_lt r.room (2 ^ 32)
+is_good_server r = nat_le r.room MOST_LOAD
 
 -- a shard's numbers are within their limits, and no more replicas may be away than are wanted
 abbrev pub is_good_shard : ShardRow → Bool
-is_good_shard r = nat_lt r.load (2 ^ 32) && (nat_le r.want 1024 && (nat_le r.cap 1024 && (nat_le r.spread 1024 && nat_le r.cap r.want)))
+is_good_shard r = nat_le r.load MOST_LOAD && (nat_le r.want MOST_REPLICAS && (nat_le r.cap MOST_REPLICAS && (nat_le r.spread MOST_REPLICAS && nat_le r.cap r.want)))
 
 abbrev pub has_good_numbers : Setup → Bool
 has_good_numbers setup = list_all is_good_server setup.servers && list_all is_good_shard setup.shards
 
 -- what every configuration keeps
 pub record IsSetup (setup : Setup) : Type 0 where
-  pub servers : length setup.servers ≤ 1024
-  pub shards : length setup.shards ≤ 4096
+  pub servers : length setup.servers ≤ MOST_SERVERS
+  pub shards : length setup.shards ≤ MOST_SHARDS
   pub good_names : has_good_names setup ≡ true
   pub distinct_names : has_doubled_name setup ≡ false
-  pub good_servers : All (λ r. r.room < 2 ^ 32) setup.servers
-  pub good_loads : All (λ r. r.load < 2 ^ 32) setup.shards
-  pub good_wants : All (λ r. r.want ≤ 1024) setup.shards
+  pub good_servers : All (λ r. r.room ≤ MOST_LOAD) setup.servers
+  pub good_loads : All (λ r. r.load ≤ MOST_LOAD) setup.shards
+  pub good_wants : All (λ r. r.want ≤ MOST_REPLICAS) setup.shards
   pub good_caps : All (λ r. r.cap ≤ r.want) setup.shards
-  pub good_spreads : All (λ r. r.spread ≤ 1024) setup.shards
+  pub good_spreads : All (λ r. r.spread ≤ MOST_REPLICAS) setup.shards
 
 -- two servers agree in name, region and room
 abbrev pub same_server : ServerRow → ServerRow → Bool

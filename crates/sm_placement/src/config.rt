@@ -8,26 +8,12 @@ ghost use Rattle.sm_placement.specs.Names.{is_name_byte, is_name, has_double};
 ghost use Rattle.sm_placement.specs.Setup.{is_too_large, is_well_named_server, is_well_named_shard, has_good_names, is_good_server, is_good_shard, has_good_numbers, same_server, same_shard};
 ghost use Rattle.sm_placement.specs.Config.{server_row, shard_row, setup_of, server_names, shard_names};
 
+use crate::limits::{MOST_LOAD, MOST_NAME_BYTES, MOST_REPLICAS, MOST_SERVERS, MOST_SHARDS};
 use indexmap::IndexSet;
 use sm_server::{ServerId, ShardId};
 use std::alloc::{AllocError, Global};
 use std::marker::Model;
 use thiserror::Error;
-
-/// How many servers a configuration has at most.
-const MOST_SERVERS: usize = 1_024;
-
-/// How many shards a configuration has at most.
-const MOST_SHARDS: usize = 4_096;
-
-/// How many bytes a name has at most.
-const MOST_NAME_BYTES: usize = 32;
-
-/// The greatest load of a replica, and the greatest room of a server.
-const MOST_LOAD: u64 = 4_294_967_295;
-
-/// The greatest want, cap and spread of a shard.
-const MOST_REPLICAS: u32 = 1_024;
 
 /// A server: its name, the region that it stands in, and the load that it has room for.
 #[derive(Clone, Debug, Drop, PartialEq, Eq)]
@@ -247,18 +233,18 @@ fn shard_table(alloc: Global, shards: &[Shard]) -> Result<Option<IndexSet<String
 
 /// Whether two lists of servers agree.
 #[tactic(auto, using(crate::proofs::SameLemmas::same_server_rows))]
-fn same_servers(some: &[Server], others: &[Server]) -> bool
-    ensures { result ≡ pointwise same_server (map server_row some.now) (map server_row others.now) }
+fn same_servers(servers: &[Server], others: &[Server]) -> bool
+    ensures { result ≡ pointwise same_server (map server_row servers.now) (map server_row others.now) }
 {
-    some == others
+    servers == others
 }
 
 /// Whether two lists of shards agree.
 #[tactic(auto, using(crate::proofs::SameLemmas::same_shard_rows))]
-fn same_shards(some: &[Shard], others: &[Shard]) -> bool
-    ensures { result ≡ pointwise same_shard (map shard_row some.now) (map shard_row others.now) }
+fn same_shards(shards: &[Shard], others: &[Shard]) -> bool
+    ensures { result ≡ pointwise same_shard (map shard_row shards.now) (map shard_row others.now) }
 {
-    some == others
+    shards == others
 }
 
 /// A copy of servers.
@@ -288,7 +274,7 @@ fn copied_names(names: &IndexSet<String>) -> Result<IndexSet<String>, AllocError
 /// The number of a name in a table.
 #[tactic(auto, using(crate::proofs::ConfigLemmas::position_map))]
 fn number_of(names: &IndexSet<String>, name: &str) -> Option<u32>
-    requires { length names.now.keys ≤ 4096 }
+    requires { length names.now.keys ≤ MOST_SHARDS }
     ensures { result ≡ position (λ n. bytes_eq name.now n) (map string_bytes names.now.keys) }
 {
     match names.get_index_of(name) {
@@ -395,9 +381,9 @@ impl Config {
         ensures row { shard_row result.now ≡ slice_index_or self.now.shards shard no_shard }
         ensures load { result.now.load ≡ (sizes_of self.now).load shard }
         ensures fits { result.now.load < 2 ^ 32 }
-        ensures want { result.now.want ≤ 1024 }
+        ensures want { result.now.want ≤ MOST_REPLICAS }
         ensures cap { result.now.cap ≤ result.now.want }
-        ensures spread { result.now.spread ≤ 1024 }
+        ensures spread { result.now.spread ≤ MOST_REPLICAS }
         ensures named { shard_named self.now (string_bytes result.now.name) ≡ Some shard }
     {
         &self.shards[shard.number() as usize]
@@ -425,7 +411,7 @@ impl Config {
     pub fn floor(&self, shard: ShardId) -> u32
         requires { shard < length self.now.shards }
         ensures floor { result ≡ (sizes_of self.now).floor shard }
-        ensures bound { result ≤ 1024 }
+        ensures bound { result ≤ MOST_REPLICAS }
     {
         self.shard(shard).floor()
     }

@@ -2,14 +2,26 @@
 #![tactic(auto)]
 
 mod config;
+mod entry;
 mod faults;
+mod laws;
 mod lead;
+mod limits;
 mod opening;
 mod placement;
 mod row;
 mod table;
 
 pub use config::{Config, ConfigFault, Server, Shard};
+pub use entry::Entry;
+pub use laws::{
+    answered_where_allowed, lead_where_described, live_moves, numbered_as_called, serving_by_lead,
+    sizes_are_small,
+};
 pub use lead::Lead;
+pub use limits::{
+    MOST_CELLS, MOST_LOAD, MOST_NAME_BYTES, MOST_REPLICAS, MOST_SERVERS, MOST_SHARDS, MOST_VERSION,
+    VERSIONS_END,
+};
 pub use opening::OpenFault;
-pub use placement::{Placement, Serving, answered_where_allowed};
+pub use placement::{Placement, Serving};

@@ -6,10 +6,11 @@ ghost use Rattle.sm_placement.specs.Setup.{sizes_of};
 ghost use Rattle.sm_placement.specs.Sums.{bit, first_from};
 ghost use Rattle.sm_placement.specs.Layout.{grid_of, entries_of, place_of};
 ghost use Rattle.sm_placement.specs.Grid.{cells_of, lasts_of, down_of};
-ghost use Rattle.sm_placement.specs.Opening.{is_of, is_unknown, is_unknown_cell, AreKnown, IsNamedOnce, is_double, first_below, double_of, is_handing, lead_cells, put_all, cell_named, opened, has_bad_lead, first_fault, list_faults, standing_faults, open_fault, unpublished};
+ghost use Rattle.sm_placement.specs.Opening.{is_of, is_unknown, is_unknown_cell, AreKnown, IsNamedOnce, is_double, first_below, double_of, is_handing, lead_cells, put_all, cell_named, opened_place, has_bad_lead, first_fault, list_faults, standing_faults, open_fault, unpublished};
 
 use crate::config::Config;
 use crate::faults;
+use crate::limits::MOST_CELLS;
 use crate::placement::Placement;
 use crate::table::Table;
 use sm_server::{Cell, ServerId, ShardId};
@@ -49,9 +50,6 @@ impl From<AllocError> for OpenFault {
     }
 }
 
-/// The most cells that a placement has.
-const MOST_CELLS: usize = 1_048_576;
-
 /// A shard or a server of the cells is not in the configuration.
 fn has_unknown_cell(config: &Config, cells: &[(ShardId, ServerId, Cell)]) -> bool
     ensures { result ≡ list_any (is_unknown_cell (length config.now.shards) (length config.now.servers)) cells.now }
@@ -86,7 +84,7 @@ fn count_pairs(
     config: &Config,
     cells: &[(ShardId, ServerId, Cell)],
 ) -> Result<Vec<u32>, AllocError>
-    requires few { length cells.now ≤ 1048576 }
+    requires few { length cells.now ≤ MOST_CELLS }
     requires known { AreKnown (length config.now.shards) (length config.now.servers) cells.now }
     ensures len { IfOk result (λ counts. length counts.items ≡ length config.now.shards * length config.now.servers) }
     ensures counts { IfOk result (λ counts. grid_of (length config.now.servers) 0 counts.items ≡ (λ s v. count_by (is_of s v) cells.now)) }
@@ -113,8 +111,8 @@ fn is_counted_twice(
     requires len { length counts.now ≡ shards * servers }
     ensures { result ≡ nat_lt 1 (grid_of servers 0 counts.now shard server) }
 {
-    let place = shard.number() as usize * servers as usize + server.number() as usize;
-    counts[place] > 1
+    let slot = shard.number() as usize * servers as usize + server.number() as usize;
+    counts[slot] > 1
 }
 
 /// The lowest server whose pair with a shard is counted more than once.
@@ -138,7 +136,7 @@ fn first_double(
     config: &Config,
     cells: &[(ShardId, ServerId, Cell)],
 ) -> Result<Option<OpenFault>, AllocError>
-    requires few { length cells.now ≤ 1048576 }
+    requires few { length cells.now ≤ MOST_CELLS }
     requires known { AreKnown (length config.now.shards) (length config.now.servers) cells.now }
     ensures { IfOk result (λ fault. fault ≡ first_from 0 (length config.now.shards) (double_of (length config.now.servers) cells.now)) }
 {
@@ -164,8 +162,8 @@ struct LeadCells {
 impl LeadCells {
     /// Counts one cell more.
     fn add(&mut self, cell: &Cell)
-        requires primaries { self.old.primaries < 1048576 }
-        requires handing { self.old.handing < 1048576 }
+        requires primaries { self.old.primaries < MOST_CELLS }
+        requires handing { self.old.handing < MOST_CELLS }
         ensures primaries { self.new.primaries ≡ self.old.primaries + bit (is_primary cell.now) }
         ensures handing { self.new.handing ≡ self.old.handing + bit (is_handing cell.now) }
     {
@@ -190,7 +188,7 @@ fn count_leads(
     config: &Config,
     cells: &[(ShardId, ServerId, Cell)],
 ) -> Result<Vec<LeadCells>, AllocError>
-    requires few { length cells.now ≤ 1048576 }
+    requires few { length cells.now ≤ MOST_CELLS }
     requires known { AreKnown (length config.now.shards) (length config.now.servers) cells.now }
     ensures len { IfOk result (λ counts. length counts.items ≡ length config.now.shards) }
     ensures counts { IfOk result (λ counts. entries_of (record { primaries = 0; handing = 0 }) counts.items ≡ lead_cells cells.now) }
@@ -213,7 +211,7 @@ fn first_bad_lead(
     config: &Config,
     cells: &[(ShardId, ServerId, Cell)],
 ) -> Result<Option<ShardId>, AllocError>
-    requires few { length cells.now ≤ 1048576 }
+    requires few { length cells.now ≤ MOST_CELLS }
     requires known { AreKnown (length config.now.shards) (length config.now.servers) cells.now }
     requires once { IsNamedOnce cells.now }
     ensures { IfOk result (λ shard. shard ≡ first_below (length config.now.shards) (λ s. has_bad_lead (length config.now.servers) (cell_named cells.now s))) }
@@ -364,7 +362,7 @@ impl Placement {
         down: &[ServerId],
         limit: u32,
     ) -> Result<Placement, OpenFault>
-        ensures ok { IfOk result (λ p. place_of p ≡ opened (record { cells = cells.now; listed = listed.now; down = down.now; limit = limit })) }
+        ensures ok { IfOk result (λ p. place_of p ≡ opened_place (record { cells = cells.now; listed = listed.now; down = down.now; limit = limit })) }
         ensures setup { IfOk result (λ p. p.setup ≡ config.now) }
         ensures valid { OnOk result (open_fault (sizes_of config.now) (record { cells = cells.now; listed = listed.now; down = down.now; limit = limit }) ≡ None) }
         ensures settled { IfOk result (λ p. IsSettled (sizes_of config.now) (place_of p)) }

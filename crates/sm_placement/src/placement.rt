@@ -1,14 +1,14 @@
 //! Where the replicas stand, and the calls that move them.
-ghost use Rattle.std.specs.Prelude.{◌≡◌, ◌<◌, ◌≤◌, ◌^◌, ◌↔◌, ℕ, length, IsTrue, All, Ok};
-ghost use Rattle.sm_placement.specs.Setup.{Sizes};
-ghost use Rattle.sm_placement.specs.Place.{Place, load_at, answer_at, IsAllowed};
+ghost use Rattle.std.specs.Prelude.{◌≡◌, ◌<◌, ◌≤◌, ◌^◌, ◌↔◌, length, IsTrue, All};
+ghost use Rattle.sm_placement.specs.declared.limits.TheConstants.{MOST_SERVERS, VERSIONS_END};
 
 use crate::config::Config;
+use crate::entry::Entry;
 use crate::faults;
+use crate::lead::{Lead, lead_of};
+use crate::limits::MOST_VERSION;
 use crate::table::Table;
-use sm_server::{
-    Call, Cell, Refusal, Served, ServerId, ShardId, leads_where_led, serve, serve_numbered,
-};
+use sm_server::{Call, Cell, Refusal, Served, ServerId, ShardId, serve, serve_numbered};
 use std::alloc::{AllocError, Global};
 use std::marker::Model;
 
@@ -32,21 +32,18 @@ pub struct Placement {
 impl Model for Placement {
     ghost use Rattle.std.specs.Prelude.{◌≡◌, length};
     ghost use Rattle.sm_placement.specs.Setup.{sizes_of};
-    ghost use Rattle.sm_placement.specs.Layout.{Layout, place_of, IsPlacement};
+    ghost use Rattle.sm_placement.specs.Layout.{PlacementModel, place_of, IsPlacement};
 
-    ghost Value = { Layout };
+    ghost Value = { PlacementModel };
 
     ghost view = { λ p. record { setup = p.table.setup; cells = p.table.cells; lasts = p.table.lasts; down = p.table.down; listed = p.listed.items; versions = p.versions.items; limit = p.limit } };
 
     ghost invariant = { λ p. record { listed_length : length p.listed.items ≡ length p.table.setup.shards; versions_length : length p.versions.items ≡ length p.table.setup.shards; placement : IsPlacement (sizes_of p.table.setup) (place_of (record { setup = p.table.setup; cells = p.table.cells; lasts = p.table.lasts; down = p.table.down; listed = p.listed.items; versions = p.versions.items; limit = p.limit })) } };
 }
 
-/// The highest version of a settled placement.
-const MOST_VERSION: u64 = 1 << 40;
-
 /// No version is above that of a settled placement.
 fn are_low(versions: &[u64]) -> bool
-    ensures { IsTrue result ↔ All (λ version. version ≤ 2 ^ 40) versions.now }
+    ensures { IsTrue result ↔ All (λ version. version ≤ MOST_VERSION) versions.now }
 {
     versions.iter().all(|version| *version <= MOST_VERSION)
 }
@@ -56,10 +53,10 @@ impl Placement {
     ghost use Rattle.sm_server.specs.Cell.{is_forwarding};
     ghost use Rattle.sm_placement.specs.Setup.{sizes_of};
     ghost use Rattle.sm_placement.specs.Rows.{IsKnownCall, serves, serving_in, serving_of};
-    ghost use Rattle.sm_placement.specs.Place.{load_at, live_at, down_count, set_cell, set_last, answer_at, numbered_answer_at, set_down, publish, forget_numbers, called, called_numbered};
-    ghost use Rattle.sm_placement.specs.Layout.{Layout, place_of, IsPlacement};
+    ghost use Rattle.sm_placement.specs.Place.{entry_at, load_at, is_live_at, live_at, down_count, set_cell, set_last, answer_at, numbered_answer_at, set_down, publish, forget_numbers, called, called_numbered};
+    ghost use Rattle.sm_placement.specs.Layout.{PlacementModel, place_of, IsPlacement};
     ghost use Rattle.std.specs.Option.{ForSome};
-    ghost use Rattle.sm_placement.specs.Lead.{IsSettled};
+    ghost use Rattle.sm_placement.specs.Lead.{IsSettled, lead_of};
     ghost use Rattle.sm_placement.specs.Opening.{first_below};
 
     /// The placement of a table's cells, with an entry of the map for each shard.
@@ -142,9 +139,18 @@ impl Placement {
     pub fn live(&self, shard: ShardId) -> u32
         requires { shard < length self.now.setup.shards }
         ensures live { result ≡ live_at (sizes_of self.now.setup) (place_of self.now) shard }
-        ensures bound { result ≤ 1024 }
+        ensures bound { result ≤ MOST_SERVERS }
     {
         self.table.live(shard)
+    }
+
+    /// The server counts as live for a shard: it is up, and has a secondary or serves.
+    pub fn is_live(&self, shard: ShardId, server: ServerId) -> bool
+        requires shard { shard < length self.now.setup.shards }
+        requires server { server < length self.now.setup.servers }
+        ensures { result ≡ is_live_at (place_of self.now) shard server }
+    {
+        self.table.is_live(shard, server)
     }
 
     /// The server that the published map names for a shard.
@@ -164,18 +170,28 @@ impl Placement {
         self.versions[shard.number() as usize]
     }
 
-    /// A server serves the shard.
-    fn is_serving(&self, shard: ShardId, server: ServerId) -> bool
-        requires shard { shard < length self.now.setup.shards }
-        requires server { server < length self.now.setup.servers }
-        ensures { result ≡ serves ((place_of self.now).cells shard) server }
+    /// The servers that the published map names, by shard.
+    pub fn listed_servers(&self) -> &[Option<ServerId>]
+        ensures { result.now ≡ self.now.listed }
     {
-        match self.table.cell(shard, server) {
-            Cell::Primary => true,
-            Cell::Prepared { from, number } => {
-                self.table.cell(shard, from) == Cell::Forwarding { to: server, number }
-            }
-            _ => false,
+        self.listed.as_slice()
+    }
+
+    /// How often the map's entries have changed, by shard.
+    pub fn versions(&self) -> &[u64]
+        ensures { result.now ≡ self.now.versions }
+    {
+        self.versions.as_slice()
+    }
+
+    /// The map's entry of a shard.
+    pub fn entry(&self, shard: ShardId) -> Entry
+        requires { shard < length self.now.setup.shards }
+        ensures { result ≡ entry_at (place_of self.now) shard }
+    {
+        Entry {
+            server: self.listed(shard),
+            version: self.version(shard),
         }
     }
 
@@ -186,7 +202,7 @@ impl Placement {
         ensures { result ≡ first_below (length self.now.setup.servers) (serves ((place_of self.now).cells shard)) }
     {
         for number in 0..self.config().server_count() {
-            if self.is_serving(shard, ServerId::new(number)) {
+            if self.table.serves(shard, ServerId::new(number)) {
                 return Some(ServerId::new(number));
             }
         }
@@ -217,6 +233,14 @@ impl Placement {
             Some(server) => Serving::One(server),
             None => Serving::Nobody,
         }
+    }
+
+    /// The lead that describes a shard's cells under some handover number. Takes no memory.
+    pub fn lead(&self, shard: ShardId) -> Option<Lead>
+        requires { shard < length self.now.setup.shards }
+        ensures { result ≡ lead_of (length self.now.setup.servers) ((place_of self.now).cells shard) }
+    {
+        lead_of(&self.table, shard)
     }
 
     /// Each shard's lead is at rest, each listed server is its shard's primary, no shard is below its floor, no more
@@ -362,13 +386,13 @@ impl Placement {
     pub fn publish(&mut self, shard: ShardId, listed: Option<ServerId>)
         requires shard { shard < length self.old.setup.shards }
         requires known { ForSome listed (λ server. server < length self.old.setup.servers) }
-        requires version { (place_of self.old).version shard < 2 ^ 47 }
+        requires version { (place_of self.old).version shard < VERSIONS_END }
         ensures place { place_of self.new ≡ publish (place_of self.old) shard listed }
         ensures setup { self.new.setup ≡ self.old.setup }
     {
-        let place = shard.number() as usize;
-        self.listed[place] = listed;
-        self.versions[place] += 1;
+        let slot = shard.number() as usize;
+        self.listed[slot] = listed;
+        self.versions[slot] += 1;
     }
 
     /// Takes a server down. Nothing changes where it is down.
@@ -400,12 +424,4 @@ impl Placement {
             limit: self.limit,
         })
     }
-}
-
-/// A call is answered with a next cell exactly where it is allowed, and leads to that cell.
-#[tactic(auto, using(crate::proofs::Calls::allowed_answer))]
-pub fn answered_where_allowed()
-    ensures { (c : Sizes) (p : Place) (s v : ℕ) (call : Call) (to : Cell) → load_at c p v ≤ c.room v → ((answer_at c p s v call ≡ Ok to) ↔ IsAllowed c p s v call to) }
-{
-    leads_where_led();
 }

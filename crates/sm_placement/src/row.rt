@@ -15,6 +15,7 @@ pub struct Counts {
 }
 
 ghost use Rattle.sm_placement.specs.Counts.{counts_of, counts_at, has_replica, target_of, party_of, CanCorrect, corrected, AreLives};
+ghost use Rattle.sm_placement.specs.declared.limits.TheConstants.{MOST_SERVERS};
 
 /// The cell forwards to the server under the number.
 fn forwards(cell: &Cell, server: ServerId, number: u64) -> bool
@@ -38,7 +39,7 @@ fn cell_at(row: &[Cell], server: ServerId) -> Cell
 }
 
 /// The server serves the shard of the row: a primary does, and a prepared server to which the owner forwards.
-fn serves(row: &[Cell], server: ServerId) -> bool
+pub fn serves(row: &[Cell], server: ServerId) -> bool
     ensures { result ≡ serves (entries_of Cell.Absent row.now) server }
 {
     match cell_at(row, server) {
@@ -49,7 +50,7 @@ fn serves(row: &[Cell], server: ServerId) -> bool
 }
 
 /// The server has a replica that is live while the server is up.
-fn has_replica(row: &[Cell], server: ServerId) -> bool
+pub fn has_replica(row: &[Cell], server: ServerId) -> bool
     ensures { result ≡ has_replica (entries_of Cell.Absent row.now) server }
 {
     match cell_at(row, server) {
@@ -60,7 +61,7 @@ fn has_replica(row: &[Cell], server: ServerId) -> bool
 
 /// The count of a row's live replicas, once a server that is down comes up, or one that is up goes down.
 pub fn live_toggled(row: &[Cell], down: &[bool], server: ServerId, live: u32) -> u32
-    requires bound { length row.now ≤ 1024 }
+    requires bound { length row.now ≤ MOST_SERVERS }
     requires length { length down.now ≡ length row.now }
     requires server { server < length row.now }
     requires live { live ≡ live_in (length row.now) (entries_of Cell.Absent row.now) (entries_of false down.now) }
@@ -143,7 +144,7 @@ pub fn set_cell(
     cell: Cell,
     counts: Counts,
 ) -> Counts
-    requires bound { length row.old ≤ 1024 }
+    requires bound { length row.old ≤ MOST_SERVERS }
     requires length { length down.now ≡ length row.old }
     requires server { server < length row.old }
     requires known { IsKnownCell (length row.old) (entries_of Cell.Absent row.old server) }

@@ -6,6 +6,7 @@ ghost use Rattle.sm_placement.specs.Rows.{IsKnownCell};
 ghost use Rattle.sm_placement.specs.Place.{weight};
 ghost use Rattle.sm_placement.specs.Layout.{grid_of, entries_of};
 ghost use Rattle.sm_placement.specs.Counts.{counts_in, AreLives};
+ghost use Rattle.sm_placement.specs.declared.limits.TheConstants.{MOST_SERVERS};
 
 use crate::config::Config;
 use crate::row::{self, Counts};
@@ -28,9 +29,9 @@ pub struct Table {
 }
 
 impl Model for Table {
-    ghost use Rattle.sm_placement.specs.Grid.{Grid, IsCounted};
+    ghost use Rattle.sm_placement.specs.Grid.{TableModel, IsCounted};
 
-    ghost Value = { Grid };
+    ghost Value = { TableModel };
 
     ghost view = { λ t. record { setup = t.config; cells = t.cells.items; lasts = t.lasts.items; down = t.down.items } };
 
@@ -53,7 +54,7 @@ fn set_in_row(
     cell: Cell,
     counts: Counts,
 ) -> Counts
-    requires bound { length down.now ≤ 1024 }
+    requires bound { length down.now ≤ MOST_SERVERS }
     requires shard { shard * length down.now + length down.now ≤ length cells.old }
     requires server { server < length down.now }
     requires known { IsKnownCell (length down.now) (grid_of (length down.now) Cell.Absent cells.old shard server) }
@@ -71,7 +72,7 @@ fn set_in_row(
 
 /// Corrects the counts of live replicas, once a server that is down comes up, or one that is up goes down.
 fn toggle_lives(lives: &mut [u32], cells: &[Cell], down: &[bool], server: ServerId)
-    requires bound { length down.now ≤ 1024 }
+    requires bound { length down.now ≤ MOST_SERVERS }
     requires cells { length cells.now ≡ length lives.old * length down.now }
     requires server { server < length down.now }
     requires lives { AreLives lives.old (length down.now) (grid_of (length down.now) Cell.Absent cells.now) (entries_of false down.now) }
@@ -88,7 +89,8 @@ fn toggle_lives(lives: &mut [u32], cells: &[Cell], down: &[bool], server: Server
 impl Table {
     ghost use Rattle.std.specs.Prelude.{◌≡◌, ◌<◌, ◌≤◌, ◌+◌, ◌*◌, ◌^◌, ◌&&◌, false, length, IfOk};
     ghost use Rattle.sm_placement.specs.Setup.{sizes_of};
-    ghost use Rattle.sm_placement.specs.Rows.{live_in, serving_in, IsKnownCell};
+    ghost use Rattle.sm_placement.specs.Rows.{serves, is_live, live_in, serving_in, IsKnownCell};
+    ghost use Rattle.sm_placement.specs.Layout.{entries_of};
     ghost use Rattle.sm_server.specs.Cell.{is_forwarding};
     ghost use Rattle.sm_placement.specs.Sums.{put, put2, count_below};
     ghost use Rattle.sm_placement.specs.Place.{load_of};
@@ -140,8 +142,8 @@ impl Table {
         &self.config
     }
 
-    /// The place of a pair in the lists of cells and of last numbers.
-    fn place(&self, shard: ShardId, server: ServerId) -> usize
+    /// The slot of a pair in the lists of cells and of last numbers.
+    fn slot(&self, shard: ShardId, server: ServerId) -> usize
         requires shard { shard < length self.now.setup.shards }
         requires server { server < length self.now.setup.servers }
         ensures { result ≡ shard * length self.now.setup.servers + server }
@@ -154,7 +156,7 @@ impl Table {
         requires server { server < length self.now.setup.servers }
         ensures { result ≡ cells_of self.now shard server }
     {
-        self.cells[self.place(shard, server)]
+        self.cells[self.slot(shard, server)]
     }
 
     /// The number of the last call that had an effect on the cell, and 0 for none.
@@ -163,7 +165,7 @@ impl Table {
         requires server { server < length self.now.setup.servers }
         ensures { result ≡ lasts_of self.now shard server }
     {
-        self.lasts[self.place(shard, server)]
+        self.lasts[self.slot(shard, server)]
     }
 
     pub fn is_down(&self, server: ServerId) -> bool
@@ -193,7 +195,7 @@ impl Table {
     pub fn live(&self, shard: ShardId) -> u32
         requires { shard < length self.now.setup.shards }
         ensures live { result ≡ live_in (length self.now.setup.servers) (cells_of self.now shard) (down_of self.now) }
-        ensures bound { result ≤ 1024 }
+        ensures bound { result ≤ MOST_SERVERS }
     {
         self.lives[shard.number() as usize]
     }
@@ -204,6 +206,33 @@ impl Table {
         ensures { result ≡ serving_in (length self.now.setup.servers) (cells_of self.now shard) }
     {
         self.servings[shard.number() as usize]
+    }
+
+    /// The cells of a shard, by server.
+    fn row_of(&self, shard: ShardId) -> &[Cell]
+        requires { shard < length self.now.setup.shards }
+        ensures { entries_of Cell.Absent result.now ≡ cells_of self.now shard }
+    {
+        let servers = self.down.len();
+        let start = shard.number() as usize * servers;
+        &self.cells[start..start + servers]
+    }
+
+    /// A server serves a shard.
+    pub fn serves(&self, shard: ShardId, server: ServerId) -> bool
+        requires { shard < length self.now.setup.shards }
+        ensures { result ≡ serves (cells_of self.now shard) server }
+    {
+        row::serves(self.row_of(shard), server)
+    }
+
+    /// A server counts as live for a shard.
+    pub fn is_live(&self, shard: ShardId, server: ServerId) -> bool
+        requires shard { shard < length self.now.setup.shards }
+        requires server { server < length self.now.setup.servers }
+        ensures { result ≡ is_live (cells_of self.now shard) (down_of self.now) server }
+    {
+        !self.is_down(server) && row::has_replica(self.row_of(shard), server)
     }
 
     /// Sets a cell, and corrects the totals of its server and its shard.
@@ -261,8 +290,8 @@ impl Table {
         ensures down { self.new.down ≡ self.old.down }
         ensures setup { self.new.setup ≡ self.old.setup }
     {
-        let place = self.place(shard, server);
-        self.lasts[place] = number;
+        let slot = self.slot(shard, server);
+        self.lasts[slot] = number;
     }
 
     /// Forgets the numbers of all calls. Takes no memory.

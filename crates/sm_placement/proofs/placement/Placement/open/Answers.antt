@@ -6,7 +6,7 @@ use Rattle.sm_placement.specs.declared.opening.OpenFault.TheVariants.{NoMemory}
 use Rattle.sm_placement.specs.Setup.{Setup, sizes_of}
 use Rattle.sm_placement.specs.Place.{Place}
 use Rattle.sm_placement.specs.Layout.{place_of}
-use Rattle.sm_placement.specs.Opening.{Opening, opened, first_fault, standing_faults, open_fault, unpublished}
+use Rattle.sm_placement.specs.Opening.{Opening, opened_place, first_fault, standing_faults, open_fault, unpublished}
 use Rattle.sm_placement.proofs.Openings.{AreGood, good_lists, cells_known, listings_known, once_from, named_rests, unpublished_opened, fault_of_rest, settled_result}
 use Rattle.sm_placement.proofs.placement.Placement.open.Goals as goal
 
@@ -30,13 +30,13 @@ good : (c : goal.After-stand) → AreGood (sizes_of c.args.config.now) (opening 
 good c = good_lists (sizes_of c.args.config.now) (opening c) c.in_ok-check_lists.ensures.ok
 
 -- the table's placement is what is named
-same : (c : goal.After-stand) → unpublished c.in_ok-table.table c.args.listed.now c.args.limit ≡ opened (opening c)
+same : (c : goal.After-stand) → unpublished c.in_ok-table.table c.args.listed.now c.args.limit ≡ opened_place (opening c)
 same c =
     unpublished_opened (sizes_of c.args.config.now) (opening c) c.in_ok-table.table (cells_known (sizes_of c.args.config.now) (opening c) (good c).ids) (good c).pairs
     c.in_ok-table.ensures.cells c.in_ok-table.ensures.lasts c.in_ok-table.ensures.down
 
 -- and has its faults
-standing : (c : goal.After-stand) → first_fault (standing_faults (sizes_of c.in_ok-table.table.setup) (unpublished c.in_ok-table.table c.args.listed.now c.args.limit)) ≡ first_fault (standing_faults (sizes_of c.args.config.now) (opened (opening c)))
+standing : (c : goal.After-stand) → first_fault (standing_faults (sizes_of c.in_ok-table.table.setup) (unpublished c.in_ok-table.table c.args.listed.now c.args.limit)) ≡ first_fault (standing_faults (sizes_of c.args.config.now) (opened_place (opening c)))
 standing c =
     ap (λ (s : Setup). first_fault (standing_faults (sizes_of s) (unpublished c.in_ok-table.table c.args.listed.now c.args.limit))) c.in_ok-table.ensures.setup
     ∙ ap (λ (p : Place). first_fault (standing_faults (sizes_of c.args.config.now) p)) (same c)

@@ -1,4 +1,4 @@
--- Every place has 0.
+-- Every slot has 0.
 use Rattle.std.proofs.Common.{◌≡◌, length, replicate, arith}
 use Rattle.std.specs.Vec.{with_items}
 use Rattle.std.proofs.lemmas.List.{with_items_is}

@@ -1,4 +1,4 @@
--- The place that is read is the server's.
+-- The slot that is read is the server's.
 use Rattle.sm_placement.proofs.TableLemmas.{down_of-read}
 use Rattle.sm_placement.proofs.table.Table.is_down.Goals as goal
 

@@ -1,6 +1,6 @@
--- The place that is read is the pair's.
+-- The slot that is read is the pair's.
 use Rattle.sm_placement.proofs.TableLemmas.{lasts_of-read}
 use Rattle.sm_placement.proofs.table.Table.last.Goals as goal
 
 pub returns : goal.returns
-returns c = lasts_of-read c.args.shard c.args.server c.index.result.now c.self.invariant c.self.view_is c.requires.shard c.requires.server (rw (← c.place.ensures) c.index.ensures)
+returns c = lasts_of-read c.args.shard c.args.server c.index.result.now c.self.invariant c.self.view_is c.requires.shard c.requires.server (rw (← c.slot.ensures) c.index.ensures)

@@ -7,23 +7,23 @@ use Rattle.sm_placement.specs.Rows.{IsKnownCell}
 use Rattle.sm_placement.specs.Setup.{sizes_of}
 use Rattle.sm_placement.specs.Place.{weight, load_of}
 use Rattle.sm_placement.specs.Sums.{put2}
-use Rattle.sm_placement.specs.Grid.{Grid, Totals, IsCounted, cells_of}
+use Rattle.sm_placement.specs.Grid.{TableModel, Totals, IsCounted, cells_of}
 use Rattle.sm_placement.proofs.TableLemmas.{counts_in-read, set_in_row-is, IsCorrected, load_of-corrected, IsCounted-set, cells_of-set}
 use Rattle.sm_placement.proofs.table.Table.set_cell.Goals as goal
 
 -- what the steps of the code say of the load, with the table as its callers saw it
-corrected : {g old : Grid} {t : Totals} (s v : ℕ) (next cell : Cell) (load size added removed : ℕ) → IsCounted g t → g ≡ old → s < length old.setup.shards → v < length old.setup.servers →
+corrected : {g old : TableModel} {t : Totals} (s v : ℕ) (next cell : Cell) (load size added removed : ℕ) → IsCounted g t → g ≡ old → s < length old.setup.shards → v < length old.setup.servers →
     cell ≡ cells_of old s v → size ≡ (sizes_of g.setup).load s → removed ≡ weight cell size → added ≡ weight next size → load ≡ get_or t.loads v load →
     IsCorrected load added removed (load_of (sizes_of g.setup) (put2 (cells_of g) s v next) v)
 corrected {g} {old} {t} s v next cell load size added removed h e l m ce se re ae le =
-    let c : cell ≡ cells_of g s v = ce ∙ ap (λ (n : Grid). cells_of n s v) (sym e) in
-    load_of-corrected s v next load added removed h (omega (arith, ap (λ (n : Grid). length n.setup.shards) e)) (omega (arith, ap (λ (n : Grid). length n.setup.servers) e)) le
+    let c : cell ≡ cells_of g s v = ce ∙ ap (λ (n : TableModel). cells_of n s v) (sym e) in
+    load_of-corrected s v next load added removed h (omega (arith, ap (λ (n : TableModel). length n.setup.shards) e)) (omega (arith, ap (λ (n : TableModel). length n.setup.servers) e)) le
     (ae ∙ ap (λ (k : ℕ). weight next k) se) (re ∙ ap (λ (x : Cell). weight x size) c ∙ ap (λ (k : ℕ). weight (cells_of g s v) k) se)
 
 pub set_in_row-counts-requires-clause-counts : goal.set_in_row-counts-requires-clause-counts
 set_in_row-counts-requires-clause-counts c =
     counts_in-read c.args.shard c.index.result.now c.index-2.result.now c.as_mut_slice-cells.result.now c.deref.result.now c.self.invariant
-    (omega (arith, ap (λ (g : Grid). length g.setup.shards) c.self.view_is, c.requires.shard)) c.as_mut_slice-cells.ensures.value c.deref.ensures.value
+    (omega (arith, ap (λ (g : TableModel). length g.setup.shards) c.self.view_is, c.requires.shard)) c.as_mut_slice-cells.ensures.value c.deref.ensures.value
     (rw (← c.number-row.ensures) c.index.ensures) (rw (← c.number-row.ensures) c.index-2.ensures)
 
 pub overflow_add-index : goal.overflow_add-index
@@ -41,9 +41,9 @@ overflow_sub-index c =
 pub invariant_of-self : goal.invariant_of-self
 invariant_of-self c =
     let n : ℕ = length c.self.inside.config.servers in
-    let l : c.args.shard < length c.self.inside.config.shards = omega (arith, ap (λ (g : Grid). length g.setup.shards) c.self.view_is, c.requires.shard) in
-    let m : c.args.server < length c.self.inside.config.servers = omega (arith, ap (λ (g : Grid). length g.setup.servers) c.self.view_is, c.requires.server) in
-    let known : IsKnownCell (length c.self.inside.config.servers) c.args.cell = subst (λ (g : Grid). IsKnownCell (length g.setup.servers) c.args.cell) (sym c.self.view_is) c.requires.known in
+    let l : c.args.shard < length c.self.inside.config.shards = omega (arith, ap (λ (g : TableModel). length g.setup.shards) c.self.view_is, c.requires.shard) in
+    let m : c.args.server < length c.self.inside.config.servers = omega (arith, ap (λ (g : TableModel). length g.setup.servers) c.self.view_is, c.requires.server) in
+    let known : IsKnownCell (length c.self.inside.config.servers) c.args.cell = subst (λ (g : TableModel). IsKnownCell (length g.setup.servers) c.args.cell) (sym c.self.view_is) c.requires.known in
     let fits : length c.set_in_row-counts.new.cells ≡ c.self.inside.cells.len = omega arith in
     let k = corrected c.args.shard c.args.server c.args.cell c.cell.result c.index-3.result.now c.load-load.result c.weight.result c.weight-removed.result c.self.invariant c.self.view_is c.requires.shard c.requires.server
     c.cell.ensures c.load-load.ensures.load c.weight-removed.ensures c.weight.ensures (rw (← c.number-column.ensures) c.index-3.ensures) in
