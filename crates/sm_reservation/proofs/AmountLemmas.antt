@@ -10,10 +10,10 @@ use Rattle.sm_reservation.specs.Rows.{same, row_at, amount_at, HasPositive}
 pub present_at : {T : Type 0} (o : Option T) (v : T) → o ≡ Some v → IsSome o
 present_at o v e = rw e refl
 
-pub amount_put : {T : Type 0} (place : T → ℕ × ℕ) (amount : T → ℕ) (xs xs' : List T) (k : ℕ × ℕ) (held y : T) (n : ℕ) (q : ℕ × ℕ) →
-    place y ≡ k → amount y ≡ n → row_at place xs' q ≡ cond (same (place y) q) (Some y) (row_at place xs q) →
-    amount_at place amount xs' q ≡ cond (same k q) n (amount_at place amount xs q)
-amount_put place amount xs xs' k held y n q p e is = elim (cases_Bool (same k q)) [
+pub amount_put : {T : Type 0} (key_of : T → ℕ × ℕ) (amount : T → ℕ) (xs xs' : List T) (k : ℕ × ℕ) (held y : T) (n : ℕ) (q : ℕ × ℕ) →
+    key_of y ≡ k → amount y ≡ n → row_at key_of xs' q ≡ cond (same (key_of y) q) (Some y) (row_at key_of xs q) →
+    amount_at key_of amount xs' q ≡ cond (same k q) n (amount_at key_of amount xs q)
+amount_put key_of amount xs xs' k held y n q p e is = elim (cases_Bool (same k q)) [
   | inl s ↦ rw (is, p, s) e
   | inr s ↦ rw (is, p, s) refl
 ]
@@ -36,11 +36,11 @@ positive_remove amount (suc i) [] h = tt
 positive_remove amount zero (x ∷ xs) h = h.1
 positive_remove amount (suc i) (x ∷ xs) h = (h.0, positive_remove amount i xs h.1)
 
-pub positive_at : {T : Type 0} (place : T → ℕ × ℕ) (amount : T → ℕ) (k : ℕ × ℕ) (xs : List T) (v : T) → HasPositive amount xs → row_at place xs k ≡ Some v → 0 < amount v
-positive_at place amount k [] v h e = cc
-positive_at place amount k (x ∷ xs) v h e = elim (cases_Bool (same (place x) k)) [
+pub positive_at : {T : Type 0} (key_of : T → ℕ × ℕ) (amount : T → ℕ) (k : ℕ × ℕ) (xs : List T) (v : T) → HasPositive amount xs → row_at key_of xs k ≡ Some v → 0 < amount v
+positive_at key_of amount k [] v h e = cc
+positive_at key_of amount k (x ∷ xs) v h e = elim (cases_Bool (same (key_of x) k)) [
   | inl s ↦ let f = rw s at e in let it : x ≡ v = cc in rw (← it) h.0
-  | inr s ↦ positive_at place amount k xs v h.1 (rw s at e)
+  | inr s ↦ positive_at key_of amount k xs v h.1 (rw s at e)
 ]
 
 pub bit_positive : (n : ℕ) → 0 < n → bit (n == 0) ≡ 0

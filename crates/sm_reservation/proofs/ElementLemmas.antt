@@ -7,7 +7,7 @@ use Rattle.std.proofs.lemmas.List.Sorted.{Contains-permutation, IsPermutation-sy
 use Rattle.sm_reservation.specs.Rows.{AllAfter, Rises, HasPositive}
 use Rattle.sm_reservation.specs.Key.{SameElements}
 
-later : {T : Type 0} (x y : T) (xs : List T) → Contains xs x → Contains (y ∷ xs) x
+pub later : {T : Type 0} (x y : T) (xs : List T) → Contains xs x → Contains (y ∷ xs) x
 later x y xs h = (suc h.0, omega (arith, h.1), h.2)
 
 kept : {T : Type 0} (p : T → Bool) (x : T) (xs : List T) (k : ℕ) → k < length xs → get_or xs k x ≡ x → p x ≡ true → Contains (filter p xs) x
@@ -45,18 +45,18 @@ same_kept p xs ys perm x = (moved p xs ys x perm, moved p ys xs x (IsPermutation
 
 -- ---- rows of a positive amount
 
-after_kept : {T : Type 0} (place : T → ℕ × ℕ) (p : T → Bool) (k : ℕ × ℕ) (xs : List T) → AllAfter place k xs → AllAfter place k (filter p xs)
-after_kept place p k [] a = tt
-after_kept place p k (x ∷ xs) a = elim (cases_Bool (p x)) [
-  | inl s ↦ rw s (a.0, after_kept place p k xs a.1)
-  | inr s ↦ rw s (after_kept place p k xs a.1)
+after_kept : {T : Type 0} (key_of : T → ℕ × ℕ) (p : T → Bool) (k : ℕ × ℕ) (xs : List T) → AllAfter key_of k xs → AllAfter key_of k (filter p xs)
+after_kept key_of p k [] a = tt
+after_kept key_of p k (x ∷ xs) a = elim (cases_Bool (p x)) [
+  | inl s ↦ rw s (a.0, after_kept key_of p k xs a.1)
+  | inr s ↦ rw s (after_kept key_of p k xs a.1)
 ]
 
-pub rises_kept : {T : Type 0} (place : T → ℕ × ℕ) (p : T → Bool) (xs : List T) → Rises place xs → Rises place (filter p xs)
-rises_kept place p [] r = tt
-rises_kept place p (x ∷ xs) r = elim (cases_Bool (p x)) [
-  | inl s ↦ rw s (after_kept place p (place x) xs r.0, rises_kept place p xs r.1)
-  | inr s ↦ rw s (rises_kept place p xs r.1)
+pub rises_kept : {T : Type 0} (key_of : T → ℕ × ℕ) (p : T → Bool) (xs : List T) → Rises key_of xs → Rises key_of (filter p xs)
+rises_kept key_of p [] r = tt
+rises_kept key_of p (x ∷ xs) r = elim (cases_Bool (p x)) [
+  | inl s ↦ rw s (after_kept key_of p (key_of x) xs r.0, rises_kept key_of p xs r.1)
+  | inr s ↦ rw s (rises_kept key_of p xs r.1)
 ]
 
 pub positive_kept : {T : Type 0} (amount : T → ℕ) (xs : List T) → HasPositive amount (filter (λ x. nat_lt 0 (amount x)) xs)

@@ -5,10 +5,10 @@ use Rattle.std.proofs.lemmas.Bool.Decides.{nat_tests}
 use std.Path.{fun_ext}
 use Rattle.sm_placement.specs.Sums.{put, put2}
 use Rattle.sm_reservation.specs.Rows.{same, row_at, amount_at}
-use Rattle.sm_reservation.specs.Key.{cell_place, crown_place, room_place, spare_place}
+use Rattle.sm_reservation.specs.Key.{key_of_cell, key_of_crown, key_of_room, key_of_spare}
 use Rattle.sm_reservation.specs.Rights.{Rights}
 use Rattle.sm_reservation.specs.Hold.{with_cell}
-use Rattle.sm_reservation.specs.HoldOf.{hold_of, state_of, crown_of}
+use Rattle.sm_reservation.specs.HoldOf.{hold_of, plain_state_of, crown_of}
 use Rattle.sm_reservation.specs.declared.right.CellRight.{CellRight}
 use Rattle.sm_reservation.specs.declared.right.Crown.{Crown}
 use Rattle.sm_reservation.specs.declared.right.Room.{Room}
@@ -27,17 +27,17 @@ at_pair f s v x a b = elim (cases_Bool (eqb a s)) [
   | inr e ↦ rw e refl
 ]
 
-state_put : (y : Option CellRight) (b : Bool) (o : Option CellRight) → state_of (cond b o y) ≡ cond b (state_of o) (state_of y)
+state_put : (y : Option CellRight) (b : Bool) (o : Option CellRight) → plain_state_of (cond b o y) ≡ cond b (plain_state_of o) (plain_state_of y)
 state_put y true o = refl
 state_put y false o = refl
 
-pub cells_put : (r : Rights) (xs : List CellRight) (s v : ℕ) (o : Option CellRight) → ((q : ℕ × ℕ) → row_at cell_place xs q ≡ cond (same (s, v) q) o (row_at cell_place r.cells q)) →
-    hold_of (record r { cells = xs }) ≡ with_cell (hold_of r) s v (state_of o)
+pub cells_put : (r : Rights) (xs : List CellRight) (s v : ℕ) (o : Option CellRight) → ((q : ℕ × ℕ) → row_at key_of_cell xs q ≡ cond (same (s, v) q) o (row_at key_of_cell r.cells q)) →
+    hold_of (record r { cells = xs }) ≡ with_cell (hold_of r) s v (plain_state_of o)
 unfolding hold_of
 cells_put r xs s v o is =
-    let at : (a b : ℕ) → state_of (row_at cell_place xs (a, b)) ≡ put2 ((hold_of r).cells) s v (state_of o) a b = λ a b.
-    ap state_of (is (a, b)) ∙ state_put (row_at cell_place r.cells (a, b)) (same (s, v) (a, b)) o ∙ rw (same_pair s v a b) (sym (at_pair ((hold_of r).cells) s v (state_of o) a b)) in
-    let f : (λ a b. state_of (row_at cell_place xs (a, b))) ≡ put2 ((hold_of r).cells) s v (state_of o) = fun_ext (λ a. fun_ext (λ b. at a b)) in
+    let at : (a b : ℕ) → plain_state_of (row_at key_of_cell xs (a, b)) ≡ put2 ((hold_of r).cells) s v (plain_state_of o) a b = λ a b.
+    ap plain_state_of (is (a, b)) ∙ state_put (row_at key_of_cell r.cells (a, b)) (same (s, v) (a, b)) o ∙ rw (same_pair s v a b) (sym (at_pair ((hold_of r).cells) s v (plain_state_of o) a b)) in
+    let f : (λ a b. plain_state_of (row_at key_of_cell xs (a, b))) ≡ put2 ((hold_of r).cells) s v (plain_state_of o) = fun_ext (λ a. fun_ext (λ b. at a b)) in
     ap (λ g. record (hold_of r) { cells = g }) f
 
 pub same_front : (s a : ℕ) → same (s, 0) (a, 0) ≡ eqb a s
@@ -47,21 +47,21 @@ crown_put : (y : Option Crown) (b : Bool) (o : Option Crown) → crown_of (cond 
 crown_put y true o = refl
 crown_put y false o = refl
 
-pub crowns_put : (r : Rights) (xs : List Crown) (s : ℕ) (o : Option Crown) → ((q : ℕ × ℕ) → row_at crown_place xs q ≡ cond (same (s, 0) q) o (row_at crown_place r.crowns q)) →
+pub crowns_put : (r : Rights) (xs : List Crown) (s : ℕ) (o : Option Crown) → ((q : ℕ × ℕ) → row_at key_of_crown xs q ≡ cond (same (s, 0) q) o (row_at key_of_crown r.crowns q)) →
     hold_of (record r { crowns = xs }) ≡ record (hold_of r) { crowns = put ((hold_of r).crowns) s (crown_of o) }
 unfolding hold_of
 crowns_put r xs s o is =
-    let at : (a : ℕ) → crown_of (row_at crown_place xs (a, 0)) ≡ put ((hold_of r).crowns) s (crown_of o) a = λ a.
-    ap crown_of (is (a, 0)) ∙ crown_put (row_at crown_place r.crowns (a, 0)) (same (s, 0) (a, 0)) o ∙ rw (same_front s a) refl in
-    let f : (λ a. crown_of (row_at crown_place xs (a, 0))) ≡ put ((hold_of r).crowns) s (crown_of o) = fun_ext (λ a. at a) in
+    let at : (a : ℕ) → crown_of (row_at key_of_crown xs (a, 0)) ≡ put ((hold_of r).crowns) s (crown_of o) a = λ a.
+    ap crown_of (is (a, 0)) ∙ crown_put (row_at key_of_crown r.crowns (a, 0)) (same (s, 0) (a, 0)) o ∙ rw (same_front s a) refl in
+    let f : (λ a. crown_of (row_at key_of_crown xs (a, 0))) ≡ put ((hold_of r).crowns) s (crown_of o) = fun_ext (λ a. at a) in
     ap (λ g. record (hold_of r) { crowns = g }) f
 
-pub room_put : (r : Rights) (xs : List Room) (v n : ℕ) → ((q : ℕ × ℕ) → amount_at room_place (λ x. x.amount) xs q ≡ cond (same (v, 0) q) n (amount_at room_place (λ x. x.amount) r.room q)) →
+pub room_put : (r : Rights) (xs : List Room) (v n : ℕ) → ((q : ℕ × ℕ) → amount_at key_of_room (λ x. x.amount) xs q ≡ cond (same (v, 0) q) n (amount_at key_of_room (λ x. x.amount) r.room q)) →
     hold_of (record r { room = xs }) ≡ record (hold_of r) { room = put ((hold_of r).room) v n }
 unfolding hold_of
-room_put r xs v n is = let f : (λ q. amount_at room_place (λ x. x.amount) xs (q, 0)) ≡ put ((hold_of r).room) v n = fun_ext (λ q. rw (← same_front v q) (is (q, 0))) in ap (λ g. record (hold_of r) { room = g }) f
+room_put r xs v n is = let f : (λ q. amount_at key_of_room (λ x. x.amount) xs (q, 0)) ≡ put ((hold_of r).room) v n = fun_ext (λ q. rw (← same_front v q) (is (q, 0))) in ap (λ g. record (hold_of r) { room = g }) f
 
-pub spare_put : (r : Rights) (xs : List Spare) (s n : ℕ) → ((q : ℕ × ℕ) → amount_at spare_place (λ x. x.amount) xs q ≡ cond (same (s, 0) q) n (amount_at spare_place (λ x. x.amount) r.spare q)) →
+pub spare_put : (r : Rights) (xs : List Spare) (s n : ℕ) → ((q : ℕ × ℕ) → amount_at key_of_spare (λ x. x.amount) xs q ≡ cond (same (s, 0) q) n (amount_at key_of_spare (λ x. x.amount) r.spare q)) →
     hold_of (record r { spare = xs }) ≡ record (hold_of r) { spare = put ((hold_of r).spare) s n }
 unfolding hold_of
-spare_put r xs s n is = let f : (λ q. amount_at spare_place (λ x. x.amount) xs (q, 0)) ≡ put ((hold_of r).spare) s n = fun_ext (λ q. rw (← same_front s q) (is (q, 0))) in ap (λ g. record (hold_of r) { spare = g }) f
+spare_put r xs s n is = let f : (λ q. amount_at key_of_spare (λ x. x.amount) xs (q, 0)) ≡ put ((hold_of r).spare) s n = fun_ext (λ q. rw (← same_front s q) (is (q, 0))) in ap (λ g. record (hold_of r) { spare = g }) f

@@ -11,6 +11,11 @@ pub mod DoubleLemmas
 pub mod SortedRows
 pub mod InOrder
 pub mod HoldLemmas
+pub mod EditLemmas
+pub mod MergeLemmas
+pub mod EditedHolds
+pub mod HoldEdits
+pub mod HoldSizes
 pub mod StepLemmas
 pub mod TurnLemmas
 pub mod ShortLemmas
@@ -20,6 +25,9 @@ pub mod Joins
 pub mod ParcelRows
 pub mod PoolLemmas
 pub mod OpeningLemmas
+pub mod TrueRights
 pub mod TradeLemmas
 pub mod Conserved
 pub mod FitLemmas
+pub mod Below
+pub mod Covered

@@ -6,12 +6,12 @@ use Rattle.sm_reservation.specs.Key.{IsOrdered}
 use Rattle.sm_reservation.specs.Hold.{Hold, minus_cells, minus_crowns, minus_room, plus_cells, plus_crowns, plus_room}
 use Rattle.sm_reservation.specs.Steps.{count_steps, AllSteps}
 use Rattle.sm_reservation.specs.Turns.{out_cell, out_crown, out_room, out_spare, in_cell, in_crown, in_room, in_spare, lacks_cell, lacks_crown, lacks_room, lacks_spare, loses_cell, loses_crown, loses_room, loses_spare, HasRoom, HasSpare, RoomFits, SpareFits}
-use Rattle.sm_reservation.specs.Kept.{Sizes, new_keys, lost_keys, SumsFit}
+use Rattle.sm_reservation.specs.Capacity.{KeyCounts, new_keys, lost_keys, SumsFit}
 use Rattle.sm_reservation.proofs.ShortLemmas.{HasAll}
 use Rattle.sm_reservation.proofs.TurnLemmas.{loses-cells, loses-crowns, loses-room, loses-spare, lacks-cells, lacks-crowns, lacks-room, lacks-spare, HasRoom-steps, HasSpare-steps, RoomFits-steps, SpareFits-steps}
 use Rattle.sm_reservation.proofs.ParcelSums.{cells_alone, crowns_alone, room_alone, more_cells_alone, more_crowns_alone, more_room_alone}
 
-pub same_sizes : {a b c d a' b' c' d' : ℕ} → a ≡ a' → b ≡ b' → c ≡ c' → d ≡ d' → (let s : Sizes = record { cells = a; crowns = b; room = c; spare = d } in s) ≡ record { cells = a'; crowns = b'; room = c'; spare = d' }
+pub same_sizes : {a b c d a' b' c' d' : ℕ} → a ≡ a' → b ≡ b' → c ≡ c' → d ≡ d' → (let s : KeyCounts = record { cells = a; crowns = b; room = c; spare = d } in s) ≡ record { cells = a'; crowns = b'; room = c'; spare = d' }
 same_sizes p q r s = rw (p, q, r, s) refl
 
 -- ---- Taken out

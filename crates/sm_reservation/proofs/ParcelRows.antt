@@ -11,91 +11,91 @@ use Rattle.sm_reservation.specs.declared.right.Spare.{Spare}
 use Rattle.sm_reservation.specs.Rights.{Rights}
 use Rattle.sm_reservation.specs.Hold.{Hold}
 use Rattle.sm_reservation.specs.Rows.{row_at, amount_of, Rises, AllAfter, HasPositive}
-use Rattle.sm_reservation.specs.Key.{cell_place, crown_place, room_place, spare_place, IsOrdered}
-use Rattle.sm_reservation.specs.HoldOf.{state_of, crown_of, hold_of}
+use Rattle.sm_reservation.specs.Key.{key_of_cell, key_of_crown, key_of_room, key_of_spare, IsOrdered}
+use Rattle.sm_reservation.specs.HoldOf.{plain_state_of, crown_of, hold_of}
 use Rattle.sm_reservation.specs.Steps.{AllSteps}
 use Rattle.sm_reservation.specs.Turns.{in_room, in_spare, RoomFits, SpareFits}
 use Rattle.sm_reservation.specs.CanJoin.{CanJoin}
-use Rattle.sm_reservation.specs.Pool.{IsBelow}
-use Rattle.sm_reservation.proofs.ParcelSums.{Covers}
+use Rattle.sm_reservation.specs.Covers.{Covers}
+use Rattle.sm_reservation.specs.Pool.{IsKnownHold}
 use Rattle.sm_reservation.proofs.Places.{same_here, before_not_same}
 use Rattle.sm_reservation.proofs.TurnLemmas.{RoomFits-steps, SpareFits-steps}
 use Rattle.sm_reservation.proofs.ParcelMoves.{put-2, put-3, put-room, put-spare}
 
 -- lists in order make an ordered parcel
 pub ordered_by : (p : Rights) (cells : List CellRight) (crowns : List Crown) (room : List Room) (spare : List Spare) → cells ≡ p.cells → crowns ≡ p.crowns → room ≡ p.room → spare ≡ p.spare →
-    Rises cell_place cells → Rises crown_place crowns → Rises room_place room → Rises spare_place spare → IsOrdered p
+    Rises key_of_cell cells → Rises key_of_crown crowns → Rises key_of_room room → Rises key_of_spare spare → IsOrdered p
 ordered_by p cells crowns room spare a b c d e f g h = record {
-  cells = subst (λ (xs : List CellRight). Rises cell_place xs) a e;
-  crowns = subst (λ (xs : List Crown). Rises crown_place xs) b f;
-  room = subst (λ (xs : List Room). Rises room_place xs) c g;
-  spare = subst (λ (xs : List Spare). Rises spare_place xs) d h;
+  cells = subst (λ (xs : List CellRight). Rises key_of_cell xs) a e;
+  crowns = subst (λ (xs : List Crown). Rises key_of_crown xs) b f;
+  room = subst (λ (xs : List Room). Rises key_of_room xs) c g;
+  spare = subst (λ (xs : List Spare). Rises key_of_spare xs) d h;
 }
 
 -- the row is found at its key
 abbrev pub IsFound : {T : Type 0} → (T → ℕ × ℕ) → List T → T → Type 0
-IsFound place xs x = row_at place xs (place x) ≡ Some x
+IsFound key_of xs x = row_at key_of xs (key_of x) ≡ Some x
 
-found_behind : {T : Type 0} (place : T → ℕ × ℕ) (x : T) (xs ys : List T) → AllAfter place (place x) ys → AllByRecursion (IsFound place xs) ys → AllByRecursion (IsFound place (x ∷ xs)) ys
-found_behind place x xs [] after all = tt
-found_behind place x xs (y ∷ ys) after all = (rw (before_not_same (place x) (place y) after.0) all.0, found_behind place x xs ys after.1 all.1)
+found_behind : {T : Type 0} (key_of : T → ℕ × ℕ) (x : T) (xs ys : List T) → AllAfter key_of (key_of x) ys → AllByRecursion (IsFound key_of xs) ys → AllByRecursion (IsFound key_of (x ∷ xs)) ys
+found_behind key_of x xs [] after all = tt
+found_behind key_of x xs (y ∷ ys) after all = (rw (before_not_same (key_of x) (key_of y) after.0) all.0, found_behind key_of x xs ys after.1 all.1)
 
-pub all_found : {T : Type 0} (place : T → ℕ × ℕ) (xs : List T) → Rises place xs → AllByRecursion (IsFound place xs) xs
-all_found place [] r = tt
-all_found place (x ∷ xs) r = (rw (same_here (place x)) refl, found_behind place x xs xs r.0 (all_found place xs r.1))
+pub all_found : {T : Type 0} (key_of : T → ℕ × ℕ) (xs : List T) → Rises key_of xs → AllByRecursion (IsFound key_of xs) xs
+all_found key_of [] r = tt
+all_found key_of (x ∷ xs) r = (rw (same_here (key_of x)) refl, found_behind key_of x xs xs r.0 (all_found key_of xs r.1))
 
 pub all_map : {T : Type 0} (P Q : T → Type 0) (xs : List T) → ((x : T) → P x → Q x) → AllByRecursion P xs → AllByRecursion Q xs
 all_map P Q [] h all = tt
 all_map P Q (x ∷ xs) h all = (h x all.0, all_map P Q xs h all.1)
 
 -- each row has an amount, and is found
-both : {T : Type 0} (place : T → ℕ × ℕ) (amount : T → ℕ) (ys xs : List T) → HasPositive amount xs → AllByRecursion (IsFound place ys) xs → AllByRecursion (λ x. (0 < amount x) × IsFound place ys x) xs
-both place amount ys [] some all = tt
-both place amount ys (x ∷ xs) some all = ((some.0, all.0), both place amount ys xs some.1 all.1)
+both : {T : Type 0} (key_of : T → ℕ × ℕ) (amount : T → ℕ) (ys xs : List T) → HasPositive amount xs → AllByRecursion (IsFound key_of ys) xs → AllByRecursion (λ x. (0 < amount x) × IsFound key_of ys x) xs
+both key_of amount ys [] some all = tt
+both key_of amount ys (x ∷ xs) some all = ((some.0, all.0), both key_of amount ys xs some.1 all.1)
 
 -- ---- a parcel of known shards and servers
 
-pub cells_known : (shards servers : ℕ) (p : Rights) → Rises cell_place p.cells → IsBelow shards servers (hold_of p) → AllByRecursion (λ x. (x.shard < shards) × (x.server < servers)) p.cells
+pub cells_known : (shards servers : ℕ) (p : Rights) → Rises key_of_cell p.cells → IsKnownHold shards servers (hold_of p) → AllByRecursion (λ x. (x.shard < shards) × (x.server < servers)) p.cells
 unfolding hold_of
-cells_known shards servers p o is = all_map (IsFound cell_place p.cells) (λ x. (x.shard < shards) × (x.server < servers)) p.cells (λ x e. (shard x e, server x e)) (all_found cell_place p.cells o)
+cells_known shards servers p o is = all_map (IsFound key_of_cell p.cells) (λ x. (x.shard < shards) × (x.server < servers)) p.cells (λ x e. (shard x e, server x e)) (all_found key_of_cell p.cells o)
   where
-    shard : (x : CellRight) → IsFound cell_place p.cells x → x.shard < shards
-    shard x e = elim (cases_lt x.shard shards) [ inl l ↦ l | inr l ↦ absurd (let z = is.no_shard x.shard x.server l in let y = ap state_of e in cc) ]
+    shard : (x : CellRight) → IsFound key_of_cell p.cells x → x.shard < shards
+    shard x e = elim (cases_lt x.shard shards) [ inl l ↦ l | inr l ↦ absurd (let z = is.no_shard x.shard x.server l in let y = ap plain_state_of e in cc) ]
 
-    server : (x : CellRight) → IsFound cell_place p.cells x → x.server < servers
-    server x e = elim (cases_lt x.server servers) [ inl l ↦ l | inr l ↦ absurd (let z = is.no_server x.shard x.server l in let y = ap state_of e in cc) ]
+    server : (x : CellRight) → IsFound key_of_cell p.cells x → x.server < servers
+    server x e = elim (cases_lt x.server servers) [ inl l ↦ l | inr l ↦ absurd (let z = is.no_server x.shard x.server l in let y = ap plain_state_of e in cc) ]
 
-pub crowns_known : (shards servers : ℕ) (p : Rights) → Rises crown_place p.crowns → IsBelow shards servers (hold_of p) → AllByRecursion (λ x. x.shard < shards) p.crowns
+pub crowns_known : (shards servers : ℕ) (p : Rights) → Rises key_of_crown p.crowns → IsKnownHold shards servers (hold_of p) → AllByRecursion (λ x. x.shard < shards) p.crowns
 unfolding hold_of
-crowns_known shards servers p o is = all_map (IsFound crown_place p.crowns) (λ x. x.shard < shards) p.crowns shard (all_found crown_place p.crowns o)
+crowns_known shards servers p o is = all_map (IsFound key_of_crown p.crowns) (λ x. x.shard < shards) p.crowns shard (all_found key_of_crown p.crowns o)
   where
-    shard : (x : Crown) → IsFound crown_place p.crowns x → x.shard < shards
+    shard : (x : Crown) → IsFound key_of_crown p.crowns x → x.shard < shards
     shard x e = elim (cases_lt x.shard shards) [ inl l ↦ l | inr l ↦ absurd (let z = is.crowns x.shard l in let y = ap crown_of e in cc) ]
 
-pub rooms_known : (shards servers : ℕ) (p : Rights) → Rises room_place p.room → HasPositive (λ x. x.amount) p.room → IsBelow shards servers (hold_of p) → AllByRecursion (λ x. x.server < servers) p.room
+pub rooms_known : (shards servers : ℕ) (p : Rights) → Rises key_of_room p.room → HasPositive (λ x. x.amount) p.room → IsKnownHold shards servers (hold_of p) → AllByRecursion (λ x. x.server < servers) p.room
 unfolding hold_of
 rooms_known shards servers p o some is =
-    all_map (λ x. (0 < x.amount) × IsFound room_place p.room x) (λ x. x.server < servers) p.room (λ x e. server x e.0 e.1) (both room_place (λ x. x.amount) p.room p.room some (all_found room_place p.room o))
+    all_map (λ x. (0 < x.amount) × IsFound key_of_room p.room x) (λ x. x.server < servers) p.room (λ x e. server x e.0 e.1) (both key_of_room (λ x. x.amount) p.room p.room some (all_found key_of_room p.room o))
   where
-    server : (x : Room) → 0 < x.amount → IsFound room_place p.room x → x.server < servers
+    server : (x : Room) → 0 < x.amount → IsFound key_of_room p.room x → x.server < servers
     server x l e = elim (cases_lt x.server servers) [
       | inl m ↦ m
-      | inr m ↦ absurd (let z = is.room x.server m in let y : amount_of (λ (r : Room). r.amount) (row_at room_place p.room (x.server, 0)) ≡ x.amount = ap (amount_of (λ (r : Room). r.amount)) e in omega arith)
+      | inr m ↦ absurd (let z = is.room x.server m in let y : amount_of (λ (r : Room). r.amount) (row_at key_of_room p.room (x.server, 0)) ≡ x.amount = ap (amount_of (λ (r : Room). r.amount)) e in omega arith)
     ]
 
-pub spares_known : (shards servers : ℕ) (p : Rights) → Rises spare_place p.spare → HasPositive (λ x. x.amount) p.spare → IsBelow shards servers (hold_of p) → AllByRecursion (λ x. x.shard < shards) p.spare
+pub spares_known : (shards servers : ℕ) (p : Rights) → Rises key_of_spare p.spare → HasPositive (λ x. x.amount) p.spare → IsKnownHold shards servers (hold_of p) → AllByRecursion (λ x. x.shard < shards) p.spare
 unfolding hold_of
 spares_known shards servers p o some is =
-    all_map (λ x. (0 < x.amount) × IsFound spare_place p.spare x) (λ x. x.shard < shards) p.spare (λ x e. shard x e.0 e.1) (both spare_place (λ x. x.amount) p.spare p.spare some (all_found spare_place p.spare o))
+    all_map (λ x. (0 < x.amount) × IsFound key_of_spare p.spare x) (λ x. x.shard < shards) p.spare (λ x e. shard x e.0 e.1) (both key_of_spare (λ x. x.amount) p.spare p.spare some (all_found key_of_spare p.spare o))
   where
-    shard : (x : Spare) → 0 < x.amount → IsFound spare_place p.spare x → x.shard < shards
+    shard : (x : Spare) → 0 < x.amount → IsFound key_of_spare p.spare x → x.shard < shards
     shard x l e = elim (cases_lt x.shard shards) [
       | inl m ↦ m
-      | inr m ↦ absurd (let z = is.spare x.shard m in let y : amount_of (λ (r : Spare). r.amount) (row_at spare_place p.spare (x.shard, 0)) ≡ x.amount = ap (amount_of (λ (r : Spare). r.amount)) e in omega arith)
+      | inr m ↦ absurd (let z = is.spare x.shard m in let y : amount_of (λ (r : Spare). r.amount) (row_at key_of_spare p.spare (x.shard, 0)) ≡ x.amount = ap (amount_of (λ (r : Spare). r.amount)) e in omega arith)
     ]
 
 -- what a hold has all of is of known shards and servers, as the hold is
-pub covered_below : (shards servers : ℕ) (h k : Hold) → IsBelow shards servers h → Covers h k → IsBelow shards servers k
+pub covered_below : (shards servers : ℕ) (h k : Hold) → IsKnownHold shards servers h → Covers h k → IsKnownHold shards servers k
 covered_below shards servers h k is c = record {
   no_shard = λ s v l. cell (k.cells s v) s v refl (is.no_shard s v l);
   no_server = λ s v l. cell (k.cells s v) s v refl (is.no_server s v l);
@@ -116,17 +116,17 @@ covered_below shards servers h k is c = record {
 
 pub rooms_fit : (h : Hold) (p : Rights) → IsOrdered p → CanJoin h (hold_of p) → AllByRecursion (RoomFits h) p.room
 unfolding hold_of
-rooms_fit h p o is = all_map (IsFound room_place p.room) (RoomFits h) p.room fits (all_found room_place p.room o.room)
+rooms_fit h p o is = all_map (IsFound key_of_room p.room) (RoomFits h) p.room fits (all_found key_of_room p.room o.room)
   where
-    fits : (x : Room) → IsFound room_place p.room x → h.room x.server + x.amount < 2 ^ 64
-    fits x e = let z = is.room x.server in let y : amount_of (λ (r : Room). r.amount) (row_at room_place p.room (x.server, 0)) ≡ x.amount = ap (amount_of (λ (r : Room). r.amount)) e in omega arith
+    fits : (x : Room) → IsFound key_of_room p.room x → h.room x.server + x.amount < 2 ^ 64
+    fits x e = let z = is.room x.server in let y : amount_of (λ (r : Room). r.amount) (row_at key_of_room p.room (x.server, 0)) ≡ x.amount = ap (amount_of (λ (r : Room). r.amount)) e in omega arith
 
 pub spares_fit : (h : Hold) (p : Rights) → IsOrdered p → CanJoin h (hold_of p) → AllByRecursion (SpareFits h) p.spare
 unfolding hold_of
-spares_fit h p o is = all_map (IsFound spare_place p.spare) (SpareFits h) p.spare fits (all_found spare_place p.spare o.spare)
+spares_fit h p o is = all_map (IsFound key_of_spare p.spare) (SpareFits h) p.spare fits (all_found key_of_spare p.spare o.spare)
   where
-    fits : (x : Spare) → IsFound spare_place p.spare x → h.spare x.shard + x.amount < 2 ^ 64
-    fits x e = let z = is.spare x.shard in let y : amount_of (λ (r : Spare). r.amount) (row_at spare_place p.spare (x.shard, 0)) ≡ x.amount = ap (amount_of (λ (r : Spare). r.amount)) e in omega arith
+    fits : (x : Spare) → IsFound key_of_spare p.spare x → h.spare x.shard + x.amount < 2 ^ 64
+    fits x e = let z = is.spare x.shard in let y : amount_of (λ (r : Spare). r.amount) (row_at key_of_spare p.spare (x.shard, 0)) ≡ x.amount = ap (amount_of (λ (r : Spare). r.amount)) e in omega arith
 
 -- the amounts fit where they are put in, after the lists before them
 pub rooms_fit_in : (h : Hold) (p : Rights) → IsOrdered p → CanJoin h (hold_of p) → AllSteps in_room RoomFits (put-2 h p) p.room

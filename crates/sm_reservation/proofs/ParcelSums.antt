@@ -1,5 +1,5 @@
 -- A parcel's rights taken out of a hold and put into one: what is left, and how much there is then of each right.
-use Rattle.std.proofs.Common.{◌≡◌, ◌≢◌, ℕ, ◌+◌, ◌-◌, ◌≤◌, Bool, true, false, cond, eqb, leb, Option, Some, None, List, [], ◌∷◌, refl, sym, ap, ◌∙◌, arith, inl, inr, ◌⊎◌, subst, ◌<◌, ◌^◌}
+use Rattle.std.proofs.Common.{◌≡◌, ◌≢◌, ℕ, ◌+◌, ◌-◌, ◌≤◌, true, false, cond, eqb, leb, Option, Some, None, List, [], ◌∷◌, refl, sym, ap, ◌∙◌, arith, inl, inr, subst, ◌<◌, ◌^◌}
 use Rattle.std.proofs.Math.Path.{fun_ext}
 use Rattle.std.specs.Option.{option_or}
 use Rattle.std.proofs.lemmas.Bool.Decides.{nat_tests}
@@ -14,16 +14,19 @@ use Rattle.sm_reservation.specs.declared.right.Room.{Room}
 use Rattle.sm_reservation.specs.declared.right.Spare.{Spare}
 use Rattle.sm_reservation.specs.Rights.{Rights}
 use Rattle.sm_reservation.specs.Hold.{Hold, no_hold, with_cell, with_crown, without_crown, pay_room, get_room, pay_spare, get_spare, minus_cells, minus_crowns, minus_room, minus_spare, plus_cells, plus_crowns, plus_room, plus_spare, minus, plus}
-use Rattle.sm_reservation.specs.Amounts.{Right, OfCell, OfCrown, OfRoom, OfSpare, is_cell, is_crown, same_server, same_lead, count}
+use Rattle.sm_reservation.specs.Amounts.{Right, OfCell, OfCrown, OfRoom, OfSpare, is_cell, is_crown, same_listed, same_lead, count}
 use Rattle.sm_reservation.specs.Rows.{same, row_at, amount_of, amount_at, Rises}
-use Rattle.sm_reservation.specs.Key.{cell_place, crown_place, room_place, spare_place, IsOrdered}
-use Rattle.sm_reservation.specs.HoldOf.{state_of, crown_of, hold_of}
+use Rattle.sm_reservation.specs.Key.{key_of_cell, key_of_crown, key_of_room, key_of_spare, IsOrdered}
+use Rattle.sm_reservation.specs.HoldOf.{plain_state_of, crown_of, hold_of}
 use Rattle.sm_reservation.specs.CanJoin.{CanJoin, AreApart}
+use Rattle.sm_reservation.specs.Covers.{Covers}
 use Rattle.sm_reservation.specs.Short.{cell_short, crown_short, room_short, spare_short, first_answer, first_short}
 use Rattle.sm_placement.proofs.Sums.{put2-here, put2-row, put2-apart}
 use Rattle.sm_reservation.proofs.Places.{same_here, same_first, same_is}
 use Rattle.sm_reservation.proofs.Truths.{is_cell_true, same_lead_true, same_server_true}
 use Rattle.sm_reservation.proofs.RowLemmas.{none_after}
+use Rattle.sm_reservation.proofs.ShortLemmas.{no_answer as neither, not_short as passes}
+use Rattle.sm_placement.proofs.Searches.{cases_Option as cases_of}
 
 -- ---- one list at a time: what the others say stays
 
@@ -70,7 +73,7 @@ left_none : {A B : Type 0} (o : Option A) → left {A = A} {B = B} o None ≡ No
 left_none None = refl
 left_none (Some x) = refl
 
--- an edited function, by the test of places
+-- an edited function, by the test of keys
 eqb_sym : (k q : ℕ) → eqb k q ≡ eqb q k
 eqb_sym k q = grind (arith, nat_tests)
 
@@ -92,118 +95,118 @@ put2_at f s v x t w = elim (cases_eq t s) [
   | inr d ↦ rw (apart_first t w s v d) (put2-apart f s v x t w d)
 ]
 
-pub minus_cells_at : (h : Hold) (xs : List CellRight) (s v : ℕ) → (minus_cells h xs).cells s v ≡ left (state_of (row_at cell_place xs (s, v))) (h.cells s v)
+pub minus_cells_at : (h : Hold) (xs : List CellRight) (s v : ℕ) → (minus_cells h xs).cells s v ≡ left (plain_state_of (row_at key_of_cell xs (s, v))) (h.cells s v)
 minus_cells_at h [] s v = refl
 minus_cells_at h (x ∷ xs) s v =
     let rest = minus_cells_at (with_cell h x.shard x.server None) xs s v in
     let here = put2_at h.cells x.shard x.server None s v in
-    elim (cases_Bool (same (cell_place x) (s, v))) [
-      | inl e ↦ rest ∙ ap (λ (o : Option PlainCell). left (state_of (row_at cell_place xs (s, v))) o) (rw e at here) ∙ left_none (state_of (row_at cell_place xs (s, v))) ∙ rw e refl
-      | inr e ↦ rest ∙ ap (λ (o : Option PlainCell). left (state_of (row_at cell_place xs (s, v))) o) (rw e at here) ∙ rw e refl
+    elim (cases_Bool (same (key_of_cell x) (s, v))) [
+      | inl e ↦ rest ∙ ap (λ (o : Option PlainCell). left (plain_state_of (row_at key_of_cell xs (s, v))) o) (rw e at here) ∙ left_none (plain_state_of (row_at key_of_cell xs (s, v))) ∙ rw e refl
+      | inr e ↦ rest ∙ ap (λ (o : Option PlainCell). left (plain_state_of (row_at key_of_cell xs (s, v))) o) (rw e at here) ∙ rw e refl
     ]
 
-pub minus_crowns_at : (h : Hold) (xs : List Crown) (s : ℕ) → (minus_crowns h xs).crowns s ≡ left (crown_of (row_at crown_place xs (s, 0))) (h.crowns s)
+pub minus_crowns_at : (h : Hold) (xs : List Crown) (s : ℕ) → (minus_crowns h xs).crowns s ≡ left (crown_of (row_at key_of_crown xs (s, 0))) (h.crowns s)
 minus_crowns_at h [] s = refl
 minus_crowns_at h (x ∷ xs) s =
     let rest = minus_crowns_at (without_crown h x.shard) xs s in
     let here = put_at h.crowns x.shard None s in
-    elim (cases_Bool (same (crown_place x) (s, 0))) [
-      | inl e ↦ rest ∙ ap (λ (o : Option (Lead × Option ℕ)). left (crown_of (row_at crown_place xs (s, 0))) o) (rw e at here) ∙ left_none (crown_of (row_at crown_place xs (s, 0))) ∙ rw e refl
-      | inr e ↦ rest ∙ ap (λ (o : Option (Lead × Option ℕ)). left (crown_of (row_at crown_place xs (s, 0))) o) (rw e at here) ∙ rw e refl
+    elim (cases_Bool (same (key_of_crown x) (s, 0))) [
+      | inl e ↦ rest ∙ ap (λ (o : Option (Lead × Option ℕ)). left (crown_of (row_at key_of_crown xs (s, 0))) o) (rw e at here) ∙ left_none (crown_of (row_at key_of_crown xs (s, 0))) ∙ rw e refl
+      | inr e ↦ rest ∙ ap (λ (o : Option (Lead × Option ℕ)). left (crown_of (row_at key_of_crown xs (s, 0))) o) (rw e at here) ∙ rw e refl
     ]
 
-pub minus_room_at : (h : Hold) (xs : List Room) (v : ℕ) → Rises room_place xs → (minus_room h xs).room v ≡ h.room v - amount_at room_place (λ x. x.amount) xs (v, 0)
+pub minus_room_at : (h : Hold) (xs : List Room) (v : ℕ) → Rises key_of_room xs → (minus_room h xs).room v ≡ h.room v - amount_at key_of_room (λ x. x.amount) xs (v, 0)
 minus_room_at h [] v r = omega arith
 minus_room_at h (x ∷ xs) v r =
     let rest = minus_room_at (pay_room h x.server x.amount) xs v r.1 in
     let here = put_at h.room x.server (h.room x.server - x.amount) v in
-    elim (cases_Bool (same (room_place x) (v, 0))) [
+    elim (cases_Bool (same (key_of_room x) (v, 0))) [
       | inl e ↦
-          let none : amount_at room_place (λ y. y.amount) xs (v, 0) ≡ 0 = ap (amount_of (λ (y : Room). y.amount)) (none_after room_place (room_place x) (v, 0) xs r.0 e) in
-          let first : amount_at room_place (λ y. y.amount) (x ∷ xs) (v, 0) ≡ x.amount = rw e refl in
+          let none : amount_at key_of_room (λ y. y.amount) xs (v, 0) ≡ 0 = ap (amount_of (λ (y : Room). y.amount)) (none_after key_of_room (key_of_room x) (v, 0) xs r.0 e) in
+          let first : amount_at key_of_room (λ y. y.amount) (x ∷ xs) (v, 0) ≡ x.amount = rw e refl in
           let there = rw e at here in
-          let k : x.server ≡ v = ap (λ (q : ℕ × ℕ). q.0) (same_is (room_place x) (v, 0) e) in
+          let k : x.server ≡ v = ap (λ (q : ℕ × ℕ). q.0) (same_is (key_of_room x) (v, 0) e) in
           let same_room : h.room x.server ≡ h.room v = ap h.room k in
           omega arith
       | inr e ↦
-          let later : amount_at room_place (λ y. y.amount) (x ∷ xs) (v, 0) ≡ amount_at room_place (λ y. y.amount) xs (v, 0) = rw e refl in
+          let later : amount_at key_of_room (λ y. y.amount) (x ∷ xs) (v, 0) ≡ amount_at key_of_room (λ y. y.amount) xs (v, 0) = rw e refl in
           let there = rw e at here in
           omega arith
     ]
 
-pub minus_spare_at : (h : Hold) (xs : List Spare) (s : ℕ) → Rises spare_place xs → (minus_spare h xs).spare s ≡ h.spare s - amount_at spare_place (λ x. x.amount) xs (s, 0)
+pub minus_spare_at : (h : Hold) (xs : List Spare) (s : ℕ) → Rises key_of_spare xs → (minus_spare h xs).spare s ≡ h.spare s - amount_at key_of_spare (λ x. x.amount) xs (s, 0)
 minus_spare_at h [] s r = omega arith
 minus_spare_at h (x ∷ xs) s r =
     let rest = minus_spare_at (pay_spare h x.shard x.amount) xs s r.1 in
     let here = put_at h.spare x.shard (h.spare x.shard - x.amount) s in
-    elim (cases_Bool (same (spare_place x) (s, 0))) [
+    elim (cases_Bool (same (key_of_spare x) (s, 0))) [
       | inl e ↦
-          let none : amount_at spare_place (λ y. y.amount) xs (s, 0) ≡ 0 = ap (amount_of (λ (y : Spare). y.amount)) (none_after spare_place (spare_place x) (s, 0) xs r.0 e) in
-          let first : amount_at spare_place (λ y. y.amount) (x ∷ xs) (s, 0) ≡ x.amount = rw e refl in
+          let none : amount_at key_of_spare (λ y. y.amount) xs (s, 0) ≡ 0 = ap (amount_of (λ (y : Spare). y.amount)) (none_after key_of_spare (key_of_spare x) (s, 0) xs r.0 e) in
+          let first : amount_at key_of_spare (λ y. y.amount) (x ∷ xs) (s, 0) ≡ x.amount = rw e refl in
           let there = rw e at here in
-          let k : x.shard ≡ s = ap (λ (q : ℕ × ℕ). q.0) (same_is (spare_place x) (s, 0) e) in
+          let k : x.shard ≡ s = ap (λ (q : ℕ × ℕ). q.0) (same_is (key_of_spare x) (s, 0) e) in
           let same_spare : h.spare x.shard ≡ h.spare s = ap h.spare k in
           omega arith
       | inr e ↦
-          let later : amount_at spare_place (λ y. y.amount) (x ∷ xs) (s, 0) ≡ amount_at spare_place (λ y. y.amount) xs (s, 0) = rw e refl in
+          let later : amount_at key_of_spare (λ y. y.amount) (x ∷ xs) (s, 0) ≡ amount_at key_of_spare (λ y. y.amount) xs (s, 0) = rw e refl in
           let there = rw e at here in
           omega arith
     ]
 
-pub plus_cells_at : (h : Hold) (xs : List CellRight) (s v : ℕ) → Rises cell_place xs → (plus_cells h xs).cells s v ≡ option_or (state_of (row_at cell_place xs (s, v))) (h.cells s v)
+pub plus_cells_at : (h : Hold) (xs : List CellRight) (s v : ℕ) → Rises key_of_cell xs → (plus_cells h xs).cells s v ≡ option_or (plain_state_of (row_at key_of_cell xs (s, v))) (h.cells s v)
 plus_cells_at h [] s v r = refl
 plus_cells_at h (x ∷ xs) s v r =
     let rest = plus_cells_at (with_cell h x.shard x.server (Some x.state)) xs s v r.1 in
     let here = put2_at h.cells x.shard x.server (Some x.state) s v in
-    elim (cases_Bool (same (cell_place x) (s, v))) [
-      | inl e ↦ rest ∙ ap (λ (o : Option CellRight). option_or (state_of o) ((with_cell h x.shard x.server (Some x.state)).cells s v)) (none_after cell_place (cell_place x) (s, v) xs r.0 e) ∙ rw e at here ∙ rw e refl
-      | inr e ↦ rest ∙ ap (λ (o : Option PlainCell). option_or (state_of (row_at cell_place xs (s, v))) o) (rw e at here) ∙ rw e refl
+    elim (cases_Bool (same (key_of_cell x) (s, v))) [
+      | inl e ↦ rest ∙ ap (λ (o : Option CellRight). option_or (plain_state_of o) ((with_cell h x.shard x.server (Some x.state)).cells s v)) (none_after key_of_cell (key_of_cell x) (s, v) xs r.0 e) ∙ rw e at here ∙ rw e refl
+      | inr e ↦ rest ∙ ap (λ (o : Option PlainCell). option_or (plain_state_of (row_at key_of_cell xs (s, v))) o) (rw e at here) ∙ rw e refl
     ]
 
-pub plus_crowns_at : (h : Hold) (xs : List Crown) (s : ℕ) → Rises crown_place xs → (plus_crowns h xs).crowns s ≡ option_or (crown_of (row_at crown_place xs (s, 0))) (h.crowns s)
+pub plus_crowns_at : (h : Hold) (xs : List Crown) (s : ℕ) → Rises key_of_crown xs → (plus_crowns h xs).crowns s ≡ option_or (crown_of (row_at key_of_crown xs (s, 0))) (h.crowns s)
 plus_crowns_at h [] s r = refl
 plus_crowns_at h (x ∷ xs) s r =
     let rest = plus_crowns_at (with_crown h x.shard x.lead x.listed) xs s r.1 in
     let here = put_at h.crowns x.shard (Some (x.lead, x.listed)) s in
-    elim (cases_Bool (same (crown_place x) (s, 0))) [
-      | inl e ↦ rest ∙ ap (λ (o : Option Crown). option_or (crown_of o) ((with_crown h x.shard x.lead x.listed).crowns s)) (none_after crown_place (crown_place x) (s, 0) xs r.0 e) ∙ rw e at here ∙ rw e refl
-      | inr e ↦ rest ∙ ap (λ (o : Option (Lead × Option ℕ)). option_or (crown_of (row_at crown_place xs (s, 0))) o) (rw e at here) ∙ rw e refl
+    elim (cases_Bool (same (key_of_crown x) (s, 0))) [
+      | inl e ↦ rest ∙ ap (λ (o : Option Crown). option_or (crown_of o) ((with_crown h x.shard x.lead x.listed).crowns s)) (none_after key_of_crown (key_of_crown x) (s, 0) xs r.0 e) ∙ rw e at here ∙ rw e refl
+      | inr e ↦ rest ∙ ap (λ (o : Option (Lead × Option ℕ)). option_or (crown_of (row_at key_of_crown xs (s, 0))) o) (rw e at here) ∙ rw e refl
     ]
 
-pub plus_room_at : (h : Hold) (xs : List Room) (v : ℕ) → Rises room_place xs → (plus_room h xs).room v ≡ h.room v + amount_at room_place (λ x. x.amount) xs (v, 0)
+pub plus_room_at : (h : Hold) (xs : List Room) (v : ℕ) → Rises key_of_room xs → (plus_room h xs).room v ≡ h.room v + amount_at key_of_room (λ x. x.amount) xs (v, 0)
 plus_room_at h [] v r = omega arith
 plus_room_at h (x ∷ xs) v r =
     let rest = plus_room_at (get_room h x.server x.amount) xs v r.1 in
     let here = put_at h.room x.server (h.room x.server + x.amount) v in
-    elim (cases_Bool (same (room_place x) (v, 0))) [
+    elim (cases_Bool (same (key_of_room x) (v, 0))) [
       | inl e ↦
-          let none : amount_at room_place (λ y. y.amount) xs (v, 0) ≡ 0 = ap (amount_of (λ (y : Room). y.amount)) (none_after room_place (room_place x) (v, 0) xs r.0 e) in
-          let first : amount_at room_place (λ y. y.amount) (x ∷ xs) (v, 0) ≡ x.amount = rw e refl in
+          let none : amount_at key_of_room (λ y. y.amount) xs (v, 0) ≡ 0 = ap (amount_of (λ (y : Room). y.amount)) (none_after key_of_room (key_of_room x) (v, 0) xs r.0 e) in
+          let first : amount_at key_of_room (λ y. y.amount) (x ∷ xs) (v, 0) ≡ x.amount = rw e refl in
           let there = rw e at here in
-          let k : x.server ≡ v = ap (λ (q : ℕ × ℕ). q.0) (same_is (room_place x) (v, 0) e) in
+          let k : x.server ≡ v = ap (λ (q : ℕ × ℕ). q.0) (same_is (key_of_room x) (v, 0) e) in
           let same_room : h.room x.server ≡ h.room v = ap h.room k in
           omega arith
       | inr e ↦
-          let later : amount_at room_place (λ y. y.amount) (x ∷ xs) (v, 0) ≡ amount_at room_place (λ y. y.amount) xs (v, 0) = rw e refl in
+          let later : amount_at key_of_room (λ y. y.amount) (x ∷ xs) (v, 0) ≡ amount_at key_of_room (λ y. y.amount) xs (v, 0) = rw e refl in
           let there = rw e at here in
           omega arith
     ]
 
-pub plus_spare_at : (h : Hold) (xs : List Spare) (s : ℕ) → Rises spare_place xs → (plus_spare h xs).spare s ≡ h.spare s + amount_at spare_place (λ x. x.amount) xs (s, 0)
+pub plus_spare_at : (h : Hold) (xs : List Spare) (s : ℕ) → Rises key_of_spare xs → (plus_spare h xs).spare s ≡ h.spare s + amount_at key_of_spare (λ x. x.amount) xs (s, 0)
 plus_spare_at h [] s r = omega arith
 plus_spare_at h (x ∷ xs) s r =
     let rest = plus_spare_at (get_spare h x.shard x.amount) xs s r.1 in
     let here = put_at h.spare x.shard (h.spare x.shard + x.amount) s in
-    elim (cases_Bool (same (spare_place x) (s, 0))) [
+    elim (cases_Bool (same (key_of_spare x) (s, 0))) [
       | inl e ↦
-          let none : amount_at spare_place (λ y. y.amount) xs (s, 0) ≡ 0 = ap (amount_of (λ (y : Spare). y.amount)) (none_after spare_place (spare_place x) (s, 0) xs r.0 e) in
-          let first : amount_at spare_place (λ y. y.amount) (x ∷ xs) (s, 0) ≡ x.amount = rw e refl in
+          let none : amount_at key_of_spare (λ y. y.amount) xs (s, 0) ≡ 0 = ap (amount_of (λ (y : Spare). y.amount)) (none_after key_of_spare (key_of_spare x) (s, 0) xs r.0 e) in
+          let first : amount_at key_of_spare (λ y. y.amount) (x ∷ xs) (s, 0) ≡ x.amount = rw e refl in
           let there = rw e at here in
-          let k : x.shard ≡ s = ap (λ (q : ℕ × ℕ). q.0) (same_is (spare_place x) (s, 0) e) in
+          let k : x.shard ≡ s = ap (λ (q : ℕ × ℕ). q.0) (same_is (key_of_spare x) (s, 0) e) in
           let same_spare : h.spare x.shard ≡ h.spare s = ap h.spare k in
           omega arith
       | inr e ↦
-          let later : amount_at spare_place (λ y. y.amount) (x ∷ xs) (s, 0) ≡ amount_at spare_place (λ y. y.amount) xs (s, 0) = rw e refl in
+          let later : amount_at key_of_spare (λ y. y.amount) (x ∷ xs) (s, 0) ≡ amount_at key_of_spare (λ y. y.amount) xs (s, 0) = rw e refl in
           let there = rw e at here in
           omega arith
     ]
@@ -246,9 +249,9 @@ minus_is h p o =
     let ee = spare_alone d p.spare in
     same_hold (minus h p) (parted h (hold_of p))
     (λ s v. ap (λ (k : Hold). k.cells s v) ee ∙ ap (λ (k : Hold). k.cells s v) de ∙ ap (λ (k : Hold). k.cells s v) be ∙ minus_cells_at h p.cells s v)
-    (λ s. ap (λ (k : Hold). k.crowns s) ee ∙ ap (λ (k : Hold). k.crowns s) de ∙ minus_crowns_at a p.crowns s ∙ ap (λ (k : Hold). left (crown_of (row_at crown_place p.crowns (s, 0))) (k.crowns s)) ae)
-    (λ v. ap (λ (k : Hold). k.room v) ee ∙ minus_room_at b p.room v o.room ∙ ap (λ (n : ℕ). n - amount_at room_place (λ x. x.amount) p.room (v, 0)) (ap (λ (k : Hold). k.room v) be ∙ ap (λ (k : Hold). k.room v) ae))
-    (λ s. minus_spare_at d p.spare s o.spare ∙ ap (λ (n : ℕ). n - amount_at spare_place (λ x. x.amount) p.spare (s, 0)) (ap (λ (k : Hold). k.spare s) de ∙ ap (λ (k : Hold). k.spare s) be ∙ ap (λ (k : Hold). k.spare s) ae))
+    (λ s. ap (λ (k : Hold). k.crowns s) ee ∙ ap (λ (k : Hold). k.crowns s) de ∙ minus_crowns_at a p.crowns s ∙ ap (λ (k : Hold). left (crown_of (row_at key_of_crown p.crowns (s, 0))) (k.crowns s)) ae)
+    (λ v. ap (λ (k : Hold). k.room v) ee ∙ minus_room_at b p.room v o.room ∙ ap (λ (n : ℕ). n - amount_at key_of_room (λ x. x.amount) p.room (v, 0)) (ap (λ (k : Hold). k.room v) be ∙ ap (λ (k : Hold). k.room v) ae))
+    (λ s. minus_spare_at d p.spare s o.spare ∙ ap (λ (n : ℕ). n - amount_at key_of_spare (λ x. x.amount) p.spare (s, 0)) (ap (λ (k : Hold). k.spare s) de ∙ ap (λ (k : Hold). k.spare s) be ∙ ap (λ (k : Hold). k.spare s) ae))
 
 pub plus_is : (h : Hold) (p : Rights) → IsOrdered p → plus h p ≡ joined h (hold_of p)
 unfolding hold_of
@@ -262,9 +265,9 @@ plus_is h p o =
     let ee = more_spare_alone d p.spare in
     same_hold (plus h p) (joined h (hold_of p))
     (λ s v. ap (λ (k : Hold). k.cells s v) ee ∙ ap (λ (k : Hold). k.cells s v) de ∙ ap (λ (k : Hold). k.cells s v) be ∙ plus_cells_at h p.cells s v o.cells)
-    (λ s. ap (λ (k : Hold). k.crowns s) ee ∙ ap (λ (k : Hold). k.crowns s) de ∙ plus_crowns_at a p.crowns s o.crowns ∙ ap (λ (k : Hold). option_or (crown_of (row_at crown_place p.crowns (s, 0))) (k.crowns s)) ae)
-    (λ v. ap (λ (k : Hold). k.room v) ee ∙ plus_room_at b p.room v o.room ∙ ap (λ (n : ℕ). n + amount_at room_place (λ x. x.amount) p.room (v, 0)) (ap (λ (k : Hold). k.room v) be ∙ ap (λ (k : Hold). k.room v) ae))
-    (λ s. plus_spare_at d p.spare s o.spare ∙ ap (λ (n : ℕ). n + amount_at spare_place (λ x. x.amount) p.spare (s, 0)) (ap (λ (k : Hold). k.spare s) de ∙ ap (λ (k : Hold). k.spare s) be ∙ ap (λ (k : Hold). k.spare s) ae))
+    (λ s. ap (λ (k : Hold). k.crowns s) ee ∙ ap (λ (k : Hold). k.crowns s) de ∙ plus_crowns_at a p.crowns s o.crowns ∙ ap (λ (k : Hold). option_or (crown_of (row_at key_of_crown p.crowns (s, 0))) (k.crowns s)) ae)
+    (λ v. ap (λ (k : Hold). k.room v) ee ∙ plus_room_at b p.room v o.room ∙ ap (λ (n : ℕ). n + amount_at key_of_room (λ x. x.amount) p.room (v, 0)) (ap (λ (k : Hold). k.room v) be ∙ ap (λ (k : Hold). k.room v) ae))
+    (λ s. plus_spare_at d p.spare s o.spare ∙ ap (λ (n : ℕ). n + amount_at key_of_spare (λ x. x.amount) p.spare (s, 0)) (ap (λ (k : Hold). k.spare s) de ∙ ap (λ (k : Hold). k.spare s) be ∙ ap (λ (k : Hold). k.spare s) ae))
 
 -- a parcel put where there is nothing
 pub plus_none : (p : Rights) → IsOrdered p → plus no_hold p ≡ hold_of p
@@ -278,36 +281,20 @@ plus_none p o =
 
 -- ---- what isn't short is there
 
-pub record Covers (h k : Hold) : Type 0 where
-  pub cells : (s v : ℕ) (state : PlainCell) → k.cells s v ≡ Some state → h.cells s v ≡ Some state
-  pub crowns : (s : ℕ) (crown : Lead × Option ℕ) → k.crowns s ≡ Some crown → h.crowns s ≡ Some crown
-  pub room : (v : ℕ) → k.room v ≤ h.room v
-  pub spare : (s : ℕ) → k.spare s ≤ h.spare s
-
--- no test gives an answer
-neither : {X : Type 0} (a b : Option X) → option_or a b ≡ None → (a ≡ None) × (b ≡ None)
-neither None b e = (refl, e)
-neither (Some x) b e = cc
-
 -- a row that is found passes what all rows pass
-found_passes : {T Y : Type 0} (place : T → ℕ × ℕ) (f : T → Option Y) (xs : List T) (q : ℕ × ℕ) (x : T) → first_answer f xs ≡ None → row_at place xs q ≡ Some x → (f x ≡ None) × (same (place x) q ≡ true)
-found_passes place f [] q x none is = cc
-found_passes place f (y ∷ ys) q x none is =
+found_passes : {T Y : Type 0} (key_of : T → ℕ × ℕ) (f : T → Option Y) (xs : List T) (q : ℕ × ℕ) (x : T) → first_answer f xs ≡ None → row_at key_of xs q ≡ Some x → (f x ≡ None) × (same (key_of x) q ≡ true)
+found_passes key_of f [] q x none is = cc
+found_passes key_of f (y ∷ ys) q x none is =
     let both = neither (f y) (first_answer f ys) none in
-    elim (cases_Bool (same (place y) q)) [
+    elim (cases_Bool (same (key_of y) q)) [
       | inl e ↦ let d : y ≡ x = (let z = rw e at is in cc) in rw (← d) (both.0, e)
-      | inr e ↦ found_passes place f ys q x both.1 (rw e at is)
+      | inr e ↦ found_passes key_of f ys q x both.1 (rw e at is)
     ]
-
--- what a test lets through has passed it
-passes : {Y : Type 0} (b : Bool) (y : Y) → cond b None (Some y) ≡ None → b ≡ true
-passes true y e = refl
-passes false y e = cc
 
 pub crown_is : (o : Option (Lead × Option ℕ)) (lead : Lead) (listed : Option ℕ) → is_crown lead listed o ≡ true → o ≡ Some (lead, listed)
 crown_is None lead listed e = cc
 crown_is (Some c) lead listed e =
-    let both = and_parts (same_lead lead c.0) (same_server listed c.1) e in
+    let both = and_parts (same_lead lead c.0) (same_listed listed c.1) e in
     let a : lead ≡ c.0 = same_lead_true lead c.0 both.0 in
     let b : listed ≡ c.1 = same_server_true listed c.1 both.1 in
     rw (a, b) refl
@@ -320,53 +307,49 @@ covers h p none =
     let b = neither (option_or (first_answer (cell_short h) p.cells) (first_answer (crown_short h) p.crowns)) (first_answer (room_short h) p.room) d.0 in
     let a = neither (first_answer (cell_short h) p.cells) (first_answer (crown_short h) p.crowns) b.0 in
     record {
-      cells = λ s v state e. cell (row_at cell_place p.cells (s, v)) s v state refl a.0 e;
-      crowns = λ s c e. crown (row_at crown_place p.crowns (s, 0)) s c refl a.1 e;
-      room = λ v. room (row_at room_place p.room (v, 0)) v refl b.1;
-      spare = λ s. spare (row_at spare_place p.spare (s, 0)) s refl d.1;
+      cells = λ s v state e. cell (row_at key_of_cell p.cells (s, v)) s v state refl a.0 e;
+      crowns = λ s c e. crown (row_at key_of_crown p.crowns (s, 0)) s c refl a.1 e;
+      room = λ v. room (row_at key_of_room p.room (v, 0)) v refl b.1;
+      spare = λ s. spare (row_at key_of_spare p.spare (s, 0)) s refl d.1;
     }
   where
-    cell : (o : Option CellRight) (s v : ℕ) (state : PlainCell) → row_at cell_place p.cells (s, v) ≡ o → first_answer (cell_short h) p.cells ≡ None → state_of o ≡ Some state → h.cells s v ≡ Some state
+    cell : (o : Option CellRight) (s v : ℕ) (state : PlainCell) → row_at key_of_cell p.cells (s, v) ≡ o → first_answer (cell_short h) p.cells ≡ None → plain_state_of o ≡ Some state → h.cells s v ≡ Some state
     cell None s v state is none e = cc
     cell (Some x) s v state is none e =
-        let f = found_passes cell_place (cell_short h) p.cells (s, v) x none is in
-        let k = same_is (cell_place x) (s, v) f.1 in
+        let f = found_passes key_of_cell (cell_short h) p.cells (s, v) x none is in
+        let k = same_is (key_of_cell x) (s, v) f.1 in
         let t : is_cell x.state (h.cells x.shard x.server) ≡ true = passes (is_cell x.state (h.cells x.shard x.server)) _ f.0 in
         ap (λ (q : ℕ × ℕ). h.cells q.0 q.1) (sym k) ∙ is_cell_true x.state (h.cells x.shard x.server) t ∙ e
 
-    crown : (o : Option Crown) (s : ℕ) (crown : Lead × Option ℕ) → row_at crown_place p.crowns (s, 0) ≡ o → first_answer (crown_short h) p.crowns ≡ None → crown_of o ≡ Some crown → h.crowns s ≡ Some crown
+    crown : (o : Option Crown) (s : ℕ) (crown : Lead × Option ℕ) → row_at key_of_crown p.crowns (s, 0) ≡ o → first_answer (crown_short h) p.crowns ≡ None → crown_of o ≡ Some crown → h.crowns s ≡ Some crown
     crown None s c is none e = cc
     crown (Some x) s c is none e =
-        let f = found_passes crown_place (crown_short h) p.crowns (s, 0) x none is in
-        let k = same_is (crown_place x) (s, 0) f.1 in
+        let f = found_passes key_of_crown (crown_short h) p.crowns (s, 0) x none is in
+        let k = same_is (key_of_crown x) (s, 0) f.1 in
         let t : is_crown x.lead x.listed (h.crowns x.shard) ≡ true = passes (is_crown x.lead x.listed (h.crowns x.shard)) _ f.0 in
         ap (λ (q : ℕ × ℕ). h.crowns q.0) (sym k) ∙ crown_is (h.crowns x.shard) x.lead x.listed t ∙ e
 
-    room : (o : Option Room) (v : ℕ) → row_at room_place p.room (v, 0) ≡ o → first_answer (room_short h) p.room ≡ None → amount_of (λ x. x.amount) (row_at room_place p.room (v, 0)) ≤ h.room v
+    room : (o : Option Room) (v : ℕ) → row_at key_of_room p.room (v, 0) ≡ o → first_answer (room_short h) p.room ≡ None → amount_of (λ x. x.amount) (row_at key_of_room p.room (v, 0)) ≤ h.room v
     room None v is none = rw is (omega arith)
     room (Some x) v is none =
-        let f = found_passes room_place (room_short h) p.room (v, 0) x none is in
-        let k : x.server ≡ v = ap (λ (q : ℕ × ℕ). q.0) (same_is (room_place x) (v, 0) f.1) in
+        let f = found_passes key_of_room (room_short h) p.room (v, 0) x none is in
+        let k : x.server ≡ v = ap (λ (q : ℕ × ℕ). q.0) (same_is (key_of_room x) (v, 0) f.1) in
         let t : x.amount ≤ h.room x.server = leb-true x.amount (h.room x.server) (passes (leb x.amount (h.room x.server)) _ f.0) in
         let e : h.room x.server ≡ h.room v = ap h.room k in
         rw is (omega arith)
 
-    spare : (o : Option Spare) (s : ℕ) → row_at spare_place p.spare (s, 0) ≡ o → first_answer (spare_short h) p.spare ≡ None → amount_of (λ x. x.amount) (row_at spare_place p.spare (s, 0)) ≤ h.spare s
+    spare : (o : Option Spare) (s : ℕ) → row_at key_of_spare p.spare (s, 0) ≡ o → first_answer (spare_short h) p.spare ≡ None → amount_of (λ x. x.amount) (row_at key_of_spare p.spare (s, 0)) ≤ h.spare s
     spare None s is none = rw is (omega arith)
     spare (Some x) s is none =
-        let f = found_passes spare_place (spare_short h) p.spare (s, 0) x none is in
-        let k : x.shard ≡ s = ap (λ (q : ℕ × ℕ). q.0) (same_is (spare_place x) (s, 0) f.1) in
+        let f = found_passes key_of_spare (spare_short h) p.spare (s, 0) x none is in
+        let k : x.shard ≡ s = ap (λ (q : ℕ × ℕ). q.0) (same_is (key_of_spare x) (s, 0) f.1) in
         let t : x.amount ≤ h.spare x.shard = leb-true x.amount (h.spare x.shard) (passes (leb x.amount (h.spare x.shard)) _ f.0) in
         let e : h.spare x.shard ≡ h.spare s = ap h.spare k in
         rw is (omega arith)
 
 -- ---- how much there is of each right
 
-cases_of : {A : Type 0} (o : Option A) → (o ≡ None) ⊎ ((x : A) × (o ≡ Some x))
-cases_of None = inl refl
-cases_of (Some x) = inr (x, refl)
-
-no_cell : (state : PlainCell) → bit (is_cell state None) ≡ 0
+pub no_cell : (state : PlainCell) → bit (is_cell state None) ≡ 0
 no_cell Absent = refl
 no_cell Secondary = refl
 

@@ -11,7 +11,7 @@ use Rattle.sm_placement.proofs.Sums.{put-here, put-apart}
 use Rattle.sm_placement.proofs.GridLemmas.{grid_of-beside, grid_of-below, grid_of-empty, grid_of-read, grid_of-set, place_within, entries_of-past, entries_of-set, entries_of-empty, entries_of-read, entries_of-is}
 use Rattle.sm_reservation.specs.declared.right.PlainCell.{PlainCell}
 use Rattle.sm_reservation.specs.Hold.{Hold, no_hold, with_cell, without_crown, pay_room, pay_spare}
-use Rattle.sm_reservation.specs.Pool.{Stock, IsStocked, IsBelow, pool_hold}
+use Rattle.sm_reservation.specs.Pool.{PoolModel, IsStocked, IsKnownHold, pool_hold}
 
 -- ---- a function that is put where it is anyway
 
@@ -26,7 +26,7 @@ put2_same f s v x e = put_same f s (put (f s) v x) (put_same (f s) v x e)
 
 -- ---- what every pool keeps
 
-pub stocked_within : (k : Stock) → IsStocked k → IsBelow k.shards k.servers (pool_hold k)
+pub stocked_within : (k : PoolModel) → IsStocked k → IsKnownHold k.shards k.servers (pool_hold k)
 unfolding pool_hold
 stocked_within k h = record {
   no_shard = λ s v l. grid_of-below k.servers k.shards None k.cells s v h.cells l;
@@ -36,23 +36,23 @@ stocked_within k h = record {
   spare = λ s l. entries_of-past 0 k.spare s (omega (arith, h.spare));
 }
 
-pub stocked_now : {k now : Stock} → IsStocked k → k ≡ now → IsStocked now
-stocked_now {k} {now} h e = subst (λ (n : Stock). IsStocked n) e h
+pub stocked_now : {k now : PoolModel} → IsStocked k → k ≡ now → IsStocked now
+stocked_now {k} {now} h e = subst (λ (n : PoolModel). IsStocked n) e h
 
 -- ---- reads
 
-pub cell_read : {k now : Stock} (s v : ℕ) (x : Option PlainCell) → IsStocked k → k ≡ now → s < now.shards → v < now.servers → x ≡ get_or k.cells (s * now.servers + v) x → x ≡ (pool_hold now).cells s v
+pub cell_read : {k now : PoolModel} (s v : ℕ) (x : Option PlainCell) → IsStocked k → k ≡ now → s < now.shards → v < now.servers → x ≡ get_or k.cells (s * now.servers + v) x → x ≡ (pool_hold now).cells s v
 unfolding pool_hold
-cell_read {k} {now} s v x h e = subst (λ (n : Stock). s < n.shards → v < n.servers → x ≡ get_or k.cells (s * n.servers + v) x → x ≡ (pool_hold n).cells s v) e
+cell_read {k} {now} s v x h e = subst (λ (n : PoolModel). s < n.shards → v < n.servers → x ≡ get_or k.cells (s * n.servers + v) x → x ≡ (pool_hold n).cells s v) e
     (λ l m r. grid_of-read k.servers k.shards None k.cells s v x h.cells l m r)
 
-pub room_read : {k now : Stock} (v x : ℕ) → IsStocked k → k ≡ now → v < length k.room → x ≡ get_or k.room v x → x ≡ (pool_hold now).room v
+pub room_read : {k now : PoolModel} (v x : ℕ) → IsStocked k → k ≡ now → v < length k.room → x ≡ get_or k.room v x → x ≡ (pool_hold now).room v
 unfolding pool_hold
-room_read {k} {now} v x h e l r = subst (λ (n : Stock). x ≡ (pool_hold n).room v) e (entries_of-read 0 k.room v (length k.room) x refl l r)
+room_read {k} {now} v x h e l r = subst (λ (n : PoolModel). x ≡ (pool_hold n).room v) e (entries_of-read 0 k.room v (length k.room) x refl l r)
 
-pub spare_read : {k now : Stock} (s x : ℕ) → IsStocked k → k ≡ now → s < length k.spare → x ≡ get_or k.spare s x → x ≡ (pool_hold now).spare s
+pub spare_read : {k now : PoolModel} (s x : ℕ) → IsStocked k → k ≡ now → s < length k.spare → x ≡ get_or k.spare s x → x ≡ (pool_hold now).spare s
 unfolding pool_hold
-spare_read {k} {now} s x h e l r = subst (λ (n : Stock). x ≡ (pool_hold n).spare s) e (entries_of-read 0 k.spare s (length k.spare) x refl l r)
+spare_read {k} {now} s x h e l r = subst (λ (n : PoolModel). x ≡ (pool_hold n).spare s) e (entries_of-read 0 k.spare s (length k.spare) x refl l r)
 
 -- what `get` finds in a list of entries
 entry_got : {A : Type 0} (none : A) (xs : List A) (k : ℕ) (r : Option (Bor A)) → IsItemAt xs k r → unwrap_or (option_copied r) none ≡ entries_of none xs k
@@ -66,55 +66,55 @@ flatten_is : {A : Type 0} (o : Option (Option A)) → option_flatten o ≡ unwra
 flatten_is None = refl
 flatten_is (Some o) = refl
 
-pub crown_got : {k now : Stock} (s : ℕ) (r : Option (Bor (Option (Lead × Option ℕ)))) → k ≡ now → IsItemAt k.crowns s r → option_flatten (option_copied r) ≡ (pool_hold now).crowns s
+pub crown_got : {k now : PoolModel} (s : ℕ) (r : Option (Bor (Option (Lead × Option ℕ)))) → k ≡ now → IsItemAt k.crowns s r → option_flatten (option_copied r) ≡ (pool_hold now).crowns s
 unfolding pool_hold
-crown_got {k} {now} s r e item = flatten_is (option_copied r) ∙ entry_got None k.crowns s r item ∙ ap (λ (n : Stock). (pool_hold n).crowns s) e
+crown_got {k} {now} s r e item = flatten_is (option_copied r) ∙ entry_got None k.crowns s r item ∙ ap (λ (n : PoolModel). (pool_hold n).crowns s) e
 
-pub room_got : {k now : Stock} (v : ℕ) (r : Option (Bor ℕ)) → k ≡ now → IsItemAt k.room v r → unwrap_or (option_copied r) 0 ≡ (pool_hold now).room v
+pub room_got : {k now : PoolModel} (v : ℕ) (r : Option (Bor ℕ)) → k ≡ now → IsItemAt k.room v r → unwrap_or (option_copied r) 0 ≡ (pool_hold now).room v
 unfolding pool_hold
-room_got {k} {now} v r e item = entry_got 0 k.room v r item ∙ ap (λ (n : Stock). (pool_hold n).room v) e
+room_got {k} {now} v r e item = entry_got 0 k.room v r item ∙ ap (λ (n : PoolModel). (pool_hold n).room v) e
 
-pub spare_got : {k now : Stock} (s : ℕ) (r : Option (Bor ℕ)) → k ≡ now → IsItemAt k.spare s r → unwrap_or (option_copied r) 0 ≡ (pool_hold now).spare s
+pub spare_got : {k now : PoolModel} (s : ℕ) (r : Option (Bor ℕ)) → k ≡ now → IsItemAt k.spare s r → unwrap_or (option_copied r) 0 ≡ (pool_hold now).spare s
 unfolding pool_hold
-spare_got {k} {now} s r e item = entry_got 0 k.spare s r item ∙ ap (λ (n : Stock). (pool_hold n).spare s) e
+spare_got {k} {now} s r e item = entry_got 0 k.spare s r item ∙ ap (λ (n : PoolModel). (pool_hold n).spare s) e
 
 -- no right is of a pair that isn't known
-pub cell_unknown : (shards servers : ℕ) (h : Hold) (s v : ℕ) → IsBelow shards servers h → (s < shards → servers ≤ v) → h.cells s v ≡ None
+pub cell_unknown : (shards servers : ℕ) (h : Hold) (s v : ℕ) → IsKnownHold shards servers h → (s < shards → servers ≤ v) → h.cells s v ≡ None
 cell_unknown shards servers h s v is out = elim (cases_lt s shards) [
   | inl l ↦ is.no_server s v (out l)
   | inr l ↦ is.no_shard s v l
 ]
 
--- ---- one entry written. `now` is the pool as its callers see it, `place` the entry's place in the list
+-- ---- one entry written. `now` is the pool as its callers see it, `slot` the entry's slot in the list
 
-pub cell_put : {k now : Stock} (s v place : ℕ) (o : Option PlainCell) → IsStocked k → k ≡ now → s < now.shards → v < now.servers → place ≡ s * now.servers + v →
-    pool_hold (record k { cells = set k.cells place o }) ≡ with_cell (pool_hold now) s v o
+pub cell_put : {k now : PoolModel} (s v slot : ℕ) (o : Option PlainCell) → IsStocked k → k ≡ now → s < now.shards → v < now.servers → slot ≡ s * now.servers + v →
+    pool_hold (record k { cells = set k.cells slot o }) ≡ with_cell (pool_hold now) s v o
 unfolding pool_hold
-cell_put {k} {now} s v place o h e = subst (λ (n : Stock). s < n.shards → v < n.servers → place ≡ s * n.servers + v → pool_hold (record k { cells = set k.cells place o }) ≡ with_cell (pool_hold n) s v o) e
+cell_put {k} {now} s v slot o h e = subst (λ (n : PoolModel). s < n.shards → v < n.servers → slot ≡ s * n.servers + v → pool_hold (record k { cells = set k.cells slot o }) ≡ with_cell (pool_hold n) s v o) e
     (λ l m d. ap (λ (f : ℕ → ℕ → Option PlainCell). record (pool_hold k) { cells = f })
     (ap (λ (i : ℕ). grid_of k.servers None (set k.cells i o)) d ∙ grid_of-set k.servers None k.cells s v o m (place_within k.cells k.servers k.shards s v h.cells l m)))
 
-pub crown_put : {k now : Stock} (s place : ℕ) (o : Option (Lead × Option ℕ)) → k ≡ now → place ≡ s → place < length k.crowns →
-    pool_hold (record k { crowns = set k.crowns place o }) ≡ record (pool_hold now) { crowns = put (pool_hold now).crowns s o }
+pub crown_put : {k now : PoolModel} (s slot : ℕ) (o : Option (Lead × Option ℕ)) → k ≡ now → slot ≡ s → slot < length k.crowns →
+    pool_hold (record k { crowns = set k.crowns slot o }) ≡ record (pool_hold now) { crowns = put (pool_hold now).crowns s o }
 unfolding pool_hold
-crown_put {k} {now} s place o e d l = subst (λ (n : Stock). pool_hold (record k { crowns = set k.crowns place o }) ≡ record (pool_hold n) { crowns = put (pool_hold n).crowns s o }) e
+crown_put {k} {now} s slot o e d l = subst (λ (n : PoolModel). pool_hold (record k { crowns = set k.crowns slot o }) ≡ record (pool_hold n) { crowns = put (pool_hold n).crowns s o }) e
     (ap (λ (f : ℕ → Option (Lead × Option ℕ)). record (pool_hold k) { crowns = f })
-    (entries_of-set None k.crowns place o l ∙ ap (λ (i : ℕ). put (entries_of None k.crowns) i o) d))
+    (entries_of-set None k.crowns slot o l ∙ ap (λ (i : ℕ). put (entries_of None k.crowns) i o) d))
 
-pub room_put : {k now : Stock} (n v place x y : ℕ) → k ≡ now → n ≡ k.servers → place ≡ v → place < length k.room → x ≡ y →
-    pool_hold (record k { servers = n; room = set k.room place x }) ≡ record (pool_hold now) { room = put (pool_hold now).room v y }
+pub room_put : {k now : PoolModel} (n v slot x y : ℕ) → k ≡ now → n ≡ k.servers → slot ≡ v → slot < length k.room → x ≡ y →
+    pool_hold (record k { servers = n; room = set k.room slot x }) ≡ record (pool_hold now) { room = put (pool_hold now).room v y }
 unfolding pool_hold
-room_put {k} {now} n v place x y e m d l f = subst (λ (w : Stock). pool_hold (record k { servers = n; room = set k.room place x }) ≡ record (pool_hold w) { room = put (pool_hold w).room v y }) e
-    (ap (λ (i : ℕ). record (pool_hold k) { cells = grid_of i None k.cells; room = entries_of 0 (set k.room place x) }) m
+room_put {k} {now} n v slot x y e m d l f = subst (λ (w : PoolModel). pool_hold (record k { servers = n; room = set k.room slot x }) ≡ record (pool_hold w) { room = put (pool_hold w).room v y }) e
+    (ap (λ (i : ℕ). record (pool_hold k) { cells = grid_of i None k.cells; room = entries_of 0 (set k.room slot x) }) m
     ∙ ap (λ (g : ℕ → ℕ). record (pool_hold k) { room = g })
-    (entries_of-set 0 k.room place x l ∙ ap (λ (i : ℕ). put (entries_of 0 k.room) i x) d ∙ ap (λ (z : ℕ). put (entries_of 0 k.room) v z) f))
+    (entries_of-set 0 k.room slot x l ∙ ap (λ (i : ℕ). put (entries_of 0 k.room) i x) d ∙ ap (λ (z : ℕ). put (entries_of 0 k.room) v z) f))
 
-pub spare_put : {k now : Stock} (n s place x y : ℕ) → k ≡ now → place ≡ s → place < length k.spare → x ≡ y →
-    pool_hold (record k { shards = n; spare = set k.spare place x }) ≡ record (pool_hold now) { spare = put (pool_hold now).spare s y }
+pub spare_put : {k now : PoolModel} (n s slot x y : ℕ) → k ≡ now → slot ≡ s → slot < length k.spare → x ≡ y →
+    pool_hold (record k { shards = n; spare = set k.spare slot x }) ≡ record (pool_hold now) { spare = put (pool_hold now).spare s y }
 unfolding pool_hold
-spare_put {k} {now} n s place x y e d l f = subst (λ (w : Stock). pool_hold (record k { shards = n; spare = set k.spare place x }) ≡ record (pool_hold w) { spare = put (pool_hold w).spare s y }) e
+spare_put {k} {now} n s slot x y e d l f = subst (λ (w : PoolModel). pool_hold (record k { shards = n; spare = set k.spare slot x }) ≡ record (pool_hold w) { spare = put (pool_hold w).spare s y }) e
     (ap (λ (g : ℕ → ℕ). record (pool_hold k) { spare = g })
-    (entries_of-set 0 k.spare place x l ∙ ap (λ (i : ℕ). put (entries_of 0 k.spare) i x) d ∙ ap (λ (z : ℕ). put (entries_of 0 k.spare) s z) f))
+    (entries_of-set 0 k.spare slot x l ∙ ap (λ (i : ℕ). put (entries_of 0 k.spare) i x) d ∙ ap (λ (z : ℕ). put (entries_of 0 k.spare) s z) f))
 
 -- ---- what isn't there is taken out
 

@@ -20,11 +20,11 @@ pub record HasAll (h : Hold) (p : Rights) : Type 0 where
   pub room : AllByRecursion (HasRoom h) p.room
   pub spare : AllByRecursion (HasSpare h) p.spare
 
-no_answer : {X : Type 0} (a b : Option X) → option_or a b ≡ None → (a ≡ None) × (b ≡ None)
+pub no_answer : {X : Type 0} (a b : Option X) → option_or a b ≡ None → (a ≡ None) × (b ≡ None)
 no_answer None b e = (refl, e)
 no_answer (Some x) b e = cc
 
-not_short : {X : Type 0} (b : Bool) (x : X) → cond b None (Some x) ≡ None → b ≡ true
+pub not_short : {X : Type 0} (b : Bool) (x : X) → cond b None (Some x) ≡ None → b ≡ true
 not_short true x e = refl
 not_short false x e = cc
 

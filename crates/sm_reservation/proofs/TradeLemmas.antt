@@ -4,23 +4,23 @@ use Rattle.std.specs.Option.{option_to_list}
 use Rattle.sm_reservation.specs.Rights.{Rights}
 use Rattle.sm_reservation.specs.Hold.{minus}
 use Rattle.sm_reservation.specs.HoldOf.{hold_of}
-use Rattle.sm_reservation.specs.Kept.{Kept, IsLess, IsMore, IsTraded, HasPlaces, HasPlacesAfter}
+use Rattle.sm_reservation.specs.Capacity.{HoldModel, IsLess, IsMore, IsTraded, HasCapacity, HasCapacityAfter}
 use Rattle.sm_reservation.proofs.ParcelMoves.{same_sizes}
 
-pub places_after : (k m : Kept) (p q : Rights) → IsLess k m p → hold_of m.rights ≡ minus (hold_of k.rights) p → HasPlacesAfter k p q → HasPlaces m q
+pub places_after : (k m : HoldModel) (p q : Rights) → IsLess k m p → hold_of m.rights ≡ minus (hold_of k.rights) p → HasCapacityAfter k p q → HasCapacity m q
 places_after k m p q less is room = record {
-  cells = rw is (omega (arith, ap (λ s. s.cells) less.sizes, less.places, room.cells));
-  crowns = rw is (omega (arith, ap (λ s. s.crowns) less.sizes, less.places, room.crowns));
-  room = rw is (omega (arith, ap (λ s. s.room) less.sizes, less.places, room.room));
-  spare = rw is (omega (arith, ap (λ s. s.spare) less.sizes, less.places, room.spare));
+  cells = rw is (omega (arith, ap (λ s. s.cells) less.sizes, less.capacity, room.cells));
+  crowns = rw is (omega (arith, ap (λ s. s.crowns) less.sizes, less.capacity, room.crowns));
+  room = rw is (omega (arith, ap (λ s. s.room) less.sizes, less.capacity, room.room));
+  spare = rw is (omega (arith, ap (λ s. s.spare) less.sizes, less.capacity, room.spare));
 }
 
-pub sizes_after : (k m n : Kept) (p q : Rights) → IsLess k m p → hold_of m.rights ≡ minus (hold_of k.rights) p → IsMore m n q → IsTraded k n p q
+pub sizes_after : (k m n : HoldModel) (p q : Rights) → IsLess k m p → hold_of m.rights ≡ minus (hold_of k.rights) p → IsMore m n q → IsTraded k n p q
 sizes_after k m n p q less is more =
     let gained = rw is at more.sizes in
     record {
       sizes = same_sizes (omega (arith, ap (λ s. s.cells) less.sizes, ap (λ s. s.cells) gained)) (omega (arith, ap (λ s. s.crowns) less.sizes, ap (λ s. s.crowns) gained)) (omega (arith, ap (λ s. s.room) less.sizes, ap (λ s. s.room) gained)) (omega (arith, ap (λ s. s.spare) less.sizes, ap (λ s. s.spare) gained));
-      places = more.places ∙ less.places;
+      capacity = more.capacity ∙ less.capacity;
     }
 
 -- the rights of a portion, as a slice lends them

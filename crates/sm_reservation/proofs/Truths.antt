@@ -13,7 +13,7 @@ use Rattle.sm_placement.proofs.Sums.{put-here, put-apart, put-same}
 use Rattle.sm_reservation.specs.declared.right.PlainCell.{PlainCell}
 use Rattle.sm_reservation.specs.declared.right.PlainCell.TheVariants.{Absent, Secondary}
 use Rattle.sm_reservation.specs.Hold.{Hold}
-use Rattle.sm_reservation.specs.Amounts.{OfCell, OfCrown, is_cell, is_crown, same_lead, same_server, plain_of}
+use Rattle.sm_reservation.specs.Amounts.{OfCell, OfCrown, is_cell, is_crown, same_lead, same_listed, plain_of}
 use Rattle.sm_reservation.specs.Truth.{IsTrueOf}
 
 -- ---- tests that pass
@@ -41,7 +41,7 @@ same_lead_true (Handing x y) (Handing u v) e = let q = pair_of x y u v e in rw (
 same_lead_true (Handed x y) (Handed u v) e = let q = pair_of x y u v e in rw (q.0, q.1)
 same_lead_true _ _ e = cc
 
-pub same_server_true : (a b : Option ℕ) → same_server a b ≡ true → a ≡ b
+pub same_server_true : (a b : Option ℕ) → same_listed a b ≡ true → a ≡ b
 same_server_true None None e = refl
 same_server_true (Some x) (Some y) e = ap Some (eqb-true x y e)
 same_server_true None (Some y) e = cc
@@ -57,11 +57,11 @@ same_lead_self (Ready x y) = rw (itself x, itself y)
 same_lead_self (Handing x y) = rw (itself x, itself y)
 same_lead_self (Handed x y) = rw (itself x, itself y)
 
-pub same_server_self : (a : Option ℕ) → same_server a a ≡ true
+pub same_server_self : (a : Option ℕ) → same_listed a a ≡ true
 same_server_self None = refl
 same_server_self (Some x) = itself x
 
-bit_true : (b : Bool) → 1 ≤ bit b → b ≡ true
+pub bit_true : (b : Bool) → 1 ≤ bit b → b ≡ true
 bit_true true h = refl
 bit_true false h = absurd (omega arith)
 
@@ -83,10 +83,10 @@ no_true_cell c p leads h o s v e = go (h.cells s v) refl
 
 pub true_crown : (c : Sizes) (p : Place) (leads : ℕ → Lead) (h : Hold) → IsTrueOf c p leads h → (s : ℕ) (lead : Lead) (listed : Option ℕ) → h.crowns s ≡ Some (lead, listed) → (leads s ≡ lead) × (p.listed s ≡ listed)
 true_crown c p leads h o s lead listed e =
-    let a : bit (is_crown lead listed (h.crowns s)) + 0 ≤ bit (same_lead lead (leads s) && same_server listed (p.listed s)) = o.rights (OfCrown s lead listed) in
+    let a : bit (is_crown lead listed (h.crowns s)) + 0 ≤ bit (same_lead lead (leads s) && same_listed listed (p.listed s)) = o.rights (OfCrown s lead listed) in
     let b : bit (is_crown lead listed (h.crowns s)) ≡ 1 = rw (e, same_lead_self lead, same_server_self listed) refl in
-    let t : (same_lead lead (leads s) && same_server listed (p.listed s)) ≡ true = bit_true _ (omega arith) in
-    let q = and_parts (same_lead lead (leads s)) (same_server listed (p.listed s)) t in
+    let t : (same_lead lead (leads s) && same_listed listed (p.listed s)) ≡ true = bit_true _ (omega arith) in
+    let q = and_parts (same_lead lead (leads s)) (same_listed listed (p.listed s)) t in
     (sym (same_lead_true lead (leads s) q.0), sym (same_server_true listed (p.listed s) q.1))
 
 pub absent_from : (x : Cell) → plain_of x ≡ Some Absent → x ≡ cell.Absent

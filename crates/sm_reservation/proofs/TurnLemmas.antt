@@ -4,7 +4,7 @@ use Rattle.std.specs.List.{count_by, AllByRecursion}
 use Rattle.std.proofs.lemmas.Bool.Decides.{nat_tests}
 use Rattle.sm_placement.specs.Sums.{put, put2}
 use Rattle.sm_reservation.specs.Rows.{before, Rises}
-use Rattle.sm_reservation.specs.Key.{cell_place, crown_place, room_place, spare_place}
+use Rattle.sm_reservation.specs.Key.{key_of_cell, key_of_crown, key_of_room, key_of_spare}
 use Rattle.sm_reservation.specs.Hold.{Hold}
 use Rattle.sm_reservation.specs.Steps.{count_steps, AllSteps}
 use Rattle.sm_reservation.specs.Turns.{out_cell, out_crown, out_room, out_spare, in_cell, in_crown, in_room, in_spare, lacks_cell, lacks_crown, lacks_room, lacks_spare, loses_cell, loses_crown, loses_room, loses_spare, HasRoom, HasSpare, RoomFits, SpareFits}
@@ -31,40 +31,40 @@ past_one f s o a e = rw (later_one s a e) refl
 
 -- ---- the keys that lists lose and gain, counted at the start
 
-pub loses-cells : (h : Hold) (xs : List CellRight) → Rises cell_place xs → count_steps out_cell loses_cell h xs ≡ count_by (loses_cell h) xs
-loses-cells h xs r = steps_count cell_place out_cell loses_cell (λ h x y b. ap is_some (past_pair h.cells x.shard x.server None y.shard y.server b)) h xs r
+pub loses-cells : (h : Hold) (xs : List CellRight) → Rises key_of_cell xs → count_steps out_cell loses_cell h xs ≡ count_by (loses_cell h) xs
+loses-cells h xs r = steps_count key_of_cell out_cell loses_cell (λ h x y b. ap is_some (past_pair h.cells x.shard x.server None y.shard y.server b)) h xs r
 
-pub loses-crowns : (h : Hold) (xs : List Crown) → Rises crown_place xs → count_steps out_crown loses_crown h xs ≡ count_by (loses_crown h) xs
-loses-crowns h xs r = steps_count crown_place out_crown loses_crown (λ h x y b. ap is_some (past_one h.crowns x.shard None y.shard b)) h xs r
+pub loses-crowns : (h : Hold) (xs : List Crown) → Rises key_of_crown xs → count_steps out_crown loses_crown h xs ≡ count_by (loses_crown h) xs
+loses-crowns h xs r = steps_count key_of_crown out_crown loses_crown (λ h x y b. ap is_some (past_one h.crowns x.shard None y.shard b)) h xs r
 
-pub loses-room : (h : Hold) (xs : List Room) → Rises room_place xs → count_steps out_room loses_room h xs ≡ count_by (loses_room h) xs
-loses-room h xs r = steps_count room_place out_room loses_room (λ h x y b. ap (λ n. nat_lt 0 y.amount && (n == y.amount)) (past_one h.room x.server (h.room x.server - x.amount) y.server b)) h xs r
+pub loses-room : (h : Hold) (xs : List Room) → Rises key_of_room xs → count_steps out_room loses_room h xs ≡ count_by (loses_room h) xs
+loses-room h xs r = steps_count key_of_room out_room loses_room (λ h x y b. ap (λ n. nat_lt 0 y.amount && (n == y.amount)) (past_one h.room x.server (h.room x.server - x.amount) y.server b)) h xs r
 
-pub loses-spare : (h : Hold) (xs : List Spare) → Rises spare_place xs → count_steps out_spare loses_spare h xs ≡ count_by (loses_spare h) xs
-loses-spare h xs r = steps_count spare_place out_spare loses_spare (λ h x y b. ap (λ n. nat_lt 0 y.amount && (n == y.amount)) (past_one h.spare x.shard (h.spare x.shard - x.amount) y.shard b)) h xs r
+pub loses-spare : (h : Hold) (xs : List Spare) → Rises key_of_spare xs → count_steps out_spare loses_spare h xs ≡ count_by (loses_spare h) xs
+loses-spare h xs r = steps_count key_of_spare out_spare loses_spare (λ h x y b. ap (λ n. nat_lt 0 y.amount && (n == y.amount)) (past_one h.spare x.shard (h.spare x.shard - x.amount) y.shard b)) h xs r
 
-pub lacks-cells : (h : Hold) (xs : List CellRight) → Rises cell_place xs → count_steps in_cell lacks_cell h xs ≡ count_by (lacks_cell h) xs
-lacks-cells h xs r = steps_count cell_place in_cell lacks_cell (λ h x y b. ap is_none (past_pair h.cells x.shard x.server (Some x.state) y.shard y.server b)) h xs r
+pub lacks-cells : (h : Hold) (xs : List CellRight) → Rises key_of_cell xs → count_steps in_cell lacks_cell h xs ≡ count_by (lacks_cell h) xs
+lacks-cells h xs r = steps_count key_of_cell in_cell lacks_cell (λ h x y b. ap is_none (past_pair h.cells x.shard x.server (Some x.state) y.shard y.server b)) h xs r
 
-pub lacks-crowns : (h : Hold) (xs : List Crown) → Rises crown_place xs → count_steps in_crown lacks_crown h xs ≡ count_by (lacks_crown h) xs
-lacks-crowns h xs r = steps_count crown_place in_crown lacks_crown (λ h x y b. ap is_none (past_one h.crowns x.shard (Some (x.lead, x.listed)) y.shard b)) h xs r
+pub lacks-crowns : (h : Hold) (xs : List Crown) → Rises key_of_crown xs → count_steps in_crown lacks_crown h xs ≡ count_by (lacks_crown h) xs
+lacks-crowns h xs r = steps_count key_of_crown in_crown lacks_crown (λ h x y b. ap is_none (past_one h.crowns x.shard (Some (x.lead, x.listed)) y.shard b)) h xs r
 
-pub lacks-room : (h : Hold) (xs : List Room) → Rises room_place xs → count_steps in_room lacks_room h xs ≡ count_by (lacks_room h) xs
-lacks-room h xs r = steps_count room_place in_room lacks_room (λ h x y b. ap (λ n. nat_lt 0 y.amount && (n == 0)) (past_one h.room x.server (h.room x.server + x.amount) y.server b)) h xs r
+pub lacks-room : (h : Hold) (xs : List Room) → Rises key_of_room xs → count_steps in_room lacks_room h xs ≡ count_by (lacks_room h) xs
+lacks-room h xs r = steps_count key_of_room in_room lacks_room (λ h x y b. ap (λ n. nat_lt 0 y.amount && (n == 0)) (past_one h.room x.server (h.room x.server + x.amount) y.server b)) h xs r
 
-pub lacks-spare : (h : Hold) (xs : List Spare) → Rises spare_place xs → count_steps in_spare lacks_spare h xs ≡ count_by (lacks_spare h) xs
-lacks-spare h xs r = steps_count spare_place in_spare lacks_spare (λ h x y b. ap (λ n. nat_lt 0 y.amount && (n == 0)) (past_one h.spare x.shard (h.spare x.shard + x.amount) y.shard b)) h xs r
+pub lacks-spare : (h : Hold) (xs : List Spare) → Rises key_of_spare xs → count_steps in_spare lacks_spare h xs ≡ count_by (lacks_spare h) xs
+lacks-spare h xs r = steps_count key_of_spare in_spare lacks_spare (λ h x y b. ap (λ n. nat_lt 0 y.amount && (n == 0)) (past_one h.spare x.shard (h.spare x.shard + x.amount) y.shard b)) h xs r
 
 -- ---- amounts that are there, and sums that fit, one after another
 
-pub HasRoom-steps : (h : Hold) (xs : List Room) → Rises room_place xs → AllByRecursion (HasRoom h) xs → AllSteps out_room HasRoom h xs
-HasRoom-steps h xs r all = all_steps room_place out_room HasRoom (λ h x y b p. rw (past_one h.room x.server (h.room x.server - x.amount) y.server b) p) h xs r all
+pub HasRoom-steps : (h : Hold) (xs : List Room) → Rises key_of_room xs → AllByRecursion (HasRoom h) xs → AllSteps out_room HasRoom h xs
+HasRoom-steps h xs r all = all_steps key_of_room out_room HasRoom (λ h x y b p. rw (past_one h.room x.server (h.room x.server - x.amount) y.server b) p) h xs r all
 
-pub HasSpare-steps : (h : Hold) (xs : List Spare) → Rises spare_place xs → AllByRecursion (HasSpare h) xs → AllSteps out_spare HasSpare h xs
-HasSpare-steps h xs r all = all_steps spare_place out_spare HasSpare (λ h x y b p. rw (past_one h.spare x.shard (h.spare x.shard - x.amount) y.shard b) p) h xs r all
+pub HasSpare-steps : (h : Hold) (xs : List Spare) → Rises key_of_spare xs → AllByRecursion (HasSpare h) xs → AllSteps out_spare HasSpare h xs
+HasSpare-steps h xs r all = all_steps key_of_spare out_spare HasSpare (λ h x y b p. rw (past_one h.spare x.shard (h.spare x.shard - x.amount) y.shard b) p) h xs r all
 
-pub RoomFits-steps : (h : Hold) (xs : List Room) → Rises room_place xs → AllByRecursion (RoomFits h) xs → AllSteps in_room RoomFits h xs
-RoomFits-steps h xs r all = all_steps room_place in_room RoomFits (λ h x y b p. rw (past_one h.room x.server (h.room x.server + x.amount) y.server b) p) h xs r all
+pub RoomFits-steps : (h : Hold) (xs : List Room) → Rises key_of_room xs → AllByRecursion (RoomFits h) xs → AllSteps in_room RoomFits h xs
+RoomFits-steps h xs r all = all_steps key_of_room in_room RoomFits (λ h x y b p. rw (past_one h.room x.server (h.room x.server + x.amount) y.server b) p) h xs r all
 
-pub SpareFits-steps : (h : Hold) (xs : List Spare) → Rises spare_place xs → AllByRecursion (SpareFits h) xs → AllSteps in_spare SpareFits h xs
-SpareFits-steps h xs r all = all_steps spare_place in_spare SpareFits (λ h x y b p. rw (past_one h.spare x.shard (h.spare x.shard + x.amount) y.shard b) p) h xs r all
+pub SpareFits-steps : (h : Hold) (xs : List Spare) → Rises key_of_spare xs → AllByRecursion (SpareFits h) xs → AllSteps in_spare SpareFits h xs
+SpareFits-steps h xs r all = all_steps key_of_spare in_spare SpareFits (λ h x y b p. rw (past_one h.spare x.shard (h.spare x.shard + x.amount) y.shard b) p) h xs r all

@@ -23,10 +23,10 @@ is_cell Absent (Some Absent) = true
 is_cell Secondary (Some Secondary) = true
 is_cell _ _ = false
 
-abbrev pub same_server : Option ℕ → Option ℕ → Bool
-same_server None None = true
-same_server (Some x) (Some y) = x == y
-same_server _ _ = false
+abbrev pub same_listed : Option ℕ → Option ℕ → Bool
+same_listed None None = true
+same_listed (Some x) (Some y) = x == y
+same_listed _ _ = false
 
 abbrev pub same_lead : Lead → Lead → Bool
 same_lead Gone Gone = true
@@ -38,7 +38,7 @@ same_lead _ _ = false
 
 abbrev pub is_crown : Lead → Option ℕ → Option (Lead × Option ℕ) → Bool
 is_crown lead listed None = false
-is_crown lead listed (Some c) = same_lead lead c.0 && same_server listed c.1
+is_crown lead listed (Some c) = same_lead lead c.0 && same_listed listed c.1
 
 -- how much of a right a hold has
 abbrev pub count : Hold → Right → ℕ

@@ -1,5 +1,5 @@
 -- Who has which rights, and the calls that move rights about or give them up for others.
--- One place is the pool, and each other place is a grant: a grant that isn't made yet, or that is spent, has nothing.
+-- One holder is the pool, and each other holder is a grant: a grant that isn't made yet, or that is spent, has nothing.
 use Rattle.std.specs.Prelude.{◌≡◌, ◌≢◌, ℕ, ◌+◌, ◌≤◌, ◌<◌, is_some, IsSome, None, List, [], ◌∷◌}
 use Rattle.sm_placement.specs.Sums.{put, bit, sum_below}
 use Rattle.sm_reservation.specs.Rights.{Rights}
@@ -12,32 +12,32 @@ use Rattle.sm_reservation.specs.Short.{first_short}
 
 -- what one call does
 pub data Move : Type 0 where
-  -- rights go from one place to another: a take, a fill, a split, a join, or a grant that is given back
+  -- rights go from one holder to another: a take, a fill, a split, a join, or a grant that is given back
   Moves : (from to : ℕ) (p : Rights) → Move
   -- rights are given up for others: a trade, an exchange, or a spare replica less or more in the pool
   Trades : (at : ℕ) (out got : Rights) → Move
 
--- what the places have after a call
-abbrev pub after : (ℕ → Hold) → Move → ℕ → Hold
-after b (Moves i j p) = put (put b i (minus (b i) p)) j (plus (b j) p)
-after b (Trades i p q) = put b i (plus (minus (b i) p) q)
+-- what the holders have after a call
+abbrev pub after_move : (ℕ → Hold) → Move → ℕ → Hold
+after_move b (Moves i j p) = put (put b i (minus (b i) p)) j (plus (b j) p)
+after_move b (Trades i p q) = put b i (plus (minus (b i) p) q)
 
--- the conditions of a call, at the first n places, but for those on memory and on sums
+-- the conditions of a call, at the first n holders, but for those on memory and on sums
 abbrev pub CanMake : ℕ → (ℕ → Hold) → Move → Type 0
 CanMake n b (Moves i j p) = (i < n) × (j < n) × (i ≢ j) × IsOrdered p × (first_short (b i) p ≡ None) × AreApart (b j) (hold_of p)
 CanMake n b (Trades i p q) = (i < n) × IsOrdered p × IsOrdered q × (first_short (b i) p ≡ None) × AreApart (minus (b i) p) (hold_of q)
 
-abbrev pub after_all : (ℕ → Hold) → List Move → ℕ → Hold
-after_all b [] = b
-after_all b (m ∷ ms) = after_all (after b m) ms
+abbrev pub after_moves : (ℕ → Hold) → List Move → ℕ → Hold
+after_moves b [] = b
+after_moves b (m ∷ ms) = after_moves (after_move b m) ms
 
 abbrev pub CanMakeAll : ℕ → (ℕ → Hold) → List Move → Type 0
 CanMakeAll n b [] = Unit {0}
-CanMakeAll n b (m ∷ ms) = CanMake n b m × CanMakeAll n (after b m) ms
+CanMakeAll n b (m ∷ ms) = CanMake n b m × CanMakeAll n (after_move b m) ms
 
 -- ---- how much there is of a right
 
--- at all places
+-- with all holders
 abbrev pub total : ℕ → (ℕ → Hold) → Right → ℕ
 total n b r = sum_below n (λ i. count (b i) r)
 
@@ -55,9 +55,9 @@ gained (Trades i p q ∷ ms) r = count (hold_of q) r + gained ms r
 
 -- pool and grants add up to what there was, changed by what trades gave up and got
 abbrev pub RightsAddUp : Type 0
-RightsAddUp = (n : ℕ) (b : ℕ → Hold) (ms : List Move) → CanMakeAll n b ms → (r : Right) → total n (after_all b ms) r + given_up ms r ≡ total n b r + gained ms r
+RightsAddUp = (n : ℕ) (b : ℕ → Hold) (ms : List Move) → CanMakeAll n b ms → (r : Right) → total n (after_moves b ms) r + given_up ms r ≡ total n b r + gained ms r
 
--- ---- how many places have a right to a cell, or a crown
+-- ---- how many holders have a right to a cell, or a crown
 
 abbrev pub cell_holders : ℕ → (ℕ → Hold) → ℕ → ℕ → ℕ
 cell_holders n b s v = sum_below n (λ i. bit (is_some ((b i).cells s v)))
@@ -65,8 +65,8 @@ cell_holders n b s v = sum_below n (λ i. bit (is_some ((b i).cells s v)))
 abbrev pub crown_holders : ℕ → (ℕ → Hold) → ℕ → ℕ
 crown_holders n b s = sum_below n (λ i. bit (is_some ((b i).crowns s)))
 
--- no cell right and no crown is at two places
-pub record IsAtOnePlace (n : ℕ) (b : ℕ → Hold) : Type 0 where
+-- no cell right and no crown is with two holders
+pub record HasOneHolder (n : ℕ) (b : ℕ → Hold) : Type 0 where
   pub cells : (s v : ℕ) → cell_holders n b s v ≤ 1
   pub crowns : (s : ℕ) → crown_holders n b s ≤ 1
 
@@ -78,9 +78,9 @@ pub record IsFresh (n : ℕ) (b : ℕ → Hold) (out got : Rights) : Type 0 wher
 -- each trade brings rights that are nowhere else
 abbrev pub AllFresh : ℕ → (ℕ → Hold) → List Move → Type 0
 AllFresh n b [] = Unit {0}
-AllFresh n b (Moves i j p ∷ ms) = AllFresh n (after b (Moves i j p)) ms
-AllFresh n b (Trades i p q ∷ ms) = IsFresh n b p q × AllFresh n (after b (Trades i p q)) ms
+AllFresh n b (Moves i j p ∷ ms) = AllFresh n (after_move b (Moves i j p)) ms
+AllFresh n b (Trades i p q ∷ ms) = IsFresh n b p q × AllFresh n (after_move b (Trades i p q)) ms
 
--- a cell right or a crown stays at one place
-abbrev pub RightsStayAtOnePlace : Type 0
-RightsStayAtOnePlace = (n : ℕ) (b : ℕ → Hold) (ms : List Move) → CanMakeAll n b ms → AllFresh n b ms → IsAtOnePlace n b → IsAtOnePlace n (after_all b ms)
+-- a cell right or a crown stays with one holder
+abbrev pub RightsKeepOneHolder : Type 0
+RightsKeepOneHolder = (n : ℕ) (b : ℕ → Hold) (ms : List Move) → CanMakeAll n b ms → AllFresh n b ms → HasOneHolder n b → HasOneHolder n (after_moves b ms)

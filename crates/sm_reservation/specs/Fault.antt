@@ -5,6 +5,6 @@ use Rattle.sm_reservation.specs.declared.parcel.ParcelFault.{ParcelFault}
 use Rattle.sm_reservation.specs.declared.parcel.ParcelFault.TheVariants.{NoMemory, Double}
 
 -- memory was short, or a key stands twice, and it is the lowest
-abbrev pub IsFaultOf : Rights → ParcelFault → Type 0
-IsFaultOf r NoMemory = Unit {0}
-IsFaultOf r (Double k) = IsLowestDouble r k
+abbrev pub IsParcelFault : Rights → ParcelFault → Type 0
+IsParcelFault r NoMemory = Unit {0}
+IsParcelFault r (Double k) = IsLowestDouble r k

@@ -7,11 +7,11 @@ use Rattle.sm_reservation.specs.declared.right.Crown.{Crown}
 use Rattle.sm_reservation.specs.Rights.{Rights}
 use Rattle.sm_reservation.specs.Hold.{Hold}
 use Rattle.sm_reservation.specs.Rows.{row_at, amount_at}
-use Rattle.sm_reservation.specs.Key.{cell_place, crown_place, room_place, spare_place}
+use Rattle.sm_reservation.specs.Key.{key_of_cell, key_of_crown, key_of_room, key_of_spare}
 
-abbrev pub state_of : Option CellRight → Option PlainCell
-state_of None = None
-state_of (Some x) = Some x.state
+abbrev pub plain_state_of : Option CellRight → Option PlainCell
+plain_state_of None = None
+plain_state_of (Some x) = Some x.state
 
 abbrev pub crown_of : Option Crown → Option (Lead × Option ℕ)
 crown_of None = None
@@ -20,8 +20,8 @@ crown_of (Some x) = Some (x.lead, x.listed)
 -- the hold that four lists in order are
 unfoldable pub hold_of : Rights → Hold
 hold_of r = record {
-  cells = λ s v. state_of (row_at cell_place r.cells (s, v));
-  crowns = λ s. crown_of (row_at crown_place r.crowns (s, 0));
-  room = λ v. amount_at room_place (λ x. x.amount) r.room (v, 0);
-  spare = λ s. amount_at spare_place (λ x. x.amount) r.spare (s, 0);
+  cells = λ s v. plain_state_of (row_at key_of_cell r.cells (s, v));
+  crowns = λ s. crown_of (row_at key_of_crown r.crowns (s, 0));
+  room = λ v. amount_at key_of_room (λ x. x.amount) r.room (v, 0);
+  spare = λ s. amount_at key_of_spare (λ x. x.amount) r.spare (s, 0);
 }

@@ -1,4 +1,4 @@
--- Keys of rights: their places in the lists, their order, and how often a key stands.
+-- Keys of rights: their keys in the lists, their order, and how often a key stands.
 use Rattle.std.specs.Prelude.{◌≡◌, ℕ, ◌≤◌, ◌<◌, ◌^◌, Bool, true, false, nat_lt, count_by, filter, Contains, List, Option}
 use Rattle.std.specs.List.Sorted.{IsPermutation}
 use Rattle.std.specs.List.{AllByRecursion}
@@ -12,17 +12,17 @@ use Rattle.sm_reservation.specs.declared.right.Key.TheVariants as key
 use Rattle.sm_reservation.specs.Rights.{Rights}
 use Rattle.sm_reservation.specs.Rows.{same, before, Rises, Climbs, HasPositive, first_twin}
 
-abbrev pub cell_place : CellRight → ℕ × ℕ
-cell_place x = (x.shard, x.server)
+abbrev pub key_of_cell : CellRight → ℕ × ℕ
+key_of_cell x = (x.shard, x.server)
 
-abbrev pub crown_place : Crown → ℕ × ℕ
-crown_place x = (x.shard, 0)
+abbrev pub key_of_crown : Crown → ℕ × ℕ
+key_of_crown x = (x.shard, 0)
 
-abbrev pub room_place : Room → ℕ × ℕ
-room_place x = (x.server, 0)
+abbrev pub key_of_room : Room → ℕ × ℕ
+key_of_room x = (x.server, 0)
 
-abbrev pub spare_place : Spare → ℕ × ℕ
-spare_place x = (x.shard, 0)
+abbrev pub key_of_spare : Spare → ℕ × ℕ
+key_of_spare x = (x.shard, 0)
 
 -- keys go by their kind, then by shard, then by server
 abbrev pub key_before : Key → Key → Bool
@@ -39,10 +39,10 @@ key_before (key.Spare s) _ = false
 
 -- how often a key stands in the four lists
 abbrev pub key_count : Rights → Key → ℕ
-key_count r (key.CellRight s v) = count_by (λ x. same (cell_place x) (s, v)) r.cells
-key_count r (key.Crown s) = count_by (λ x. same (crown_place x) (s, 0)) r.crowns
-key_count r (key.Room v) = count_by (λ x. same (room_place x) (v, 0)) r.room
-key_count r (key.Spare s) = count_by (λ x. same (spare_place x) (s, 0)) r.spare
+key_count r (key.CellRight s v) = count_by (λ x. same (key_of_cell x) (s, v)) r.cells
+key_count r (key.Crown s) = count_by (λ x. same (key_of_crown x) (s, 0)) r.crowns
+key_count r (key.Room v) = count_by (λ x. same (key_of_room x) (v, 0)) r.room
+key_count r (key.Spare s) = count_by (λ x. same (key_of_spare x) (s, 0)) r.spare
 
 -- no key stands twice
 abbrev pub IsOnce : Rights → Type 0
@@ -59,10 +59,10 @@ lists cells crowns room spare = record { cells = cells; crowns = crowns; room = 
 
 -- each list rises by its keys
 pub record IsOrdered (r : Rights) : Type 0 where
-  pub cells : Rises cell_place r.cells
-  pub crowns : Rises crown_place r.crowns
-  pub room : Rises room_place r.room
-  pub spare : Rises spare_place r.spare
+  pub cells : Rises key_of_cell r.cells
+  pub crowns : Rises key_of_crown r.crowns
+  pub room : Rises key_of_room r.room
+  pub spare : Rises key_of_spare r.spare
 
 -- no amount is 0
 pub record IsPositive (r : Rights) : Type 0 where
@@ -91,10 +91,10 @@ pub record IsInOrder (r s : Rights) : Type 0 where
   pub crowns : IsPermutation r.crowns s.crowns
   pub room : IsPermutation r.room s.room
   pub spare : IsPermutation r.spare s.spare
-  pub cells_climb : Climbs cell_place s.cells
-  pub crowns_climb : Climbs crown_place s.crowns
-  pub room_climb : Climbs room_place s.room
-  pub spare_climb : Climbs spare_place s.spare
+  pub cells_climb : Climbs key_of_cell s.cells
+  pub crowns_climb : Climbs key_of_crown s.crowns
+  pub room_climb : Climbs key_of_room s.room
+  pub spare_climb : Climbs key_of_spare s.spare
 
 -- the lowest key of two neighbours, where each list is in order
 abbrev pub first_double : Rights → Option Key
@@ -102,7 +102,7 @@ first_double r =
     option_or
     (option_or
     (option_or
-    (option_map (λ p. key.CellRight p.0 p.1) (first_twin cell_place r.cells))
-    (option_map (λ p. key.Crown p.0) (first_twin crown_place r.crowns)))
-    (option_map (λ p. key.Room p.0) (first_twin room_place r.room)))
-    (option_map (λ p. key.Spare p.0) (first_twin spare_place r.spare))
+    (option_map (λ p. key.CellRight p.0 p.1) (first_twin key_of_cell r.cells))
+    (option_map (λ p. key.Crown p.0) (first_twin key_of_crown r.crowns)))
+    (option_map (λ p. key.Room p.0) (first_twin key_of_room r.room)))
+    (option_map (λ p. key.Spare p.0) (first_twin key_of_spare r.spare))

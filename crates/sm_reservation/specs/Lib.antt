@@ -10,12 +10,15 @@ pub mod Parcel
 pub mod Fault
 pub mod HoldOf
 pub mod CanJoin
+pub mod Covers
+pub mod Edits
 pub mod Steps
 pub mod Turns
-pub mod Kept
+pub mod Capacity
 pub mod HoldView
 pub mod Short
 pub mod Pool
 pub mod Change
 pub mod Conservation
 pub mod TakeFault
+pub mod Laws

@@ -1,6 +1,8 @@
 -- A pool: the rights that no grant has, by key.
-use Rattle.std.specs.Prelude.{◌≡◌, ◌≤◌, ◌<◌, ◌-◌, ◌*◌, ◌&&◌, ℕ, List, length, Option, Some, None, nat_lt, ◌==◌, if◌then◌else◌}
+use Rattle.std.specs.Prelude.{◌≡◌, ◌≤◌, ◌<◌, ◌-◌, ◌*◌, ◌&&◌, ℕ, List, length, Option, Some, None, nat_lt, ◌==◌, unwrap_or, if◌then◌else◌}
+use Rattle.std.specs.Option.{option_map}
 use Rattle.sm_placement.specs.declared.lead.Lead.{Lead}
+use Rattle.sm_placement.specs.declared.lead.Lead.TheVariants.{Gone}
 use Rattle.sm_placement.specs.Sums.{bit}
 use Rattle.sm_placement.specs.Setup.{Sizes}
 use Rattle.sm_placement.specs.Place.{Place, load_at, live_at}
@@ -10,7 +12,7 @@ use Rattle.sm_reservation.specs.declared.right.PlainCell.{PlainCell}
 use Rattle.sm_reservation.specs.Hold.{Hold}
 use Rattle.sm_reservation.specs.Amounts.{Right, OfCell, OfCrown, OfRoom, OfSpare, plain_of}
 
-pub record Stock : Type 0 where
+pub record PoolModel : Type 0 where
   -- how many shards and servers there are
   pub shards : ℕ
   pub servers : ℕ
@@ -21,24 +23,24 @@ pub record Stock : Type 0 where
   pub spare : List ℕ
 
 -- each list has an entry for each pair, shard or server
-pub record IsStocked (k : Stock) : Type 0 where
+pub record IsStocked (k : PoolModel) : Type 0 where
   pub cells : length k.cells ≡ k.shards * k.servers
   pub crowns : length k.crowns ≡ k.shards
   pub room : length k.room ≡ k.servers
   pub spare : length k.spare ≡ k.shards
 
 -- two pools are of the same shards and servers
-pub record SameSize (a b : Stock) : Type 0 where
+pub record SameSize (a b : PoolModel) : Type 0 where
   pub shards : b.shards ≡ a.shards
   pub servers : b.servers ≡ a.servers
 
 -- the pool is of a configuration's shards and servers
-pub record HasSize (c : Sizes) (k : Stock) : Type 0 where
+pub record HasSize (c : Sizes) (k : PoolModel) : Type 0 where
   pub shards : k.shards ≡ c.shards
   pub servers : k.servers ≡ c.servers
 
 -- the rights that the lists stand for
-unfoldable pub pool_hold : Stock → Hold
+unfoldable pub pool_hold : PoolModel → Hold
 pool_hold k = record {
   cells = grid_of k.servers None k.cells;
   crowns = entries_of None k.crowns;
@@ -47,19 +49,23 @@ pool_hold k = record {
 }
 
 -- all rights are of known shards and servers: those below these numbers
-pub record IsBelow (shards servers : ℕ) (h : Hold) : Type 0 where
+pub record IsKnownHold (shards servers : ℕ) (h : Hold) : Type 0 where
   pub no_shard : (s v : ℕ) → shards ≤ s → h.cells s v ≡ None
   pub no_server : (s v : ℕ) → servers ≤ v → h.cells s v ≡ None
   pub crowns : (s : ℕ) → shards ≤ s → h.crowns s ≡ None
   pub room : (v : ℕ) → servers ≤ v → h.room v ≡ 0
   pub spare : (s : ℕ) → shards ≤ s → h.spare s ≡ 0
 
--- All rights true of a placement: a right to each cell that has no part in its shard's lead, each crown, the room
--- that is free, and the live replicas above the floor.
+-- the lead of each shard, and none under way or at a server where no lead describes its cells
+abbrev pub leads_of : Sizes → Place → ℕ → Lead
+leads_of c p s = unwrap_or (lead_of c.servers (p.cells s)) Gone
+
+-- All rights true of a placement: a right to each cell that has no part in its shard's lead, the crown of each shard
+-- whose cells a lead describes, the room that is free, and the live replicas above the floor.
 abbrev pub true_rights : Sizes → Place → Hold
 true_rights c p = record {
   cells = λ s v. if nat_lt s c.shards && nat_lt v c.servers then plain_of (p.cells s v) else None;
-  crowns = λ s. if nat_lt s c.shards then Some (lead_of c.servers (p.cells s), p.listed s) else None;
+  crowns = λ s. if nat_lt s c.shards then option_map (λ lead. (lead, p.listed s)) (lead_of c.servers (p.cells s)) else None;
   room = λ v. if nat_lt v c.servers then c.room v - load_at c p v else 0;
   spare = λ s. if nat_lt s c.shards then live_at c p s - c.floor s else 0;
 }

@@ -1,73 +1,135 @@
 //! Whether a parcel can be put into a hold.
-ghost use Rattle.std.specs.Prelude.{◌≡◌, ◌↔◌, ◌+◌, ◌<◌, ◌^◌, IsTrue, nat_lt, count_by};
+ghost use Rattle.std.specs.Prelude.{◌≡◌, ◌↔◌, ◌+◌, ◌<◌, ◌^◌, ◌&&◌, IsTrue, nat_lt, count_by};
 ghost use Rattle.std.specs.List.{list_all};
 ghost use Rattle.sm_reservation.specs.HoldOf.{hold_of};
 ghost use Rattle.sm_reservation.specs.CanJoin.{CanJoin};
-ghost use Rattle.sm_reservation.specs.Kept.{HasPlaces};
+ghost use Rattle.sm_reservation.specs.Capacity.{HasCapacity};
+ghost use Rattle.sm_reservation.specs.Key.{IsOrdered, lists};
+ghost use Rattle.sm_reservation.specs.Pool.{IsKnownHold};
 ghost use Rattle.sm_reservation.specs.Turns.{lacks_cell, lacks_crown, lacks_room, lacks_spare};
 
 use crate::hold::Hold;
 use crate::parcel::Parcel;
 use crate::right::{CellRight, Crown, Room, Spare};
+use crate::short::ByKey;
 
-/// Whether a parcel can be put beside what a hold has.
-pub fn can_join(hold: &Hold, parcel: &Parcel) -> bool
-    ensures { IsTrue result ↔ CanJoin (hold_of hold.now.rights) (hold_of parcel.now) }
+/// Whether rights of the four kinds can be put beside what is held.
+pub(crate) fn can_join<H: ByKey>(
+    held: &H,
+    cells: &[CellRight],
+    crowns: &[Crown],
+    rooms: &[Room],
+    spares: &[Spare],
+) -> bool
+    requires { IsOrdered (lists cells.now crowns.now rooms.now spares.now) }
+    ensures { IsTrue result ↔ CanJoin (H.hold held.now) (hold_of (lists cells.now crowns.now rooms.now spares.now)) }
 {
-    let cells = parcel.cells();
-    let crowns = parcel.crowns();
-    let rooms = parcel.room();
-    let spares = parcel.spare();
-    // Their amounts are known to be u64.
-    let _rooms = hold.rooms();
-    let _spares = hold.spares();
-    if !lacks_cells(hold, cells) {
+    held.amounts_fit();
+    if !lacks_cells(held, cells) {
         return false;
     }
-    if !lacks_crowns(hold, crowns) {
+    if !lacks_crowns(held, crowns) {
         return false;
     }
-    if !adds_rooms(hold, rooms) {
+    if !adds_rooms(held, rooms) {
         return false;
     }
-    adds_spares(hold, spares)
+    adds_spares(held, spares)
 }
 
-fn lacks_cells(hold: &Hold, rights: &[CellRight]) -> bool
-    ensures { result ≡ list_all (lacks_cell (hold_of hold.now.rights)) rights.now }
+fn lacks_cells<H: ByKey>(held: &H, rights: &[CellRight]) -> bool
+    ensures { result ≡ list_all (lacks_cell (H.hold held.now)) rights.now }
 {
     rights
         .iter()
-        .all(|right| hold.cell(right.shard, right.server).is_none())
+        .all(|right| held.cell_of(right.shard, right.server).is_none())
 }
 
-fn lacks_crowns(hold: &Hold, crowns: &[Crown]) -> bool
-    ensures { result ≡ list_all (lacks_crown (hold_of hold.now.rights)) crowns.now }
+fn lacks_crowns<H: ByKey>(held: &H, crowns: &[Crown]) -> bool
+    ensures { result ≡ list_all (lacks_crown (H.hold held.now)) crowns.now }
 {
-    crowns.iter().all(|crown| hold.crown(crown.shard).is_none())
+    crowns
+        .iter()
+        .all(|crown| held.crown_of(crown.shard).is_none())
 }
 
-fn adds_rooms(hold: &Hold, rooms: &[Room]) -> bool
-    ensures { result ≡ list_all (λ x. nat_lt ((hold_of hold.now.rights).room x.server + x.amount) (2 ^ 64)) rooms.now }
+fn adds_rooms<H: ByKey>(held: &H, rooms: &[Room]) -> bool
+    ensures { result ≡ list_all (λ x. nat_lt ((H.hold held.now).room x.server + x.amount) (2 ^ 64)) rooms.now }
 {
-    rooms.iter().all(|room| hold.room(room.server).checked_add(room.amount).is_some())
+    rooms.iter().all(|room| held.room_of(room.server).checked_add(room.amount).is_some())
 }
 
-fn adds_spares(hold: &Hold, spares: &[Spare]) -> bool
-    ensures { result ≡ list_all (λ x. nat_lt ((hold_of hold.now.rights).spare x.shard + x.amount) (2 ^ 64)) spares.now }
+fn adds_spares<H: ByKey>(held: &H, spares: &[Spare]) -> bool
+    ensures { result ≡ list_all (λ x. nat_lt ((H.hold held.now).spare x.shard + x.amount) (2 ^ 64)) spares.now }
 {
-    spares.iter().all(|spare| hold.spare(spare.shard).checked_add(spare.amount).is_some())
+    spares.iter().all(|spare| held
+        .spare_of(spare.shard)
+        .checked_add(spare.amount)
+        .is_some())
+}
+
+/// Whether all rights of a hold are of known shards and servers: those below these numbers.
+pub fn is_known_hold(hold: &Hold, shards: usize, servers: usize) -> bool
+    ensures { IsTrue result ↔ IsKnownHold shards servers (hold_of hold.now.rights) }
+{
+    hold.rights_in_order();
+    let cells = hold.cells();
+    let crowns = hold.crowns();
+    let rooms = hold.rooms();
+    let spares = hold.spares();
+    if !knows_cells(cells, shards, servers) {
+        return false;
+    }
+    if !knows_crowns(crowns, shards) {
+        return false;
+    }
+    if !knows_rooms(rooms, servers) {
+        return false;
+    }
+    knows_spares(spares, shards)
+}
+
+fn knows_cells(rights: &[CellRight], shards: usize, servers: usize) -> bool
+    ensures { result ≡ list_all (λ x. nat_lt x.shard shards && nat_lt x.server servers) rights.now }
+{
+    rights.iter().all(|right| {
+        (right.shard.number() as usize) < shards && (right.server.number() as usize) < servers
+    })
+}
+
+fn knows_crowns(crowns: &[Crown], shards: usize) -> bool
+    ensures { result ≡ list_all (λ x. nat_lt x.shard shards) crowns.now }
+{
+    crowns
+        .iter()
+        .all(|crown| (crown.shard.number() as usize) < shards)
+}
+
+fn knows_rooms(rooms: &[Room], servers: usize) -> bool
+    ensures { result ≡ list_all (λ x. nat_lt x.server servers) rooms.now }
+{
+    rooms
+        .iter()
+        .all(|room| (room.server.number() as usize) < servers)
+}
+
+fn knows_spares(spares: &[Spare], shards: usize) -> bool
+    ensures { result ≡ list_all (λ x. nat_lt x.shard shards) spares.now }
+{
+    spares
+        .iter()
+        .all(|spare| (spare.shard.number() as usize) < shards)
 }
 
 /// Whether a hold has room for the keys of a parcel that are new in it.
-pub fn has_places(hold: &Hold, parcel: &Parcel) -> bool
-    ensures { IsTrue result ↔ HasPlaces hold.now parcel.now }
+pub fn has_capacity(hold: &Hold, parcel: &Parcel) -> bool
+    ensures { IsTrue result ↔ HasCapacity hold.now parcel.now }
 {
-    let places = hold.places();
-    new_cells(hold, parcel.cells()) <= places - hold.cells().len()
-        && new_crowns(hold, parcel.crowns()) <= places - hold.crowns().len()
-        && new_rooms(hold, parcel.room()) <= places - hold.rooms().len()
-        && new_spares(hold, parcel.spare()) <= places - hold.spares().len()
+    let capacity = hold.capacity();
+    new_cells(hold, parcel.cells()) <= capacity - hold.cells().len()
+        && new_crowns(hold, parcel.crowns()) <= capacity - hold.crowns().len()
+        && new_rooms(hold, parcel.room()) <= capacity - hold.rooms().len()
+        && new_spares(hold, parcel.spare()) <= capacity - hold.spares().len()
 }
 
 fn new_cells(hold: &Hold, rights: &[CellRight]) -> usize

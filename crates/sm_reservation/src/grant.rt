@@ -1,20 +1,21 @@
 //! Grants: rights that must be spent.
-ghost use Rattle.std.specs.Prelude.{◌≡◌, ◌+◌, None, Some, max, IfOk, OnOk, IfErr, OnErr};
+ghost use Rattle.std.specs.Prelude.{◌≡◌, ◌↔◌, ◌+◌, IsTrue, ℕ, None, Some, max, IfOk, OnOk, IfErr, OnErr};
 ghost use Rattle.sm_reservation.specs.Rights.{no_rights};
 ghost use Rattle.sm_reservation.specs.Hold.{minus, plus};
 ghost use Rattle.sm_reservation.specs.HoldOf.{hold_of};
 ghost use Rattle.sm_reservation.specs.Amounts.{Right, count};
-ghost use Rattle.sm_reservation.specs.Kept.{IsLess, IsMore, IsTraded, HasPlaces, HasPlacesAfter};
-ghost use Rattle.sm_reservation.specs.Key.{IsOrdered, lists};
+ghost use Rattle.sm_reservation.specs.Capacity.{IsLess, IsMore, IsTraded, HasCapacity, HasCapacityAfter, IsWithin, key_counts};
+ghost use Rattle.sm_reservation.specs.Key.{IsOrdered, IsPositive, AreU64};
 ghost use Rattle.sm_reservation.specs.CanJoin.{CanJoin};
 ghost use Rattle.sm_reservation.specs.Short.{first_short};
 ghost use Rattle.sm_reservation.specs.Change.{portion_rights};
+ghost use Rattle.sm_reservation.specs.Pool.{IsKnownHold};
 
-use crate::change::{Change, Portion};
+use crate::change::Change;
 use crate::hold::Hold;
-use crate::moves::{put_rights, take_rights};
 use crate::parcel::Parcel;
-use crate::right::{CellRight, Crown, PlainCell, Room, Short, Spare};
+use crate::right::{PlainCell, Short};
+use crate::trades::{join_parcel, join_rights};
 use sm_placement::Lead;
 use sm_server::{ServerId, ShardId};
 use std::alloc::{AllocError, Global};
@@ -29,20 +30,20 @@ pub struct Grant {
 }
 
 impl Model for Grant {
-    ghost use Rattle.sm_reservation.specs.Kept.{Kept};
+    ghost use Rattle.sm_reservation.specs.Capacity.{HoldModel};
 
-    ghost Value = { Kept };
+    ghost Value = { HoldModel };
 
     ghost view = { λ grant. grant.hold };
 }
 
 impl Grant {
-    /// No rights, with room for `room` keys in each list.
-    pub fn empty(alloc: Global, room: u32) -> Result<Grant, AllocError>
-        ensures { IfOk result (λ grant. grant ≡ record { rights = no_rights; places = room }) }
+    /// No rights, with a capacity of so many keys in each list.
+    pub fn empty(alloc: Global, capacity: u32) -> Result<Grant, AllocError>
+        ensures { IfOk result (λ grant. grant ≡ record { rights = no_rights; capacity = capacity }) }
     {
         Ok(Grant {
-            hold: Hold::empty(alloc, room)?,
+            hold: Hold::empty(alloc, capacity)?,
         })
     }
 
@@ -61,6 +62,43 @@ impl Grant {
         hold
     }
 
+    /// Whether the grant holds nothing.
+    pub fn is_empty(&self) -> bool
+        ensures { IsTrue result ↔ (self.now.rights ≡ no_rights) }
+    {
+        self.hold.is_empty()
+    }
+
+    /// Ends a grant that holds nothing. Takes no memory.
+    pub fn discard(self)
+        requires { self.rights ≡ no_rights }
+    {
+        let _ = self.into_hold();
+    }
+
+    /// Ends a grant if it holds nothing. One that holds something comes back.
+    pub fn try_discard(self) -> Result<(), Grant>
+        ensures ok { OnOk result (self.rights ≡ no_rights) }
+        ensures held { OnErr result (self.rights ≡ no_rights → ⊥) }
+        ensures back { IfErr result (λ grant. grant ≡ self) }
+    {
+        if !self.is_empty() {
+            return Err(self);
+        }
+        self.discard();
+        Ok(())
+    }
+
+    /// A law: the lists are in order, no amount is 0 or above what a u64 holds, and no list is longer than its room.
+    pub fn rights_in_order(&self)
+        ensures order { IsOrdered self.now.rights }
+        ensures positive { IsPositive self.now.rights }
+        ensures bounded { AreU64 self.now.rights }
+        ensures within { IsWithin (key_counts self.now.rights) self.now.capacity }
+    {
+        self.hold.rights_in_order();
+    }
+
     /// The rights, to be read.
     pub fn hold(&self) -> &Hold
         ensures { result.now ≡ self.now }
@@ -68,13 +106,13 @@ impl Grant {
         &self.hold
     }
 
-    /// Raises the room to `room` keys in each list, where it is less.
-    pub fn reserve(&mut self, room: u32) -> Result<(), AllocError>
+    /// Raises the capacity to so many keys in each list, where it is less.
+    pub fn reserve(&mut self, capacity: u32) -> Result<(), AllocError>
         ensures rights { self.new.rights ≡ self.old.rights }
-        ensures ok { OnOk result (self.new.places ≡ max self.old.places room) }
-        ensures err { OnErr result (self.new.places ≡ self.old.places) }
+        ensures ok { OnOk result (self.new.capacity ≡ max self.old.capacity capacity) }
+        ensures err { OnErr result (self.new.capacity ≡ self.old.capacity) }
     {
-        self.hold.reserve(room)
+        self.hold.reserve(capacity)
     }
 
     /// The state of a cell to which there is a right.
@@ -109,7 +147,7 @@ impl Grant {
     ///
     /// Where there is too little of a key the first such key comes back, and neither grant changes.
     pub fn split(&mut self, into: &mut Grant, parcel: &Parcel) -> Result<(), Short>
-        requires room { HasPlaces into.old parcel.now }
+        requires capacity { HasCapacity into.old parcel.now }
         requires fits { CanJoin (hold_of into.old.rights) (hold_of parcel.now) }
         ensures short { IfErr result (λ short. first_short (hold_of self.old.rights) parcel.now ≡ Some short) }
         ensures err { OnErr result ((self.new ≡ self.old) × (into.new ≡ into.old)) }
@@ -119,6 +157,7 @@ impl Grant {
         ensures kept { OnOk result ((r : Right) → count (hold_of self.new.rights) r + count (hold_of into.new.rights) r ≡ count (hold_of self.old.rights) r + count (hold_of into.old.rights) r) }
         ensures less { OnOk result (IsLess self.old self.new parcel.now) }
         ensures more { OnOk result (IsMore into.old into.new parcel.now) }
+        ensures below { OnOk result ((shards servers : ℕ) → IsKnownHold shards servers (hold_of self.old.rights) → IsKnownHold shards servers (hold_of parcel.now)) }
     {
         if let Some(short) = self.hold.first_short(parcel) {
             return Err(short);
@@ -130,7 +169,7 @@ impl Grant {
 
     /// Takes all rights of another grant in.
     pub fn join(&mut self, grant: Grant)
-        requires room { HasPlaces self.old grant.rights }
+        requires capacity { HasCapacity self.old grant.rights }
         requires fits { CanJoin (hold_of self.old.rights) (hold_of grant.rights) }
         ensures rights { hold_of self.new.rights ≡ plus (hold_of self.old.rights) grant.rights }
         ensures kept { (r : Right) → count (hold_of self.new.rights) r ≡ count (hold_of self.old.rights) r + count (hold_of grant.rights) r }
@@ -148,7 +187,7 @@ impl Grant {
 
     /// Puts in a parcel's rights, which come out of a pool.
     pub(crate) fn put(&mut self, parcel: &Parcel)
-        requires room { HasPlaces self.old parcel.now }
+        requires capacity { HasCapacity self.old parcel.now }
         requires fits { CanJoin (hold_of self.old.rights) (hold_of parcel.now) }
         ensures rights { hold_of self.new.rights ≡ plus (hold_of self.old.rights) parcel.now }
         ensures sums { (r : Right) → count (hold_of self.new.rights) r ≡ count (hold_of self.old.rights) r + count (hold_of parcel.now) r }
@@ -161,7 +200,7 @@ impl Grant {
     pub fn trade(&mut self, out: &Parcel, got: &Parcel)
         requires held { first_short (hold_of self.old.rights) out.now ≡ None }
         requires fits { CanJoin (minus (hold_of self.old.rights) out.now) (hold_of got.now) }
-        requires room { HasPlacesAfter self.old out.now got.now }
+        requires capacity { HasCapacityAfter self.old out.now got.now }
         ensures rights { hold_of self.new.rights ≡ plus (minus (hold_of self.old.rights) out.now) got.now }
         ensures changed { (r : Right) → count (hold_of self.new.rights) r + count (hold_of out.now) r ≡ count (hold_of self.old.rights) r + count (hold_of got.now) r }
         ensures sizes { IsTraded self.old self.new out.now got.now }
@@ -174,76 +213,11 @@ impl Grant {
     pub fn exchange(&mut self, change: &Change)
         requires held { first_short (hold_of self.old.rights) (portion_rights change.now.out) ≡ None }
         requires fits { CanJoin (minus (hold_of self.old.rights) (portion_rights change.now.out)) (hold_of (portion_rights change.now.got)) }
-        requires room { HasPlacesAfter self.old (portion_rights change.now.out) (portion_rights change.now.got) }
+        requires capacity { HasCapacityAfter self.old (portion_rights change.now.out) (portion_rights change.now.got) }
         ensures rights { hold_of self.new.rights ≡ plus (minus (hold_of self.old.rights) (portion_rights change.now.out)) (portion_rights change.now.got) }
         ensures changed { (r : Right) → count (hold_of self.new.rights) r + count (hold_of (portion_rights change.now.out)) r ≡ count (hold_of self.old.rights) r + count (hold_of (portion_rights change.now.got)) r }
         ensures sizes { IsTraded self.old self.new (portion_rights change.now.out) (portion_rights change.now.got) }
     {
-        take_portion(&mut self.hold, &change.out);
-        join_portion(&mut self.hold, &change.got);
+        self.hold.exchange(change);
     }
-}
-
-/// Puts rights of the four kinds in beside those that are there.
-fn join_rights(
-    hold: &mut Hold,
-    cells: &[CellRight],
-    crowns: &[Crown],
-    rooms: &[Room],
-    spares: &[Spare],
-)
-    requires order { IsOrdered (lists cells.now crowns.now rooms.now spares.now) }
-    requires room { HasPlaces hold.old (lists cells.now crowns.now rooms.now spares.now) }
-    requires fits { CanJoin (hold_of hold.old.rights) (hold_of (lists cells.now crowns.now rooms.now spares.now)) }
-    ensures rights { hold_of hold.new.rights ≡ plus (hold_of hold.old.rights) (lists cells.now crowns.now rooms.now spares.now) }
-    ensures sums { (r : Right) → count (hold_of hold.new.rights) r ≡ count (hold_of hold.old.rights) r + count (hold_of (lists cells.now crowns.now rooms.now spares.now)) r }
-    ensures more { IsMore hold.old hold.new (lists cells.now crowns.now rooms.now spares.now) }
-{
-    put_rights(hold, cells, crowns, rooms, spares);
-}
-
-/// Puts a parcel's rights in beside those that are there.
-fn join_parcel(hold: &mut Hold, parcel: &Parcel)
-    requires room { HasPlaces hold.old parcel.now }
-    requires fits { CanJoin (hold_of hold.old.rights) (hold_of parcel.now) }
-    ensures rights { hold_of hold.new.rights ≡ plus (hold_of hold.old.rights) parcel.now }
-    ensures sums { (r : Right) → count (hold_of hold.new.rights) r ≡ count (hold_of hold.old.rights) r + count (hold_of parcel.now) r }
-    ensures more { IsMore hold.old hold.new parcel.now }
-{
-    join_rights(
-        hold,
-        parcel.cells(),
-        parcel.crowns(),
-        parcel.room(),
-        parcel.spare(),
-    );
-}
-
-/// Takes a portion's rights out.
-fn take_portion(hold: &mut Hold, portion: &Portion)
-    requires held { first_short (hold_of hold.old.rights) (portion_rights portion.now) ≡ None }
-    ensures rights { hold_of hold.new.rights ≡ minus (hold_of hold.old.rights) (portion_rights portion.now) }
-    ensures sums { (r : Right) → count (hold_of hold.new.rights) r + count (hold_of (portion_rights portion.now)) r ≡ count (hold_of hold.old.rights) r }
-    ensures less { IsLess hold.old hold.new (portion_rights portion.now) }
-{
-    let cells = portion.cell.as_slice();
-    let crowns = portion.crown.as_slice();
-    let rooms = portion.room.as_slice();
-    let spares = portion.spare.as_slice();
-    take_rights(hold, cells, crowns, rooms, spares);
-}
-
-/// Puts a portion's rights in beside those that are there.
-fn join_portion(hold: &mut Hold, portion: &Portion)
-    requires room { HasPlaces hold.old (portion_rights portion.now) }
-    requires fits { CanJoin (hold_of hold.old.rights) (hold_of (portion_rights portion.now)) }
-    ensures rights { hold_of hold.new.rights ≡ plus (hold_of hold.old.rights) (portion_rights portion.now) }
-    ensures sums { (r : Right) → count (hold_of hold.new.rights) r ≡ count (hold_of hold.old.rights) r + count (hold_of (portion_rights portion.now)) r }
-    ensures more { IsMore hold.old hold.new (portion_rights portion.now) }
-{
-    let cells = portion.cell.as_slice();
-    let crowns = portion.crown.as_slice();
-    let rooms = portion.room.as_slice();
-    let spares = portion.spare.as_slice();
-    join_rights(hold, cells, crowns, rooms, spares);
 }

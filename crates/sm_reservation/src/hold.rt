@@ -5,20 +5,23 @@ ghost use Rattle.sm_placement.specs.Sums.{bit};
 ghost use Rattle.sm_reservation.specs.Rights.{no_rights};
 ghost use Rattle.std.specs.List.{AllByRecursion};
 ghost use Rattle.sm_reservation.specs.Rows.{Rises, HasPositive};
-ghost use Rattle.sm_reservation.specs.Key.{cell_place, crown_place, room_place, spare_place};
+ghost use Rattle.sm_reservation.specs.Key.{key_of_cell, key_of_crown, key_of_room, key_of_spare, IsOrdered, IsPositive, AreU64};
 ghost use Rattle.sm_reservation.specs.CanJoin.{CanJoin};
 ghost use Rattle.sm_reservation.specs.Short.{first_short};
-ghost use Rattle.sm_reservation.specs.Kept.{IsLess, IsMore, HasPlaces, most_keys, SumsFit, IsWithin, sizes};
+ghost use Rattle.sm_reservation.specs.Capacity.{IsLess, IsMore, IsTraded, HasCapacity, HasCapacityAfter, most_keys, SumsFit, IsWithin, key_counts};
 ghost use Rattle.sm_reservation.specs.Hold.{minus, plus, with_cell, with_crown, without_crown, get_room, pay_room, get_spare, pay_spare};
 ghost use Rattle.sm_reservation.specs.Amounts.{Right, count};
 ghost use Rattle.sm_reservation.specs.HoldOf.{hold_of};
+ghost use Rattle.sm_reservation.specs.Change.{portion_rights};
 
-use crate::fits::{can_join, has_places};
+use crate::change::Change;
+use crate::fits::{can_join, has_capacity};
 use crate::moves::{put_rights, take_rights};
 use crate::parcel::Parcel;
 use crate::right::{CellRight, Crown, PlainCell, Room, Short, Spare};
 use crate::rows::{Row, add_amount, copied_rows, put_row, row_at, set_row, sub_amount, take_row};
 use crate::short::first_short;
+use crate::trades::{join_portion, take_portion};
 use sm_placement::Lead;
 use sm_server::{ServerId, ShardId};
 use std::alloc::{AllocError, Global};
@@ -29,78 +32,78 @@ use std::marker::Model;
 /// A hold is a plain value: it says what is held, and nothing is held by having one.
 #[derive(Drop)]
 pub struct Hold {
-    cells: Vec<CellRight>,
-    crowns: Vec<Crown>,
-    room: Vec<Room>,
-    spare: Vec<Spare>,
-    places: usize,
+    pub(crate) cells: Vec<CellRight>,
+    pub(crate) crowns: Vec<Crown>,
+    pub(crate) room: Vec<Room>,
+    pub(crate) spare: Vec<Spare>,
+    capacity: usize,
 }
 
 impl Model for Hold {
-    ghost use Rattle.sm_reservation.specs.Kept.{Kept};
+    ghost use Rattle.sm_reservation.specs.Capacity.{HoldModel};
 
-    ghost Value = { Kept };
+    ghost Value = { HoldModel };
 
-    ghost use Rattle.sm_reservation.specs.HoldView.{kept_of, IsSound};
+    ghost use Rattle.sm_reservation.specs.HoldView.{hold_model, IsHold};
 
-    ghost view = { kept_of };
+    ghost view = { hold_model };
 
-    ghost invariant = { IsSound };
+    ghost invariant = { IsHold };
 }
 
 impl Hold {
-    /// No rights, with room for `room` keys in each list.
-    pub fn empty(alloc: Global, room: u32) -> Result<Hold, AllocError>
-        ensures { IfOk result (λ hold. hold ≡ record { rights = no_rights; places = room }) }
+    /// No rights, with a capacity of so many keys in each list.
+    pub fn empty(alloc: Global, capacity: u32) -> Result<Hold, AllocError>
+        ensures { IfOk result (λ hold. hold ≡ record { rights = no_rights; capacity = capacity }) }
     {
-        let places = room as usize;
+        let capacity = capacity as usize;
         Ok(Hold {
-            cells: Vec::with_capacity(alloc, places)?,
-            crowns: Vec::with_capacity(alloc, places)?,
-            room: Vec::with_capacity(alloc, places)?,
-            spare: Vec::with_capacity(alloc, places)?,
-            places,
+            cells: Vec::with_capacity(alloc, capacity)?,
+            crowns: Vec::with_capacity(alloc, capacity)?,
+            room: Vec::with_capacity(alloc, capacity)?,
+            spare: Vec::with_capacity(alloc, capacity)?,
+            capacity,
         })
     }
 
     /// A parcel's rights.
     pub fn of_parcel(alloc: Global, parcel: &Parcel) -> Result<Hold, AllocError>
         ensures rights { IfOk result (λ hold. hold.rights ≡ parcel.now) }
-        ensures places { IfOk result (λ hold. hold.places ≡ most_keys parcel.now) }
+        ensures capacity { IfOk result (λ hold. hold.capacity ≡ most_keys parcel.now) }
     {
         let cells = parcel.cells();
         let crowns = parcel.crowns();
         let room = parcel.room();
         let spare = parcel.spare();
-        let places = cells
+        let capacity = cells
             .len()
             .max(crowns.len())
             .max(room.len())
             .max(spare.len());
         Ok(Hold {
-            cells: copied_rows(alloc, cells, places)?,
-            crowns: copied_rows(alloc, crowns, places)?,
-            room: copied_rows(alloc, room, places)?,
-            spare: copied_rows(alloc, spare, places)?,
-            places,
+            cells: copied_rows(alloc, cells, capacity)?,
+            crowns: copied_rows(alloc, crowns, capacity)?,
+            room: copied_rows(alloc, room, capacity)?,
+            spare: copied_rows(alloc, spare, capacity)?,
+            capacity,
         })
     }
 
-    /// Raises the room to `room` keys in each list, where it is less.
-    pub fn reserve(&mut self, room: u32) -> Result<(), AllocError>
+    /// Raises the capacity to so many keys in each list, where it is less.
+    pub fn reserve(&mut self, capacity: u32) -> Result<(), AllocError>
         ensures rights { self.new.rights ≡ self.old.rights }
-        ensures ok { OnOk result (self.new.places ≡ max self.old.places room) }
-        ensures err { OnErr result (self.new.places ≡ self.old.places) }
+        ensures ok { OnOk result (self.new.capacity ≡ max self.old.capacity capacity) }
+        ensures err { OnErr result (self.new.capacity ≡ self.old.capacity) }
     {
-        let places = room as usize;
-        if places <= self.places {
+        let capacity = capacity as usize;
+        if capacity <= self.capacity {
             return Ok(());
         }
-        self.cells.reserve(places - self.cells.len())?;
-        self.crowns.reserve(places - self.crowns.len())?;
-        self.room.reserve(places - self.room.len())?;
-        self.spare.reserve(places - self.spare.len())?;
-        self.places = places;
+        self.cells.reserve(capacity - self.cells.len())?;
+        self.crowns.reserve(capacity - self.crowns.len())?;
+        self.room.reserve(capacity - self.room.len())?;
+        self.spare.reserve(capacity - self.spare.len())?;
+        self.capacity = capacity;
         Ok(())
     }
 
@@ -138,20 +141,20 @@ impl Hold {
         ensures len { length self.new.rights.cells + bit (is_some ((hold_of self.old.rights).cells shard server)) ≡ length self.old.rights.cells }
         ensures others { self.new ≡ record self.old { rights = record self.old.rights { cells = self.new.rights.cells } } }
     {
-        let place = (shard.number(), server.number());
-        if row_at(&self.cells, place).is_some() {
-            let _ = take_row(&mut self.cells, place);
+        let key = (shard.number(), server.number());
+        if row_at(&self.cells, key).is_some() {
+            let _ = take_row(&mut self.cells, key);
         }
     }
 
     /// Puts the right to a cell in, in place of one to that cell in another state.
     pub fn put_cell(&mut self, right: CellRight)
-        requires room { (hold_of self.old.rights).cells right.shard right.server ≡ None → length self.old.rights.cells < self.old.places }
+        requires capacity { (hold_of self.old.rights).cells right.shard right.server ≡ None → length self.old.rights.cells < self.old.capacity }
         ensures rights { hold_of self.new.rights ≡ with_cell (hold_of self.old.rights) right.shard right.server (Some right.state) }
         ensures len { length self.new.rights.cells ≡ length self.old.rights.cells + bit (is_none ((hold_of self.old.rights).cells right.shard right.server)) }
         ensures others { self.new ≡ record self.old { rights = record self.old.rights { cells = self.new.rights.cells } } }
     {
-        if row_at(&self.cells, right.place()).is_some() {
+        if row_at(&self.cells, right.key()).is_some() {
             set_row(&mut self.cells, right);
         } else {
             put_row(&mut self.cells, right);
@@ -164,20 +167,20 @@ impl Hold {
         ensures len { length self.new.rights.crowns + bit (is_some ((hold_of self.old.rights).crowns shard)) ≡ length self.old.rights.crowns }
         ensures others { self.new ≡ record self.old { rights = record self.old.rights { crowns = self.new.rights.crowns } } }
     {
-        let place = (shard.number(), 0);
-        if row_at(&self.crowns, place).is_some() {
-            let _ = take_row(&mut self.crowns, place);
+        let key = (shard.number(), 0);
+        if row_at(&self.crowns, key).is_some() {
+            let _ = take_row(&mut self.crowns, key);
         }
     }
 
     /// Puts a crown in, in place of one of that shard.
     pub fn put_crown(&mut self, crown: Crown)
-        requires room { (hold_of self.old.rights).crowns crown.shard ≡ None → length self.old.rights.crowns < self.old.places }
+        requires capacity { (hold_of self.old.rights).crowns crown.shard ≡ None → length self.old.rights.crowns < self.old.capacity }
         ensures rights { hold_of self.new.rights ≡ with_crown (hold_of self.old.rights) crown.shard crown.lead crown.listed }
         ensures len { length self.new.rights.crowns ≡ length self.old.rights.crowns + bit (is_none ((hold_of self.old.rights).crowns crown.shard)) }
         ensures others { self.new ≡ record self.old { rights = record self.old.rights { crowns = self.new.rights.crowns } } }
     {
-        if row_at(&self.crowns, crown.place()).is_some() {
+        if row_at(&self.crowns, crown.key()).is_some() {
             set_row(&mut self.crowns, crown);
         } else {
             put_row(&mut self.crowns, crown);
@@ -198,7 +201,7 @@ impl Hold {
 
     /// Puts room of a server in.
     pub fn put_room(&mut self, room: Room)
-        requires room { 0 < room.amount → (hold_of self.old.rights).room room.server ≡ 0 → length self.old.rights.room < self.old.places }
+        requires capacity { 0 < room.amount → (hold_of self.old.rights).room room.server ≡ 0 → length self.old.rights.room < self.old.capacity }
         requires fits { (hold_of self.old.rights).room room.server + room.amount < 2 ^ 64 }
         ensures rights { hold_of self.new.rights ≡ get_room (hold_of self.old.rights) room.server room.amount }
         ensures len { length self.new.rights.room ≡ length self.old.rights.room + bit (nat_lt 0 room.amount && ((hold_of self.old.rights).room room.server == 0)) }
@@ -223,7 +226,7 @@ impl Hold {
 
     /// Puts spare replicas of a shard in.
     pub fn put_spare(&mut self, spare: Spare)
-        requires room { 0 < spare.amount → (hold_of self.old.rights).spare spare.shard ≡ 0 → length self.old.rights.spare < self.old.places }
+        requires capacity { 0 < spare.amount → (hold_of self.old.rights).spare spare.shard ≡ 0 → length self.old.rights.spare < self.old.capacity }
         requires fits { (hold_of self.old.rights).spare spare.shard + spare.amount < 2 ^ 64 }
         ensures rights { hold_of self.new.rights ≡ get_spare (hold_of self.old.rights) spare.shard spare.amount }
         ensures len { length self.new.rights.spare ≡ length self.old.rights.spare + bit (nat_lt 0 spare.amount && ((hold_of self.old.rights).spare spare.shard == 0)) }
@@ -237,7 +240,7 @@ impl Hold {
     /// The rights to cells.
     pub fn cells(&self) -> &[CellRight]
         ensures value { result.now ≡ self.now.rights.cells }
-        ensures order { Rises cell_place result.now }
+        ensures order { Rises key_of_cell result.now }
     {
         self.cells.as_slice()
     }
@@ -245,7 +248,7 @@ impl Hold {
     /// The crowns.
     pub fn crowns(&self) -> &[Crown]
         ensures value { result.now ≡ self.now.rights.crowns }
-        ensures order { Rises crown_place result.now }
+        ensures order { Rises key_of_crown result.now }
     {
         self.crowns.as_slice()
     }
@@ -253,7 +256,7 @@ impl Hold {
     /// All room.
     pub fn rooms(&self) -> &[Room]
         ensures value { result.now ≡ self.now.rights.room }
-        ensures order { Rises room_place result.now }
+        ensures order { Rises key_of_room result.now }
         ensures positive { HasPositive (λ x. x.amount) result.now }
         ensures bounded { AllByRecursion (λ x. x.amount < 2 ^ 64) result.now }
     {
@@ -263,7 +266,7 @@ impl Hold {
     /// All spare replicas.
     pub fn spares(&self) -> &[Spare]
         ensures value { result.now ≡ self.now.rights.spare }
-        ensures order { Rises spare_place result.now }
+        ensures order { Rises key_of_spare result.now }
         ensures positive { HasPositive (λ x. x.amount) result.now }
         ensures bounded { AllByRecursion (λ x. x.amount < 2 ^ 64) result.now }
     {
@@ -282,22 +285,48 @@ impl Hold {
     pub fn can_join(&self, parcel: &Parcel) -> bool
         ensures { IsTrue result ↔ CanJoin (hold_of self.now.rights) (hold_of parcel.now) }
     {
-        can_join(self, parcel)
+        can_join(
+            self,
+            parcel.cells(),
+            parcel.crowns(),
+            parcel.room(),
+            parcel.spare(),
+        )
     }
 
     /// Whether there is room for the keys of a parcel that are new here.
-    pub fn has_places(&self, parcel: &Parcel) -> bool
-        ensures { IsTrue result ↔ HasPlaces self.now parcel.now }
+    pub fn has_capacity(&self, parcel: &Parcel) -> bool
+        ensures { IsTrue result ↔ HasCapacity self.now parcel.now }
     {
-        has_places(self, parcel)
+        has_capacity(self, parcel)
+    }
+
+    /// Whether there are no rights.
+    pub fn is_empty(&self) -> bool
+        ensures { IsTrue result ↔ (self.now.rights ≡ no_rights) }
+    {
+        self.cells.is_empty()
+            && self.crowns.is_empty()
+            && self.room.is_empty()
+            && self.spare.is_empty()
+    }
+
+    /// A law: the lists are in order, no amount is 0 or above what a u64 holds, and no list is longer than its room.
+    pub fn rights_in_order(&self)
+        ensures order { IsOrdered self.now.rights }
+        ensures positive { IsPositive self.now.rights }
+        ensures bounded { AreU64 self.now.rights }
+        ensures within { IsWithin (key_counts self.now.rights) self.now.capacity }
+    {
+        let _ = &self.capacity;
     }
 
     /// For how many keys each list has room.
-    pub fn places(&self) -> usize
-        ensures places { result ≡ self.now.places }
-        ensures within { IsWithin (sizes self.now.rights) result }
+    pub fn capacity(&self) -> usize
+        ensures capacity { result ≡ self.now.capacity }
+        ensures within { IsWithin (key_counts self.now.rights) result }
     {
-        self.places
+        self.capacity
     }
 
     /// Takes a parcel's rights out.
@@ -316,11 +345,24 @@ impl Hold {
         );
     }
 
+    /// Gives the rights of a small change up for those that it gets.
+    pub fn exchange(&mut self, change: &Change)
+        requires held { first_short (hold_of self.old.rights) (portion_rights change.now.out) ≡ None }
+        requires fits { CanJoin (minus (hold_of self.old.rights) (portion_rights change.now.out)) (hold_of (portion_rights change.now.got)) }
+        requires capacity { HasCapacityAfter self.old (portion_rights change.now.out) (portion_rights change.now.got) }
+        ensures rights { hold_of self.new.rights ≡ plus (minus (hold_of self.old.rights) (portion_rights change.now.out)) (portion_rights change.now.got) }
+        ensures changed { (r : Right) → count (hold_of self.new.rights) r + count (hold_of (portion_rights change.now.out)) r ≡ count (hold_of self.old.rights) r + count (hold_of (portion_rights change.now.got)) r }
+        ensures sizes { IsTraded self.old self.new (portion_rights change.now.out) (portion_rights change.now.got) }
+    {
+        take_portion(self, &change.out);
+        join_portion(self, &change.got);
+    }
+
     /// Puts a parcel's rights in.
     ///
     /// A cell right or a crown takes the place of one with the same key.
     pub fn put(&mut self, parcel: &Parcel)
-        requires room { HasPlaces self.old parcel.now }
+        requires capacity { HasCapacity self.old parcel.now }
         requires sums { SumsFit (hold_of self.old.rights) parcel.now }
         ensures rights { hold_of self.new.rights ≡ plus (hold_of self.old.rights) parcel.now }
         ensures more { IsMore self.old self.new parcel.now }
@@ -343,7 +385,7 @@ impl Hold {
             crowns,
             room,
             spare,
-            places: _,
+            capacity: _,
         } = self;
         Parcel::of_ordered(cells, crowns, room, spare)
     }

@@ -2,10 +2,14 @@
 #![tactic(auto)]
 
 pub mod change;
+mod closed;
 pub mod conservation;
+mod edits;
 mod fits;
 pub mod grant;
 pub mod hold;
+pub mod laws;
+mod merge;
 mod moves;
 mod opening;
 mod order;
@@ -16,13 +20,17 @@ pub mod right;
 mod rows;
 mod short;
 pub mod stream_id;
-#[cfg(test)]
-mod tests;
+mod trades;
 
 pub use crate::change::{Change, Portion};
-pub use crate::conservation::{rights_add_up, rights_stay_at_one_place};
+pub use crate::closed::ClosedPool;
+pub use crate::conservation::{rights_add_up, rights_keep_one_holder};
 pub use crate::grant::Grant;
 pub use crate::hold::Hold;
+pub use crate::laws::{
+    joins_in_placement, no_rights_are_no_hold, not_short_is_covered, rights_stay_known,
+    capacity_by_hold,
+};
 pub use crate::parcel::{Lists, Parcel, ParcelFault};
 pub use crate::pool::{Pool, TakeFault};
 pub use crate::right::{CellRight, Crown, Key, PlainCell, Room, Short, Spare};

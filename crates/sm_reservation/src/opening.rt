@@ -2,14 +2,14 @@
 ghost use Rattle.std.specs.Prelude.{◌≡◌, ◌<◌, ℕ, None, length};
 ghost use Rattle.sm_placement.specs.Setup.{sizes_of};
 ghost use Rattle.sm_placement.specs.Sums.{put};
-ghost use Rattle.sm_placement.specs.Lead.{IsSettled, lead_of};
+ghost use Rattle.sm_placement.specs.Lead.{IsSettled};
 ghost use Rattle.sm_placement.specs.Layout.{place_of};
 ghost use Rattle.sm_reservation.specs.Amounts.{plain_of};
 ghost use Rattle.sm_reservation.specs.Pool.{pool_hold, SameSize, HasSize, true_rights};
 
 use crate::pool::Pool;
 use crate::right::{CellRight, Crown, PlainCell, Room, Spare};
-use sm_placement::{Lead, Placement, Serving};
+use sm_placement::Placement;
 use sm_server::{Cell, ServerId, ShardId};
 
 /// The cell, where there is a right to it.
@@ -20,18 +20,6 @@ fn plain_of(cell: &Cell) -> Option<PlainCell>
         Cell::Absent => Some(PlainCell::Absent),
         Cell::Secondary => Some(PlainCell::Secondary),
         _ => None,
-    }
-}
-
-/// The lead of a shard of a settled placement.
-fn lead_of(placement: &Placement, shard: ShardId) -> Lead
-    requires settled { IsSettled (sizes_of placement.now.setup) (place_of placement.now) }
-    requires shard { shard < length placement.now.setup.shards }
-    ensures { result ≡ lead_of (length placement.now.setup.servers) ((place_of placement.now).cells shard) }
-{
-    match placement.serving(shard) {
-        Serving::One(server) => Lead::At(server),
-        _ => Lead::Gone,
     }
 }
 
@@ -69,7 +57,6 @@ pub(crate) fn put_cells(pool: &mut Pool, placement: &Placement)
 
 /// Puts in all crowns.
 pub(crate) fn put_crowns(pool: &mut Pool, placement: &Placement)
-    requires settled { IsSettled (sizes_of placement.now.setup) (place_of placement.now) }
     requires size { HasSize (sizes_of placement.now.setup) pool.old }
     requires none { (s : ℕ) → (pool_hold pool.old).crowns s ≡ None }
     ensures hold { pool_hold pool.new ≡ record (pool_hold pool.old) { crowns = (true_rights (sizes_of placement.now.setup) (place_of placement.now)).crowns } }
@@ -77,11 +64,13 @@ pub(crate) fn put_crowns(pool: &mut Pool, placement: &Placement)
 {
     for number in 0..placement.config().shard_count() {
         let shard = ShardId::new(number);
-        pool.put_crown(Crown {
-            shard,
-            lead: lead_of(placement, shard),
-            listed: placement.listed(shard),
-        });
+        if let Some(lead) = placement.lead(shard) {
+            pool.put_crown(Crown {
+                shard,
+                lead,
+                listed: placement.listed(shard),
+            });
+        }
     }
 }
 

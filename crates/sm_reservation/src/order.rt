@@ -1,4 +1,4 @@
-//! Rows put in order, and rows of one place found among them.
+//! Rows put in order, and rows of one key found among them.
 ghost use Rattle.std.specs.Prelude.{◌≡◌, ◌&&◌, ◌<◌, ◌^◌, filter, nat_lt, IfOk};
 ghost use Rattle.std.specs.List.{AllByRecursion};
 ghost use Rattle.std.specs.List.Sorted.{IsPermutation};
@@ -7,24 +7,24 @@ ghost use Rattle.sm_reservation.specs.Rows.{same, Climbs, first_twin};
 use crate::rows::{Amount, Row, is_same};
 use std::alloc::{AllocError, Global};
 
-/// A copy of the rows in the order of their places.
+/// A copy of the rows in the order of their keys.
 pub fn sorted_rows<T: Row>(alloc: Global, rows: &[T]) -> Result<Vec<T>, AllocError>
     ensures permutation { IfOk result (λ sorted. IsPermutation rows.now sorted.items) }
-    ensures climbs { IfOk result (λ sorted. Climbs T.place sorted.items) }
+    ensures climbs { IfOk result (λ sorted. Climbs T.key sorted.items) }
 {
     let mut sorted = Vec::from_slice(alloc, rows)?;
-    sorted.sort_by_key(|row| row.place())?;
+    sorted.sort_by_key(|row| row.key())?;
     Ok(sorted)
 }
 
-/// The first place that two neighbours share.
+/// The first key that two neighbours share.
 pub fn first_twin<T: Row>(rows: &[T]) -> Option<(u32, u32)>
-    ensures { result ≡ first_twin T.place rows.now }
+    ensures { result ≡ first_twin T.key rows.now }
 {
     for i in 1..rows.len() {
-        let place = rows[i].place();
-        if is_same(rows[i - 1].place(), place) {
-            return Some(place);
+        let key = rows[i].key();
+        if is_same(rows[i - 1].key(), key) {
+            return Some(key);
         }
     }
     None

@@ -2,11 +2,11 @@
 ghost use Rattle.std.specs.Prelude.{◌≡◌, ◌<◌, ◌^◌, IfOk, OnOk, IfErr};
 ghost use Rattle.std.specs.List.{AllByRecursion};
 ghost use Rattle.sm_reservation.specs.Rows.{Rises, HasPositive};
-ghost use Rattle.sm_reservation.specs.Key.{cell_place, crown_place, room_place, spare_place, IsOnce, IsOrdered, IsPositive, AreU64, IsSortedFrom, IsInOrder, first_double, lists as rights_in};
+ghost use Rattle.sm_reservation.specs.Key.{key_of_cell, key_of_crown, key_of_room, key_of_spare, IsOnce, IsOrdered, IsPositive, AreU64, IsSortedFrom, IsInOrder, first_double, lists as rights_in};
 ghost use Rattle.sm_reservation.specs.InOrder.{in_order};
 ghost use Rattle.sm_reservation.specs.HoldOf.{hold_of};
 ghost use Rattle.sm_reservation.specs.Lists.{rights_of};
-ghost use Rattle.sm_reservation.specs.Fault.{IsFaultOf};
+ghost use Rattle.sm_reservation.specs.Fault.{IsParcelFault};
 
 use crate::order::{drop_empty, first_twin, sorted_rows};
 use crate::right::{CellRight, Crown, Key, PlainCell, Room, Spare};
@@ -86,7 +86,7 @@ impl Parcel {
         ensures order { IfOk result (λ parcel. IsOrdered parcel) }
         ensures once { OnOk result (IsOnce (rights_of lists)) }
         ensures lists { IfErr result (λ e. e.0 ≡ lists) }
-        ensures fault { IfErr result (λ e. IsFaultOf (rights_of lists) e.1) }
+        ensures fault { IfErr result (λ e. IsParcelFault (rights_of lists) e.1) }
     {
         match sorted_parcel(alloc, &lists) {
             Ok(parcel) => Ok(parcel),
@@ -117,7 +117,7 @@ impl Parcel {
     /// The rights to cells.
     pub fn cells(&self) -> &[CellRight]
         ensures value { result.now ≡ self.now.cells }
-        ensures order { Rises cell_place result.now }
+        ensures order { Rises key_of_cell result.now }
     {
         self.cells.as_slice()
     }
@@ -125,7 +125,7 @@ impl Parcel {
     /// The crowns.
     pub fn crowns(&self) -> &[Crown]
         ensures value { result.now ≡ self.now.crowns }
-        ensures order { Rises crown_place result.now }
+        ensures order { Rises key_of_crown result.now }
     {
         self.crowns.as_slice()
     }
@@ -133,7 +133,7 @@ impl Parcel {
     /// The room.
     pub fn room(&self) -> &[Room]
         ensures value { result.now ≡ self.now.room }
-        ensures order { Rises room_place result.now }
+        ensures order { Rises key_of_room result.now }
         ensures positive { HasPositive (λ x. x.amount) result.now }
         ensures bounded { AllByRecursion (λ x. x.amount < 2 ^ 64) result.now }
     {
@@ -143,7 +143,7 @@ impl Parcel {
     /// The spare replicas.
     pub fn spare(&self) -> &[Spare]
         ensures value { result.now ≡ self.now.spare }
-        ensures order { Rises spare_place result.now }
+        ensures order { Rises key_of_spare result.now }
         ensures positive { HasPositive (λ x. x.amount) result.now }
         ensures bounded { AllByRecursion (λ x. x.amount < 2 ^ 64) result.now }
     {
@@ -189,7 +189,7 @@ fn sorted_parcel(alloc: Global, lists: &Lists) -> Result<Parcel, ParcelFault>
     ensures sorted { IfOk result (λ parcel. IsSortedFrom (rights_of lists.now) parcel) }
     ensures once { OnOk result (IsOnce (rights_of lists.now)) }
     ensures order { IfOk result (λ parcel. IsOrdered parcel) }
-    ensures fault { IfErr result (λ fault. IsFaultOf (rights_of lists.now) fault) }
+    ensures fault { IfErr result (λ fault. IsParcelFault (rights_of lists.now) fault) }
 {
     let mut sorted = sorted_lists(alloc, lists)?;
     if let Some(key) = first_double(&sorted) {

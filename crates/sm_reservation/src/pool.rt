@@ -1,14 +1,15 @@
 //! The rights that no grant has.
-ghost use Rattle.std.specs.Prelude.{ℕ, ◌≡◌, ◌<◌, ◌≤◌, ◌+◌, ◌*◌, ◌^◌, Some, None, IfOk, OnOk, IfErr, OnErr, IfSome, IfNone};
+ghost use Rattle.std.specs.Prelude.{ℕ, ◌≡◌, ◌↔◌, IsTrue, ◌<◌, ◌≤◌, ◌+◌, ◌*◌, ◌^◌, Some, None, IfOk, OnOk, IfErr, OnErr, IfSome, IfNone};
 ghost use Rattle.sm_placement.specs.Layout.{entries_of};
 ghost use Rattle.sm_reservation.specs.Hold.{no_hold, minus, plus, with_cell, with_crown, without_crown, pay_room, get_room, pay_spare, get_spare};
 ghost use Rattle.sm_reservation.specs.HoldOf.{hold_of};
-ghost use Rattle.sm_reservation.specs.Kept.{HasPlaces, most_keys, IsMore};
+ghost use Rattle.sm_reservation.specs.Capacity.{HasCapacity, most_keys, IsMore};
 ghost use Rattle.sm_reservation.specs.Short.{first_short};
 ghost use Rattle.sm_reservation.specs.TakeFault.{short_of};
 ghost use Rattle.sm_reservation.specs.CanJoin.{CanJoin};
-ghost use Rattle.sm_reservation.specs.Pool.{pool_hold, IsBelow, SameSize, true_rights, IsKnownRight, one_spare};
+ghost use Rattle.sm_reservation.specs.Pool.{pool_hold, IsKnownHold, SameSize, true_rights, leads_of, IsKnownRight, one_spare};
 
+use crate::fits::{can_join, is_known_hold};
 use crate::grant::Grant;
 use crate::hold::Hold;
 use crate::opening::{put_cells, put_crowns, put_rooms, put_spares};
@@ -54,9 +55,9 @@ pub struct Pool {
 
 impl Model for Pool {
     ghost use Rattle.std.specs.Prelude.{length};
-    ghost use Rattle.sm_reservation.specs.Pool.{Stock, IsStocked};
+    ghost use Rattle.sm_reservation.specs.Pool.{PoolModel, IsStocked};
 
-    ghost Value = { Stock };
+    ghost Value = { PoolModel };
 
     ghost view = { λ p. record { shards = length p.spare.items; servers = length p.room.items; cells = p.cells.items; crowns = p.crowns.items; room = p.room.items; spare = p.spare.items } };
 
@@ -71,9 +72,10 @@ fn entries_fit(entries: &[u64])
 impl Pool {
     ghost use Rattle.std.specs.Prelude.{length};
     ghost use Rattle.sm_placement.specs.Setup.{sizes_of};
-    ghost use Rattle.sm_placement.specs.Lead.{IsSettled, lead_of};
+    ghost use Rattle.sm_placement.specs.Lead.{IsSettled};
     ghost use Rattle.sm_placement.specs.Layout.{place_of};
     ghost use Rattle.sm_reservation.specs.Amounts.{Right, count, bound, stock};
+    ghost use Rattle.sm_reservation.specs.Truth.{IsTrueOf};
 
     /// A pool of so many shards and servers with nothing in it.
     fn empty(alloc: Global, shards: u32, servers: u32) -> Result<Pool, AllocError>
@@ -97,7 +99,8 @@ impl Pool {
         ensures rights { IfOk result (λ pool. pool_hold pool ≡ true_rights (sizes_of placement.now.setup) (place_of placement.now)) }
         ensures shards { IfOk result (λ pool. pool.shards ≡ length placement.now.setup.shards) }
         ensures servers { IfOk result (λ pool. pool.servers ≡ length placement.now.setup.servers) }
-        ensures whole { let c = sizes_of placement.now.setup in let p = place_of placement.now in IfOk result (λ pool. (r : Right) → IsKnownRight c r → count (pool_hold pool) r + bound c p r ≡ stock c p (λ s. lead_of c.servers (p.cells s)) r) }
+        ensures whole { let c = sizes_of placement.now.setup in let p = place_of placement.now in IfOk result (λ pool. (r : Right) → IsKnownRight c r → count (pool_hold pool) r + bound c p r ≡ stock c p (leads_of c p) r) }
+        ensures truth { let c = sizes_of placement.now.setup in let p = place_of placement.now in IfOk result (λ pool. IsTrueOf c p (leads_of c p) (pool_hold pool)) }
     {
         let shards = placement.config().shard_count();
         let servers = placement.config().server_count();
@@ -112,7 +115,7 @@ impl Pool {
     /// How many shards the pool is of.
     pub fn shard_count(&self) -> usize
         ensures count { result ≡ self.now.shards }
-        ensures within { IsBelow self.now.shards self.now.servers (pool_hold self.now) }
+        ensures within { IsKnownHold self.now.shards self.now.servers (pool_hold self.now) }
     {
         self.spare.len()
     }
@@ -124,9 +127,9 @@ impl Pool {
         self.room.len()
     }
 
-    /// The place of a pair in the list of cells.
-    fn place(&self, shard: ShardId, server: ServerId) -> Option<usize>
-        ensures known { IfSome result (λ place. (shard < self.now.shards) × (server < self.now.servers) × (place ≡ shard * self.now.servers + server)) }
+    /// The slot of a pair in the list of cells.
+    fn slot(&self, shard: ShardId, server: ServerId) -> Option<usize>
+        ensures known { IfSome result (λ slot. (shard < self.now.shards) × (server < self.now.servers) × (slot ≡ shard * self.now.servers + server)) }
         ensures unknown { IfNone result (shard < self.now.shards → self.now.servers ≤ server) }
     {
         let row = shard.number() as usize;
@@ -143,8 +146,8 @@ impl Pool {
     pub fn cell_right(&self, shard: ShardId, server: ServerId) -> Option<PlainCell>
         ensures { result ≡ (pool_hold self.now).cells shard server }
     {
-        match self.place(shard, server) {
-            Some(place) => self.cells[place],
+        match self.slot(shard, server) {
+            Some(slot) => self.cells[slot],
             None => None,
         }
     }
@@ -153,24 +156,24 @@ impl Pool {
     pub fn crown(&self, shard: ShardId) -> Option<(Lead, Option<ServerId>)>
         ensures { result ≡ (pool_hold self.now).crowns shard }
     {
-        let place = shard.number() as usize;
-        self.crowns.get(place).copied().flatten()
+        let slot = shard.number() as usize;
+        self.crowns.get(slot).copied().flatten()
     }
 
     /// How much room of a server the pool has.
     pub fn room(&self, server: ServerId) -> u64
         ensures { result ≡ (pool_hold self.now).room server }
     {
-        let place = server.number() as usize;
-        self.room.get(place).copied().unwrap_or(0)
+        let slot = server.number() as usize;
+        self.room.get(slot).copied().unwrap_or(0)
     }
 
     /// How many spare replicas of a shard the pool has.
     pub fn spare(&self, shard: ShardId) -> u64
         ensures { result ≡ (pool_hold self.now).spare shard }
     {
-        let place = shard.number() as usize;
-        self.spare.get(place).copied().unwrap_or(0)
+        let slot = shard.number() as usize;
+        self.spare.get(slot).copied().unwrap_or(0)
     }
 
     /// Takes one spare replica of a shard out, since it goes down.
@@ -202,9 +205,9 @@ impl Pool {
         ensures enough { OnOk result (first_short (pool_hold self.old) parcel.now ≡ None) }
         ensures taken { OnOk result (pool_hold self.new ≡ minus (pool_hold self.old) parcel.now) }
         ensures given { IfOk result (λ grant. grant.rights ≡ parcel.now) }
-        ensures places { IfOk result (λ grant. grant.places ≡ most_keys parcel.now) }
+        ensures capacity { IfOk result (λ grant. grant.capacity ≡ most_keys parcel.now) }
         ensures kept { IfOk result (λ grant. (r : Right) → count (pool_hold self.new) r + count (hold_of grant.rights) r ≡ count (pool_hold self.old) r) }
-        ensures below { IfOk result (λ grant. IsBelow self.new.shards self.new.servers (hold_of grant.rights)) }
+        ensures below { IfOk result (λ grant. IsKnownHold self.new.shards self.new.servers (hold_of grant.rights)) }
         ensures fits { IfOk result (λ grant. CanJoin (pool_hold self.new) (hold_of grant.rights)) }
         ensures refused { IfErr result (λ why. first_short (pool_hold self.old) parcel.now ≡ short_of why) }
         ensures err { OnErr result (self.new ≡ self.old) }
@@ -222,13 +225,14 @@ impl Pool {
     ///
     /// Where the pool has too little of a key the first such key comes back, and neither changes.
     pub fn fill(&mut self, grant: &mut Grant, parcel: &Parcel) -> Result<(), Short>
-        requires room { HasPlaces grant.old parcel.now }
+        requires capacity { HasCapacity grant.old parcel.now }
         requires fits { CanJoin (hold_of grant.old.rights) (hold_of parcel.now) }
         ensures enough { OnOk result (first_short (pool_hold self.old) parcel.now ≡ None) }
         ensures taken { OnOk result (pool_hold self.new ≡ minus (pool_hold self.old) parcel.now) }
         ensures given { OnOk result (hold_of grant.new.rights ≡ plus (hold_of grant.old.rights) parcel.now) }
         ensures kept { OnOk result ((r : Right) → count (pool_hold self.new) r + count (hold_of grant.new.rights) r ≡ count (pool_hold self.old) r + count (hold_of grant.old.rights) r) }
         ensures more { OnOk result (IsMore grant.old grant.new parcel.now) }
+        ensures below { OnOk result (IsKnownHold self.new.shards self.new.servers (hold_of parcel.now)) }
         ensures short { IfErr result (λ short. first_short (pool_hold self.old) parcel.now ≡ Some short) }
         ensures err { OnErr result ((self.new ≡ self.old) × (grant.new ≡ grant.old)) }
         ensures size { SameSize self.old self.new }
@@ -241,9 +245,23 @@ impl Pool {
         Ok(())
     }
 
+    /// Whether a grant can be given back: its shards and servers are known, and it can be put beside what is here.
+    pub fn can_join(&self, grant: &Grant) -> bool
+        ensures { IsTrue result ↔ (IsKnownHold self.now.shards self.now.servers (hold_of grant.now.rights) × CanJoin (pool_hold self.now) (hold_of grant.now.rights)) }
+    {
+        let hold = grant.hold();
+        hold.rights_in_order();
+        let cells = hold.cells();
+        let crowns = hold.crowns();
+        let rooms = hold.rooms();
+        let spares = hold.spares();
+        is_known_hold(hold, self.shard_count(), self.server_count())
+            && can_join(self, cells, crowns, rooms, spares)
+    }
+
     /// Takes all rights of a grant back. Takes no memory.
     pub fn give_back(&mut self, grant: Grant)
-        requires below { IsBelow self.old.shards self.old.servers (hold_of grant.rights) }
+        requires below { IsKnownHold self.old.shards self.old.servers (hold_of grant.rights) }
         requires fits { CanJoin (pool_hold self.old) (hold_of grant.rights) }
         ensures hold { pool_hold self.new ≡ plus (pool_hold self.old) grant.rights }
         ensures kept { (r : Right) → count (pool_hold self.new) r ≡ count (pool_hold self.old) r + count (hold_of grant.rights) r }
@@ -254,7 +272,7 @@ impl Pool {
     }
 
     /// A law: no amount is above what a u64 holds.
-    fn amounts_fit(&self)
+    fn entries_are_u64(&self)
         ensures room { (v : ℕ) → (pool_hold self.now).room v < 2 ^ 64 }
         ensures spare { (s : ℕ) → (pool_hold self.now).spare s < 2 ^ 64 }
     {
@@ -267,11 +285,11 @@ impl Pool {
         requires { first_short (pool_hold self.old) parcel.now ≡ None }
         ensures hold { pool_hold self.new ≡ minus (pool_hold self.old) parcel.now }
         ensures sums { (r : Right) → count (pool_hold self.new) r + count (hold_of parcel.now) r ≡ count (pool_hold self.old) r }
-        ensures below { IsBelow self.new.shards self.new.servers (hold_of parcel.now) }
+        ensures below { IsKnownHold self.new.shards self.new.servers (hold_of parcel.now) }
         ensures fits { CanJoin (pool_hold self.new) (hold_of parcel.now) }
         ensures size { SameSize self.old self.new }
     {
-        self.amounts_fit();
+        self.entries_are_u64();
         let _ = self.shard_count();
         pool_moves::take_cells(self, parcel.cells());
         pool_moves::take_crowns(self, parcel.crowns());
@@ -281,7 +299,7 @@ impl Pool {
 
     /// Puts in a parcel's rights.
     fn put_parcel(&mut self, parcel: &Parcel)
-        requires below { IsBelow self.old.shards self.old.servers (hold_of parcel.now) }
+        requires below { IsKnownHold self.old.shards self.old.servers (hold_of parcel.now) }
         requires fits { CanJoin (pool_hold self.old) (hold_of parcel.now) }
         ensures hold { pool_hold self.new ≡ plus (pool_hold self.old) parcel.now }
         ensures sums { (r : Right) → count (pool_hold self.new) r ≡ count (pool_hold self.old) r + count (hold_of parcel.now) r }
@@ -302,8 +320,8 @@ impl Pool {
         ensures hold { pool_hold self.new ≡ with_cell (pool_hold self.old) shard server None }
         ensures size { SameSize self.old self.new }
     {
-        if let Some(place) = self.place(shard, server) {
-            self.cells[place] = None;
+        if let Some(slot) = self.slot(shard, server) {
+            self.cells[slot] = None;
         }
     }
 
@@ -314,8 +332,8 @@ impl Pool {
         ensures hold { pool_hold self.new ≡ with_cell (pool_hold self.old) right.shard right.server (Some right.state) }
         ensures size { SameSize self.old self.new }
     {
-        if let Some(place) = self.place(right.shard, right.server) {
-            self.cells[place] = Some(right.state);
+        if let Some(slot) = self.slot(right.shard, right.server) {
+            self.cells[slot] = Some(right.state);
         }
     }
 
@@ -324,9 +342,9 @@ impl Pool {
         ensures hold { pool_hold self.new ≡ without_crown (pool_hold self.old) shard }
         ensures size { SameSize self.old self.new }
     {
-        let place = shard.number() as usize;
-        if place < self.shard_count() {
-            self.crowns[place] = None;
+        let slot = shard.number() as usize;
+        if slot < self.shard_count() {
+            self.crowns[slot] = None;
         }
     }
 
@@ -336,8 +354,8 @@ impl Pool {
         ensures hold { pool_hold self.new ≡ with_crown (pool_hold self.old) crown.shard crown.lead crown.listed }
         ensures size { SameSize self.old self.new }
     {
-        let place = crown.shard.number() as usize;
-        self.crowns[place] = Some((crown.lead, crown.listed));
+        let slot = crown.shard.number() as usize;
+        self.crowns[slot] = Some((crown.lead, crown.listed));
     }
 
     /// Takes out room.
@@ -345,9 +363,9 @@ impl Pool {
         ensures hold { pool_hold self.new ≡ pay_room (pool_hold self.old) room.server room.amount }
         ensures size { SameSize self.old self.new }
     {
-        let place = room.server.number() as usize;
-        if place < self.server_count() {
-            self.room[place] = self.room[place].saturating_sub(room.amount);
+        let slot = room.server.number() as usize;
+        if slot < self.server_count() {
+            self.room[slot] = self.room[slot].saturating_sub(room.amount);
         }
     }
 
@@ -358,8 +376,8 @@ impl Pool {
         ensures hold { pool_hold self.new ≡ get_room (pool_hold self.old) room.server room.amount }
         ensures size { SameSize self.old self.new }
     {
-        let place = room.server.number() as usize;
-        self.room[place] += room.amount;
+        let slot = room.server.number() as usize;
+        self.room[slot] += room.amount;
     }
 
     /// Takes out spare replicas.
@@ -367,9 +385,9 @@ impl Pool {
         ensures hold { pool_hold self.new ≡ pay_spare (pool_hold self.old) spare.shard spare.amount }
         ensures size { SameSize self.old self.new }
     {
-        let place = spare.shard.number() as usize;
-        if place < self.shard_count() {
-            self.spare[place] = self.spare[place].saturating_sub(spare.amount);
+        let slot = spare.shard.number() as usize;
+        if slot < self.shard_count() {
+            self.spare[slot] = self.spare[slot].saturating_sub(spare.amount);
         }
     }
 
@@ -380,8 +398,8 @@ impl Pool {
         ensures hold { pool_hold self.new ≡ get_spare (pool_hold self.old) spare.shard spare.amount }
         ensures size { SameSize self.old self.new }
     {
-        let place = spare.shard.number() as usize;
-        self.spare[place] += spare.amount;
+        let slot = spare.shard.number() as usize;
+        self.spare[slot] += spare.amount;
     }
 }
 
@@ -404,5 +422,9 @@ impl ByKey for Pool {
 
     fn spare_of(&self, shard: ShardId) -> u64 {
         self.spare(shard)
+    }
+
+    fn amounts_fit(&self) {
+        self.entries_are_u64();
     }
 }

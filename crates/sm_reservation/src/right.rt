@@ -95,33 +95,33 @@ pub struct Short {
 }
 
 impl Row for CellRight {
-    ghost place = { λ x. (x.shard, x.server) };
+    ghost key = { λ x. (x.shard, x.server) };
 
-    fn place(&self) -> (u32, u32) {
+    fn key(&self) -> (u32, u32) {
         (self.shard.number(), self.server.number())
     }
 }
 
 impl Row for Crown {
-    ghost place = { λ x. (x.shard, 0) };
+    ghost key = { λ x. (x.shard, 0) };
 
-    fn place(&self) -> (u32, u32) {
+    fn key(&self) -> (u32, u32) {
         (self.shard.number(), 0)
     }
 }
 
 impl Row for Room {
-    ghost place = { λ x. (x.server, 0) };
+    ghost key = { λ x. (x.server, 0) };
 
-    fn place(&self) -> (u32, u32) {
+    fn key(&self) -> (u32, u32) {
         (self.server.number(), 0)
     }
 }
 
 impl Row for Spare {
-    ghost place = { λ x. (x.shard, 0) };
+    ghost key = { λ x. (x.shard, 0) };
 
-    fn place(&self) -> (u32, u32) {
+    fn key(&self) -> (u32, u32) {
         (self.shard.number(), 0)
     }
 }

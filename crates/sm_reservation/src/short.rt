@@ -1,5 +1,5 @@
 //! The first key of which there is too little.
-ghost use Rattle.std.specs.Prelude.{◌≡◌};
+ghost use Rattle.std.specs.Prelude.{◌≡◌, ℕ, ◌<◌, ◌^◌};
 ghost use Rattle.sm_reservation.specs.Hold.{Hold};
 ghost use Rattle.sm_reservation.specs.Short.{cell_short, crown_short, room_short, spare_short, first_answer, first_short};
 
@@ -28,6 +28,11 @@ pub(crate) trait ByKey {
     /// How many spare replicas of a shard there are.
     fn spare_of(&self, shard: ShardId) -> u64
         ensures { result ≡ (hold self.now).spare shard };
+
+    /// A law: no amount is above what a u64 holds.
+    fn amounts_fit(&self)
+        ensures room { (v : ℕ) → (hold self.now).room v < 2 ^ 64 }
+        ensures spare { (s : ℕ) → (hold self.now).spare s < 2 ^ 64 };
 }
 
 impl ByKey for hold::Hold {
@@ -49,6 +54,10 @@ impl ByKey for hold::Hold {
 
     fn spare_of(&self, shard: ShardId) -> u64 {
         self.spare(shard)
+    }
+
+    fn amounts_fit(&self) {
+        self.rights_in_order();
     }
 }
 

@@ -7,10 +7,10 @@ use Rattle.sm_reservation.proofs.ParcelSums.{minus_count}
 use Rattle.sm_reservation.proofs.moves.take_rights.Goals as goal
 
 pub take_rooms-requires : goal.take_rooms-requires
-take_rooms-requires c = record { held = rw (c.take_crowns.ensures.rights, c.take_cells.ensures.rights) (take_rooms (hold_of c.args.hold.now.rights) (lists c.args.cells.now c.args.crowns.now c.args.rooms.now c.args.spares.now) c.requires.order (has_all (hold_of c.args.hold.now.rights) (lists c.args.cells.now c.args.crowns.now c.args.rooms.now c.args.spares.now) c.requires.held)) }
+take_rooms-requires c = record { order = c.requires.order.room; held = rw (c.take_crowns.ensures.rights, c.take_cells.ensures.rights) (take_rooms (hold_of c.args.hold.now.rights) (lists c.args.cells.now c.args.crowns.now c.args.rooms.now c.args.spares.now) c.requires.order (has_all (hold_of c.args.hold.now.rights) (lists c.args.cells.now c.args.crowns.now c.args.rooms.now c.args.spares.now) c.requires.held)) }
 
 pub take_spares-requires : goal.take_spares-requires
-take_spares-requires c = record { held = rw (c.take_rooms.ensures.rights, c.take_crowns.ensures.rights, c.take_cells.ensures.rights) (take_spares (hold_of c.args.hold.now.rights) (lists c.args.cells.now c.args.crowns.now c.args.rooms.now c.args.spares.now) c.requires.order (has_all (hold_of c.args.hold.now.rights) (lists c.args.cells.now c.args.crowns.now c.args.rooms.now c.args.spares.now) c.requires.held)) }
+take_spares-requires c = record { order = c.requires.order.spare; held = rw (c.take_rooms.ensures.rights, c.take_crowns.ensures.rights, c.take_cells.ensures.rights) (take_spares (hold_of c.args.hold.now.rights) (lists c.args.cells.now c.args.crowns.now c.args.rooms.now c.args.spares.now) c.requires.order (has_all (hold_of c.args.hold.now.rights) (lists c.args.cells.now c.args.crowns.now c.args.rooms.now c.args.spares.now) c.requires.held)) }
 
 pub returns-clause-less : goal.returns-clause-less
 returns-clause-less c =
@@ -27,16 +27,16 @@ returns-clause-less c =
     let take_spares-cells = ap (λ k. length k.rights.cells) c.take_spares.ensures.others in
     let take_spares-crowns = ap (λ k. length k.rights.crowns) c.take_spares.ensures.others in
     let take_spares-room = ap (λ k. length k.rights.room) c.take_spares.ensures.others in
-    let take_cells-places = ap (λ k. k.places) c.take_cells.ensures.others in
-    let take_crowns-places = ap (λ k. k.places) c.take_crowns.ensures.others in
-    let take_rooms-places = ap (λ k. k.places) c.take_rooms.ensures.others in
-    let take_spares-places = ap (λ k. k.places) c.take_spares.ensures.others in
+    let take_cells-capacity = ap (λ k. k.capacity) c.take_cells.ensures.others in
+    let take_crowns-capacity = ap (λ k. k.capacity) c.take_crowns.ensures.others in
+    let take_rooms-capacity = ap (λ k. k.capacity) c.take_rooms.ensures.others in
+    let take_spares-capacity = ap (λ k. k.capacity) c.take_spares.ensures.others in
     let crowns-len = rw c.take_cells.ensures.rights at c.take_crowns.ensures.len in
     let room-len = rw (c.take_crowns.ensures.rights, c.take_cells.ensures.rights) at c.take_rooms.ensures.len in
     let spare-len = rw (c.take_rooms.ensures.rights, c.take_crowns.ensures.rights, c.take_cells.ensures.rights) at c.take_spares.ensures.len in
     record {
       sizes = same_sizes (omega (arith, n.cells, c.take_cells.ensures.len)) (omega (arith, n.crowns, crowns-len)) (omega (arith, n.room, room-len)) (omega (arith, n.spare, spare-len));
-      places = omega arith;
+      capacity = omega arith;
     }
 
 pub returns-clause-sums : goal.returns-clause-sums

@@ -3,4 +3,4 @@ use Rattle.sm_reservation.specs.Rows.{first_twin}
 use Rattle.sm_reservation.proofs.order.first_twin.Given as goal
 
 abbrev pub invariant-loop-i : goal.invariant-loop-i
-invariant-loop-i g l = first_twin g.T.Row.place (drop (l.i - 1) l.rows) ≡ first_twin g.T.Row.place l.rows
+invariant-loop-i g l = first_twin g.T.Row.key (drop (l.i - 1) l.rows) ≡ first_twin g.T.Row.key l.rows

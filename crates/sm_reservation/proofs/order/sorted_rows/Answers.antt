@@ -5,4 +5,4 @@ use Rattle.sm_reservation.proofs.order.sorted_rows.Goals as goal
 
 pub returns-clause-climbs : goal.returns-clause-climbs
 returns-clause-climbs g c =
-    climbs g.T.Row.place c.sort_by_key.new.self.items (c.in_ok-sort_by_key.ensures.sorted g.T.Row.place (always_returns_same _ _ _ (λ a r f' k. search rules)))
+    climbs g.T.Row.key c.sort_by_key.new.self.items (c.in_ok-sort_by_key.ensures.sorted g.T.Row.key (always_returns_same _ _ _ (λ a r f' k. search rules)))

@@ -6,5 +6,5 @@ use Rattle.sm_reservation.proofs.rows.count_before.Goals as goal
 
 pub returns : goal.returns
 returns g c =
-    count_at_partition g.T.Row.place c.args.place c.args.rows.now c.partition_point.result c.partition_point.ensures.bound
-    (IsPartitionPoint-from_clause (λ x. before (g.T.Row.place x) c.args.place) c.args.rows.now c.partition_point.result c.partition_point.ensures.partitioned (rows_before_first g.T.Row.place c.args.place c.args.rows.now c.requires) (λ a r f' k. search rules))
+    count_at_partition g.T.Row.key c.args.key c.args.rows.now c.partition_point.result c.partition_point.ensures.bound
+    (IsPartitionPoint-from_clause (λ x. before (g.T.Row.key x) c.args.key) c.args.rows.now c.partition_point.result c.partition_point.ensures.partitioned (rows_before_first g.T.Row.key c.args.key c.args.rows.now c.requires) (λ a r f' k. search rules))

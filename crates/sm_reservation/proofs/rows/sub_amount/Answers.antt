@@ -5,12 +5,12 @@ use Rattle.sm_reservation.proofs.rows.sub_amount.Goals as goal
 
 pub set_row-requires-clause-present : goal.set_row-requires-clause-present
 set_row-requires-clause-present g c =
-    rw (c.with_amount.ensures.place, ← c.deref.ensures.value, ← c.place.ensures) (present_at _ c.in-Some.held (sym c.in-Some.ensures))
+    rw (c.with_amount.ensures.key, ← c.deref.ensures.value, ← c.key.ensures) (present_at _ c.in-Some.held (sym c.in-Some.ensures))
 
 pub returns-else-rest-eq0-clause-amounts : goal.returns-else-rest-eq0-clause-amounts
 returns-else-rest-eq0-clause-amounts g c q =
-    let e : row_at g.T.Row.place c.args.rows.now.items (g.T.Row.place c.args.row) ≡ Some c.in-Some.held = rw (← c.deref.ensures.value, ← c.place.ensures) (sym c.in-Some.ensures) in
-    rw e (amount_put g.T.Row.place g.T.Amount.amount _ _ (g.T.Row.place c.args.row) c.in-Some.held c.with_amount.result (g.T.Amount.amount c.in-Some.held - g.T.Amount.amount c.args.row) q c.with_amount.ensures.place (rw (c.with_amount.ensures.value, c.amount.ensures, c.amount-in-Some.ensures) refl) (c.set_row.ensures.rows q))
+    let e : row_at g.T.Row.key c.args.rows.now.items (g.T.Row.key c.args.row) ≡ Some c.in-Some.held = rw (← c.deref.ensures.value, ← c.key.ensures) (sym c.in-Some.ensures) in
+    rw e (amount_put g.T.Row.key g.T.Amount.amount _ _ (g.T.Row.key c.args.row) c.in-Some.held c.with_amount.result (g.T.Amount.amount c.in-Some.held - g.T.Amount.amount c.args.row) q c.with_amount.ensures.key (rw (c.with_amount.ensures.value, c.amount.ensures, c.amount-in-Some.ensures) refl) (c.set_row.ensures.rows q))
 
 pub returns-then-rest-eq0-clause-positive : goal.returns-then-rest-eq0-clause-positive
 returns-then-rest-eq0-clause-positive g c = rw c.take_row.ensures.items (positive_remove g.T.Amount.amount _ _ c.requires.positive)

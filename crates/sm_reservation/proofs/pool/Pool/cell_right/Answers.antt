@@ -1,7 +1,7 @@
--- The place that is read is the pair's.
+-- The slot that is read is the pair's.
 use Rattle.std.proofs.Common.{◌<◌, ◌+◌, ◌*◌, length, sym, subst, arith}
 use Rattle.sm_placement.proofs.GridLemmas.{place_within}
-use Rattle.sm_reservation.specs.Pool.{Stock}
+use Rattle.sm_reservation.specs.Pool.{PoolModel}
 use Rattle.sm_reservation.proofs.PoolLemmas.{cell_read, cell_unknown, stocked_within, stocked_now}
 use Rattle.sm_reservation.proofs.pool.Pool.cell_right.Goals as goal
 
@@ -10,7 +10,7 @@ index-requires c =
     let now = c.args.self.now in
     let known = c.in-Some.ensures.known in
     let within : c.args.shard * now.servers + c.args.server < length now.cells = place_within now.cells now.servers now.shards c.args.shard c.args.server (stocked_now c.self.invariant c.self.view_is).cells known.0 known.1 in
-    let inside : c.args.shard * now.servers + c.args.server < length c.self.inside.cells.items = subst (λ (k : Stock). c.args.shard * now.servers + c.args.server < length k.cells) (sym c.self.view_is) within in
+    let inside : c.args.shard * now.servers + c.args.server < length c.self.inside.cells.items = subst (λ (k : PoolModel). c.args.shard * now.servers + c.args.server < length k.cells) (sym c.self.view_is) within in
     omega (arith, known.2)
 
 pub returns-in-Some : goal.returns-in-Some

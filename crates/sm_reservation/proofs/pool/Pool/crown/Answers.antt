@@ -9,4 +9,4 @@ use Rattle.sm_reservation.proofs.pool.Pool.crown.Goals as goal
 pub returns : goal.returns
 returns c =
     c.flatten.ensures ∙ ap (λ (o : Option (Option (Lead × Option ℕ))). option_flatten o) c.copied.ensures
-    ∙ crown_got c.args.shard c.get.result c.self.view_is (rw (← c.number-place.ensures, ← c.deref.ensures.value) c.get.ensures.lookup)
+    ∙ crown_got c.args.shard c.get.result c.self.view_is (rw (← c.number-slot.ensures, ← c.deref.ensures.value) c.get.ensures.lookup)

@@ -8,4 +8,4 @@ use Rattle.sm_reservation.proofs.pool.Pool.room.Goals as goal
 pub returns : goal.returns
 returns c =
     c.unwrap_or.ensures ∙ ap (λ (o : Option ℕ). unwrap_or o 0) c.copied.ensures
-    ∙ room_got c.args.server c.get.result c.self.view_is (rw (← c.number-place.ensures, ← c.deref.ensures.value) c.get.ensures.lookup)
+    ∙ room_got c.args.server c.get.result c.self.view_is (rw (← c.number-slot.ensures, ← c.deref.ensures.value) c.get.ensures.lookup)

@@ -21,7 +21,7 @@ returns-clause-fits c =
     let p = c.args.parcel.now in
     let ordered = ordered_by p _ _ _ _ c.cells.ensures.value c.crowns.ensures.value c.room.ensures.value c.spare.ensures.value c.cells.ensures.order c.crowns.ensures.order c.room.ensures.order c.spare.ensures.order in
     let e : pool_hold c.take_spares.new.pool ≡ minus (pool_hold c.args.self.now) p = rw (c.take_spares.ensures.hold, c.take_rooms.ensures.hold, c.take_crowns.ensures.hold, c.take_cells.ensures.hold, c.cells.ensures.value, c.crowns.ensures.value, c.room.ensures.value, c.spare.ensures.value) refl in
-    subst (λ (h : Hold). CanJoin h (hold_of p)) (sym e) (minus_joins (pool_hold c.args.self.now) p ordered c.requires c.amounts_fit.ensures.room c.amounts_fit.ensures.spare)
+    subst (λ (h : Hold). CanJoin h (hold_of p)) (sym e) (minus_joins (pool_hold c.args.self.now) p ordered c.requires c.entries_are_u64.ensures.room c.entries_are_u64.ensures.spare)
 
 pub returns-clause-below : goal.returns-clause-below
 returns-clause-below c =

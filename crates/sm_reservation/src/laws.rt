@@ -1,0 +1,27 @@
+//! Laws of holds, as the machine uses them.
+ghost use Rattle.sm_reservation.specs.Laws.{NoRightsAreNoHold, NotShortIsCovered, RightsStayKnown, JoinsInPlacement, CapacityByHold};
+
+/// No rights are a hold of nothing.
+pub fn no_rights_are_no_hold()
+    ensures { NoRightsAreNoHold }
+{}
+
+/// A hold is short of nothing of a parcel exactly where it has all of it.
+pub fn not_short_is_covered()
+    ensures { NotShortIsCovered }
+{}
+
+/// Rights of known shards and servers stay so, as parcels go in and out.
+pub fn rights_stay_known()
+    ensures { RightsStayKnown }
+{}
+
+/// Two holds that have together no more of each right than there is in a placement can be put together.
+pub fn joins_in_placement()
+    ensures { JoinsInPlacement }
+{}
+
+/// Where what is held then has no more keys than there is room for, there is room for the change.
+pub fn capacity_by_hold()
+    ensures { CapacityByHold }
+{}
