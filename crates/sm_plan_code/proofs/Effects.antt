@@ -28,12 +28,26 @@ use Rattle.sm_reservation.proofs.Truths.{is_cell_true, true_crown}
 use Rattle.sm_reservation.proofs.Exchange.{exchange}
 use Rattle.sm_plan_code.specs.declared.instruction.Instr.{Instr}
 use Rattle.sm_plan_code.specs.declared.instruction.Instr.TheVariants.{PrepareAdd, PrepareDrop, Add, Drop, Change, Publish, Unlist, Signal, Wait}
-use Rattle.sm_plan_code.specs.Instr.{shard_of, names_of}
+use Rattle.sm_plan_code.specs.Instr.{shard_of, names_of, IsOwn}
 use Rattle.sm_plan_code.specs.After.{after, decided, to_list, listed_of, lead_held, prepare_add_line, prepare_drop_line, add_secondary_line, to_primary_line, to_secondary_line, add_primary_line, drop_held_line, drop_led_line, publish_line, unlist_line}
-use Rattle.sm_plan_code.specs.Acts.{acts, moved}
-use Rattle.sm_plan_code.specs.Effects.{IsReachable, IsScene, IsListable, Effect, IsOwn}
+use Rattle.sm_plan_code.specs.Acts.{acts, moved, publishes}
+use Rattle.sm_plan_code.specs.Effects.{IsReachable, IsScene, IsListable, MayHavePassed, Effect}
 use Rattle.sm_plan_code.proofs.Lines.{passes, crown_tested, crown_led}
+use Rattle.sm_plan_code.proofs.Stays.{acts_stay}
+use Rattle.sm_plan_code.proofs.Reaches.{within_reach}
 use Rattle.sm_plan_code.proofs.Rows.{Reaches, Goes, add_secondary, prepare_add, prepare_drop, add_handing, drop_handed, drop_ready, drop_at, add_gone, to_primary, to_secondary, drop_secondary}
+
+-- the effect of an instruction, but for what it leaves as it is and for the cell that it reaches
+record Outcome (c : Sizes) (p : Place) (leads : ℕ → Lead) (numbers : ℕ → ℕ) (h h' : Hold) (i : Instr) : Type 0 where
+  next_place : Place
+  next_leads : ℕ → Lead
+  next_numbers : ℕ → ℕ
+  made : acts c p numbers i ≡ Some (next_place, next_numbers)
+  scene : IsScene c next_place next_leads next_numbers h'
+  down : next_place.down ≡ p.down
+  exchanged : (r : Right) → stock c next_place next_leads r + bound c p r + count h r ≡ stock c p leads r + bound c next_place r + count h' r
+  listed : (s : ℕ) → IsListable (leads s) (p.listed s) → IsListable (next_leads s) (next_place.listed s)
+  passed : (s m : ℕ) → MayHavePassed (leads s) (numbers s) m → MayHavePassed (next_leads s) (next_numbers s) m
 
 -- a call that goes is answered by its cell
 answered : (c : Sizes) (p : Place) (leads : ℕ → Lead) (numbers : ℕ → ℕ) (h h' : Hold) (s v : ℕ) (call : Call) (n' : ℕ) (g : Goes c p leads numbers h h' s v call n') → answer_at c p s v call ≡ Ok g.to
@@ -50,7 +64,7 @@ still_true c p p' leads leads' h h' was moves = record { rights = λ r. fits (st
 -- the effect of an instruction that makes a call which goes
 by_call : (c : Sizes) (p : Place) (leads : ℕ → Lead) (numbers : ℕ → ℕ) (h h' : Hold) (s v : ℕ) (call : Call) (n' : ℕ) (next_numbers : ℕ → ℕ) (i : Instr) →
     IsScene c p leads numbers h → Goes c p leads numbers h h' s v call n' → IsKnownCall c.servers call → Changed numbers next_numbers s n' →
-    acts c p numbers i ≡ moved (called c p s v call) next_numbers → Effect c p leads numbers h h' i
+    acts c p numbers i ≡ moved (called c p s v call) next_numbers → Outcome c p leads numbers h h' i
 by_call c p leads numbers h h' s v call n' next_numbers i sc g known ch is =
     let answer = answered c p leads numbers h h' s v call n' g in
     let exchanged = exchange c p leads h h' s v g.to g.lead (numbers s) n' g.moves in
@@ -96,17 +110,17 @@ to_list_there (Handed x y) n row d u e f = let same : y ≡ u = cc in let k : ro
 
 module _ (c : Sizes) (p : Place) (leads : ℕ → Lead) (numbers : ℕ → ℕ) (signals : ℕ → Rights) (h : Hold) (sc : IsScene c p leads numbers h) where
   -- a call that leaves the handover numbers
-  steady : (s v : ℕ) (call : Call) (i : Instr) → IsKnownCall c.servers call → acts c p numbers i ≡ moved (called c p s v call) numbers → (h' : Hold) → Goes c p leads numbers h h' s v call (numbers s) → Effect c p leads numbers h h' i
+  steady : (s v : ℕ) (call : Call) (i : Instr) → IsKnownCall c.servers call → acts c p numbers i ≡ moved (called c p s v call) numbers → (h' : Hold) → Goes c p leads numbers h h' s v call (numbers s) → Outcome c p leads numbers h h' i
   steady s v call i known e h' g = by_call c p leads numbers h h' s v call (numbers s) numbers i sc g known (unchanged numbers s) e
 
-  ends : (i : Instr) (x h' : Hold) → x ≡ h' → Effect c p leads numbers h x i → Effect c p leads numbers h h' i
-  ends i x h' e f = subst (λ y. Effect c p leads numbers h y i) e f
+  ends : (i : Instr) (x h' : Hold) → x ≡ h' → Outcome c p leads numbers h x i → Outcome c p leads numbers h h' i
+  ends i x h' e f = subst (λ y. Outcome c p leads numbers h y i) e f
 
   -- the right to a cell, by the tests of it
   tested : (s v : ℕ) (state : PlainCell) → is_cell state (h.cells s v) ≡ true → h.cells s v ≡ Some state
   tested s v state e = is_cell_true state (h.cells s v) e
 
-  by_add_primary : (s v : ℕ) (h' : Hold) → Reaches c p s v → (o : Option Lead) → lead_held (h.crowns s) ≡ o → decided (add_primary_line c s v h o) ≡ Ok h' → Effect c p leads numbers h h' (Add s v role.Primary)
+  by_add_primary : (s v : ℕ) (h' : Hold) → Reaches c p s v → (o : Option Lead) → lead_held (h.crowns s) ≡ o → decided (add_primary_line c s v h o) ≡ Ok h' → Outcome c p leads numbers h h' (Add s v role.Primary)
   by_add_primary s v h' at None q e = cc
   by_add_primary s v h' at (Some (Handing u w)) q e =
       let ok = passes (add_primary_line c s v h (Some (Handing u w))) h' e in
@@ -125,14 +139,14 @@ module _ (c : Sizes) (p : Place) (leads : ℕ → Lead) (numbers : ℕ → ℕ) 
   by_add_primary s v h' at (Some (Ready u w)) q e = cc
   by_add_primary s v h' at (Some (Handed u w)) q e = cc
 
-  by_drop_held : (s v : ℕ) (h' : Hold) → Reaches c p s v → decided (drop_held_line c s v h) ≡ Ok h' → Effect c p leads numbers h h' (Drop s v)
+  by_drop_held : (s v : ℕ) (h' : Hold) → Reaches c p s v → decided (drop_held_line c s v h) ≡ Ok h' → Outcome c p leads numbers h h' (Drop s v)
   by_drop_held s v h' at e =
       let ok = passes (drop_held_line c s v h) h' e in
       let state = ok.0 in
       let spare = state.1 in
       ends (Drop s v) _ h' ok.1 (steady s v call.Drop (Drop s v) tt refl _ (drop_secondary c p leads numbers h sc s v at (tested s v plain.Secondary state.0) spare.0))
 
-  by_drop_led : (s v : ℕ) (h' : Hold) → Reaches c p s v → (o : Option Lead) → lead_held (h.crowns s) ≡ o → decided (drop_led_line c s v h o) ≡ Ok h' → Effect c p leads numbers h h' (Drop s v)
+  by_drop_led : (s v : ℕ) (h' : Hold) → Reaches c p s v → (o : Option Lead) → lead_held (h.crowns s) ≡ o → decided (drop_led_line c s v h o) ≡ Ok h' → Outcome c p leads numbers h h' (Drop s v)
   by_drop_led s v h' at None q e = cc
   by_drop_led s v h' at (Some (Handed u w)) q e =
       let ok = passes (drop_led_line c s v h (Some (Handed u w))) h' e in
@@ -158,14 +172,14 @@ module _ (c : Sizes) (p : Place) (leads : ℕ → Lead) (numbers : ℕ → ℕ) 
   by_drop_led s v h' at (Some Gone) q e = cc
   by_drop_led s v h' at (Some (Handing u w)) q e = cc
 
-  by_drop : (s v : ℕ) (h' : Hold) → Reaches c p s v → (b : Bool) → is_some (h.cells s v) ≡ b → after c signals (Drop s v) h ≡ Ok h' → Effect c p leads numbers h h' (Drop s v)
+  by_drop : (s v : ℕ) (h' : Hold) → Reaches c p s v → (b : Bool) → is_some (h.cells s v) ≡ b → after c signals (Drop s v) h ≡ Ok h' → Outcome c p leads numbers h h' (Drop s v)
   by_drop s v h' at true q e = by_drop_held s v h' at (rw q at e)
   by_drop s v h' at false q e = by_drop_led s v h' at (lead_held (h.crowns s)) refl (rw q at e)
 
   -- a publication
-  lists : (s : ℕ) (lead : Lead) (l to : Option ℕ) (i : Instr) → h.crowns s ≡ Some (lead, l) → IsListable lead to → ((u : ℕ) → to ≡ Some u → u < c.servers) →
-      acts c p numbers i ≡ Some (publish p s to, numbers) → Effect c p leads numbers h (with_crown h s lead to) i
-  lists s lead l to i k fine known e =
+  lists : (s : ℕ) → s < c.shards → (lead : Lead) (l to : Option ℕ) (i : Instr) → h.crowns s ≡ Some (lead, l) → IsListable lead to → ((u : ℕ) → to ≡ Some u → u < c.servers) →
+      acts c p numbers i ≡ Some (publish p s to, numbers) → Outcome c p leads numbers h (with_crown h s lead to) i
+  lists s below lead l to i k fine known e =
       let mine = true_crown c p leads h sc.truth s lead l k in
       record {
         next_place = publish p s to;
@@ -176,6 +190,11 @@ module _ (c : Sizes) (p : Place) (leads : ℕ → Lead) (numbers : ℕ → ℕ) 
           placement = record {
             no_server = sc.placement.no_server;
             no_shard = sc.placement.no_shard;
+            no_entry = λ r l. elim (cases_eq r s) [
+              | inl q ↦ absurd (omega arith)
+              | inr q ↦ put-apart p.listed s to r q ∙ sc.placement.no_entry r l
+            ];
+            no_down = sc.placement.no_down;
             known = sc.placement.known;
             listed = λ r u f. elim (cases_eq r s) [
               | inl q ↦ known u (sym (put-here p.listed s to r q) ∙ f)
@@ -204,16 +223,16 @@ module _ (c : Sizes) (p : Place) (leads : ℕ → Lead) (numbers : ℕ → ℕ) 
         | inr q ↦ rw (put-apart p.listed s to r q, put-apart h.crowns s (Some (lead, to)) r q) refl
       ]
 
-  by_publish : (s : ℕ) (h' : Hold) (o : Option Lead) → lead_held (h.crowns s) ≡ o → decided (publish_line s h o) ≡ Ok h' → Effect c p leads numbers h h' (Publish s)
-  by_publish s h' None q e = cc
-  by_publish s h' (Some lead) q e =
+  by_publish : (s : ℕ) → s < c.shards → (h' : Hold) (o : Option Lead) → lead_held (h.crowns s) ≡ o → decided (publish_line s h o) ≡ Ok h' → Outcome c p leads numbers h h' (Publish s)
+  by_publish s below h' None q e = cc
+  by_publish s below h' (Some lead) q e =
       let crown = crown_led lead (h.crowns s) q in
       let mine = true_crown c p leads h sc.truth s lead (listed_of (h.crowns s)) crown in
       let d : Describes lead (numbers s) (p.cells s) = subst (λ x. Describes x (numbers s) (p.cells s)) mine.0 (sc.described s) in
-      let is : lead_of c.servers (p.cells s) ≡ lead = lead_of_is lead (numbers s) (p.cells s) c.servers d (sc.placement.no_server s) in
+      let is : lead_of c.servers (p.cells s) ≡ Some lead = lead_of_is lead (numbers s) (p.cells s) c.servers d (sc.placement.no_server s) in
       ends (Publish s) _ h' (passes (publish_line s h (Some lead)) h' e).1
-      (lists s lead (listed_of (h.crowns s)) (to_list lead) (Publish s) crown (listable_to_list lead) (λ u f. known d u f)
-      (ap (λ (x : Lead). Some (publish p s (to_list x), numbers)) is))
+      (lists s below lead (listed_of (h.crowns s)) (to_list lead) (Publish s) crown (listable_to_list lead) (λ u f. known d u f)
+      (ap (λ (o : Option Lead). publishes p s o numbers) is))
     where
       known : Describes lead (numbers s) (p.cells s) → (u : ℕ) → to_list lead ≡ Some u → u < c.servers
       known d u f = elim (cases_lt u c.servers) [
@@ -221,18 +240,18 @@ module _ (c : Sizes) (p : Place) (leads : ℕ → Lead) (numbers : ℕ → ℕ) 
         | inr l ↦ absurd (to_list_there lead (numbers s) (p.cells s) d u f (sc.placement.no_server s u l))
       ]
 
-  by_unlist : (s : ℕ) (h' : Hold) (o : Option Lead) → lead_held (h.crowns s) ≡ o → decided (unlist_line s h o) ≡ Ok h' → Effect c p leads numbers h h' (Unlist s)
-  by_unlist s h' None q e = cc
-  by_unlist s h' (Some lead) q e =
+  by_unlist : (s : ℕ) → s < c.shards → (h' : Hold) (o : Option Lead) → lead_held (h.crowns s) ≡ o → decided (unlist_line s h o) ≡ Ok h' → Outcome c p leads numbers h h' (Unlist s)
+  by_unlist s below h' None q e = cc
+  by_unlist s below h' (Some lead) q e =
       ends (Unlist s) _ h' (passes (unlist_line s h (Some lead)) h' e).1
-      (lists s lead (listed_of (h.crowns s)) None (Unlist s) (crown_led lead (h.crowns s) q) tt (λ u f. cc) refl)
+      (lists s below lead (listed_of (h.crowns s)) None (Unlist s) (crown_led lead (h.crowns s) q) tt (λ u f. cc) refl)
 
   -- the server of a call that the instruction mentions first
   reached : (i : Instr) (s v : ℕ) → IsReachable c p i → shard_of i ≡ Some s → (names_of i).first ≡ Some v → Reaches c p s v
   reached i s v at es ev = record { shard = (let k = at.shard in rw es at k); server = at.known v (inl ev); up = at.up v (inl ev) }
 
-  pub effect : (i : Instr) (h' : Hold) → IsReachable c p i → IsOwn i → after c signals i h ≡ Ok h' → Effect c p leads numbers h h' i
-  effect (PrepareAdd s v u) h' at own e =
+  outcome : (i : Instr) (h' : Hold) → IsReachable c p i → IsOwn i → after c signals i h ≡ Ok h' → Outcome c p leads numbers h h' i
+  outcome (PrepareAdd s v u) h' at own e =
       let ok = passes (prepare_add_line c s v u h) h' e in
       let has = ok.0 in
       let lead = has.1 in
@@ -243,23 +262,23 @@ module _ (c : Sizes) (p : Place) (leads : ℕ → Lead) (numbers : ℕ → ℕ) 
       (by_call c p leads numbers h _ s v (call.PrepareAdd u (numbers s + 1)) (numbers s + 1) (put numbers s (numbers s + 1)) (PrepareAdd s v u) sc
       (prepare_add c p leads numbers h sc s v u (reached (PrepareAdd s v u) s v at refl refl) (listed_of (h.crowns s)) (crown_tested (At u) (h.crowns s) lead.0) (tested s v plain.Absent state.0) room.0 (numbers s + 1) (omega arith))
       (at.known u (inr refl)) (put_changed numbers s (numbers s + 1)) refl)
-  effect (PrepareDrop s u v) h' at own e =
+  outcome (PrepareDrop s u v) h' at own e =
       let ok = passes (prepare_drop_line s u v h) h' e in
       let has = ok.0 in
       let lead = has.1 in
       ends (PrepareDrop s u v) _ h' ok.1
       (steady s u (call.PrepareDrop v (numbers s)) (PrepareDrop s u v) (at.known v (inr refl)) refl _
       (prepare_drop c p leads numbers h sc s u v (reached (PrepareDrop s u v) s u at refl refl) (at.known v (inr refl)) (at.up v (inr refl)) (listed_of (h.crowns s)) (crown_tested (Ready u v) (h.crowns s) lead.0)))
-  effect (Add s v role.Secondary) h' at own e =
+  outcome (Add s v role.Secondary) h' at own e =
       let ok = passes (add_secondary_line c s v h) h' e in
       let right = ok.0 in
       let state = right.1 in
       let room = state.1 in
       ends (Add s v role.Secondary) _ h' ok.1 (steady s v (call.Add role.Secondary) (Add s v role.Secondary) tt refl _
       (add_secondary c p leads numbers h sc s v (reached (Add s v role.Secondary) s v at refl refl) (tested s v plain.Absent state.0) room.0))
-  effect (Add s v role.Primary) h' at own e = by_add_primary s v h' (reached (Add s v role.Primary) s v at refl refl) (lead_held (h.crowns s)) refl e
-  effect (Drop s v) h' at own e = by_drop s v h' (reached (Drop s v) s v at refl refl) (is_some (h.cells s v)) refl e
-  effect (Change s v role.Primary) h' at own e =
+  outcome (Add s v role.Primary) h' at own e = by_add_primary s v h' (reached (Add s v role.Primary) s v at refl refl) (lead_held (h.crowns s)) refl e
+  outcome (Drop s v) h' at own e = by_drop s v h' (reached (Drop s v) s v at refl refl) (is_some (h.cells s v)) refl e
+  outcome (Change s v role.Primary) h' at own e =
       let ok = passes (to_primary_line s v h) h' e in
       let has = ok.0 in
       let lead = has.1 in
@@ -267,14 +286,33 @@ module _ (c : Sizes) (p : Place) (leads : ℕ → Lead) (numbers : ℕ → ℕ) 
       let state = right.1 in
       ends (Change s v role.Primary) _ h' ok.1 (steady s v (call.Change role.Secondary role.Primary) (Change s v role.Primary) tt refl _
       (to_primary c p leads numbers h sc s v (reached (Change s v role.Primary) s v at refl refl) (listed_of (h.crowns s)) (crown_tested Gone (h.crowns s) lead.0) (tested s v plain.Secondary state.0)))
-  effect (Change s v role.Secondary) h' at own e =
+  outcome (Change s v role.Secondary) h' at own e =
       let ok = passes (to_secondary_line s v h) h' e in
       let has = ok.0 in
       let lead = has.1 in
       let free = lead.1 in
       ends (Change s v role.Secondary) _ h' ok.1 (steady s v (call.Change role.Primary role.Secondary) (Change s v role.Secondary) tt refl _
       (to_secondary c p leads numbers h sc s v (reached (Change s v role.Secondary) s v at refl refl) (listed_of (h.crowns s)) (crown_tested (At v) (h.crowns s) lead.0) free.0))
-  effect (Publish s) h' at own e = by_publish s h' (lead_held (h.crowns s)) refl e
-  effect (Unlist s) h' at own e = by_unlist s h' (lead_held (h.crowns s)) refl e
-  effect (Signal k) h' at own e = absurd own
-  effect (Wait k) h' at own e = absurd own
+  outcome (Publish s) h' at own e = by_publish s at.shard h' (lead_held (h.crowns s)) refl e
+  outcome (Unlist s) h' at own e = by_unlist s at.shard h' (lead_held (h.crowns s)) refl e
+  outcome (Signal k) h' at own e = absurd own
+  outcome (Wait k) h' at own e = absurd own
+
+  pub effect : (i : Instr) (h' : Hold) → IsReachable c p i → IsOwn i → after c signals i h ≡ Ok h' → Effect c p leads numbers h h' i
+  effect i h' at own e =
+      let o = outcome i h' at own e in
+      let kept = acts_stay c p o.next_place numbers o.next_numbers i o.made in
+      record {
+        next_place = o.next_place;
+        next_leads = o.next_leads;
+        next_numbers = o.next_numbers;
+        made = o.made;
+        scene = o.scene;
+        down = o.down;
+        stays = kept.1;
+        numbered = kept.0;
+        reached = within_reach c signals h h' i e;
+        exchanged = o.exchanged;
+        listed = o.listed;
+        passed = o.passed;
+      }

@@ -18,7 +18,7 @@ use Rattle.sm_placement.specs.Lead.{Describes}
 use Rattle.sm_placement.proofs.Sums.{put-here, put-apart, put2-here, put2-row}
 use Rattle.sm_reservation.specs.declared.right.PlainCell.TheVariants as plain
 use Rattle.sm_reservation.specs.Hold.{Hold, with_cell, with_crown, pay_room, get_room, pay_spare, get_spare}
-use Rattle.sm_reservation.specs.Amounts.{OfRoom, same_server}
+use Rattle.sm_reservation.specs.Amounts.{OfRoom, same_listed}
 use Rattle.sm_reservation.proofs.Changes.{put2_changed, unchanged}
 use Rattle.sm_reservation.proofs.Truths.{true_cell, no_true_cell, true_crown, absent_from, secondary_from, crown_kept, crown_changed, plain_change}
 use Rattle.sm_reservation.proofs.Exchange.{Moves}
@@ -54,7 +54,7 @@ listable_handed : (u v : ℕ) (l : Option ℕ) → IsListable (Handing u v) l �
 listable_handed u v None h = tt
 listable_handed u v (Some x) h = inl h
 
-listable_settled : (u v : ℕ) (l : Option ℕ) → not (same_server l (Some u)) ≡ true → IsListable (Handed u v) l → IsListable (At v) l
+listable_settled : (u v : ℕ) (l : Option ℕ) → not (same_listed l (Some u)) ≡ true → IsListable (Handed u v) l → IsListable (At v) l
 listable_settled u v None t h = tt
 listable_settled u v (Some x) t (inl h) = absurd (let e : not (eqb x u) ≡ true = t in let f : eqb x u ≡ true = eq-eqb x u h in let g : not true ≡ true = rw f at e in let k : false ≡ true = g in cc)
 listable_settled u v (Some x) t (inr h) = h
@@ -208,7 +208,7 @@ module _ (c : Sizes) (p : Place) (leads : ℕ → Lead) (numbers : ℕ → ℕ) 
         passed = λ m h. (h.0, λ r. absurd r);
       }
 
-  pub drop_handed : (s u w : ℕ) → Reaches c p s u → (l : Option ℕ) → h.crowns s ≡ Some (Handed u w, l) → not (same_server l (Some u)) ≡ true →
+  pub drop_handed : (s u w : ℕ) → Reaches c p s u → (l : Option ℕ) → h.crowns s ≡ Some (Handed u w, l) → not (same_listed l (Some u)) ≡ true →
       Goes c p leads numbers h (get_room (with_cell (with_crown h s (At w) l) s u (Some plain.Absent)) u (c.load s)) s u call.Drop (numbers s)
   drop_handed s u w at l crown free =
       let mine = true_crown c p leads h sc.truth s (Handed u w) l crown in

@@ -9,7 +9,7 @@ use Rattle.sm_reservation.specs.declared.right.PlainCell.{PlainCell}
 use Rattle.sm_reservation.specs.declared.right.PlainCell.TheVariants.{Absent, Secondary}
 use Rattle.sm_reservation.specs.Rights.{Rights}
 use Rattle.sm_reservation.specs.Hold.{Hold, with_cell, with_crown, pay_room, get_room, pay_spare, get_spare, minus, plus}
-use Rattle.sm_reservation.specs.Amounts.{is_cell, same_lead, same_server}
+use Rattle.sm_reservation.specs.Amounts.{is_cell, same_lead, same_listed}
 use Rattle.sm_reservation.specs.Short.{first_short}
 use Rattle.sm_plan_code.specs.declared.instruction.Instr.{Instr}
 use Rattle.sm_plan_code.specs.declared.instruction.Instr.TheVariants.{PrepareAdd, PrepareDrop, Add, Drop, Change, Publish, Unlist, Signal, Wait}
@@ -26,10 +26,10 @@ abbrev pub first_why : List (Bool × Why) → Option Why
 first_why [] = None
 first_why (t ∷ ts) = if t.0 then first_why ts else Some t.1
 
--- the hold where no test fails
-abbrev pub unless_refused : Option Why → Hold → Result Hold Why
-unless_refused None h = Ok h
-unless_refused (Some why) h = Err why
+-- what is left where no test fails
+abbrev pub unless_refused : {X : Type 0} → Option Why → X → Result X Why
+unless_refused None x = Ok x
+unless_refused (Some why) x = Err why
 
 -- what a line answers
 abbrev pub decided : Line → Result Hold Why
@@ -69,7 +69,7 @@ is_unlisted h s = is_none (listed_of (h.crowns s))
 
 -- the crown of the shard doesn't list this server
 abbrev pub is_not_listed : Hold → ℕ → ℕ → Bool
-is_not_listed h s v = not (same_server (listed_of (h.crowns s)) (Some v))
+is_not_listed h s v = not (same_listed (listed_of (h.crowns s)) (Some v))
 
 -- there is so much room at the server
 abbrev pub has_room : Hold → ℕ → ℕ → Bool
@@ -209,11 +209,11 @@ after c signals i h = decided (line_of c signals i h)
 
 -- ---- the holds along a code
 
-abbrev hold_or : Hold → Result Hold Why → Hold
+abbrev pub hold_or : Hold → Result Hold Why → Hold
 hold_or h (Ok next) = next
 hold_or h (Err why) = h
 
-abbrev hold_past : Sizes → (ℕ → Rights) → Option Instr → Hold → Hold
+abbrev pub hold_past : Sizes → (ℕ → Rights) → Option Instr → Hold → Hold
 hold_past c signals None h = h
 hold_past c signals (Some i) h = hold_or h (after c signals i h)
 

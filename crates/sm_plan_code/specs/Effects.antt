@@ -1,9 +1,9 @@
 -- The law of effects: what an instruction leads to where the rights for it are held.
-use Rattle.std.specs.Prelude.{◌≡◌, ◌⊎◌, ◌≤◌, ◌<◌, ℕ, ◌+◌, false, Option, Some, None, Ok, IfSome}
+use Rattle.std.specs.Prelude.{◌≡◌, ◌≢◌, ◌⊎◌, ◌≤◌, ◌<◌, ℕ, suc, ◌+◌, true, false, Option, Some, None, Ok, IfSome}
 use Rattle.sm_placement.specs.declared.lead.Lead.{Lead}
 use Rattle.sm_placement.specs.declared.lead.Lead.TheVariants.{Gone, At, Ready, Handing, Handed}
 use Rattle.sm_placement.specs.Setup.{Sizes}
-use Rattle.sm_placement.specs.Place.{Place}
+use Rattle.sm_placement.specs.Place.{Place, with_lasts, called, called_numbered, set_last}
 use Rattle.sm_placement.specs.Layout.{IsPlacement}
 use Rattle.sm_placement.specs.Lead.{Describes}
 use Rattle.sm_reservation.specs.Rights.{Rights}
@@ -12,11 +12,13 @@ use Rattle.sm_reservation.specs.Amounts.{Right, count, stock, bound}
 use Rattle.sm_reservation.specs.Key.{IsOrdered}
 use Rattle.sm_reservation.specs.HoldOf.{hold_of}
 use Rattle.sm_reservation.specs.Truth.{IsTrueOf}
+use Rattle.sm_plan_code.specs.declared.call.ServerCall.{ServerCall}
 use Rattle.sm_plan_code.specs.declared.instruction.Instr.{Instr}
-use Rattle.sm_plan_code.specs.declared.instruction.Instr.TheVariants.{Signal, Wait}
-use Rattle.sm_plan_code.specs.Instr.{names_of, shard_of, Mentions}
+use Rattle.sm_plan_code.specs.declared.instruction.Instr.TheVariants.{PrepareAdd, PrepareDrop, Add, Drop, Change, Publish, Unlist, Signal, Wait}
+use Rattle.sm_plan_code.specs.Instr.{names_of, shard_of, Mentions, IsOwn}
 use Rattle.sm_plan_code.specs.After.{after}
-use Rattle.sm_plan_code.specs.Acts.{acts}
+use Rattle.sm_plan_code.specs.Acts.{acts, numbers_after, next_call}
+use Rattle.sm_plan_code.specs.Reach.{IsWithinReach}
 
 -- the instruction's shard is known, and each server that it mentions is known and up
 pub record IsReachable (c : Sizes) (p : Place) (i : Instr) : Type 0 where
@@ -49,6 +51,29 @@ IsReady _ = ⊥
 abbrev pub MayHavePassed : Lead → ℕ → ℕ → Type 0
 MayHavePassed lead n m = (m ≤ n) × (IsReady lead → m < n)
 
+-- the cell that an instruction's call may change: its shard and its server
+abbrev pub touched : Instr → Option (ℕ × ℕ)
+touched (PrepareAdd s v u) = Some (s, v)
+touched (PrepareDrop s u v) = Some (s, u)
+touched (Add s v role) = Some (s, v)
+touched (Drop s v) = Some (s, v)
+touched (Change s v to) = Some (s, v)
+touched _ = None
+
+-- the shard whose entry of the map an instruction changes
+abbrev pub published_shard : Instr → Option ℕ
+published_shard (Publish s) = Some s
+published_shard (Unlist s) = Some s
+published_shard _ = None
+
+-- what an instruction leaves as it is, and the version of the entry that it changes
+pub record Stays (p q : Place) (i : Instr) : Type 0 where
+  pub cells : (s v : ℕ) → touched i ≢ Some (s, v) → q.cells s v ≡ p.cells s v
+  pub last : q.last ≡ p.last
+  pub limit : q.limit ≡ p.limit
+  pub entries : (s : ℕ) → published_shard i ≢ Some s → (q.listed s ≡ p.listed s) × (q.version s ≡ p.version s)
+  pub version : (s : ℕ) → published_shard i ≡ Some s → q.version s ≡ suc (p.version s)
+
 -- What an instruction leads to, from the hold h to the hold h': its call is served, the stream stands again in a scene,
 -- and of each right what there is beside what is bound moves as what is held of it does.
 pub record Effect (c : Sizes) (p : Place) (leads : ℕ → Lead) (numbers : ℕ → ℕ) (h h' : Hold) (i : Instr) : Type 0 where
@@ -58,21 +83,46 @@ pub record Effect (c : Sizes) (p : Place) (leads : ℕ → Lead) (numbers : ℕ 
   pub made : acts c p numbers i ≡ Some (next_place, next_numbers)
   pub scene : IsScene c next_place next_leads next_numbers h'
   pub down : next_place.down ≡ p.down
+  pub stays : Stays p next_place i
+  pub numbered : next_numbers ≡ numbers_after numbers i
+  -- the cell of its call is within reach of the hold before it and of the hold after it
+  pub reached : (s v : ℕ) → touched i ≡ Some (s, v) → IsWithinReach h s v × IsWithinReach h' s v
   pub exchanged : (r : Right) → stock c next_place next_leads r + bound c p r + count h r ≡ stock c p leads r + bound c next_place r + count h' r
   -- who is listed may still be, and a number under which a request may have been passed on stays one
   pub listed : (s : ℕ) → IsListable (leads s) (p.listed s) → IsListable (next_leads s) (next_place.listed s)
   pub passed : (s m : ℕ) → MayHavePassed (leads s) (numbers s) m → MayHavePassed (next_leads s) (next_numbers s) m
 
--- the instruction is neither a signal nor a wait
-abbrev pub IsOwn : Instr → Type 0
-IsOwn (Signal k) = ⊥
-IsOwn (Wait k) = ⊥
-IsOwn _ = Unit {0}
-
 -- Each instruction but signal and wait has its effect where the table of rights gives a hold after it.
 abbrev pub HasEffects : Type 0
 HasEffects = (c : Sizes) (p : Place) (leads : ℕ → Lead) (numbers : ℕ → ℕ) (signals : ℕ → Rights) (h h' : Hold) (i : Instr) →
     IsScene c p leads numbers h → IsReachable c p i → IsOwn i → after c signals i h ≡ Ok h' → Effect c p leads numbers h h' i
+
+-- ---- numbered calls
+
+-- whatever is said of one placement is said of the other: that it is one, what there is of each right, and scenes
+pub record SameRights (c : Sizes) (p q : Place) : Type 0 where
+  pub placement : IsPlacement c p → IsPlacement c q
+  pub stock : (leads : ℕ → Lead) (r : Right) → stock c q leads r ≡ stock c p leads r
+  pub bound : (r : Right) → bound c q r ≡ bound c p r
+  pub scene : (leads : ℕ → Lead) (numbers : ℕ → ℕ) (h : Hold) → IsScene c p leads numbers h → IsScene c q leads numbers h
+
+-- Nothing of that looks at last numbers.
+abbrev pub LastsAreUnseen : Type 0
+LastsAreUnseen = (c : Sizes) (p : Place) (last : ℕ → ℕ → ℕ) → SameRights c p (with_lasts last p)
+
+-- What an instruction leads to where its call x is made under a number: it has its effect now, and the placement is that
+-- of the effect with this last number.
+pub record NumberedEffect (c : Sizes) (p : Place) (leads : ℕ → Lead) (numbers : ℕ → ℕ) (h h' : Hold) (i : Instr) (x : ServerCall) (number : ℕ) : Type 0 where
+  pub effect : Effect c p leads numbers h h' i
+  pub called : called c p x.shard x.server x.call ≡ Ok effect.next_place
+  pub answered : called_numbered c p x.shard x.server x.call number ≡ Ok (record { place = set_last effect.next_place x.shard x.server number; fresh = true })
+  pub scene : IsScene c (set_last effect.next_place x.shard x.server number) effect.next_leads effect.next_numbers h'
+
+-- A call under a number that isn't the last one of its cell has the effect of its instruction.
+abbrev pub HasNumberedEffects : Type 0
+HasNumberedEffects = (c : Sizes) (p : Place) (leads : ℕ → Lead) (numbers : ℕ → ℕ) (signals : ℕ → Rights) (h h' : Hold) (i : Instr) (x : ServerCall) (number : ℕ) →
+    IsScene c p leads numbers h → IsReachable c p i → after c signals i h ≡ Ok h' → next_call numbers i ≡ Some x → number ≢ p.last x.shard x.server →
+    NumberedEffect c p leads numbers h h' i x number
 
 -- ---- signals
 

@@ -43,3 +43,9 @@ shard_of (Publish s) = Some s
 shard_of (Unlist s) = Some s
 shard_of (Signal k) = None
 shard_of (Wait k) = None
+
+-- the instruction is neither a signal nor a wait
+abbrev pub IsOwn : Instr → Type 0
+IsOwn (Signal k) = ⊥
+IsOwn (Wait k) = ⊥
+IsOwn _ = Unit {0}

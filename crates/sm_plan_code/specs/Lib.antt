@@ -1,6 +1,9 @@
 pub mod Instr
 pub mod After
+pub mod Table
 pub mod Acts
+pub mod Reach
 pub mod Effects
+pub mod Known
 pub mod Plan
 pub mod Parts

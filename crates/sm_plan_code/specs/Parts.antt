@@ -1,10 +1,10 @@
 -- The arguments of a plan, and what is inside a plan.
 use Rattle.sm_plan_code.specs.declared.plan.Parts.{Parts}
 use Rattle.sm_plan_code.specs.declared.plan.Plan.TheInside.{Inside}
-use Rattle.sm_plan_code.specs.Plan.{PlanParts}
+use Rattle.sm_plan_code.specs.Plan.{PlanModel}
 
-abbrev pub parts_of : Parts → PlanParts
+abbrev pub parts_of : Parts → PlanModel
 parts_of p = record { budget = p.budget; streams = p.streams.items; signals = p.signals.items }
 
-abbrev pub plan_of : Inside → PlanParts
+abbrev pub plan_of : Inside → PlanModel
 plan_of p = record { budget = p.budget; streams = p.streams.items; signals = p.signals.items }

@@ -11,43 +11,44 @@ use Rattle.sm_plan_code.specs.declared.instruction.Instr.TheVariants.{PrepareAdd
 use Rattle.sm_plan_code.specs.declared.plan.PlanFault.{PlanFault}
 use Rattle.sm_plan_code.specs.declared.plan.PlanFault.TheVariants.{TooMany, UnknownSignal}
 use Rattle.sm_plan_code.specs.Instr.{names_of, shard_of}
+use Rattle.sm_plan_code.specs.declared.limits.TheConstants.{MOST_STREAMS, MOST_SIGNALS, MOST_INSTRUCTIONS, MOST_CALLS, MOST_RIGHTS, MOST_AMOUNT}
 
 -- a stream: how many calls it makes at most, how many tries beside them, what it holds at its start, and its instructions
-pub record StreamParts : Type 0 where
+pub record StreamModel : Type 0 where
   pub budget : ℕ
   pub retries : ℕ
   pub holds : Rights
   pub code : List Instr
 
 -- a plan: how many calls and tries its streams have together at most, its streams, and what each signal carries
-pub record PlanParts : Type 0 where
+pub record PlanModel : Type 0 where
   pub budget : ℕ
-  pub streams : List StreamParts
+  pub streams : List StreamModel
   pub signals : List Rights
 
 -- ---- within the limits
 
 -- each list of a parcel and each amount is within its limit
 pub record IsSmallParcel (r : Rights) : Type 0 where
-  pub cells : length r.cells ≤ 4096
-  pub crowns : length r.crowns ≤ 4096
-  pub room : length r.room ≤ 4096
-  pub spare : length r.spare ≤ 4096
-  pub room_amounts : All (λ x. x.amount ≤ 4294967295) r.room
-  pub spare_amounts : All (λ x. x.amount ≤ 4294967295) r.spare
+  pub cells : length r.cells ≤ MOST_RIGHTS
+  pub crowns : length r.crowns ≤ MOST_RIGHTS
+  pub room : length r.room ≤ MOST_RIGHTS
+  pub spare : length r.spare ≤ MOST_RIGHTS
+  pub room_amounts : All (λ x. x.amount ≤ MOST_AMOUNT) r.room
+  pub spare_amounts : All (λ x. x.amount ≤ MOST_AMOUNT) r.spare
 
 -- a stream's numbers, its parcel and its code are within their limits
-pub record IsSmallStream (s : StreamParts) : Type 0 where
-  pub budget : s.budget ≤ 262144
-  pub retries : s.retries ≤ 262144
+pub record IsSmallStream (s : StreamModel) : Type 0 where
+  pub budget : s.budget ≤ MOST_CALLS
+  pub retries : s.retries ≤ MOST_CALLS
   pub holds : IsSmallParcel s.holds
-  pub code : length s.code ≤ 4096
+  pub code : length s.code ≤ MOST_INSTRUCTIONS
 
 -- a plan's budget, its lists, each of its streams and each of its parcels are within their limits
-pub record IsSmallPlan (p : PlanParts) : Type 0 where
-  pub budget : p.budget ≤ 262144
-  pub stream_count : length p.streams ≤ 64
-  pub signal_count : length p.signals ≤ 256
+pub record IsSmallPlan (p : PlanModel) : Type 0 where
+  pub budget : p.budget ≤ MOST_CALLS
+  pub stream_count : length p.streams ≤ MOST_STREAMS
+  pub signal_count : length p.signals ≤ MOST_SIGNALS
   pub streams : All IsSmallStream p.streams
   pub signals : All IsSmallParcel p.signals
 
@@ -66,7 +67,7 @@ KnowsSignal n (Signal k) = k < n
 KnowsSignal n (Wait k) = k < n
 
 -- each instruction of each stream posts or waits for a signal of the plan, if it does at all
-abbrev pub KnowsSignals : PlanParts → Type 0
+abbrev pub KnowsSignals : PlanModel → Type 0
 KnowsSignals p = All (λ s. All (KnowsSignal (length p.signals)) s.code) p.streams
 
 -- ---- parcels in order
@@ -77,61 +78,61 @@ pub record IsOrderedParcel (r : Rights) : Type 0 where
   pub positive : IsPositive r
 
 -- each parcel of a plan is in order: what a stream holds at its start, and what a signal carries
-pub record HasOrderedParcels (p : PlanParts) : Type 0 where
+pub record HasOrderedParcels (p : PlanModel) : Type 0 where
   pub streams : All (λ s. IsOrderedParcel s.holds) p.streams
   pub signals : All IsOrderedParcel p.signals
 
 -- ---- plans
 
 -- what every plan keeps
-pub record IsPlan (p : PlanParts) : Type 0 where
+pub record IsPlan (p : PlanModel) : Type 0 where
   pub small : IsSmallPlan p
   pub signals : KnowsSignals p
   pub parcels : HasOrderedParcels p
 
 -- why these parts are no plan: the first fault that they have
-abbrev pub IsFaultOf : PlanParts → PlanFault → Type 0
-IsFaultOf p TooMany = ¬ IsSmallPlan p
-IsFaultOf p UnknownSignal = IsSmallPlan p × ¬ KnowsSignals p
+abbrev pub IsPlanFault : PlanModel → PlanFault → Type 0
+IsPlanFault p TooMany = ¬ IsSmallPlan p
+IsPlanFault p UnknownSignal = IsSmallPlan p × ¬ KnowsSignals p
 
 -- ---- plans of a configuration, which has so many shards and servers
 
 -- the shard and the server of a cell right are below their counts
-abbrev pub FitsCell : ℕ → ℕ → CellRight → Type 0
-FitsCell shards servers x = (x.shard < shards) × (x.server < servers)
+abbrev pub IsKnownCellRight : ℕ → ℕ → CellRight → Type 0
+IsKnownCellRight shards servers x = (x.shard < shards) × (x.server < servers)
 
 -- each server that a lead names is below the count
-abbrev pub FitsLead : ℕ → Lead → Type 0
-FitsLead servers Gone = Unit {0}
-FitsLead servers (At u) = u < servers
-FitsLead servers (Ready u v) = (u < servers) × (v < servers)
-FitsLead servers (Handing u v) = (u < servers) × (v < servers)
-FitsLead servers (Handed u v) = (u < servers) × (v < servers)
+abbrev pub IsKnownLead : ℕ → Lead → Type 0
+IsKnownLead servers Gone = Unit {0}
+IsKnownLead servers (At u) = u < servers
+IsKnownLead servers (Ready u v) = (u < servers) × (v < servers)
+IsKnownLead servers (Handing u v) = (u < servers) × (v < servers)
+IsKnownLead servers (Handed u v) = (u < servers) × (v < servers)
 
 -- a crown's shard, each server of its lead and its listed server are below their counts
-abbrev pub FitsCrown : ℕ → ℕ → Crown → Type 0
-FitsCrown shards servers x = (x.shard < shards) × FitsLead servers x.lead × IfSome x.listed (λ v. v < servers)
+abbrev pub IsKnownCrown : ℕ → ℕ → Crown → Type 0
+IsKnownCrown shards servers x = (x.shard < shards) × IsKnownLead servers x.lead × IfSome x.listed (λ v. v < servers)
 
 -- each id of each right in a parcel is below its count
-pub record FitsParcel (shards servers : ℕ) (r : Rights) : Type 0 where
-  pub cells : All (FitsCell shards servers) r.cells
-  pub crowns : All (FitsCrown shards servers) r.crowns
+pub record IsKnownParcel (shards servers : ℕ) (r : Rights) : Type 0 where
+  pub cells : All (IsKnownCellRight shards servers) r.cells
+  pub crowns : All (IsKnownCrown shards servers) r.crowns
   pub room : All (λ x. x.server < servers) r.room
   pub spare : All (λ x. x.shard < shards) r.spare
 
 -- the shard of an instruction and each server that it mentions are below their counts
-abbrev pub FitsInstr : ℕ → ℕ → Instr → Type 0
-FitsInstr shards servers i =
+abbrev pub IsKnownInstr : ℕ → ℕ → Instr → Type 0
+IsKnownInstr shards servers i =
     IfSome (shard_of i) (λ s. s < shards)
     × IfSome (names_of i).first (λ v. v < servers)
     × IfSome (names_of i).second (λ v. v < servers)
 
 -- each id is below its count in what a stream holds at its start and in its instructions
-pub record FitsStream (shards servers : ℕ) (s : StreamParts) : Type 0 where
-  pub holds : FitsParcel shards servers s.holds
-  pub code : All (FitsInstr shards servers) s.code
+pub record IsKnownStream (shards servers : ℕ) (s : StreamModel) : Type 0 where
+  pub holds : IsKnownParcel shards servers s.holds
+  pub code : All (IsKnownInstr shards servers) s.code
 
 -- each id is below its count in each stream and in each signal's parcel
-pub record FitsPlan (shards servers : ℕ) (p : PlanParts) : Type 0 where
-  pub streams : All (FitsStream shards servers) p.streams
-  pub signals : All (FitsParcel shards servers) p.signals
+pub record IsKnownPlan (shards servers : ℕ) (p : PlanModel) : Type 0 where
+  pub streams : All (IsKnownStream shards servers) p.streams
+  pub signals : All (IsKnownParcel shards servers) p.signals

@@ -1,7 +1,7 @@
 //! Whether all ids of a plan are below the counts of a configuration.
 ghost use Rattle.std.specs.Prelude.{◌↔◌, ◌<◌, IsTrue, IfSome, All};
 ghost use Rattle.sm_plan_code.specs.Instr.{shard_of};
-ghost use Rattle.sm_plan_code.specs.Plan.{FitsCell, FitsLead, FitsCrown, FitsParcel, FitsInstr, FitsStream, FitsPlan};
+ghost use Rattle.sm_plan_code.specs.Plan.{IsKnownCellRight, IsKnownLead, IsKnownCrown, IsKnownParcel, IsKnownInstr, IsKnownStream, IsKnownPlan};
 
 use crate::plan::{Plan, Stream};
 use crate::{Instr, names};
@@ -10,7 +10,7 @@ use sm_reservation::{CellRight, Crown, Parcel, Room, Spare};
 use sm_server::ServerId;
 
 /// The server is below the count, where there is one.
-fn is_server_below(servers: u32, server: Option<ServerId>) -> bool
+fn is_known_server(servers: u32, server: Option<ServerId>) -> bool
     ensures { IsTrue result ↔ IfSome server (λ v. v < servers) }
 {
     match server {
@@ -20,8 +20,8 @@ fn is_server_below(servers: u32, server: Option<ServerId>) -> bool
 }
 
 /// Each server that a lead names is below the count.
-fn is_lead_below(servers: u32, lead: Lead) -> bool
-    ensures { IsTrue result ↔ FitsLead servers lead }
+fn is_known_lead(servers: u32, lead: Lead) -> bool
+    ensures { IsTrue result ↔ IsKnownLead servers lead }
 {
     match lead {
         Lead::Gone => true,
@@ -33,56 +33,56 @@ fn is_lead_below(servers: u32, lead: Lead) -> bool
 }
 
 /// A crown's shard, the servers of its lead and its listed server are below their counts.
-fn is_crown_below(shards: u32, servers: u32, crown: &Crown) -> bool
-    ensures { IsTrue result ↔ FitsCrown shards servers crown.now }
+fn is_known_crown(shards: u32, servers: u32, crown: &Crown) -> bool
+    ensures { IsTrue result ↔ IsKnownCrown shards servers crown.now }
 {
     crown.shard.number() < shards
-        && is_lead_below(servers, crown.lead)
-        && is_server_below(servers, crown.listed)
+        && is_known_lead(servers, crown.lead)
+        && is_known_server(servers, crown.listed)
 }
 
 /// The shard and the server of each cell right are below their counts.
 fn are_cells_below(shards: u32, servers: u32, cells: &[CellRight]) -> bool
-    ensures { IsTrue result ↔ All (FitsCell shards servers) cells.now }
+    ensures { IsTrue result ↔ All (IsKnownCellRight shards servers) cells.now }
 {
     cells.iter().all(|cell| cell.shard.number() < shards && cell.server.number() < servers)
 }
 
 /// The ids of each crown are below their counts.
 fn are_crowns_below(shards: u32, servers: u32, crowns: &[Crown]) -> bool
-    ensures { IsTrue result ↔ All (FitsCrown shards servers) crowns.now }
+    ensures { IsTrue result ↔ All (IsKnownCrown shards servers) crowns.now }
 {
     crowns
         .iter()
-        .all(|crown| is_crown_below(shards, servers, crown))
+        .all(|crown| is_known_crown(shards, servers, crown))
 }
 
 /// The server of each entry of room is below the count.
-fn is_room_below(servers: u32, room: &[Room]) -> bool
+fn is_known_room(servers: u32, room: &[Room]) -> bool
     ensures { IsTrue result ↔ All (λ x. x.server < servers) room.now }
 {
     room.iter().all(|room| room.server.number() < servers)
 }
 
 /// The shard of each entry of spare replicas is below the count.
-fn is_spare_below(shards: u32, spare: &[Spare]) -> bool
+fn is_known_spare(shards: u32, spare: &[Spare]) -> bool
     ensures { IsTrue result ↔ All (λ x. x.shard < shards) spare.now }
 {
     spare.iter().all(|spare| spare.shard.number() < shards)
 }
 
 /// The ids of each right of a parcel are below their counts.
-fn is_parcel_below(shards: u32, servers: u32, parcel: &Parcel) -> bool
-    ensures { IsTrue result ↔ FitsParcel shards servers parcel.now }
+fn is_known_parcel(shards: u32, servers: u32, parcel: &Parcel) -> bool
+    ensures { IsTrue result ↔ IsKnownParcel shards servers parcel.now }
 {
     are_cells_below(shards, servers, parcel.cells())
         && are_crowns_below(shards, servers, parcel.crowns())
-        && is_room_below(servers, parcel.room())
-        && is_spare_below(shards, parcel.spare())
+        && is_known_room(servers, parcel.room())
+        && is_known_spare(shards, parcel.spare())
 }
 
 /// The shard of an instruction is below the count, where it has one.
-fn is_shard_below(shards: u32, instr: &Instr) -> bool
+fn is_known_shard(shards: u32, instr: &Instr) -> bool
     ensures { IsTrue result ↔ IfSome (shard_of instr.now) (λ s. s < shards) }
 {
     match *instr {
@@ -98,52 +98,52 @@ fn is_shard_below(shards: u32, instr: &Instr) -> bool
 }
 
 /// The shard of an instruction and the servers that it mentions are below their counts.
-fn is_instr_below(shards: u32, servers: u32, instr: &Instr) -> bool
-    ensures { IsTrue result ↔ FitsInstr shards servers instr.now }
+pub fn is_known_instr(shards: u32, servers: u32, instr: &Instr) -> bool
+    ensures { IsTrue result ↔ IsKnownInstr shards servers instr.now }
 {
     let named = names(instr);
-    is_shard_below(shards, instr)
-        && is_server_below(servers, named.first)
-        && is_server_below(servers, named.second)
+    is_known_shard(shards, instr)
+        && is_known_server(servers, named.first)
+        && is_known_server(servers, named.second)
 }
 
 /// The ids of each instruction are below their counts.
-fn is_code_below(shards: u32, servers: u32, code: &[Instr]) -> bool
-    ensures { IsTrue result ↔ All (FitsInstr shards servers) code.now }
+fn is_known_code(shards: u32, servers: u32, code: &[Instr]) -> bool
+    ensures { IsTrue result ↔ All (IsKnownInstr shards servers) code.now }
 {
     code.iter()
-        .all(|instr| is_instr_below(shards, servers, instr))
+        .all(|instr| is_known_instr(shards, servers, instr))
 }
 
 /// The ids of what a stream holds at its start and of its instructions are below their counts.
-fn is_stream_below(shards: u32, servers: u32, stream: &Stream) -> bool
-    ensures { IsTrue result ↔ FitsStream shards servers stream.now }
+fn is_known_stream(shards: u32, servers: u32, stream: &Stream) -> bool
+    ensures { IsTrue result ↔ IsKnownStream shards servers stream.now }
 {
-    is_parcel_below(shards, servers, &stream.holds)
-        && is_code_below(shards, servers, stream.code.as_slice())
+    is_known_parcel(shards, servers, &stream.holds)
+        && is_known_code(shards, servers, stream.code.as_slice())
 }
 
 /// The ids of each of the streams are below their counts.
 fn are_streams_below(shards: u32, servers: u32, streams: &[Stream]) -> bool
-    ensures { IsTrue result ↔ All (FitsStream shards servers) streams.now }
+    ensures { IsTrue result ↔ All (IsKnownStream shards servers) streams.now }
 {
     streams
         .iter()
-        .all(|stream| is_stream_below(shards, servers, stream))
+        .all(|stream| is_known_stream(shards, servers, stream))
 }
 
 /// The ids of each of the parcels are below their counts.
 fn are_parcels_below(shards: u32, servers: u32, parcels: &[Parcel]) -> bool
-    ensures { IsTrue result ↔ All (FitsParcel shards servers) parcels.now }
+    ensures { IsTrue result ↔ All (IsKnownParcel shards servers) parcels.now }
 {
     parcels
         .iter()
-        .all(|parcel| is_parcel_below(shards, servers, parcel))
+        .all(|parcel| is_known_parcel(shards, servers, parcel))
 }
 
 /// The ids of a plan are below their counts.
-pub(crate) fn is_plan_below(shards: u32, servers: u32, plan: &Plan) -> bool
-    ensures { IsTrue result ↔ FitsPlan shards servers plan.now }
+pub(crate) fn is_known_plan(shards: u32, servers: u32, plan: &Plan) -> bool
+    ensures { IsTrue result ↔ IsKnownPlan shards servers plan.now }
 {
     are_streams_below(shards, servers, plan.streams())
         && are_parcels_below(shards, servers, plan.signals())

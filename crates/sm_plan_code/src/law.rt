@@ -1,5 +1,8 @@
 //! The laws of effects: what a stream that holds the rights for an instruction may count on.
-ghost use Rattle.sm_plan_code.specs.Effects.{HasEffects, SignalGives, WaitTakes};
+ghost use Rattle.sm_plan_code.specs.Effects.{HasEffects, HasNumberedEffects, LastsAreUnseen, SignalGives, WaitTakes};
+ghost use Rattle.sm_plan_code.specs.Known.{HoldsStayKnown, StaysReachable};
+ghost use Rattle.sm_plan_code.specs.Reach.{ReachIsExclusive};
+ghost use Rattle.sm_plan_code.specs.Table.{LinesExchange};
 
 /// Where the table of rights gives a hold after an instruction, its call is served, and what there is of each right moves
 /// as what is held of it does.
@@ -15,4 +18,37 @@ pub fn signal_gives()
 /// A wait leaves the placement as it is, and puts the parcel of its signal into the hold.
 pub fn wait_takes()
     ensures { WaitTakes }
+{}
+
+/// Where the table of rights gives a hold after an instruction, it is the hold before it, without what the instruction
+/// needs, with what it gives.
+pub fn lines_exchange()
+    ensures { LinesExchange }
+{}
+
+/// Two holds that can both be true of a placement, each beside the other, reach no cell together.
+pub fn reach_is_exclusive()
+    ensures { ReachIsExclusive }
+{}
+
+/// That a placement is one, what there is of each right, and what a hold says of it, are the same whatever its last
+/// numbers are.
+pub fn lasts_are_unseen()
+    ensures { LastsAreUnseen }
+{}
+
+/// Where the table of rights gives a hold after an instruction, its call has its effect under each number that isn't the
+/// last one of its cell.
+pub fn has_numbered_effects()
+    ensures { HasNumberedEffects }
+{}
+
+/// What is held stays of known shards and servers along the code of a plan that fits.
+pub fn holds_stay_known()
+    ensures { HoldsStayKnown }
+{}
+
+/// An instruction of a plan that fits is reachable while the servers that it mentions are up.
+pub fn stays_reachable()
+    ensures { StaysReachable }
 {}

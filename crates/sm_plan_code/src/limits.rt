@@ -8,33 +8,45 @@ use crate::plan::{Parts, Stream};
 use sm_reservation::{Parcel, Room, Spare};
 
 /// How many streams a plan has at most.
-const MOST_STREAMS: usize = 64;
+pub const MOST_STREAMS: usize = 64;
 
 /// How many signals a plan has at most.
-const MOST_SIGNALS: usize = 256;
+pub const MOST_SIGNALS: usize = 256;
 
 /// How many instructions a stream has at most.
-const MOST_INSTRUCTIONS: usize = 4_096;
+pub const MOST_INSTRUCTIONS: usize = 4_096;
 
 /// The greatest budget, of a plan and of a stream, and the most retries of a stream.
-const MOST_CALLS: u32 = 262_144;
+pub const MOST_CALLS: u32 = 262_144;
 
 /// How many entries each list of a parcel has at most.
-const MOST_RIGHTS: usize = 4_096;
+pub const MOST_RIGHTS: usize = 4_096;
 
 /// The greatest amount of room or of spare replicas.
-const MOST_AMOUNT: u64 = 4_294_967_295;
+pub const MOST_AMOUNT: u64 = 4_294_967_295;
+
+/// How many plans run at a time at most.
+pub const MOST_PLANS: usize = 16;
+
+/// How many tries a stream's budget, its retries and its refills allow together at most.
+pub const MOST_ALLOWANCE: u32 = 524_288;
+
+/// How many places a log has at most.
+pub const MOST_PLACES: u32 = 1_048_576;
+
+/// The greatest number of a plan, a stream, a handover or a place that a document may name.
+pub const MOST_NUMBER: u32 = u32::MAX;
 
 /// Each amount of room is within its limit.
 fn is_small_room(room: &[Room]) -> bool
-    ensures { IsTrue result ↔ All (λ x. x.amount ≤ 4294967295) room.now }
+    ensures { IsTrue result ↔ All (λ x. x.amount ≤ MOST_AMOUNT) room.now }
 {
     room.iter().all(|x| x.amount <= MOST_AMOUNT)
 }
 
 /// Each amount of spare replicas is within its limit.
 fn is_small_spare(spare: &[Spare]) -> bool
-    ensures { IsTrue result ↔ All (λ x. x.amount ≤ 4294967295) spare.now }
+    ensures { IsTrue result ↔ All (λ x. x.amount ≤ MOST_AMOUNT) spare.now }
 {
     spare.iter().all(|x| x.amount <= MOST_AMOUNT)
 }

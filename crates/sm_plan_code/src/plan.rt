@@ -1,10 +1,10 @@
 //! Plans: streams of instructions, what each of them holds at its start, and what each signal carries.
 ghost use Rattle.std.specs.Prelude.{◌≡◌, ◌↔◌, IsTrue, IfSome, IfNone, IfOk, OnOk, IfErr, length};
-ghost use Rattle.sm_plan_code.specs.Plan.{IsPlan, IsFaultOf, FitsPlan};
+ghost use Rattle.sm_plan_code.specs.Plan.{IsPlan, IsPlanFault, IsKnownPlan};
 ghost use Rattle.sm_plan_code.specs.Parts.{parts_of};
 
 use crate::Instr;
-use crate::fits::is_plan_below;
+use crate::fits::is_known_plan;
 use crate::limits::{is_small_plan, knows_signals};
 use sm_placement::Config;
 use sm_reservation::Parcel;
@@ -25,9 +25,9 @@ pub struct Stream {
 }
 
 impl Model for Stream {
-    ghost use Rattle.sm_plan_code.specs.Plan.{StreamParts};
+    ghost use Rattle.sm_plan_code.specs.Plan.{StreamModel};
 
-    ghost Value = { StreamParts };
+    ghost Value = { StreamModel };
 
     ghost view = { λ s. record { budget = s.budget; retries = s.retries; holds = s.holds; code = s.code.items } };
 }
@@ -63,9 +63,9 @@ pub struct Plan {
 }
 
 impl Model for Plan {
-    ghost use Rattle.sm_plan_code.specs.Plan.{PlanParts, IsPlan};
+    ghost use Rattle.sm_plan_code.specs.Plan.{PlanModel, IsPlan};
 
-    ghost Value = { PlanParts };
+    ghost Value = { PlanModel };
 
     ghost use Rattle.sm_plan_code.specs.Parts.{plan_of};
 
@@ -76,7 +76,7 @@ impl Model for Plan {
 
 /// The first fault of the parts.
 fn fault_of(parts: &Parts) -> Option<PlanFault>
-    ensures fault { IfSome result (λ fault. IsFaultOf (parts_of parts.now) fault) }
+    ensures fault { IfSome result (λ fault. IsPlanFault (parts_of parts.now) fault) }
     ensures none { IfNone result (IsPlan (parts_of parts.now)) }
 {
     if !is_small_plan(parts) {
@@ -98,7 +98,7 @@ impl Plan {
         ensures ok { IfOk result (λ plan. plan ≡ parts_of parts) }
         ensures valid { OnOk result (IsPlan (parts_of parts)) }
         ensures parts { IfErr result (λ e. e.0 ≡ parts) }
-        ensures fault { IfErr result (λ e. IsFaultOf (parts_of parts) e.1) }
+        ensures fault { IfErr result (λ e. IsPlanFault (parts_of parts) e.1) }
     {
         if let Some(fault) = fault_of(&parts) {
             return Err((parts, fault));
@@ -159,8 +159,8 @@ impl Plan {
     /// Each shard and server that the plan names is in the configuration: in its instructions, in what its streams hold
     /// and in what its signals carry.
     pub fn fits(&self, config: &Config) -> bool
-        ensures { IsTrue result ↔ FitsPlan (length config.now.shards) (length config.now.servers) self.now }
+        ensures { IsTrue result ↔ IsKnownPlan (length config.now.shards) (length config.now.servers) self.now }
     {
-        is_plan_below(config.shard_count(), config.server_count(), self)
+        is_known_plan(config.shard_count(), config.server_count(), self)
     }
 }

@@ -1,6 +1,6 @@
 use Rattle.std.proofs.Common.{◌∙◌, sym}
 use Rattle.std.proofs.lemmas.Bool.{false≢true}
-use Rattle.sm_plan_code.proofs.fits.is_plan_below.Goals as goal
+use Rattle.sm_plan_code.proofs.fits.is_known_plan.Goals as goal
 
 pub returns-then-are_streams_below : goal.returns-then-are_streams_below
 returns-then-are_streams_below c =
