@@ -10,7 +10,7 @@ use Rattle.sm_reservation.specs.declared.right.Spare.{Spare}
 use Rattle.sm_reservation.specs.Rows.{same, amount_at}
 use Rattle.sm_reservation.specs.HoldOf.{hold_of}
 use Rattle.sm_reservation.proofs.Places.{same_is}
-use Rattle.sm_plan_code.specs.Plan.{StreamParts, FitsStream}
+use Rattle.sm_plan_code.specs.Plan.{StreamModel, IsKnownStream}
 use Rattle.sm_verifier.specs.Admission.{declared_room, declared_spare}
 
 -- no row stands at a number that all rows are below
@@ -25,15 +25,15 @@ none_beyond number amount n v (x ∷ xs) past all = elim (cases_Bool (same (numb
   | inr other ↦ rw other (none_beyond number amount n v xs past all.1)
 ]
 
-room_beyond : (shards servers v : ℕ) (stream : StreamParts) → servers ≤ v → FitsStream shards servers stream → (hold_of stream.holds).room v ≡ 0
+room_beyond : (shards servers v : ℕ) (stream : StreamModel) → servers ≤ v → IsKnownStream shards servers stream → (hold_of stream.holds).room v ≡ 0
 unfolding hold_of
 room_beyond shards servers v stream past fits = none_beyond (λ (x : Room). x.server) (λ x. x.amount) servers v stream.holds.room past (recursion_from_All (λ x. x.server < servers) stream.holds.room fits.holds.room)
 
-spare_beyond : (shards servers s : ℕ) (stream : StreamParts) → shards ≤ s → FitsStream shards servers stream → (hold_of stream.holds).spare s ≡ 0
+spare_beyond : (shards servers s : ℕ) (stream : StreamModel) → shards ≤ s → IsKnownStream shards servers stream → (hold_of stream.holds).spare s ≡ 0
 unfolding hold_of
 spare_beyond shards servers s stream past fits = none_beyond (λ (x : Spare). x.shard) (λ x. x.amount) shards s stream.holds.spare past (recursion_from_All (λ x. x.shard < shards) stream.holds.spare fits.holds.spare)
 
-sum_none : (f : StreamParts → ℕ) (P : StreamParts → Type 0) → ((x : StreamParts) → P x → f x ≡ 0) → (xs : List StreamParts) → AllByRecursion P xs → sum_by f xs ≡ 0
+sum_none : (f : StreamModel → ℕ) (P : StreamModel → Type 0) → ((x : StreamModel) → P x → f x ≡ 0) → (xs : List StreamModel) → AllByRecursion P xs → sum_by f xs ≡ 0
 sum_none f P zeroes [] all = refl
 sum_none f P zeroes (x ∷ xs) all =
     let a = sum_by-cons f x xs in
@@ -41,8 +41,8 @@ sum_none f P zeroes (x ∷ xs) all =
     let d = sum_none f P zeroes xs all.1 in
     omega arith
 
-pub no_room_beyond : (shards servers v : ℕ) (xs : List StreamParts) → servers ≤ v → All (FitsStream shards servers) xs → declared_room xs v ≡ 0
-no_room_beyond shards servers v xs past fits = sum_none (λ stream. (hold_of stream.holds).room v) (FitsStream shards servers) (λ x. room_beyond shards servers v x past) xs (recursion_from_All (FitsStream shards servers) xs fits)
+pub no_room_beyond : (shards servers v : ℕ) (xs : List StreamModel) → servers ≤ v → All (IsKnownStream shards servers) xs → declared_room xs v ≡ 0
+no_room_beyond shards servers v xs past fits = sum_none (λ stream. (hold_of stream.holds).room v) (IsKnownStream shards servers) (λ x. room_beyond shards servers v x past) xs (recursion_from_All (IsKnownStream shards servers) xs fits)
 
-pub no_spare_beyond : (shards servers s : ℕ) (xs : List StreamParts) → shards ≤ s → All (FitsStream shards servers) xs → declared_spare xs s ≡ 0
-no_spare_beyond shards servers s xs past fits = sum_none (λ stream. (hold_of stream.holds).spare s) (FitsStream shards servers) (λ x. spare_beyond shards servers s x past) xs (recursion_from_All (FitsStream shards servers) xs fits)
+pub no_spare_beyond : (shards servers s : ℕ) (xs : List StreamModel) → shards ≤ s → All (IsKnownStream shards servers) xs → declared_spare xs s ≡ 0
+no_spare_beyond shards servers s xs past fits = sum_none (λ stream. (hold_of stream.holds).spare s) (IsKnownStream shards servers) (λ x. spare_beyond shards servers s x past) xs (recursion_from_All (IsKnownStream shards servers) xs fits)

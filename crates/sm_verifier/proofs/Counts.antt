@@ -6,7 +6,7 @@ use Rattle.std.proofs.lemmas.Bool.{cases_lt}
 use Rattle.std.proofs.lemmas.List.Sums.{sum_by-le, sum_by-take-le, count_by-le-length}
 use Rattle.std.proofs.lemmas.List.{get_or_past}
 use Rattle.sm_plan_code.specs.declared.instruction.Instr.{Instr}
-use Rattle.sm_plan_code.specs.Plan.{StreamParts, IsSmallStream}
+use Rattle.sm_plan_code.specs.Plan.{StreamModel, IsSmallStream}
 
 -- counts of no more than 4096 in each of 64 streams, and 4096 more
 pub few : {X : Type 0} (f : X → ℕ) (xs : List X) (old new : List ℕ) (i k n : ℕ) → length xs ≤ 64 → All (λ x. f x ≤ 4096) xs → n ≤ 4096 → slice_index old k ≡ 0 → length new ≡ length old → (k < length old → slice_index new k ≡ slice_index old k + sum_by f (take i xs)) → slice_index new k + n < 2 ^ 32
@@ -19,6 +19,6 @@ few f xs old new i k n count small short none same each =
     ]
 
 -- what is counted in a small stream
-pub small_counts : (p : Instr → Bool) (streams : List StreamParts) → All IsSmallStream streams → All (λ s. count_by p s.code ≤ 4096) streams
+pub small_counts : (p : Instr → Bool) (streams : List StreamModel) → All IsSmallStream streams → All (λ s. count_by p s.code ≤ 4096) streams
 small_counts p streams small =
     λ j d l. let code = (small j d l).code in omega (arith, count_by-le-length p (get_or streams j d).code)

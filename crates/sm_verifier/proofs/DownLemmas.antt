@@ -5,8 +5,8 @@ use Rattle.std.proofs.lemmas.Bool.{cases_Bool, cases_lt, lt-ltb, le-ltb, false_f
 use Rattle.sm_placement.specs.Place.{Place}
 use Rattle.sm_plan_code.specs.declared.instruction.Instr.{Instr}
 use Rattle.sm_plan_code.specs.Instr.{names_of, Mentions}
-use Rattle.sm_plan_code.specs.Plan.{StreamParts}
-use Rattle.sm_verifier.specs.Downs.{lower, if_down, down_at, down_in, down_of}
+use Rattle.sm_plan_code.specs.Plan.{StreamModel}
+use Rattle.sm_verifier.specs.Downs.{lower_server, if_down, down_at, down_in_code, down_in_streams}
 use Rattle.sm_verifier.specs.Admission.{IsMentioned, IsUpWhereMentioned, AreUp, IsLowest}
 
 -- the least of the numbers with a property, or none where no number has it
@@ -22,7 +22,7 @@ neither : (P Q : ℕ → Type 0) (v : ℕ) → ¬ P v → ¬ Q v → ¬ (P v ⊎
 neither P Q v p q (inl x) = p x
 neither P Q v p q (inr x) = q x
 
-least_lower : (P Q : ℕ → Type 0) (a b : Option ℕ) → IsLeast P a → IsLeast Q b → IsLeast (λ v. P v ⊎ Q v) (lower a b)
+least_lower : (P Q : ℕ → Type 0) (a b : Option ℕ) → IsLeast P a → IsLeast Q b → IsLeast (λ v. P v ⊎ Q v) (lower_server a b)
 least_lower P Q None None p q = λ v. neither P Q v (p v) (q v)
 least_lower P Q None (Some w) p q = (inr q.0, λ k l. neither P Q k (p k) (q.1 k l))
 least_lower P Q (Some v) None p q = (inl p.0, λ k l. neither P Q k (p.1 k l) (q k))
@@ -46,7 +46,7 @@ least_one down (Some u) = elim (cases_Bool (down u)) [
 abbrev IsDownIn : (ℕ → Bool) → List Instr → ℕ → Type 0
 IsDownIn down code v = ((i : Instr) × Contains code i × Mentions (names_of i) v) × (down v ≡ true)
 
-abbrev IsDownOf : (ℕ → Bool) → List StreamParts → ℕ → Type 0
+abbrev IsDownOf : (ℕ → Bool) → List StreamModel → ℕ → Type 0
 IsDownOf down streams v = IsMentioned streams v × (down v ≡ true)
 
 contains_here : {X : Type 0} (x : X) (xs : List X) → Contains (x ∷ xs) x
@@ -69,7 +69,7 @@ least_at down P o i least =
     let one : ℕ → Type 0 = IsDownOne down (names_of i).first in
     let two : ℕ → Type 0 = IsDownOne down (names_of i).second in
     let first = least_lower P one o (if_down down (names_of i).first) least (least_one down (names_of i).first) in
-    let both = least_lower (λ v. P v ⊎ one v) two (lower o (if_down down (names_of i).first)) (if_down down (names_of i).second) first (least_one down (names_of i).second) in
+    let both = least_lower (λ v. P v ⊎ one v) two (lower_server o (if_down down (names_of i).first)) (if_down down (names_of i).second) first (least_one down (names_of i).second) in
     least_same (λ v. (P v ⊎ one v) ⊎ two v) (AtOne down P i) (down_at down o i) to from both
   where
     to : (v : ℕ) → (P v ⊎ IsDownOne down (names_of i).first v) ⊎ IsDownOne down (names_of i).second v → AtOne down P i v
@@ -85,7 +85,7 @@ least_at down P o i least =
 abbrev InCode : (ℕ → Bool) → (ℕ → Type 0) → List Instr → ℕ → Type 0
 InCode down P code v = P v ⊎ IsDownIn down code v
 
-least_in : (down : ℕ → Bool) (P : ℕ → Type 0) (o : Option ℕ) (code : List Instr) → IsLeast P o → IsLeast (InCode down P code) (down_in down o code)
+least_in : (down : ℕ → Bool) (P : ℕ → Type 0) (o : Option ℕ) (code : List Instr) → IsLeast P o → IsLeast (InCode down P code) (down_in_code down o code)
 least_in down P o [] least = least_same P (InCode down P []) o (λ v p. inl p) from least
   where
     from : (v : ℕ) → InCode down P [] v → P v
@@ -94,7 +94,7 @@ least_in down P o [] least = least_same P (InCode down P []) o (λ v p. inl p) f
 least_in down P o (i ∷ is) least =
     let next = least_at down P o i least in
     let rest = least_in down (AtOne down P i) (down_at down o i) is next in
-    least_same (InCode down (AtOne down P i) is) (InCode down P (i ∷ is)) (down_in down o (i ∷ is)) to from rest
+    least_same (InCode down (AtOne down P i) is) (InCode down P (i ∷ is)) (down_in_code down o (i ∷ is)) to from rest
   where
     to : (v : ℕ) → InCode down (AtOne down P i) is v → InCode down P (i ∷ is) v
     to v (inl (inl p)) = inl p
@@ -109,10 +109,10 @@ least_in down P o (i ∷ is) least =
     from v (inl p) = inl (inl p)
     from v (inr ((j, c, m), d)) = split v j (contains_cases i j is c) m d
 
-abbrev InStreams : (ℕ → Bool) → (ℕ → Type 0) → List StreamParts → ℕ → Type 0
+abbrev InStreams : (ℕ → Bool) → (ℕ → Type 0) → List StreamModel → ℕ → Type 0
 InStreams down P streams v = P v ⊎ IsDownOf down streams v
 
-least_of : (down : ℕ → Bool) (P : ℕ → Type 0) (o : Option ℕ) (streams : List StreamParts) → IsLeast P o → IsLeast (InStreams down P streams) (down_of down o streams)
+least_of : (down : ℕ → Bool) (P : ℕ → Type 0) (o : Option ℕ) (streams : List StreamModel) → IsLeast P o → IsLeast (InStreams down P streams) (down_in_streams down o streams)
 least_of down P o [] least = least_same P (InStreams down P []) o (λ v p. inl p) from least
   where
     from : (v : ℕ) → InStreams down P [] v → P v
@@ -120,15 +120,15 @@ least_of down P o [] least = least_same P (InStreams down P []) o (λ v p. inl p
     from v (inr ((s, i, (k, l, e), c, m), d)) = absurd (omega arith)
 least_of down P o (s ∷ ss) least =
     let next = least_in down P o s.code least in
-    let rest = least_of down (InCode down P s.code) (down_in down o s.code) ss next in
-    least_same (InStreams down (InCode down P s.code) ss) (InStreams down P (s ∷ ss)) (down_of down o (s ∷ ss)) to from rest
+    let rest = least_of down (InCode down P s.code) (down_in_code down o s.code) ss next in
+    least_same (InStreams down (InCode down P s.code) ss) (InStreams down P (s ∷ ss)) (down_in_streams down o (s ∷ ss)) to from rest
   where
     to : (v : ℕ) → InStreams down (InCode down P s.code) ss v → InStreams down P (s ∷ ss) v
     to v (inl (inl p)) = inl p
     to v (inl (inr ((i, c, m), d))) = inr ((s, i, contains_here s ss, c, m), d)
     to v (inr ((t, i, c, k, m), d)) = inr ((t, i, contains_more s t ss c, k, m), d)
 
-    split : (v : ℕ) (t : StreamParts) (i : Instr) → (s ≡ t) ⊎ Contains ss t → Contains t.code i → Mentions (names_of i) v → down v ≡ true → InStreams down (InCode down P s.code) ss v
+    split : (v : ℕ) (t : StreamModel) (i : Instr) → (s ≡ t) ⊎ Contains ss t → Contains t.code i → Mentions (names_of i) v → down v ≡ true → InStreams down (InCode down P s.code) ss v
     split v t i (inl e) k m d = inl (inr ((i, rw e k, m), d))
     split v t i (inr c) k m d = inr ((t, i, c, k, m), d)
 
@@ -141,26 +141,26 @@ least_of down P o (s ∷ ss) least =
 abbrev nothing : ℕ → Type 0
 nothing v = ⊥
 
-least_down : (down : ℕ → Bool) (streams : List StreamParts) → IsLeast (InStreams down nothing streams) (down_of down None streams)
+least_down : (down : ℕ → Bool) (streams : List StreamModel) → IsLeast (InStreams down nothing streams) (down_in_streams down None streams)
 least_down down streams = least_of down nothing None streams (λ v none. none)
 
-up_from : (p : Place) (streams : List StreamParts) (v : ℕ) → ¬ InStreams p.down nothing streams v → IsUpWhereMentioned p streams v
+up_from : (p : Place) (streams : List StreamModel) (v : ℕ) → ¬ InStreams p.down nothing streams v → IsUpWhereMentioned p streams v
 up_from p streams v none mentioned = false_from_ne_true (p.down v) (λ d. none (inr (mentioned, d)))
 
-down_from : (p : Place) (streams : List StreamParts) (v : ℕ) → InStreams p.down nothing streams v → ¬ IsUpWhereMentioned p streams v
+down_from : (p : Place) (streams : List StreamModel) (v : ℕ) → InStreams p.down nothing streams v → ¬ IsUpWhereMentioned p streams v
 down_from p streams v (inl none) up = none
 down_from p streams v (inr (m, d)) up = let wrong = sym d ∙ up m in cc
 
-lowest_least : (p : Place) (streams : List StreamParts) (o : Option ℕ) → IsLeast (InStreams p.down nothing streams) o → IfSome o (IsLowest (IsUpWhereMentioned p streams))
+lowest_least : (p : Place) (streams : List StreamModel) (o : Option ℕ) → IsLeast (InStreams p.down nothing streams) o → IfSome o (IsLowest (IsUpWhereMentioned p streams))
 lowest_least p streams None least = tt
 lowest_least p streams (Some v) least = record { broken = down_from p streams v least.0; below = λ w l. up_from p streams w (least.1 w l) }
 
-none_least : (p : Place) (streams : List StreamParts) (o : Option ℕ) → IsLeast (InStreams p.down nothing streams) o → IfNone o (AreUp p streams)
+none_least : (p : Place) (streams : List StreamModel) (o : Option ℕ) → IsLeast (InStreams p.down nothing streams) o → IfNone o (AreUp p streams)
 none_least p streams None least = λ v. up_from p streams v (least v)
 none_least p streams (Some v) least = tt
 
-pub lowest_down : (p : Place) (streams : List StreamParts) (o : Option ℕ) → o ≡ down_of p.down None streams → IfSome o (IsLowest (IsUpWhereMentioned p streams))
+pub lowest_down : (p : Place) (streams : List StreamModel) (o : Option ℕ) → o ≡ down_in_streams p.down None streams → IfSome o (IsLowest (IsUpWhereMentioned p streams))
 lowest_down p streams o e = lowest_least p streams o (subst (IsLeast (InStreams p.down nothing streams)) (sym e) (least_down p.down streams))
 
-pub none_down : (p : Place) (streams : List StreamParts) (o : Option ℕ) → o ≡ down_of p.down None streams → IfNone o (AreUp p streams)
+pub none_down : (p : Place) (streams : List StreamModel) (o : Option ℕ) → o ≡ down_in_streams p.down None streams → IfNone o (AreUp p streams)
 none_down p streams o e = none_least p streams o (subst (IsLeast (InStreams p.down nothing streams)) (sym e) (least_down p.down streams))

@@ -8,39 +8,39 @@ use Rattle.sm_reservation.specs.declared.right.Key.{Key}
 use Rattle.sm_reservation.specs.declared.right.Key.TheVariants as key
 use Rattle.sm_reservation.specs.Rights.{Rights}
 use Rattle.sm_reservation.specs.Rows.{same, before, row_at, Rises}
-use Rattle.sm_reservation.specs.Key.{cell_place, crown_place, key_before}
+use Rattle.sm_reservation.specs.Key.{key_of_cell, key_of_crown, key_before}
 use Rattle.sm_reservation.proofs.Places.{same_here, same_is, same_sym, before_not_same}
 use Rattle.sm_reservation.proofs.RowLemmas.{none_after, AllAfter-trans}
 use Rattle.sm_verifier.specs.Finding.{first_cell, first_crown}
 use Rattle.sm_verifier.specs.Admission.{IsLowestKey}
 
--- a row that passes, and none at a lower place does
-pub record IsFirstRow {T : Type 0} (place : T → ℕ × ℕ) (test : T → Bool) (xs : List T) (x : T) : Type 0 where
+-- a row that passes, and none at a lower key does
+pub record IsFirstRow {T : Type 0} (key_of : T → ℕ × ℕ) (test : T → Bool) (xs : List T) (x : T) : Type 0 where
   pub passes : test x ≡ true
-  pub here : row_at place xs (place x) ≡ Some x
-  pub below : (q : ℕ × ℕ) → before q (place x) ≡ true → IfSome (row_at place xs q) (λ y. test y ≡ false)
+  pub here : row_at key_of xs (key_of x) ≡ Some x
+  pub below : (q : ℕ × ℕ) → before q (key_of x) ≡ true → IfSome (row_at key_of xs q) (λ y. test y ≡ false)
 
-pub first_row : {T : Type 0} (place : T → ℕ × ℕ) (test : T → Bool) (xs : List T) (x : T) → Rises place xs → find test xs ≡ Some x → IsFirstRow place test xs x
-first_row place test [] x rises e = cc
-first_row place test (y ∷ ys) x rises e = elim (cases_Bool (test y)) [
+pub first_row : {T : Type 0} (key_of : T → ℕ × ℕ) (test : T → Bool) (xs : List T) (x : T) → Rises key_of xs → find test xs ≡ Some x → IsFirstRow key_of test xs x
+first_row key_of test [] x rises e = cc
+first_row key_of test (y ∷ ys) x rises e = elim (cases_Bool (test y)) [
   | inl passed ↦
       let is : y ≡ x = (let z = rw passed at e in cc) in
       rw (← is) (record {
         passes = passed;
-        here = rw (same_here (place y)) refl;
+        here = rw (same_here (key_of y)) refl;
         below = λ q b.
-            let apart : same (place y) q ≡ false = same_sym (place y) q ∙ before_not_same q (place y) b in
-            rw (apart, none_after place q q ys (AllAfter-trans place q (place y) ys b rises.0) (same_here q)) tt;
+            let apart : same (key_of y) q ≡ false = same_sym (key_of y) q ∙ before_not_same q (key_of y) b in
+            rw (apart, none_after key_of q q ys (AllAfter-trans key_of q (key_of y) ys b rises.0) (same_here q)) tt;
       })
   | inr failed ↦
-      let rest = first_row place test ys x rises.1 (rw failed at e) in
+      let rest = first_row key_of test ys x rises.1 (rw failed at e) in
       record {
         passes = rest.passes;
-        here = elim (cases_Bool (same (place y) (place x))) [
-          | inl f ↦ absurd (let wrong = sym rest.here ∙ none_after place (place y) (place x) ys rises.0 f in cc)
+        here = elim (cases_Bool (same (key_of y) (key_of x))) [
+          | inl f ↦ absurd (let wrong = sym rest.here ∙ none_after key_of (key_of y) (key_of x) ys rises.0 f in cc)
           | inr f ↦ rw f rest.here
         ];
-        below = λ q b. elim (cases_Bool (same (place y) q)) [
+        below = λ q b. elim (cases_Bool (same (key_of y) q)) [
           | inl f ↦ rw f failed
           | inr f ↦ rw f (rest.below q b)
         ];
@@ -48,40 +48,40 @@ first_row place test (y ∷ ys) x rises e = elim (cases_Bool (test y)) [
 ]
 
 -- where none passes
-pub no_row : {T : Type 0} (place : T → ℕ × ℕ) (test : T → Bool) (xs : List T) → find test xs ≡ None → (q : ℕ × ℕ) → IfSome (row_at place xs q) (λ y. test y ≡ false)
-no_row place test [] e q = tt
-no_row place test (y ∷ ys) e q = elim (cases_Bool (test y)) [
+pub no_row : {T : Type 0} (key_of : T → ℕ × ℕ) (test : T → Bool) (xs : List T) → find test xs ≡ None → (q : ℕ × ℕ) → IfSome (row_at key_of xs q) (λ y. test y ≡ false)
+no_row key_of test [] e q = tt
+no_row key_of test (y ∷ ys) e q = elim (cases_Bool (test y)) [
   | inl passed ↦ absurd (let z = rw passed at e in cc)
-  | inr failed ↦ elim (cases_Bool (same (place y) q)) [
+  | inr failed ↦ elim (cases_Bool (same (key_of y) q)) [
     | inl f ↦ rw f failed
-    | inr f ↦ rw f (no_row place test ys (rw failed at e) q)
+    | inr f ↦ rw f (no_row key_of test ys (rw failed at e) q)
   ]
 ]
 
--- the row at a place is of that place
-pub row_is : {T : Type 0} (place : T → ℕ × ℕ) (xs : List T) (q : ℕ × ℕ) (y : T) → row_at place xs q ≡ Some y → place y ≡ q
-row_is place [] q y e = cc
-row_is place (x ∷ xs) q y e = elim (cases_Bool (same (place x) q)) [
-  | inl f ↦ let is : x ≡ y = (let z = rw f at e in cc) in rw (← is) (same_is (place x) q f)
-  | inr f ↦ row_is place xs q y (rw f at e)
+-- the row at a key is of that key
+pub row_is : {T : Type 0} (key_of : T → ℕ × ℕ) (xs : List T) (q : ℕ × ℕ) (y : T) → row_at key_of xs q ≡ Some y → key_of y ≡ q
+row_is key_of [] q y e = cc
+row_is key_of (x ∷ xs) q y e = elim (cases_Bool (same (key_of x) q)) [
+  | inl f ↦ let is : x ≡ y = (let z = rw f at e in cc) in rw (← is) (same_is (key_of x) q f)
+  | inr f ↦ row_is key_of xs q y (rw f at e)
 ]
 
 -- Tests of cell rights and of crowns say whether something is kept at their keys. At other keys it is kept.
 pub record Judges (r : Rights) (cell : CellRight → Bool) (crown : Crown → Bool) (Kept : Key → Type 0) : Type 0 where
-  pub no_cell : (s v : ℕ) → row_at cell_place r.cells (s, v) ≡ None → Kept (key.CellRight s v)
-  pub cell_yes : (x : CellRight) → row_at cell_place r.cells (x.shard, x.server) ≡ Some x → cell x ≡ true → Kept (key.CellRight x.shard x.server)
-  pub cell_no : (x : CellRight) → row_at cell_place r.cells (x.shard, x.server) ≡ Some x → cell x ≡ false → ¬ Kept (key.CellRight x.shard x.server)
-  pub no_crown : (s : ℕ) → row_at crown_place r.crowns (s, 0) ≡ None → Kept (key.Crown s)
-  pub crown_yes : (x : Crown) → row_at crown_place r.crowns (x.shard, 0) ≡ Some x → crown x ≡ true → Kept (key.Crown x.shard)
-  pub crown_no : (x : Crown) → row_at crown_place r.crowns (x.shard, 0) ≡ Some x → crown x ≡ false → ¬ Kept (key.Crown x.shard)
+  pub no_cell : (s v : ℕ) → row_at key_of_cell r.cells (s, v) ≡ None → Kept (key.CellRight s v)
+  pub cell_yes : (x : CellRight) → row_at key_of_cell r.cells (x.shard, x.server) ≡ Some x → cell x ≡ true → Kept (key.CellRight x.shard x.server)
+  pub cell_no : (x : CellRight) → row_at key_of_cell r.cells (x.shard, x.server) ≡ Some x → cell x ≡ false → ¬ Kept (key.CellRight x.shard x.server)
+  pub no_crown : (s : ℕ) → row_at key_of_crown r.crowns (s, 0) ≡ None → Kept (key.Crown s)
+  pub crown_yes : (x : Crown) → row_at key_of_crown r.crowns (x.shard, 0) ≡ Some x → crown x ≡ true → Kept (key.Crown x.shard)
+  pub crown_no : (x : Crown) → row_at key_of_crown r.crowns (x.shard, 0) ≡ Some x → crown x ≡ false → ¬ Kept (key.Crown x.shard)
   pub room : (v : ℕ) → Kept (key.Room v)
   pub spare : (s : ℕ) → Kept (key.Spare s)
 
-not_true : (b : Bool) → not b ≡ true → b ≡ false
+pub not_true : (b : Bool) → not b ≡ true → b ≡ false
 not_true true e = cc
 not_true false e = refl
 
-not_false : (b : Bool) → not b ≡ false → b ≡ true
+pub not_false : (b : Bool) → not b ≡ false → b ≡ true
 not_false true e = refl
 not_false false e = cc
 
@@ -91,24 +91,24 @@ cell_moved Kept a b s v e k = let d : a ≡ s = ap (λ (q : ℕ × ℕ). q.0) e 
 crown_moved : (Kept : Key → Type 0) (a s : ℕ) → ◌≡◌ {A = ℕ × ℕ} (a, 0) (s, 0) → Kept (key.Crown a) → Kept (key.Crown s)
 crown_moved Kept a s e k = let d : a ≡ s = ap (λ (q : ℕ × ℕ). q.0) e in rw (← d) k
 
-cell_kept : (r : Rights) (cell : CellRight → Bool) (crown : Crown → Bool) (Kept : Key → Type 0) → Judges r cell crown Kept → (s v : ℕ) → (o : Option CellRight) → row_at cell_place r.cells (s, v) ≡ o → IfSome o (λ y. not (cell y) ≡ false) → Kept (key.CellRight s v)
+cell_kept : (r : Rights) (cell : CellRight → Bool) (crown : Crown → Bool) (Kept : Key → Type 0) → Judges r cell crown Kept → (s v : ℕ) → (o : Option CellRight) → row_at key_of_cell r.cells (s, v) ≡ o → IfSome o (λ y. not (cell y) ≡ false) → Kept (key.CellRight s v)
 cell_kept r cell crown Kept j s v None e t = j.no_cell s v e
 cell_kept r cell crown Kept j s v (Some y) e t =
-    let here : ◌≡◌ {A = ℕ × ℕ} (y.shard, y.server) (s, v) = row_is cell_place r.cells (s, v) y e in
-    cell_moved Kept y.shard y.server s v here (j.cell_yes y (ap (row_at cell_place r.cells) here ∙ e) (not_false (cell y) t))
+    let here : ◌≡◌ {A = ℕ × ℕ} (y.shard, y.server) (s, v) = row_is key_of_cell r.cells (s, v) y e in
+    cell_moved Kept y.shard y.server s v here (j.cell_yes y (ap (row_at key_of_cell r.cells) here ∙ e) (not_false (cell y) t))
 
-crown_kept : (r : Rights) (cell : CellRight → Bool) (crown : Crown → Bool) (Kept : Key → Type 0) → Judges r cell crown Kept → (s : ℕ) → (o : Option Crown) → row_at crown_place r.crowns (s, 0) ≡ o → IfSome o (λ y. not (crown y) ≡ false) → Kept (key.Crown s)
+crown_kept : (r : Rights) (cell : CellRight → Bool) (crown : Crown → Bool) (Kept : Key → Type 0) → Judges r cell crown Kept → (s : ℕ) → (o : Option Crown) → row_at key_of_crown r.crowns (s, 0) ≡ o → IfSome o (λ y. not (crown y) ≡ false) → Kept (key.Crown s)
 crown_kept r cell crown Kept j s None e t = j.no_crown s e
 crown_kept r cell crown Kept j s (Some y) e t =
-    let here : ◌≡◌ {A = ℕ × ℕ} (y.shard, 0) (s, 0) = row_is crown_place r.crowns (s, 0) y e in
-    crown_moved Kept y.shard s here (j.crown_yes y (ap (row_at crown_place r.crowns) here ∙ e) (not_false (crown y) t))
+    let here : ◌≡◌ {A = ℕ × ℕ} (y.shard, 0) (s, 0) = row_is key_of_crown r.crowns (s, 0) y e in
+    crown_moved Kept y.shard s here (j.crown_yes y (ap (row_at key_of_crown r.crowns) here ∙ e) (not_false (crown y) t))
 
 -- a cell right that does not pass
-pub cell_lowest : (r : Rights) (cell : CellRight → Bool) (crown : Crown → Bool) (Kept : Key → Type 0) → Judges r cell crown Kept → Rises cell_place r.cells → (k : Key) → first_cell cell r.cells ≡ Some k → IsLowestKey Kept k
+pub cell_lowest : (r : Rights) (cell : CellRight → Bool) (crown : Crown → Bool) (Kept : Key → Type 0) → Judges r cell crown Kept → Rises key_of_cell r.cells → (k : Key) → first_cell cell r.cells ≡ Some k → IsLowestKey Kept k
 cell_lowest r cell crown Kept j rises k e = go (find (λ x. not (cell x)) r.cells) refl e
   where
-    under : (x : CellRight) → IsFirstRow cell_place (λ x. not (cell x)) r.cells x → (lower : Key) → key_before lower (key.CellRight x.shard x.server) ≡ true → Kept lower
-    under x first (key.CellRight s v) b = cell_kept r cell crown Kept j s v (row_at cell_place r.cells (s, v)) refl (first.below (s, v) b)
+    under : (x : CellRight) → IsFirstRow key_of_cell (λ x. not (cell x)) r.cells x → (lower : Key) → key_before lower (key.CellRight x.shard x.server) ≡ true → Kept lower
+    under x first (key.CellRight s v) b = cell_kept r cell crown Kept j s v (row_at key_of_cell r.cells (s, v)) refl (first.below (s, v) b)
     under x first (key.Crown s) b = cc
     under x first (key.Room v) b = j.room v
     under x first (key.Spare s) b = j.spare s
@@ -116,7 +116,7 @@ cell_lowest r cell crown Kept j rises k e = go (find (λ x. not (cell x)) r.cell
     go : (o : Option CellRight) → find (λ x. not (cell x)) r.cells ≡ o → option_map (λ x. key.CellRight x.shard x.server) o ≡ Some k → IsLowestKey Kept k
     go None f g = cc
     go (Some x) f g =
-        let first = first_row cell_place (λ x. not (cell x)) r.cells x rises f in
+        let first = first_row key_of_cell (λ x. not (cell x)) r.cells x rises f in
         let is : key.CellRight x.shard x.server ≡ k = cc in
         rw (← is) (record {
           broken = j.cell_no x first.here (not_true (cell x) first.passes);
@@ -130,22 +130,22 @@ no_key f (Some x) e = cc
 cells_kept : (r : Rights) (cell : CellRight → Bool) (crown : Crown → Bool) (Kept : Key → Type 0) → Judges r cell crown Kept → first_cell cell r.cells ≡ None → (s v : ℕ) → Kept (key.CellRight s v)
 cells_kept r cell crown Kept j e s v =
     let none : find (λ x. not (cell x)) r.cells ≡ None = no_key (λ x. key.CellRight x.shard x.server) _ e in
-    cell_kept r cell crown Kept j s v (row_at cell_place r.cells (s, v)) refl (no_row cell_place (λ x. not (cell x)) r.cells none (s, v))
+    cell_kept r cell crown Kept j s v (row_at key_of_cell r.cells (s, v)) refl (no_row key_of_cell (λ x. not (cell x)) r.cells none (s, v))
 
 -- a crown that does not pass, where all cell rights do
-pub crown_lowest : (r : Rights) (cell : CellRight → Bool) (crown : Crown → Bool) (Kept : Key → Type 0) → Judges r cell crown Kept → Rises crown_place r.crowns → first_cell cell r.cells ≡ None → (k : Key) → first_crown crown r.crowns ≡ Some k → IsLowestKey Kept k
+pub crown_lowest : (r : Rights) (cell : CellRight → Bool) (crown : Crown → Bool) (Kept : Key → Type 0) → Judges r cell crown Kept → Rises key_of_crown r.crowns → first_cell cell r.cells ≡ None → (k : Key) → first_crown crown r.crowns ≡ Some k → IsLowestKey Kept k
 crown_lowest r cell crown Kept j rises cells k e = go (find (λ x. not (crown x)) r.crowns) refl e
   where
-    under : (x : Crown) → IsFirstRow crown_place (λ x. not (crown x)) r.crowns x → (lower : Key) → key_before lower (key.Crown x.shard) ≡ true → Kept lower
+    under : (x : Crown) → IsFirstRow key_of_crown (λ x. not (crown x)) r.crowns x → (lower : Key) → key_before lower (key.Crown x.shard) ≡ true → Kept lower
     under x first (key.CellRight s v) b = cells_kept r cell crown Kept j cells s v
-    under x first (key.Crown s) b = crown_kept r cell crown Kept j s (row_at crown_place r.crowns (s, 0)) refl (first.below (s, 0) (rw b refl))
+    under x first (key.Crown s) b = crown_kept r cell crown Kept j s (row_at key_of_crown r.crowns (s, 0)) refl (first.below (s, 0) (rw b refl))
     under x first (key.Room v) b = j.room v
     under x first (key.Spare s) b = j.spare s
 
     go : (o : Option Crown) → find (λ x. not (crown x)) r.crowns ≡ o → option_map (λ x. key.Crown x.shard) o ≡ Some k → IsLowestKey Kept k
     go None f g = cc
     go (Some x) f g =
-        let first = first_row crown_place (λ x. not (crown x)) r.crowns x rises f in
+        let first = first_row key_of_crown (λ x. not (crown x)) r.crowns x rises f in
         let is : key.Crown x.shard ≡ k = cc in
         rw (← is) (record {
           broken = j.crown_no x first.here (not_true (crown x) first.passes);
@@ -157,12 +157,12 @@ pub all_kept : (r : Rights) (cell : CellRight → Bool) (crown : Crown → Bool)
 all_kept r cell crown Kept j cells crowns (key.CellRight s v) = cells_kept r cell crown Kept j cells s v
 all_kept r cell crown Kept j cells crowns (key.Crown s) =
     let none : find (λ x. not (crown x)) r.crowns ≡ None = no_key (λ x. key.Crown x.shard) _ crowns in
-    crown_kept r cell crown Kept j s (row_at crown_place r.crowns (s, 0)) refl (no_row crown_place (λ x. not (crown x)) r.crowns none (s, 0))
+    crown_kept r cell crown Kept j s (row_at key_of_crown r.crowns (s, 0)) refl (no_row key_of_crown (λ x. not (crown x)) r.crowns none (s, 0))
 all_kept r cell crown Kept j cells crowns (key.Room v) = j.room v
 all_kept r cell crown Kept j cells crowns (key.Spare s) = j.spare s
 
 -- an answer of the crowns, where all cell rights pass
-pub crowns_lowest : (r : Rights) (cell : CellRight → Bool) (crown : Crown → Bool) (Kept : Key → Type 0) → Judges r cell crown Kept → Rises crown_place r.crowns → first_cell cell r.cells ≡ None → (o : Option Key) → o ≡ first_crown crown r.crowns → IfSome o (IsLowestKey Kept)
+pub crowns_lowest : (r : Rights) (cell : CellRight → Bool) (crown : Crown → Bool) (Kept : Key → Type 0) → Judges r cell crown Kept → Rises key_of_crown r.crowns → first_cell cell r.cells ≡ None → (o : Option Key) → o ≡ first_crown crown r.crowns → IfSome o (IsLowestKey Kept)
 crowns_lowest r cell crown Kept j rises cells None e = tt
 crowns_lowest r cell crown Kept j rises cells (Some k) e = crown_lowest r cell crown Kept j rises cells k (sym e)
 

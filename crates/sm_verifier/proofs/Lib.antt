@@ -2,7 +2,7 @@ pub mod Counts
 pub mod Ends
 pub mod Faults
 pub mod Growth
-pub mod Rooms
+pub mod Peaks
 pub mod Runs
 pub mod Settled
 pub mod Streams
@@ -13,3 +13,10 @@ pub mod Beyond
 pub mod DownLemmas
 pub mod Verdicts
 pub mod VerdictCases
+pub mod Holdings
+pub mod Once
+pub mod Progress
+pub mod SumLemmas
+pub mod WithinPool
+pub mod Turns
+pub mod Deciding

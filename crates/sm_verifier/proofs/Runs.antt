@@ -7,22 +7,22 @@ use Rattle.std.proofs.lemmas.List.{map-append, get_or_append_left, get_or_at}
 use Rattle.std.proofs.lemmas.List.Elements.{All-push, All-nil, All-contains, Contains-push, Contains-append_left, Contains-append_right, Contains-append_cases, Contains-push_cases, filter-append}
 use Rattle.std.proofs.lemmas.List.FromFn.{length-range_with_len, get_or-range_with_len}
 use Rattle.sm_plan_code.specs.declared.instruction.Instr.TheVariants.{Signal, Wait}
-use Rattle.sm_plan_code.specs.Plan.{PlanParts}
+use Rattle.sm_plan_code.specs.Plan.{PlanModel}
 use Rattle.sm_verifier.specs.Order.{code_at, PlanStep, positions_of, IsPosted, ArePostsFirst, IsRun}
 use Rattle.sm_verifier.specs.Walk.{CanGoOn}
 
 -- ---- the positions of a stream
 
-own_step : (i p : ℕ) (steps : List PlanStep) → positions_of i ((i, p) ∷ steps) ≡ p ∷ positions_of i steps
+pub own_step : (i p : ℕ) (steps : List PlanStep) → positions_of i ((i, p) ∷ steps) ≡ p ∷ positions_of i steps
 own_step i p steps = rw (eq-eqb i i refl) refl
 
 other_step : (i j p : ℕ) (steps : List PlanStep) → (j ≡ i → ⊥) → positions_of i ((j, p) ∷ steps) ≡ positions_of i steps
 other_step i j p steps other = rw (ne_eqb j i other) refl
 
-positions_append : (i : ℕ) (xs ys : List PlanStep) → positions_of i (xs ++ ys) ≡ positions_of i xs ++ positions_of i ys
+pub positions_append : (i : ℕ) (xs ys : List PlanStep) → positions_of i (xs ++ ys) ≡ positions_of i xs ++ positions_of i ys
 positions_append i xs ys = rw filter-append (map-append _ _ _)
 
-from_positions : (i q : ℕ) (steps : List PlanStep) → Contains (positions_of i steps) q → Contains steps (i, q)
+pub from_positions : (i q : ℕ) (steps : List PlanStep) → Contains (positions_of i steps) q → Contains steps (i, q)
 from_positions i q [] (k, l, e) = absurd (omega arith)
 from_positions i q ((j, p) ∷ steps) h = elim (cases_eq j i) [
   | inl same ↦
@@ -47,11 +47,11 @@ in_range : (n q : ℕ) → q < n → Contains (range_with_len 0 n) q
 in_range n q l = (q, rw length-range_with_len l, get_or-range_with_len 0 n q q l ∙ zero-add q)
 
 -- what stands before a number in a row
-record IsSplit (n : ℕ) (xs : List ℕ) (p : ℕ) : Type 0 where
-  below : p < n
-  front : (q : ℕ) → q < p → Contains xs q
+pub record IsSplit (n : ℕ) (xs : List ℕ) (p : ℕ) : Type 0 where
+  pub below : p < n
+  pub front : (q : ℕ) → q < p → Contains xs q
 
-split_range : (n p : ℕ) (xs ys : List ℕ) → xs ++ p ∷ ys ≡ range_with_len 0 n → IsSplit n xs p
+pub split_range : (n p : ℕ) (xs ys : List ℕ) → xs ++ p ∷ ys ≡ range_with_len 0 n → IsSplit n xs p
 split_range n p xs ys e =
     let long : length xs + suc (length ys) ≡ n = sym (length-append xs (p ∷ ys)) ∙ ap length e ∙ length-range_with_len 0 n in
     let here : p ≡ length xs = sym (get_or_at xs p ys 0 (length xs) refl) ∙ ap (λ l. get_or l (length xs) 0) e ∙ get_or-range_with_len 0 n (length xs) 0 (omega arith) ∙ zero-add (length xs) in
@@ -62,14 +62,14 @@ split_range n p xs ys e =
 
 -- ---- what a run has made
 
-pub in_run : (plan : PlanParts) (steps : List PlanStep) (to : ℕ → ℕ) (i q : ℕ) → IsRun plan steps to → i < length plan.streams → q < to i → Contains steps (i, q)
+pub in_run : (plan : PlanModel) (steps : List PlanStep) (to : ℕ → ℕ) (i q : ℕ) → IsRun plan steps to → i < length plan.streams → q < to i → Contains steps (i, q)
 in_run plan steps to i q run known l = from_positions i q steps (rw (run.own i known) (in_range (to i) q l))
 
-posted_in : (plan : PlanParts) (k : ℕ) (steps more : List PlanStep) → ((step : PlanStep) → Contains steps step → Contains more step) → IsPosted plan k steps → IsPosted plan k more
+posted_in : (plan : PlanModel) (k : ℕ) (steps more : List PlanStep) → ((step : PlanStep) → Contains steps step → Contains more step) → IsPosted plan k steps → IsPosted plan k more
 posted_in plan k steps more within p = (p.0, within p.0 p.1, p.2)
 
 -- one step more posts what its instruction posts
-pub posted_more : (plan : PlanParts) (k i p : ℕ) (steps : List PlanStep) → IsPosted plan k (steps ++ (i, p) ∷ []) ↔ (IsPosted plan k steps ⊎ (slice_get (code_at plan i) p ≡ Some (Signal k)))
+pub posted_more : (plan : PlanModel) (k i p : ℕ) (steps : List PlanStep) → IsPosted plan k (steps ++ (i, p) ∷ []) ↔ (IsPosted plan k steps ⊎ (slice_get (code_at plan i) p ≡ Some (Signal k)))
 posted_more plan k i p steps = (
   λ h. elim (Contains-push_cases steps (i, p) h.0 h.1) [ inl old ↦ inl (h.0, old, h.2) | inr new ↦ inr (rw (← new) at h.2) ],
   λ h. elim h [ inl old ↦ posted_in plan k steps (steps ++ (i, p) ∷ []) (λ step c. Contains-append_left steps ((i, p) ∷ []) step c) old | inr new ↦ ((i, p), Contains-push steps (i, p), new) ],
@@ -89,13 +89,13 @@ last_split (y ∷ xs) x (b ∷ before) after s e =
       | inr more ↦ inr (more.0, rw (head, more.1) refl)
     ]
 
-posts_first : (plan : PlanParts) (steps : List PlanStep) (i p : ℕ) → ArePostsFirst plan steps → ((k : ℕ) → slice_get (code_at plan i) p ≡ Some (Wait k) → IsPosted plan k steps) → ArePostsFirst plan (steps ++ (i, p) ∷ [])
+posts_first : (plan : PlanModel) (steps : List PlanStep) (i p : ℕ) → ArePostsFirst plan steps → ((k : ℕ) → slice_get (code_at plan i) p ≡ Some (Wait k) → IsPosted plan k steps) → ArePostsFirst plan (steps ++ (i, p) ∷ [])
 posts_first plan steps i p first here before after step k e wait = elim (last_split steps (i, p) before after step e) [
   | inl last ↦ rw last.0 (here k (rw last.1 at wait))
   | inr more ↦ first before more.0 step k more.1 wait
 ]
 
-pub one_more : (plan : PlanParts) (steps : List PlanStep) (to by : ℕ → ℕ) (i : ℕ) → IsRun plan steps to → CanGoOn plan steps to i → i < length plan.streams → by i ≡ suc (to i) → ((j : ℕ) → j ≢ i → by j ≡ to j) → IsRun plan (steps ++ (i, to i) ∷ []) by
+pub one_more : (plan : PlanModel) (steps : List PlanStep) (to by : ℕ → ℕ) (i : ℕ) → IsRun plan steps to → CanGoOn plan steps to i → i < length plan.streams → by i ≡ suc (to i) → ((j : ℕ) → j ≢ i → by j ≡ to j) → IsRun plan (steps ++ (i, to i) ∷ []) by
 one_more plan steps to by i run go known next others = record {
   known = All-push (λ step. step.0 < length plan.streams) steps (i, to i) run.known known;
   within = λ j l. elim (cases_eq j i) [
@@ -109,14 +109,15 @@ one_more plan steps to by i run go known next others = record {
   posted = posts_first plan steps i (to i) run.posted go.posted;
 }
 
+-- a step between two parts of a list stands in it
+pub stands_in : (steps before : List PlanStep) (step : PlanStep) (after : List PlanStep) → steps ≡ before ++ step ∷ after → Contains steps step
+stands_in steps before step after e = rw e (Contains-append_right before (step ∷ after) step (Contains-append_left (step ∷ []) after step (Contains-push [] step)))
+
 -- ---- no run goes further
 
-module _ (plan : PlanParts) (steps : List PlanStep) (to : ℕ → ℕ) (run : IsRun plan steps to) (stuck : (i : ℕ) → i < length plan.streams → ¬ CanGoOn plan steps to i) (others : List PlanStep) (by : ℕ → ℕ) (other : IsRun plan others by) where
+module _ (plan : PlanModel) (steps : List PlanStep) (to : ℕ → ℕ) (run : IsRun plan steps to) (stuck : (i : ℕ) → i < length plan.streams → ¬ CanGoOn plan steps to i) (others : List PlanStep) (by : ℕ → ℕ) (other : IsRun plan others by) where
   abbrev IsMade : PlanStep → Type 0
   IsMade step = step.1 < to step.0
-
-  stands : (before : List PlanStep) (step : PlanStep) (after : List PlanStep) → others ≡ before ++ step ∷ after → Contains others step
-  stands before step after e = rw e (Contains-append_right before (step ∷ after) step (Contains-append_left (step ∷ []) after step (Contains-push [] step)))
 
   -- where all steps before one of the other run are made, what they post is posted
   posted_here : (before : List PlanStep) (step : PlanStep) (after : List PlanStep) (k : ℕ) → others ≡ before ++ step ∷ after → All IsMade before → IsPosted plan k before → IsPosted plan k steps
@@ -124,7 +125,7 @@ module _ (plan : PlanParts) (steps : List PlanStep) (to : ℕ → ℕ) (run : Is
 
   next_made : (before after : List PlanStep) (i p : ℕ) → others ≡ before ++ (i, p) ∷ after → All IsMade before → p < to i
   next_made before after i p e all =
-      let known : i < length plan.streams = All-contains (λ s. s.0 < length plan.streams) others (i, p) other.known (stands before (i, p) after e) in
+      let known : i < length plan.streams = All-contains (λ s. s.0 < length plan.streams) others (i, p) other.known (stands_in others before (i, p) after e) in
       let apart : positions_of i others ≡ positions_of i before ++ p ∷ positions_of i after = ap (positions_of i) e ∙ positions_append i before ((i, p) ∷ after) ∙ rw (own_step i p after) refl in
       let split : IsSplit (by i) (positions_of i before) p = split_range (by i) p (positions_of i before) (positions_of i after) (sym apart ∙ other.own i known) in
       elim (cases_lt p (to i)) [

@@ -18,7 +18,7 @@ use Rattle.sm_verifier.specs.declared.steps.StepFault.{StepFault}
 use Rattle.sm_verifier.specs.declared.steps.StepFault.TheVariants.{NoMemory, Refused}
 use Rattle.sm_verifier.specs.Step.{parcels_of, IsAnswer, IsAtMost, Grows}
 use Rattle.sm_verifier.specs.Bad.{bad_at, IsBad}
-use Rattle.sm_verifier.specs.Stream.{Course, hold_before, final_hold, calls_before, IsSettled, IsGood, within_budget, made_at, BreaksBy, BreaksAt, IsFirstBreak}
+use Rattle.sm_verifier.specs.Stream.{Course, hold_before, final_hold, calls_before, HasCrownsAtRest, IsGood, within_budget, made_at, BreaksBy, BreaksAt, IsFirstBreak}
 
 -- the stream has been followed to a position: the calls so far, the hold there, and no break before it
 pub record IsFollowed (s : Course) (p n : ℕ) (h : Hold) : Type 0 where
@@ -38,13 +38,13 @@ start s amounts = record {
 }
 
 -- what the table of rights says of an instruction, and one more call
-abbrev said_of : Course → Instr → Hold → Result Hold Why
+abbrev pub said_of : Course → Instr → Hold → Result Hold Why
 said_of s i h = after s.sizes (parcels_of s.signals) i h
 
 here_is : (s : Course) (p n : ℕ) (h : Hold) (i : Instr) → IsFollowed s p n h → made_at s p i ≡ within_budget s.budget n i (said_of s i h)
 here_is s p n h i f = rw (f.calls, f.hold) refl
 
-one_more : (s : Course) (p : ℕ) (i : Instr) → slice_get s.code p ≡ Some i → calls_before s (p + 1) ≡ calls_before s p + bit (is_call i)
+pub one_more : (s : Course) (p : ℕ) (i : Instr) → slice_get s.code p ≡ Some i → calls_before s (p + 1) ≡ calls_before s p + bit (is_call i)
 one_more s p i e =
     let less : p < length s.code = slice_get_within s.code p i e in
     let same : get_or s.code p i ≡ i = get_or_from_slice_get s.code p i i e in
@@ -54,7 +54,7 @@ one_more s p i e =
     ]
 
 -- an instruction that is made is one of the table, within the budget
-made_of : (budget n : ℕ) (i : Instr) (said : Result Hold Why) (h : Hold) → n ≤ budget → within_budget budget n i said ≡ Ok h → (said ≡ Ok h) × (n + bit (is_call i) ≤ budget)
+pub made_of : (budget n : ℕ) (i : Instr) (said : Result Hold Why) (h : Hold) → n ≤ budget → within_budget budget n i said ≡ Ok h → (said ≡ Ok h) × (n + bit (is_call i) ≤ budget)
 made_of budget n i said h l e = elim (cases_Bool (is_call i && nat_le budget n)) [
   | inl over ↦ absurd (let wrong = rw over at e in cc)
   | inr under ↦ (
@@ -66,7 +66,8 @@ made_of budget n i said h l e = elim (cases_Bool (is_call i && nat_le budget n))
   )
 ]
 
-next_hold : (s : Course) (p : ℕ) (i : Instr) (h : Hold) → slice_get s.code p ≡ Some i → said_of s i (hold_before s p) ≡ Ok h → h ≡ hold_before s (suc p)
+-- the hold that it leaves is the one before the next instruction
+pub next_hold : (s : Course) (p : ℕ) (i : Instr) (h : Hold) → slice_get s.code p ≡ Some i → said_of s i (hold_before s p) ≡ Ok h → h ≡ hold_before s (suc p)
 next_hold s p i h e said = rw e (rw said refl)
 
 pub next : (s : Course) (p n : ℕ) (h h' : Hold) (i : Instr) → IsFollowed s p n h → slice_get s.code p ≡ Some i → within_budget s.budget n i (said_of s i h) ≡ Ok h' → Grows (2 ^ 32) h h' → IsFollowed s (p + 1) (n + bit (is_call i)) h'
@@ -88,7 +89,7 @@ next s p n h h' i f e made grows =
 
 -- ---- a stream that breaks off
 
-no_break : (s : Course) (q : ℕ) (w : Why) (o : Option Instr) → q < length s.code → IfSome o (λ i. IsOk (made_at s q i)) → ¬ BreaksBy s q o w
+pub no_break : (s : Course) (q : ℕ) (w : Why) (o : Option Instr) → q < length s.code → IfSome o (λ i. IsOk (made_at s q i)) → ¬ BreaksBy s q o w
 no_break s q w (Some i) l ok broken = let wrong = rw broken at ok in cc
 no_break s q w None l ok broken = let wrong : q ≡ length s.code = broken.0 in absurd (omega arith)
 
@@ -125,10 +126,10 @@ breaks_by s p n at h h' i (Refused why) here f e answer = rw here (breaks s p n 
 
 -- ---- a stream at its end
 
-pub unsettled : (s : Course) (p n : ℕ) (h : Hold) → p ≡ length s.code → IsFollowed s p n h → ¬ IsSettled h → IsFirstBreak s p Unsettled
+pub unsettled : (s : Course) (p n : ℕ) (h : Hold) → p ≡ length s.code → IsFollowed s p n h → ¬ HasCrownsAtRest h → IsFirstBreak s p Unsettled
 unsettled s p n h end f open_handover =
     let past : slice_get s.code p ≡ None = slice_get_past s.code p (omega arith) in
-    let settled : ¬ IsSettled (final_hold s) = λ rest. open_handover (rw (f.hold, end) rest) in
+    let settled : ¬ HasCrownsAtRest (final_hold s) = λ rest. open_handover (rw (f.hold, end) rest) in
     let here : BreaksAt s p Unsettled = rw past (end, refl, settled) in
     record {
       here = here;
@@ -136,14 +137,14 @@ unsettled s p n h end f open_handover =
       bad = not_good s p Unsettled here;
     }
 
-made_ok : (s : Course) (p : ℕ) (o : Option Instr) → IfSome o (λ i. IsOk (made_at s p i)) → IfSome o (λ i. IsOk (said_of s i (hold_before s p)))
+pub made_ok : (s : Course) (p : ℕ) (o : Option Instr) → IfSome o (λ i. IsOk (made_at s p i)) → IfSome o (λ i. IsOk (said_of s i (hold_before s p)))
 made_ok s p None ok = tt
 made_ok s p (Some i) ok = elim (cases_Bool (is_call i && nat_le s.budget (calls_before s p))) [
   | inl over ↦ absurd (let wrong = rw over at ok in cc)
   | inr under ↦ rw under at ok
 ]
 
-pub good : (s : Course) (p n : ℕ) (h : Hold) → p ≡ length s.code → IsFollowed s p n h → IsSettled h → IsGood s
+pub good : (s : Course) (p n : ℕ) (h : Hold) → p ≡ length s.code → IsFollowed s p n h → HasCrownsAtRest h → IsGood s
 good s p n h end f settled = record {
   made = λ q. elim (cases_lt q p) [
     | inl l ↦ made_ok s q (slice_get s.code q) (f.made q l)

@@ -11,7 +11,7 @@ use Rattle.sm_reservation.specs.Key.{key_before}
 use Rattle.sm_reservation.specs.Rows.{before}
 use Rattle.sm_plan_code.specs.declared.instruction.Instr.{Instr}
 use Rattle.sm_plan_code.specs.declared.instruction.Why.{Why}
-use Rattle.sm_plan_code.specs.Plan.{PlanParts}
+use Rattle.sm_plan_code.specs.Plan.{PlanModel}
 use Rattle.sm_verifier.specs.Stream.{Course, BreaksBy, IsFirstBreak}
 use Rattle.sm_verifier.specs.Order.{code_at, IsFarthest, IsStuckAt}
 use Rattle.sm_verifier.specs.Admission.{IsLowest, IsLowestKey, IsFirst}
@@ -113,14 +113,14 @@ one_break s p q v w a b = elim (cases_order p q) [
 -- ---- positions
 
 -- no run takes a stream further than the farthest, so the farthest are one
-one_farthest : (plan : PlanParts) (to other : ℕ → ℕ) (i : ℕ) → IsFarthest plan to → IsFarthest plan other → i < length plan.streams → to i ≡ other i
+one_farthest : (plan : PlanModel) (to other : ℕ → ℕ) (i : ℕ) → IsFarthest plan to → IsFarthest plan other → i < length plan.streams → to i ≡ other i
 one_farthest plan to other i a b l =
     let up : other i ≤ to i = a.most b.reached.0 other b.reached.1 i l in
     let down : to i ≤ other i = b.most a.reached.0 to a.reached.1 i l in
     omega arith
 
 -- the positions at which a plan is stuck are one list
-pub one_stuck : (plan : PlanParts) (ps qs : List ℕ) → IsStuckAt plan ps → IsStuckAt plan qs → ps ≡ qs
+pub one_stuck : (plan : PlanModel) (ps qs : List ℕ) → IsStuckAt plan ps → IsStuckAt plan qs → ps ≡ qs
 one_stuck plan ps qs a b = ext_get_or 0 ps qs (a.count ∙ sym b.count) (λ i l.
     let less : i < length plan.streams = let e = a.count in omega arith in
     let far = one_farthest plan a.farthest.0 b.farthest.0 i a.farthest.1 b.farthest.1 less in

@@ -10,7 +10,7 @@ use Rattle.sm_reservation.specs.HoldOf.{hold_of}
 use Rattle.sm_reservation.specs.Pool.{true_rights}
 use Rattle.sm_plan_code.specs.declared.instruction.Instr.{Instr}
 use Rattle.sm_plan_code.specs.Instr.{names_of, Mentions}
-use Rattle.sm_plan_code.specs.Plan.{StreamParts, PlanParts}
+use Rattle.sm_plan_code.specs.Plan.{StreamModel, PlanModel}
 use Rattle.sm_verifier.specs.declared.admission.Holding.{Holding}
 use Rattle.sm_verifier.specs.declared.admission.Holding.TheVariants.{Untrue, Taken, ShortRoom, ShortSpare, ServerDown}
 use Rattle.sm_verifier.specs.Stream.{no_stream}
@@ -36,56 +36,56 @@ abbrev pub IsIn : Hold → Hold → Key → Type 0
 IsIn h k key = Has h key → Agree h k key
 
 -- what the stream at a number declares
-abbrev pub declared : List StreamParts → ℕ → Hold
+abbrev pub declared : List StreamModel → ℕ → Hold
 declared streams i = hold_of (slice_index_or streams i no_stream).holds
 
 -- what a stream declares at a key is true of the placement
-abbrev pub IsTrueAt : Sizes → Place → List StreamParts → ℕ → Key → Type 0
+abbrev pub IsTrueAt : Sizes → Place → List StreamModel → ℕ → Key → Type 0
 IsTrueAt c p streams i key = IsIn (declared streams i) (true_rights c p) key
 
 -- what a stream declares at a key is in the pool, and no earlier stream declares that key
-abbrev pub IsFreeAt : Hold → List StreamParts → ℕ → Key → Type 0
+abbrev pub IsFreeAt : Hold → List StreamModel → ℕ → Key → Type 0
 IsFreeAt pool streams i key = Has (declared streams i) key → Agree (declared streams i) pool key × ((j : ℕ) → j < i → ¬ Has (declared streams j) key)
 
 -- ---- room, spare replicas and servers
 
 -- how much room of a server, and how many spare replicas of a shard, the streams declare together
-abbrev pub declared_room : List StreamParts → ℕ → ℕ
+abbrev pub declared_room : List StreamModel → ℕ → ℕ
 declared_room streams v = sum_by (λ stream. (hold_of stream.holds).room v) streams
 
-abbrev pub declared_spare : List StreamParts → ℕ → ℕ
+abbrev pub declared_spare : List StreamModel → ℕ → ℕ
 declared_spare streams s = sum_by (λ stream. (hold_of stream.holds).spare s) streams
 
 -- the pool has the room, and the spare replicas, that the streams declare together
-abbrev pub HasRoom : Hold → List StreamParts → ℕ → Type 0
-HasRoom pool streams v = declared_room streams v ≤ pool.room v
+abbrev pub HasDeclaredRoom : Hold → List StreamModel → ℕ → Type 0
+HasDeclaredRoom pool streams v = declared_room streams v ≤ pool.room v
 
-abbrev pub HasSpare : Hold → List StreamParts → ℕ → Type 0
-HasSpare pool streams s = declared_spare streams s ≤ pool.spare s
+abbrev pub HasDeclaredSpare : Hold → List StreamModel → ℕ → Type 0
+HasDeclaredSpare pool streams s = declared_spare streams s ≤ pool.spare s
 
 -- an instruction mentions the server
-abbrev pub IsMentioned : List StreamParts → ℕ → Type 0
-IsMentioned streams v = (stream : StreamParts) × (i : Instr) × Contains streams stream × Contains stream.code i × Mentions (names_of i) v
+abbrev pub IsMentioned : List StreamModel → ℕ → Type 0
+IsMentioned streams v = (stream : StreamModel) × (i : Instr) × Contains streams stream × Contains stream.code i × Mentions (names_of i) v
 
 -- a server that is mentioned is up
-abbrev pub IsUpWhereMentioned : Place → List StreamParts → ℕ → Type 0
+abbrev pub IsUpWhereMentioned : Place → List StreamModel → ℕ → Type 0
 IsUpWhereMentioned p streams v = IsMentioned streams v → p.down v ≡ false
 
 -- ---- what is kept everywhere, and where it first is not
 
-abbrev pub AreTrue : Sizes → Place → List StreamParts → Type 0
+abbrev pub AreTrue : Sizes → Place → List StreamModel → Type 0
 AreTrue c p streams = (i : ℕ) (key : Key) → IsTrueAt c p streams i key
 
-abbrev pub AreFree : Hold → List StreamParts → Type 0
+abbrev pub AreFree : Hold → List StreamModel → Type 0
 AreFree pool streams = (i : ℕ) (key : Key) → IsFreeAt pool streams i key
 
-abbrev pub HasAllRoom : Hold → List StreamParts → Type 0
-HasAllRoom pool streams = (v : ℕ) → HasRoom pool streams v
+abbrev pub HasAllRoom : Hold → List StreamModel → Type 0
+HasAllRoom pool streams = (v : ℕ) → HasDeclaredRoom pool streams v
 
-abbrev pub HasAllSpare : Hold → List StreamParts → Type 0
-HasAllSpare pool streams = (s : ℕ) → HasSpare pool streams s
+abbrev pub HasAllSpare : Hold → List StreamModel → Type 0
+HasAllSpare pool streams = (s : ℕ) → HasDeclaredSpare pool streams s
 
-abbrev pub AreUp : Place → List StreamParts → Type 0
+abbrev pub AreUp : Place → List StreamModel → Type 0
 AreUp p streams = (v : ℕ) → IsUpWhereMentioned p streams v
 
 -- the lowest number at which something is not kept
@@ -108,7 +108,7 @@ pub record IsFirst (Kept : ℕ → Key → Type 0) (i : ℕ) (key : Key) : Type 
 -- Each cell right and crown that a stream declares is true of the placement, and is in the pool and declared by no
 -- earlier stream; the pool has the room and the spare replicas that all streams declare together; and each server that
 -- an instruction mentions is up.
-pub record IsAdmitted (c : Sizes) (p : Place) (pool : Hold) (plan : PlanParts) : Type 0 where
+pub record IsAdmitted (c : Sizes) (p : Place) (pool : Hold) (plan : PlanModel) : Type 0 where
   pub true_ones : AreTrue c p plan.streams
   pub free_ones : AreFree pool plan.streams
   pub room : HasAllRoom pool plan.streams
@@ -116,17 +116,17 @@ pub record IsAdmitted (c : Sizes) (p : Place) (pool : Hold) (plan : PlanParts) :
   pub up : AreUp p plan.streams
 
 -- What holds a plan up: the first of these that is not kept, at the first stream and key, or the lowest number.
-abbrev pub IsHolding : Sizes → Place → Hold → PlanParts → Holding → Type 0
+abbrev pub IsHolding : Sizes → Place → Hold → PlanModel → Holding → Type 0
 IsHolding c p pool plan (Untrue key) =
     (i : ℕ) × IsFirst (IsTrueAt c p plan.streams) i key
 IsHolding c p pool plan (Taken key) =
     AreTrue c p plan.streams × ((i : ℕ) × IsFirst (IsFreeAt pool plan.streams) i key)
 IsHolding c p pool plan (ShortRoom v free sum) =
     AreTrue c p plan.streams × AreFree pool plan.streams
-    × IsLowest (HasRoom pool plan.streams) v × (free ≡ pool.room v) × (sum ≡ declared_room plan.streams v)
+    × IsLowest (HasDeclaredRoom pool plan.streams) v × (free ≡ pool.room v) × (sum ≡ declared_room plan.streams v)
 IsHolding c p pool plan (ShortSpare s free sum) =
     AreTrue c p plan.streams × AreFree pool plan.streams × HasAllRoom pool plan.streams
-    × IsLowest (HasSpare pool plan.streams) s × (free ≡ pool.spare s) × (sum ≡ declared_spare plan.streams s)
+    × IsLowest (HasDeclaredSpare pool plan.streams) s × (free ≡ pool.spare s) × (sum ≡ declared_spare plan.streams s)
 IsHolding c p pool plan (ServerDown v) =
     AreTrue c p plan.streams × AreFree pool plan.streams × HasAllRoom pool plan.streams × HasAllSpare pool plan.streams
     × IsLowest (IsUpWhereMentioned p plan.streams) v

@@ -2,13 +2,13 @@
 use Rattle.std.specs.Prelude.{ℕ, Bool, Option, Some, None, List, [], ◌∷◌, nat_lt, if◌then◌else◌}
 use Rattle.sm_plan_code.specs.declared.instruction.Instr.{Instr}
 use Rattle.sm_plan_code.specs.Instr.{names_of}
-use Rattle.sm_plan_code.specs.Plan.{StreamParts}
+use Rattle.sm_plan_code.specs.Plan.{StreamModel}
 
 -- the lower one of two servers, where they are given
-abbrev pub lower : Option ℕ → Option ℕ → Option ℕ
-lower None b = b
-lower (Some v) None = Some v
-lower (Some v) (Some w) = if nat_lt w v then Some w else Some v
+abbrev pub lower_server : Option ℕ → Option ℕ → Option ℕ
+lower_server None b = b
+lower_server (Some v) None = Some v
+lower_server (Some v) (Some w) = if nat_lt w v then Some w else Some v
 
 -- the server, where it is down
 abbrev pub if_down : (ℕ → Bool) → Option ℕ → Option ℕ
@@ -17,12 +17,12 @@ if_down down (Some v) = if down v then Some v else None
 
 -- the lowest one once an instruction, a code and streams have been gone through
 abbrev pub down_at : (ℕ → Bool) → Option ℕ → Instr → Option ℕ
-down_at down lowest i = lower (lower lowest (if_down down (names_of i).first)) (if_down down (names_of i).second)
+down_at down lowest i = lower_server (lower_server lowest (if_down down (names_of i).first)) (if_down down (names_of i).second)
 
-abbrev pub down_in : (ℕ → Bool) → Option ℕ → List Instr → Option ℕ
-down_in down lowest [] = lowest
-down_in down lowest (i ∷ is) = down_in down (down_at down lowest i) is
+abbrev pub down_in_code : (ℕ → Bool) → Option ℕ → List Instr → Option ℕ
+down_in_code down lowest [] = lowest
+down_in_code down lowest (i ∷ is) = down_in_code down (down_at down lowest i) is
 
-abbrev pub down_of : (ℕ → Bool) → Option ℕ → List StreamParts → Option ℕ
-down_of down lowest [] = lowest
-down_of down lowest (s ∷ ss) = down_of down (down_in down lowest s.code) ss
+abbrev pub down_in_streams : (ℕ → Bool) → Option ℕ → List StreamModel → Option ℕ
+down_in_streams down lowest [] = lowest
+down_in_streams down lowest (s ∷ ss) = down_in_streams down (down_in_code down lowest s.code) ss

@@ -9,22 +9,22 @@ use Rattle.sm_reservation.specs.Rights.{Rights}
 use Rattle.sm_reservation.specs.Hold.{Hold}
 use Rattle.sm_reservation.specs.HoldOf.{hold_of}
 use Rattle.sm_reservation.specs.Amounts.{is_cell, is_crown}
-use Rattle.sm_plan_code.specs.Plan.{StreamParts}
+use Rattle.sm_plan_code.specs.Plan.{StreamModel}
 use Rattle.sm_verifier.specs.Admission.{Has, Agree, declared}
 
 -- the hold has the cell right, or the crown, in just that state
-abbrev pub has_cell : Hold → CellRight → Bool
-has_cell h x = is_cell x.state (h.cells x.shard x.server)
+abbrev pub holds_cell : Hold → CellRight → Bool
+holds_cell h x = is_cell x.state (h.cells x.shard x.server)
 
-abbrev pub has_crown : Hold → Crown → Bool
-has_crown h x = is_crown x.lead x.listed (h.crowns x.shard)
+abbrev pub holds_crown : Hold → Crown → Bool
+holds_crown h x = is_crown x.lead x.listed (h.crowns x.shard)
 
 -- the pool has it in just that state, and none of the streams declares its key
-abbrev pub is_free_cell : Hold → List StreamParts → CellRight → Bool
-is_free_cell pool streams x = has_cell pool x && not (list_any (λ stream. is_some ((hold_of stream.holds).cells x.shard x.server)) streams)
+abbrev pub is_free_cell : Hold → List StreamModel → CellRight → Bool
+is_free_cell pool streams x = holds_cell pool x && not (list_any (λ stream. is_some ((hold_of stream.holds).cells x.shard x.server)) streams)
 
-abbrev pub is_free_crown : Hold → List StreamParts → Crown → Bool
-is_free_crown pool streams x = has_crown pool x && not (list_any (λ stream. is_some ((hold_of stream.holds).crowns x.shard)) streams)
+abbrev pub is_free_crown : Hold → List StreamModel → Crown → Bool
+is_free_crown pool streams x = holds_crown pool x && not (list_any (λ stream. is_some ((hold_of stream.holds).crowns x.shard)) streams)
 
 -- the key of the first one that does not pass
 abbrev pub first_cell : (CellRight → Bool) → List CellRight → Option Key
@@ -34,5 +34,5 @@ abbrev pub first_crown : (Crown → Bool) → List Crown → Option Key
 first_crown test crowns = option_map (λ x. key.Crown x.shard) (find (λ x. not (test x)) crowns)
 
 -- what a parcel has at a key is in the pool, and none of the streams declares that key
-abbrev pub IsFree : Hold → List StreamParts → Rights → Key → Type 0
+abbrev pub IsFree : Hold → List StreamModel → Rights → Key → Type 0
 IsFree pool streams r k = Has (hold_of r) k → Agree (hold_of r) pool k × ((j : ℕ) → ¬ Has (declared streams j) k)

@@ -1,7 +1,6 @@
 -- Streams: which of them are good, and where and why another one breaks off.
-use Rattle.std.specs.Prelude.{◌≡◌, ◌≤◌, ◌<◌, ℕ, ◌&&◌, nat_le, Option, Some, None, Result, Err, IfSome, IsOk, List, length, take, count_by, slice_get, slice_index_or, [], if◌then◌else◌}
-use Rattle.sm_placement.specs.declared.lead.Lead.{Lead}
-use Rattle.sm_placement.specs.declared.lead.Lead.TheVariants.{Gone, At, Ready, Handing, Handed}
+use Rattle.std.specs.Prelude.{◌≡◌, ◌≤◌, ◌<◌, ℕ, true, ◌&&◌, nat_le, Option, Some, None, Result, Err, IfSome, IsOk, List, length, take, count_by, slice_get, slice_index_or, [], if◌then◌else◌}
+use Rattle.sm_placement.specs.Lead.{is_at_rest}
 use Rattle.sm_placement.specs.Setup.{Sizes}
 use Rattle.sm_reservation.specs.Rights.{Rights, no_rights}
 use Rattle.sm_reservation.specs.Hold.{Hold}
@@ -11,7 +10,7 @@ use Rattle.sm_plan_code.specs.declared.instruction.Why.{Why}
 use Rattle.sm_plan_code.specs.declared.instruction.Why.TheVariants.{Unsettled, OverBudget}
 use Rattle.sm_plan_code.specs.Instr.{is_call}
 use Rattle.sm_plan_code.specs.After.{after, hold_at}
-use Rattle.sm_plan_code.specs.Plan.{StreamParts, PlanParts}
+use Rattle.sm_plan_code.specs.Plan.{StreamModel, PlanModel}
 use Rattle.sm_verifier.specs.Step.{parcels_of}
 
 -- A stream as it is followed: the numbers of the configuration, what each signal carries, how many calls the stream may
@@ -27,14 +26,14 @@ abbrev pub course : Sizes → List Rights → ℕ → Rights → List Instr → 
 course c signals budget holds code = record { sizes = c; signals = signals; budget = budget; holds = holds; code = code }
 
 -- a stream of a plan with these signals
-abbrev pub course_of : Sizes → List Rights → StreamParts → Course
+abbrev pub course_of : Sizes → List Rights → StreamModel → Course
 course_of c signals stream = course c signals stream.budget stream.holds stream.code
 
-abbrev pub no_stream : StreamParts
+abbrev pub no_stream : StreamModel
 no_stream = record { budget = 0; retries = 0; holds = no_rights; code = [] }
 
 -- the stream of a plan at a number
-abbrev pub stream_at : Sizes → PlanParts → ℕ → Course
+abbrev pub stream_at : Sizes → PlanModel → ℕ → Course
 stream_at c plan k = course_of c plan.signals (slice_index_or plan.streams k no_stream)
 
 -- the hold before the instruction at a position
@@ -49,23 +48,15 @@ final_hold s = hold_before s (length s.code)
 abbrev pub calls_before : Course → ℕ → ℕ
 calls_before s p = count_by is_call (take p s.code)
 
--- no handover is under way
-abbrev pub IsAtRest : Lead → Type 0
-IsAtRest Gone = Unit {0}
-IsAtRest (At u) = Unit {0}
-IsAtRest (Ready u v) = ⊥
-IsAtRest (Handing u v) = ⊥
-IsAtRest (Handed u v) = ⊥
-
 -- every crown that is held is at rest
-abbrev pub IsSettled : Hold → Type 0
-IsSettled h = (s : ℕ) → IfSome (h.crowns s) (λ crown. IsAtRest crown.0)
+abbrev pub HasCrownsAtRest : Hold → Type 0
+HasCrownsAtRest h = (s : ℕ) → IfSome (h.crowns s) (λ crown. is_at_rest crown.0 ≡ true)
 
 -- Each instruction may be made in its turn, every crown that is held at the end is at rest, and there are no more calls
 -- than the budget.
 pub record IsGood (s : Course) : Type 0 where
   pub made : (p : ℕ) → IfSome (slice_get s.code p) (λ i. IsOk (after s.sizes (parcels_of s.signals) i (hold_before s p)))
-  pub settled : IsSettled (final_hold s)
+  pub settled : HasCrownsAtRest (final_hold s)
   pub within : count_by is_call s.code ≤ s.budget
 
 -- what is said of an instruction after so many calls: a call is over the budget where they use it up
@@ -79,7 +70,7 @@ made_at s p i = within_budget s.budget (calls_before s p) i (after s.sizes (parc
 -- what stands at a position breaks the stream off: its instruction, or at the end a crown that is not at rest
 abbrev pub BreaksBy : Course → ℕ → Option Instr → Why → Type 0
 BreaksBy s p (Some i) why = made_at s p i ≡ Err why
-BreaksBy s p None why = (p ≡ length s.code) × (why ≡ Unsettled) × ¬ IsSettled (final_hold s)
+BreaksBy s p None why = (p ≡ length s.code) × (why ≡ Unsettled) × ¬ HasCrownsAtRest (final_hold s)
 
 -- the stream breaks off at a position
 abbrev pub BreaksAt : Course → ℕ → Why → Type 0

@@ -3,7 +3,7 @@ ghost use Rattle.std.specs.Prelude.{◌≡◌, ◌≤◌, All, OnOk, OnErr, IfEr
 ghost use Rattle.sm_placement.specs.Setup.{sizes_of};
 ghost use Rattle.sm_placement.specs.Layout.{place_of};
 ghost use Rattle.sm_reservation.specs.Pool.{pool_hold, HasSize};
-ghost use Rattle.sm_plan_code.specs.Plan.{FitsStream, IsSmallStream};
+ghost use Rattle.sm_plan_code.specs.Plan.{IsKnownStream, IsSmallStream};
 ghost use Rattle.sm_verifier.specs.Admission.{IsAdmitted, IsHolding};
 
 use crate::Checked;

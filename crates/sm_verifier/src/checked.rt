@@ -3,12 +3,12 @@ ghost use Rattle.std.specs.Prelude.{◌≡◌, ◌<◌, length, slice_index, sli
 ghost use Rattle.sm_placement.specs.Setup.{sizes_of};
 ghost use Rattle.sm_reservation.specs.Rights.{no_rights};
 ghost use Rattle.sm_reservation.specs.HoldOf.{hold_of};
-ghost use Rattle.sm_plan_code.specs.Plan.{FitsPlan};
+ghost use Rattle.sm_plan_code.specs.Plan.{IsKnownPlan};
 ghost use Rattle.sm_verifier.specs.Stream.{stream_at, final_hold};
-ghost use Rattle.sm_verifier.specs.Room.{IsRoom};
+ghost use Rattle.sm_verifier.specs.Peak.{IsPeak};
 ghost use Rattle.sm_verifier.specs.Order.{IsOrder};
 ghost use Rattle.sm_verifier.specs.Plan.{IsSound};
-ghost use Rattle.sm_verifier.specs.Checked.{checked_parts, IsChecked};
+ghost use Rattle.sm_verifier.specs.Checked.{checked_model, IsChecked};
 
 use sm_placement::Config;
 use sm_plan_code::Plan;
@@ -25,7 +25,7 @@ pub(crate) struct Findings {
     /// What each stream holds at its end.
     pub finals: Vec<Parcel>,
     /// The most keys that one list of each stream's hold has.
-    pub rooms: Vec<u32>,
+    pub peaks: Vec<u32>,
 }
 
 /// A plan that has passed the check, with what the check found out.
@@ -37,13 +37,13 @@ pub struct Checked {
     plan: Plan,
     order: Vec<(u32, u32)>,
     finals: Vec<Parcel>,
-    rooms: Vec<u32>,
+    peaks: Vec<u32>,
 }
 
 impl Model for Checked {
-    ghost use Rattle.sm_verifier.specs.Checked.{CheckedParts, IsChecked};
+    ghost use Rattle.sm_verifier.specs.Checked.{CheckedModel, IsChecked};
 
-    ghost Value = { CheckedParts };
+    ghost Value = { CheckedModel };
 
     ghost use Rattle.sm_verifier.specs.CheckedView.{checked_of};
 
@@ -55,21 +55,21 @@ impl Model for Checked {
 impl Checked {
     /// The plan with what the check found out about it.
     pub(crate) fn new(plan: Plan, findings: Findings) -> Checked
-        requires { IsChecked (checked_parts findings.config plan findings.order.items findings.finals.items findings.rooms.items) }
-        ensures { result ≡ checked_parts findings.config plan findings.order.items findings.finals.items findings.rooms.items }
+        requires { IsChecked (checked_model findings.config plan findings.order.items findings.finals.items findings.peaks.items) }
+        ensures { result ≡ checked_model findings.config plan findings.order.items findings.finals.items findings.peaks.items }
     {
         let Findings {
             config,
             order,
             finals,
-            rooms,
+            peaks,
         } = findings;
         Checked {
             config,
             plan,
             order,
             finals,
-            rooms,
+            peaks,
         }
     }
 
@@ -83,7 +83,7 @@ impl Checked {
     /// The plan.
     pub fn plan(&self) -> &Plan
         ensures value { result.now ≡ self.now.plan }
-        ensures fits { FitsPlan (length self.now.setup.shards) (length self.now.setup.servers) self.now.plan }
+        ensures fits { IsKnownPlan (length self.now.setup.shards) (length self.now.setup.servers) self.now.plan }
         ensures sound { IsSound (sizes_of self.now.setup) self.now.plan }
     {
         &self.plan
@@ -92,7 +92,7 @@ impl Checked {
     /// The plan, which is checked no longer.
     pub fn into_plan(self) -> Plan
         ensures value { result ≡ self.plan }
-        ensures fits { FitsPlan (length self.setup.shards) (length self.setup.servers) self.plan }
+        ensures fits { IsKnownPlan (length self.setup.shards) (length self.setup.servers) self.plan }
         ensures sound { IsSound (sizes_of self.setup) self.plan }
     {
         let Checked {
@@ -100,7 +100,7 @@ impl Checked {
             plan,
             order: _,
             finals: _,
-            rooms: _,
+            peaks: _,
         } = self;
         plan
     }
@@ -124,11 +124,11 @@ impl Checked {
     }
 
     /// The most keys that one list of a stream's hold has on its way.
-    pub fn room(&self, stream: u32) -> u32
+    pub fn peak(&self, stream: u32) -> u32
         requires { stream < length self.now.plan.streams }
-        ensures value { result ≡ slice_index self.now.rooms stream }
-        ensures room { IsRoom (stream_at (sizes_of self.now.setup) self.now.plan stream) result }
+        ensures value { result ≡ slice_index self.now.peaks stream }
+        ensures peak { IsPeak (stream_at (sizes_of self.now.setup) self.now.plan stream) result }
     {
-        self.rooms[stream as usize]
+        self.peaks[stream as usize]
     }
 }

@@ -1,11 +1,12 @@
 //! The check of a plan: its budget, its signals, its streams, and an order of their steps.
 ghost use Rattle.std.specs.Prelude.{◌≡◌, ◌≢◌, ◌≤◌, ◌<◌, ◌+◌, ◌^◌, IfOk, IfErr, OnOk, length, sum_by};
 ghost use Rattle.sm_placement.specs.Setup.{Sizes, sizes_of};
-ghost use Rattle.sm_plan_code.specs.Plan.{FitsPlan};
+ghost use Rattle.sm_plan_code.specs.Plan.{IsKnownPlan};
 ghost use Rattle.sm_verifier.specs.Order.{IsOrder};
 ghost use Rattle.sm_verifier.specs.Plan.{KeepsBudget, AreUsedOnce, AreGood, IsSound, IsFault};
-ghost use Rattle.sm_verifier.specs.Checked.{AreFinals, AreRooms, checked_parts, IsChecked};
+ghost use Rattle.sm_verifier.specs.Checked.{AreFinals, ArePeaks, checked_model, IsChecked};
 ghost use Rattle.sm_verifier.specs.Fault.{fault_of};
+ghost use Rattle.sm_plan_code.specs.declared.limits.TheConstants.{MOST_STREAMS};
 
 use crate::checked::{Checked, Findings};
 use crate::following::{Bad, End, follow_to_end};
@@ -73,12 +74,12 @@ impl From<AllocError> for Fault {
 #[derive(Drop)]
 struct Ends {
     finals: Vec<Parcel>,
-    rooms: Vec<u32>,
+    peaks: Vec<u32>,
 }
 
 /// How many calls and retries streams have together.
 fn total_budget(streams: &[Stream]) -> u64
-    requires { length streams.now ≤ 64 }
+    requires { length streams.now ≤ MOST_STREAMS }
     ensures { result ≡ sum_by (λ stream. stream.budget + stream.retries) streams.now }
 {
     let mut total = 0;
@@ -129,27 +130,27 @@ fn fault_of(stream: u32, bad: Bad) -> Fault
 
 /// Follows all streams to their ends.
 fn follow_all(alloc: Global, config: &Config, plan: &Plan) -> Result<Ends, Fault>
-    requires fits { FitsPlan (length config.now.shards) (length config.now.servers) plan.now }
+    requires fits { IsKnownPlan (length config.now.shards) (length config.now.servers) plan.now }
     requires budget { KeepsBudget plan.now }
     requires signals { AreUsedOnce plan.now (length plan.now.signals) }
     ensures good { OnOk result (AreGood (sizes_of config.now) plan.now (length plan.now.streams)) }
     ensures finals { IfOk result (λ ends. AreFinals (sizes_of config.now) plan.now (length plan.now.streams) ends.finals.items) }
-    ensures rooms { IfOk result (λ ends. AreRooms (sizes_of config.now) plan.now (length plan.now.streams) ends.rooms.items) }
+    ensures peaks { IfOk result (λ ends. ArePeaks (sizes_of config.now) plan.now (length plan.now.streams) ends.peaks.items) }
     ensures fault { IfErr result (λ fault. IsFault (sizes_of config.now) plan.now fault) }
 {
     let count = plan.streams().len() as u32;
     let mut finals = Vec::new(alloc);
-    let mut rooms = Vec::new(alloc);
+    let mut peaks = Vec::new(alloc);
     for stream in 0..count {
         match follow_to_end(alloc, config, plan, stream) {
-            Ok(End { parcel, room }) => {
+            Ok(End { parcel, peak }) => {
                 finals.push(parcel).map_err(|_| AllocError)?;
-                rooms.push(room).map_err(|_| AllocError)?;
+                peaks.push(peak).map_err(|_| AllocError)?;
             }
             Err(bad) => return Err(fault_of(stream, bad)),
         }
     }
-    Ok(Ends { finals, rooms })
+    Ok(Ends { finals, peaks })
 }
 
 /// Finds an order.
@@ -167,20 +168,20 @@ fn find_order(alloc: Global, plan: &Plan) -> Result<Vec<(u32, u32)>, Fault>
 
 /// Makes all tests of a plan.
 fn examine(alloc: Global, config: &Config, plan: &Plan) -> Result<Findings, Fault>
-    requires fits { FitsPlan (length config.now.shards) (length config.now.servers) plan.now }
+    requires fits { IsKnownPlan (length config.now.shards) (length config.now.servers) plan.now }
     ensures config { IfOk result (λ found. found.config ≡ config.now) }
-    ensures checked { IfOk result (λ found. IsChecked (checked_parts config.now plan.now found.order.items found.finals.items found.rooms.items)) }
+    ensures checked { IfOk result (λ found. IsChecked (checked_model config.now plan.now found.order.items found.finals.items found.peaks.items)) }
     ensures fault { IfErr result (λ fault. IsFault (sizes_of config.now) plan.now fault) }
 {
     check_budget(plan)?;
     check_signals(alloc, plan)?;
-    let Ends { finals, rooms } = follow_all(alloc, config, plan)?;
+    let Ends { finals, peaks } = follow_all(alloc, config, plan)?;
     let order = find_order(alloc, plan)?;
     Ok(Findings {
         config: config.copy(alloc)?,
         order,
         finals,
-        rooms,
+        peaks,
     })
 }
 
@@ -189,7 +190,7 @@ fn examine(alloc: Global, config: &Config, plan: &Plan) -> Result<Findings, Faul
 /// A plan that does not pass comes back with its first fault, in the order of `Fault`. Where memory is short, the plan
 /// comes back too, and nothing is said of it.
 pub fn check(alloc: Global, config: &Config, plan: Plan) -> Result<Checked, (Plan, Fault)>
-    requires fits { FitsPlan (length config.now.shards) (length config.now.servers) plan }
+    requires fits { IsKnownPlan (length config.now.shards) (length config.now.servers) plan }
     ensures setup { IfOk result (λ checked. checked.setup ≡ config.now) }
     ensures checked { IfOk result (λ checked. checked.plan ≡ plan) }
     ensures sound { OnOk result (IsSound (sizes_of config.now) plan) }

@@ -4,6 +4,7 @@ ghost use Rattle.std.specs.List.{list_any};
 ghost use Rattle.sm_reservation.specs.HoldOf.{hold_of};
 ghost use Rattle.sm_plan_code.specs.Plan.{IsSmallStream, IsSmallParcel};
 ghost use Rattle.sm_verifier.specs.Admission.{declared_room, declared_spare};
+ghost use Rattle.sm_plan_code.specs.declared.limits.TheConstants.{MOST_STREAMS};
 
 use sm_plan_code::Stream;
 use sm_reservation::Parcel;
@@ -47,7 +48,7 @@ fn spare_of(parcel: &Parcel, shard: ShardId) -> u64
 
 /// How much room of a server the streams declare together.
 pub(crate) fn declared_room(streams: &[Stream], server: ServerId) -> u64
-    requires few { length streams.now ≤ 64 }
+    requires few { length streams.now ≤ MOST_STREAMS }
     requires small { All IsSmallStream streams.now }
     ensures { result ≡ declared_room streams.now server }
 {
@@ -60,7 +61,7 @@ pub(crate) fn declared_room(streams: &[Stream], server: ServerId) -> u64
 
 /// How many spare replicas of a shard the streams declare together.
 pub(crate) fn declared_spare(streams: &[Stream], shard: ShardId) -> u64
-    requires few { length streams.now ≤ 64 }
+    requires few { length streams.now ≤ MOST_STREAMS }
     requires small { All IsSmallStream streams.now }
     ensures { result ≡ declared_spare streams.now shard }
 {

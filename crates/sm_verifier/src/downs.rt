@@ -1,8 +1,8 @@
 //! Servers that are down and that an instruction mentions.
 ghost use Rattle.std.specs.Prelude.{◌≡◌, ◌<◌, All, None, IfSome, IfNone, length};
 ghost use Rattle.sm_placement.specs.Layout.{place_of};
-ghost use Rattle.sm_plan_code.specs.Plan.{FitsInstr, FitsStream};
-ghost use Rattle.sm_verifier.specs.Downs.{lower, if_down, down_at, down_in, down_of};
+ghost use Rattle.sm_plan_code.specs.Plan.{IsKnownInstr, IsKnownStream};
+ghost use Rattle.sm_verifier.specs.Downs.{lower_server, if_down, down_at, down_in_code, down_in_streams};
 ghost use Rattle.sm_verifier.specs.Admission.{IsUpWhereMentioned, AreUp, IsLowest};
 
 use sm_placement::Placement;
@@ -11,7 +11,7 @@ use sm_server::ServerId;
 
 /// The lower one of two servers, where they are given.
 fn lower(first: Option<ServerId>, second: Option<ServerId>) -> Option<ServerId>
-    ensures { result ≡ lower first second }
+    ensures { result ≡ lower_server first second }
 {
     match (first, second) {
         (None, other) => other,
@@ -39,7 +39,7 @@ fn if_down(placement: &Placement, server: Option<ServerId>) -> Option<ServerId>
 
 /// The lowest server that is down: the one so far, or one that the instruction mentions.
 fn down_at(placement: &Placement, lowest: Option<ServerId>, instr: &Instr) -> Option<ServerId>
-    requires { FitsInstr (length placement.now.setup.shards) (length placement.now.setup.servers) instr.now }
+    requires { IsKnownInstr (length placement.now.setup.shards) (length placement.now.setup.servers) instr.now }
     ensures { result ≡ down_at (place_of placement.now).down lowest instr.now }
 {
     let names = names(instr);
@@ -49,8 +49,8 @@ fn down_at(placement: &Placement, lowest: Option<ServerId>, instr: &Instr) -> Op
 
 /// The lowest server that is down: the one so far, or one that the code mentions.
 fn down_in(placement: &Placement, before: Option<ServerId>, code: &[Instr]) -> Option<ServerId>
-    requires { All (FitsInstr (length placement.now.setup.shards) (length placement.now.setup.servers)) code.now }
-    ensures { result ≡ down_in (place_of placement.now).down before code.now }
+    requires { All (IsKnownInstr (length placement.now.setup.shards) (length placement.now.setup.servers)) code.now }
+    ensures { result ≡ down_in_code (place_of placement.now).down before code.now }
 {
     let mut lowest = before;
     for instr in code {
@@ -61,8 +61,8 @@ fn down_in(placement: &Placement, before: Option<ServerId>, code: &[Instr]) -> O
 
 /// The lowest server that is down and that the streams mention.
 fn down_of(placement: &Placement, streams: &[Stream]) -> Option<ServerId>
-    requires { All (FitsStream (length placement.now.setup.shards) (length placement.now.setup.servers)) streams.now }
-    ensures { result ≡ down_of (place_of placement.now).down None streams.now }
+    requires { All (IsKnownStream (length placement.now.setup.shards) (length placement.now.setup.servers)) streams.now }
+    ensures { result ≡ down_in_streams (place_of placement.now).down None streams.now }
 {
     let mut lowest = None;
     for stream in streams {
@@ -73,7 +73,7 @@ fn down_of(placement: &Placement, streams: &[Stream]) -> Option<ServerId>
 
 /// The lowest server that an instruction mentions though it is down.
 pub(crate) fn first_down(placement: &Placement, streams: &[Stream]) -> Option<ServerId>
-    requires { All (FitsStream (length placement.now.setup.shards) (length placement.now.setup.servers)) streams.now }
+    requires { All (IsKnownStream (length placement.now.setup.shards) (length placement.now.setup.servers)) streams.now }
     ensures lowest { IfSome result (IsLowest (IsUpWhereMentioned (place_of placement.now) streams.now)) }
     ensures none { IfNone result (AreUp (place_of placement.now) streams.now) }
 {

@@ -1,13 +1,15 @@
 //! A stream followed through its code.
-ghost use Rattle.std.specs.Prelude.{◌≡◌, ◌≤◌, ◌<◌, ◌^◌, ◌↔◌, IsTrue, All, IfOk, IfErr, OnOk, length};
+ghost use Rattle.std.specs.Prelude.{◌≡◌, true, ◌≤◌, ◌<◌, ◌^◌, ◌↔◌, IsTrue, All, IfOk, IfErr, OnOk, length};
+ghost use Rattle.sm_placement.specs.Lead.{is_at_rest};
 ghost use Rattle.sm_placement.specs.Setup.{sizes_of};
 ghost use Rattle.sm_reservation.specs.HoldOf.{hold_of};
 ghost use Rattle.sm_plan_code.specs.After.{after};
-ghost use Rattle.sm_plan_code.specs.Plan.{KnowsSignal, IsSmallParcel, IsSmallStream, FitsInstr, FitsStream, FitsPlan};
+ghost use Rattle.sm_plan_code.specs.Plan.{KnowsSignal, IsSmallParcel, IsSmallStream, IsKnownInstr, IsKnownStream, IsKnownPlan};
 ghost use Rattle.sm_verifier.specs.Step.{parcels_of, IsAnswer, IsAtMost, Grows};
-ghost use Rattle.sm_verifier.specs.Stream.{course, course_of, stream_at, final_hold, IsAtRest, IsSettled, IsGood, within_budget};
+ghost use Rattle.sm_verifier.specs.Stream.{course, course_of, stream_at, final_hold, HasCrownsAtRest, IsGood, within_budget};
 ghost use Rattle.sm_verifier.specs.Bad.{bad_at, IsBad};
-ghost use Rattle.sm_verifier.specs.Room.{IsRoom};
+ghost use Rattle.sm_verifier.specs.Peak.{IsPeak};
+ghost use Rattle.sm_plan_code.specs.declared.limits.TheConstants.{MOST_INSTRUCTIONS};
 
 use crate::steps::{StepFault, longest_list, step};
 use sm_placement::{Config, Lead};
@@ -54,7 +56,7 @@ fn bad_at(at: u32, fault: StepFault) -> Bad
 
 /// No handover is under way.
 fn is_at_rest(lead: &Lead) -> bool
-    ensures { IsTrue result ↔ IsAtRest lead.now }
+    ensures { result ≡ is_at_rest lead.now }
 {
     match lead {
         Lead::Gone | Lead::At(_) => true,
@@ -64,14 +66,14 @@ fn is_at_rest(lead: &Lead) -> bool
 
 /// Every crown is at rest.
 fn are_at_rest(crowns: &[Crown]) -> bool
-    ensures { IsTrue result ↔ All (λ x. IsAtRest x.lead) crowns.now }
+    ensures { IsTrue result ↔ All (λ x. is_at_rest x.lead ≡ true) crowns.now }
 {
     crowns.iter().all(|crown| is_at_rest(&crown.lead))
 }
 
 /// Every crown that is held is at rest.
 fn is_settled(hold: &Hold) -> bool
-    ensures { IsTrue result ↔ IsSettled (hold_of hold.now.rights) }
+    ensures { IsTrue result ↔ HasCrownsAtRest (hold_of hold.now.rights) }
 {
     are_at_rest(hold.crowns())
 }
@@ -85,13 +87,13 @@ fn follow_one(
     instr: &Instr,
     hold: &mut Hold,
 ) -> Result<(), StepFault>
-    requires fits { FitsInstr (length config.now.shards) (length config.now.servers) instr.now }
+    requires fits { IsKnownInstr (length config.now.shards) (length config.now.servers) instr.now }
     requires signal { KnowsSignal (length signals.now) instr.now }
     requires small { All IsSmallParcel signals.now }
     requires amounts { IsAtMost (2 ^ 63) (hold_of hold.old.rights) }
     ensures answer { IsAnswer result (hold_of hold.new.rights) (within_budget budget calls instr.now (after (sizes_of config.now) (parcels_of signals.now) instr.now (hold_of hold.old.rights))) }
     ensures grows { Grows (2 ^ 32) (hold_of hold.old.rights) (hold_of hold.new.rights) }
-    ensures places { hold.old.places < 2 ^ 32 → hold.new.places < 2 ^ 32 }
+    ensures capacity { hold.old.capacity < 2 ^ 32 → hold.new.capacity < 2 ^ 32 }
 {
     if is_call(instr) && budget <= calls {
         return Err(StepFault::Refused(Why::OverBudget));
@@ -107,20 +109,20 @@ fn follow_code(
     hold: &mut Hold,
     code: &[Instr],
 ) -> Result<u32, Bad>
-    requires fits { All (FitsInstr (length config.now.shards) (length config.now.servers)) code.now }
+    requires fits { All (IsKnownInstr (length config.now.shards) (length config.now.servers)) code.now }
     requires known { All (KnowsSignal (length signals.now)) code.now }
     requires small { All IsSmallParcel signals.now }
-    requires short { length code.now ≤ 4096 }
+    requires short { length code.now ≤ MOST_INSTRUCTIONS }
     requires amounts { IsAtMost (2 ^ 32) (hold_of hold.old.rights) }
-    requires places { hold.old.places < 2 ^ 32 }
+    requires capacity { hold.old.capacity < 2 ^ 32 }
     ensures good { OnOk result (IsGood (course (sizes_of config.now) signals.now budget hold.old.rights code.now)) }
     ensures hold { OnOk result (hold_of hold.new.rights ≡ final_hold (course (sizes_of config.now) signals.now budget hold.old.rights code.now)) }
-    ensures room { IfOk result (λ room. IsRoom (course (sizes_of config.now) signals.now budget hold.old.rights code.now) room) }
+    ensures peak { IfOk result (λ peak. IsPeak (course (sizes_of config.now) signals.now budget hold.old.rights code.now) peak) }
     ensures bad { IfErr result (λ bad. IsBad (course (sizes_of config.now) signals.now budget hold.old.rights code.now) bad) }
 {
     let mut calls = 0;
     let mut at = 0;
-    let mut room = longest_list(hold);
+    let mut peak = longest_list(hold);
     for instr in code {
         if let Err(fault) = follow_one(config, signals, budget, calls, instr, hold) {
             return Err(bad_at(at, fault));
@@ -129,7 +131,7 @@ fn follow_code(
             calls += 1;
         }
         at += 1;
-        room = room.max(longest_list(hold));
+        peak = peak.max(longest_list(hold));
     }
     if !is_settled(hold) {
         return Err(Bad::At {
@@ -137,7 +139,7 @@ fn follow_code(
             why: Why::Unsettled,
         });
     }
-    Ok(room as u32)
+    Ok(peak as u32)
 }
 
 /// What a stream leaves at its end.
@@ -146,7 +148,7 @@ pub struct End {
     /// What the stream holds.
     pub parcel: Parcel,
     /// The most keys that one list of its hold had on the way.
-    pub room: u32,
+    pub peak: u32,
 }
 
 /// Follows a stream of a plan with these signals.
@@ -156,17 +158,17 @@ fn follow_stream(
     signals: &[Parcel],
     stream: &Stream,
 ) -> Result<End, Bad>
-    requires fits { FitsStream (length config.now.shards) (length config.now.servers) stream.now }
+    requires fits { IsKnownStream (length config.now.shards) (length config.now.servers) stream.now }
     requires known { All (KnowsSignal (length signals.now)) stream.now.code }
     requires small { All IsSmallParcel signals.now }
     requires short { IsSmallStream stream.now }
     ensures good { OnOk result (IsGood (course_of (sizes_of config.now) signals.now stream.now)) }
     ensures hold { IfOk result (λ end. hold_of end.parcel ≡ final_hold (course_of (sizes_of config.now) signals.now stream.now)) }
-    ensures room { IfOk result (λ end. IsRoom (course_of (sizes_of config.now) signals.now stream.now) end.room) }
+    ensures peak { IfOk result (λ end. IsPeak (course_of (sizes_of config.now) signals.now stream.now) end.peak) }
     ensures bad { IfErr result (λ bad. IsBad (course_of (sizes_of config.now) signals.now stream.now) bad) }
 {
     let mut hold = Hold::of_parcel(alloc, &stream.holds)?;
-    let room = follow_code(
+    let peak = follow_code(
         config,
         signals,
         stream.budget,
@@ -175,17 +177,17 @@ fn follow_stream(
     )?;
     Ok(End {
         parcel: hold.into_parcel(),
-        room,
+        peak,
     })
 }
 
 /// Follows the stream of a plan at a number to its end.
 pub fn follow_to_end(alloc: Global, config: &Config, plan: &Plan, stream: u32) -> Result<End, Bad>
-    requires fits { FitsPlan (length config.now.shards) (length config.now.servers) plan.now }
+    requires fits { IsKnownPlan (length config.now.shards) (length config.now.servers) plan.now }
     requires stream { stream < length plan.now.streams }
     ensures good { OnOk result (IsGood (stream_at (sizes_of config.now) plan.now stream)) }
     ensures hold { IfOk result (λ end. hold_of end.parcel ≡ final_hold (stream_at (sizes_of config.now) plan.now stream)) }
-    ensures room { IfOk result (λ end. IsRoom (stream_at (sizes_of config.now) plan.now stream) end.room) }
+    ensures peak { IfOk result (λ end. IsPeak (stream_at (sizes_of config.now) plan.now stream) end.peak) }
     ensures bad { IfErr result (λ bad. IsBad (stream_at (sizes_of config.now) plan.now stream) bad) }
 {
     follow_stream(
@@ -201,12 +203,12 @@ pub fn follow_to_end(alloc: Global, config: &Config, plan: &Plan, stream: u32) -
 /// A stream that is not good breaks off at the first position where it may not go on. A call that is over the budget is
 /// refused as `OverBudget`, whatever else stands against it. Retries do not count.
 pub fn follow(alloc: Global, config: &Config, plan: &Plan, stream: u32) -> Result<Parcel, Bad>
-    requires fits { FitsPlan (length config.now.shards) (length config.now.servers) plan.now }
+    requires fits { IsKnownPlan (length config.now.shards) (length config.now.servers) plan.now }
     requires stream { stream < length plan.now.streams }
     ensures good { OnOk result (IsGood (stream_at (sizes_of config.now) plan.now stream)) }
     ensures hold { IfOk result (λ parcel. hold_of parcel ≡ final_hold (stream_at (sizes_of config.now) plan.now stream)) }
     ensures bad { IfErr result (λ bad. IsBad (stream_at (sizes_of config.now) plan.now stream) bad) }
 {
-    let End { parcel, room: _ } = follow_to_end(alloc, config, plan, stream)?;
+    let End { parcel, peak: _ } = follow_to_end(alloc, config, plan, stream)?;
     Ok(parcel)
 }

@@ -10,8 +10,7 @@ mod declared;
 mod downs;
 mod following;
 mod free;
-mod lead;
-mod lines;
+mod laws;
 mod order;
 mod signals;
 mod steps;
@@ -22,5 +21,7 @@ pub use admission::{Holding, admit};
 pub use checked::Checked;
 pub use checking::{Fault, check};
 pub use following::{Bad, follow};
-pub use steps::{StepFault, step};
-pub use verdict::{one_fault, one_holding};
+pub use laws::{
+    admitted_is_within, good_streams_go_on, instrs_are_reachable, signals_stand_once, some_goes_on,
+};
+pub use verdict::{finds_fault, finds_holding, one_fault, one_holding};

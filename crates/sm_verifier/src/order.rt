@@ -3,6 +3,7 @@ ghost use Rattle.std.specs.Prelude.{◌≡◌, ◌<◌, ◌≤◌, ◌↔◌, Is
 ghost use Rattle.sm_plan_code.specs.Plan.{KnowsSignal};
 ghost use Rattle.sm_verifier.specs.Order.{code_at, IsOrder, IsStuckAt};
 ghost use Rattle.sm_verifier.specs.Walk.{IsWalk, CanGo, AreStuck, IsMarked, left, IsMove, IsSweep, HaveEnded, AreStops};
+ghost use Rattle.sm_plan_code.specs.declared.limits.TheConstants.{MOST_INSTRUCTIONS, MOST_SIGNALS};
 
 use sm_plan_code::{Instr, Plan};
 use std::alloc::{AllocError, Global};
@@ -33,9 +34,9 @@ fn start(alloc: Global, plan: &Plan) -> Result<Walk, AllocError>
 fn code_of(plan: &Plan, stream: u32) -> &[Instr]
     requires { stream < length plan.now.streams }
     ensures value { result.now ≡ code_at plan.now stream }
-    ensures short { length result.now ≤ 4096 }
+    ensures short { length result.now ≤ MOST_INSTRUCTIONS }
     ensures known { All (KnowsSignal (length plan.now.signals)) result.now }
-    ensures signals { length plan.now.signals ≤ 256 }
+    ensures signals { length plan.now.signals ≤ MOST_SIGNALS }
 {
     let stream = &plan.streams()[stream as usize];
     stream.code.as_slice()

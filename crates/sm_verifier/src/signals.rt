@@ -4,6 +4,7 @@ ghost use Rattle.sm_placement.specs.Sums.{bit};
 ghost use Rattle.sm_plan_code.specs.Plan.{KnowsSignal, IsSmallStream};
 ghost use Rattle.sm_verifier.specs.Counts.{IsRaised, AreCounts, IsOnceAt};
 ghost use Rattle.sm_verifier.specs.Plan.{is_post, is_wait, posts, waits, AreUsedOnce, IsFirstMisused};
+ghost use Rattle.sm_plan_code.specs.declared.limits.TheConstants.{MOST_STREAMS, MOST_SIGNALS};
 
 use sm_plan_code::{Instr, Plan, Stream};
 use std::alloc::{AllocError, Global};
@@ -60,7 +61,7 @@ fn count_code(code: &[Instr], posts: &mut [u32], waits: &mut [u32])
 fn count_streams(streams: &[Stream], posts: &mut [u32], waits: &mut [u32])
     requires known { All (λ stream. All (KnowsSignal (length posts.old)) stream.code) streams.now }
     requires small { All IsSmallStream streams.now }
-    requires count { length streams.now ≤ 64 }
+    requires count { length streams.now ≤ MOST_STREAMS }
     requires same { length waits.old ≡ length posts.old }
     requires no_posts { (k : ℕ) → slice_index posts.old k ≡ 0 }
     requires no_waits { (k : ℕ) → slice_index waits.old k ≡ 0 }
@@ -76,7 +77,7 @@ fn count_streams(streams: &[Stream], posts: &mut [u32], waits: &mut [u32])
 fn counts_of(alloc: Global, plan: &Plan) -> Result<Counts, AllocError>
     ensures posts { IfOk result (λ counts. AreCounts (length plan.now.signals) (posts plan.now) counts.posts.items) }
     ensures waits { IfOk result (λ counts. AreCounts (length plan.now.signals) (waits plan.now) counts.waits.items) }
-    ensures few { length plan.now.signals ≤ 256 }
+    ensures few { length plan.now.signals ≤ MOST_SIGNALS }
 {
     let signals = plan.signals().len();
     let mut posts = vec![in alloc; 0; signals]?;

@@ -1,25 +1,26 @@
 //! One instruction of a stream, made with the hold before it.
-ghost use Rattle.std.specs.Prelude.{◌≡◌, ◌≤◌, ◌<◌, ◌^◌, is_none, All, OnOk, OnErr, length};
+ghost use Rattle.std.specs.Prelude.{◌≡◌, ◌≤◌, ◌<◌, ◌^◌, ℕ, is_none, All, OnOk, OnErr, length};
 ghost use Rattle.std.specs.List.{list_all};
 ghost use Rattle.sm_placement.specs.Setup.{sizes_of};
+ghost use Rattle.sm_reservation.specs.Rights.{Rights};
 ghost use Rattle.sm_reservation.specs.Hold.{plus};
 ghost use Rattle.sm_reservation.specs.HoldOf.{hold_of};
-ghost use Rattle.sm_reservation.specs.Kept.{most_keys as kept_keys};
-ghost use Rattle.sm_plan_code.specs.Plan.{KnowsSignal, IsSmallParcel, FitsInstr};
+ghost use Rattle.sm_reservation.specs.Capacity.{most_keys};
+ghost use Rattle.sm_plan_code.specs.Plan.{KnowsSignal, IsSmallParcel, IsKnownInstr};
+ghost use Rattle.sm_plan_code.specs.Instr.{IsOwn};
 ghost use Rattle.sm_plan_code.specs.After.{after, decided, signal_line, wait_line};
-ghost use Rattle.sm_verifier.specs.Step.{outcome, IsAnswer, HasPlaces, longest, most_keys, parcels_of, IsAtMost, Grows};
-ghost use Rattle.sm_verifier.specs.Room.{IsListing};
+ghost use Rattle.sm_verifier.specs.Step.{outcome, IsAnswer, HasCapacityFor, keys_added, parcels_of, IsAtMost, Grows};
+ghost use Rattle.sm_verifier.specs.Peak.{IsListing};
 
-use crate::lines::{add, change, drop, prepare_add, prepare_drop, publish, unlist};
 use sm_placement::Config;
-use sm_plan_code::{Instr, Why};
+use sm_plan_code::{Instr, Why, change_of};
 use sm_reservation::{CellRight, Crown, Hold, Parcel};
 use std::alloc::AllocError;
 use thiserror::Error;
 
 /// Why an instruction is not made.
 #[derive(Clone, Copy, Debug, PartialEq, Eq, Error)]
-pub enum StepFault {
+pub(crate) enum StepFault {
     /// Memory was short.
     #[error("out of memory")]
     NoMemory,
@@ -48,12 +49,32 @@ impl From<Why> for StepFault {
     }
 }
 
+/// Makes an instruction that is neither a signal nor a wait: gives up what it needs, and gets what it gives.
+fn make_own(config: &Config, instr: &Instr, hold: &mut Hold) -> Result<(), Why>
+    requires fits { IsKnownInstr (length config.now.shards) (length config.now.servers) instr.now }
+    requires own { IsOwn instr.now }
+    requires capacity { HasCapacityFor 1 hold.old }
+    requires amounts { IsAtMost (2 ^ 63) (hold_of hold.old.rights) }
+    ensures answer { (signals : ℕ → Rights) → outcome result (hold_of hold.new.rights) ≡ after (sizes_of config.now) signals instr.now (hold_of hold.old.rights) }
+    ensures kept { OnErr result (hold.new ≡ hold.old) }
+    ensures grows { Grows (2 ^ 32) (hold_of hold.old.rights) (hold_of hold.new.rights) }
+    ensures capacity { hold.new.capacity ≡ hold.old.capacity }
+{
+    match change_of(config, instr, hold) {
+        Ok(change) => {
+            hold.exchange(&change);
+            Ok(())
+        }
+        Err(why) => Err(why),
+    }
+}
+
 /// Posts a signal, which takes its parcel.
 fn signal(hold: &mut Hold, parcel: &Parcel) -> Result<(), Why>
     ensures answer { outcome result (hold_of hold.new.rights) ≡ decided (signal_line parcel.now (hold_of hold.old.rights)) }
     ensures kept { OnErr result (hold.new ≡ hold.old) }
     ensures grows { Grows (2 ^ 32) (hold_of hold.old.rights) (hold_of hold.new.rights) }
-    ensures places { hold.new.places ≡ hold.old.places }
+    ensures capacity { hold.new.capacity ≡ hold.old.capacity }
 {
     if hold.first_short(parcel).is_some() {
         return Err(Why::NotCarried);
@@ -81,12 +102,12 @@ fn are_crowns_apart(hold: &Hold, crowns: &[Crown]) -> bool
 /// Waits for a signal, which puts its parcel in.
 fn wait(hold: &mut Hold, parcel: &Parcel) -> Result<(), Why>
     requires small { IsSmallParcel parcel.now }
-    requires places { HasPlaces (longest parcel.now) hold.old }
+    requires capacity { HasCapacityFor (most_keys parcel.now) hold.old }
     requires amounts { IsAtMost (2 ^ 63) (hold_of hold.old.rights) }
     ensures answer { outcome result (hold_of hold.new.rights) ≡ decided (wait_line parcel.now (hold_of hold.old.rights)) }
     ensures kept { OnErr result (hold.new ≡ hold.old) }
     ensures grows { Grows (2 ^ 32) (hold_of hold.old.rights) (hold_of hold.new.rights) }
-    ensures places { hold.new.places ≡ hold.old.places }
+    ensures capacity { hold.new.capacity ≡ hold.old.capacity }
 {
     if !are_cells_apart(hold, parcel.cells()) || !are_crowns_apart(hold, parcel.crowns()) {
         return Err(Why::Twice);
@@ -98,11 +119,11 @@ fn wait(hold: &mut Hold, parcel: &Parcel) -> Result<(), Why>
 /// Puts a parcel in.
 fn put_parcel(hold: &mut Hold, parcel: &Parcel)
     requires small { IsSmallParcel parcel.now }
-    requires places { HasPlaces (longest parcel.now) hold.old }
+    requires capacity { HasCapacityFor (most_keys parcel.now) hold.old }
     requires amounts { IsAtMost (2 ^ 63) (hold_of hold.old.rights) }
     ensures rights { hold_of hold.new.rights ≡ plus (hold_of hold.old.rights) parcel.now }
     ensures grows { Grows (2 ^ 32) (hold_of hold.old.rights) (hold_of hold.new.rights) }
-    ensures places { hold.new.places ≡ hold.old.places }
+    ensures capacity { hold.new.capacity ≡ hold.old.capacity }
 {
     let _room = parcel.room();
     let _spare = parcel.spare();
@@ -110,8 +131,8 @@ fn put_parcel(hold: &mut Hold, parcel: &Parcel)
 }
 
 /// How many keys the longest list of a parcel has.
-fn longest(parcel: &Parcel) -> usize
-    ensures count { result ≡ longest parcel.now }
+fn longest_of(parcel: &Parcel) -> usize
+    ensures count { result ≡ most_keys parcel.now }
     ensures bound { result < 2 ^ 63 }
 {
     let cells = parcel.cells().len();
@@ -122,25 +143,25 @@ fn longest(parcel: &Parcel) -> usize
 }
 
 /// How many keys an instruction adds to a list at most.
-fn most_keys(signals: &[Parcel], instr: &Instr) -> usize
+fn keys_added(signals: &[Parcel], instr: &Instr) -> usize
     requires { KnowsSignal (length signals.now) instr.now }
-    ensures count { result ≡ most_keys (parcels_of signals.now) instr.now }
+    ensures count { result ≡ keys_added (parcels_of signals.now) instr.now }
     ensures bound { result < 2 ^ 63 }
 {
     match *instr {
-        Instr::Wait { signal } => longest(&signals[signal as usize]),
+        Instr::Wait { signal } => longest_of(&signals[signal as usize]),
         _ => 1,
     }
 }
 
 /// How many keys the longest list of a hold has.
-pub fn longest_list(hold: &Hold) -> usize
-    ensures count { result ≡ kept_keys hold.now.rights }
+pub(crate) fn longest_list(hold: &Hold) -> usize
+    ensures count { result ≡ most_keys hold.now.rights }
     ensures listing { IsListing hold.now.rights (hold_of hold.now.rights) }
-    ensures within { result ≤ hold.now.places }
+    ensures within { result ≤ hold.now.capacity }
     ensures bound { result < 2 ^ 63 }
 {
-    let _places = hold.places();
+    let _capacity = hold.capacity();
     let cells = hold.cells().len();
     let crowns = hold.crowns().len();
     let room = hold.rooms().len();
@@ -148,74 +169,56 @@ pub fn longest_list(hold: &Hold) -> usize
     cells.max(crowns).max(room).max(spare)
 }
 
-/// Makes places for `more` keys in each list.
+/// Makes capacity for `more` keys in each list.
 fn reserve(hold: &mut Hold, more: usize) -> Result<(), AllocError>
     requires { more < 2 ^ 63 }
     ensures rights { hold.new.rights ≡ hold.old.rights }
-    ensures places { OnOk result (HasPlaces more hold.new) }
-    ensures small { hold.old.places < 2 ^ 32 → hold.new.places < 2 ^ 32 }
+    ensures capacity { OnOk result (HasCapacityFor more hold.new) }
+    ensures small { hold.old.capacity < 2 ^ 32 → hold.new.capacity < 2 ^ 32 }
 {
     match u32::try_from(longest_list(hold) + more) {
-        Ok(places) => hold.reserve(places),
+        Ok(capacity) => hold.reserve(capacity),
         Err(_) => Err(AllocError),
     }
 }
 
-/// Makes an instruction with a hold that has places for what it adds.
+/// Makes an instruction with a hold that has capacity for what it adds.
 fn make(config: &Config, signals: &[Parcel], instr: &Instr, hold: &mut Hold) -> Result<(), Why>
-    requires fits { FitsInstr (length config.now.shards) (length config.now.servers) instr.now }
+    requires fits { IsKnownInstr (length config.now.shards) (length config.now.servers) instr.now }
     requires signal { KnowsSignal (length signals.now) instr.now }
     requires small { All IsSmallParcel signals.now }
-    requires places { HasPlaces (most_keys (parcels_of signals.now) instr.now) hold.old }
+    requires capacity { HasCapacityFor (keys_added (parcels_of signals.now) instr.now) hold.old }
     requires amounts { IsAtMost (2 ^ 63) (hold_of hold.old.rights) }
     ensures answer { outcome result (hold_of hold.new.rights) ≡ after (sizes_of config.now) (parcels_of signals.now) instr.now (hold_of hold.old.rights) }
     ensures kept { OnErr result (hold.new ≡ hold.old) }
     ensures grows { Grows (2 ^ 32) (hold_of hold.old.rights) (hold_of hold.new.rights) }
-    ensures places { hold.new.places ≡ hold.old.places }
+    ensures capacity { hold.new.capacity ≡ hold.old.capacity }
 {
     match *instr {
-        Instr::PrepareAdd {
-            shard,
-            server,
-            owner,
-        } => prepare_add(config, hold, shard, server, owner),
-        Instr::PrepareDrop {
-            shard,
-            server,
-            new_owner,
-        } => prepare_drop(hold, shard, server, new_owner),
-        Instr::Add {
-            shard,
-            server,
-            role,
-        } => add(config, hold, shard, server, role),
-        Instr::Drop { shard, server } => drop(config, hold, shard, server),
-        Instr::Change { shard, server, to } => change(hold, shard, server, to),
-        Instr::Publish { shard } => publish(hold, shard),
-        Instr::Unlist { shard } => unlist(hold, shard),
         Instr::Signal { signal: number } => signal(hold, &signals[number as usize]),
         Instr::Wait { signal: number } => wait(hold, &signals[number as usize]),
+        _ => make_own(config, instr, hold),
     }
 }
 
 /// Makes an instruction: the hold becomes the one after it. Where the instruction is not made, the rights stay as they are.
 ///
 /// Memory is short for a list of 4,294,967,296 keys too.
-pub fn step(
+pub(crate) fn step(
     config: &Config,
     signals: &[Parcel],
     instr: &Instr,
     hold: &mut Hold,
 ) -> Result<(), StepFault>
-    requires fits { FitsInstr (length config.now.shards) (length config.now.servers) instr.now }
+    requires fits { IsKnownInstr (length config.now.shards) (length config.now.servers) instr.now }
     requires signal { KnowsSignal (length signals.now) instr.now }
     requires small { All IsSmallParcel signals.now }
     requires amounts { IsAtMost (2 ^ 63) (hold_of hold.old.rights) }
     ensures answer { IsAnswer result (hold_of hold.new.rights) (after (sizes_of config.now) (parcels_of signals.now) instr.now (hold_of hold.old.rights)) }
     ensures kept { OnErr result (hold.new.rights ≡ hold.old.rights) }
     ensures grows { Grows (2 ^ 32) (hold_of hold.old.rights) (hold_of hold.new.rights) }
-    ensures places { hold.old.places < 2 ^ 32 → hold.new.places < 2 ^ 32 }
+    ensures capacity { hold.old.capacity < 2 ^ 32 → hold.new.capacity < 2 ^ 32 }
 {
-    reserve(hold, most_keys(signals, instr))?;
+    reserve(hold, keys_added(signals, instr))?;
     Ok(make(config, signals, instr, hold)?)
 }

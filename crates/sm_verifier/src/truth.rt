@@ -6,11 +6,10 @@ ghost use Rattle.sm_reservation.specs.declared.right.Key.{Key};
 ghost use Rattle.sm_reservation.specs.HoldOf.{hold_of};
 ghost use Rattle.sm_reservation.specs.Amounts.{is_cell, plain_of};
 ghost use Rattle.sm_reservation.specs.Pool.{true_rights};
-ghost use Rattle.sm_plan_code.specs.Plan.{FitsCell, FitsCrown, FitsParcel, FitsStream};
-ghost use Rattle.sm_verifier.specs.Finding.{has_cell, has_crown, first_cell, first_crown};
+ghost use Rattle.sm_plan_code.specs.Plan.{IsKnownCellRight, IsKnownCrown, IsKnownParcel, IsKnownStream};
+ghost use Rattle.sm_verifier.specs.Finding.{holds_cell, holds_crown, first_cell, first_crown};
 ghost use Rattle.sm_verifier.specs.Admission.{IsIn, IsTrueAt, AreTrue, IsLowestKey, IsFirst};
 
-use crate::lead::lead_at;
 use sm_placement::Placement;
 use sm_plan_code::Stream;
 use sm_reservation::{CellRight, Crown, Key, Parcel, PlainCell};
@@ -28,24 +27,24 @@ fn is_as(cell: &Cell, state: PlainCell) -> bool
 
 /// The cell right is true of the placement.
 fn is_true_cell(placement: &Placement, right: &CellRight) -> bool
-    requires { FitsCell (length placement.now.setup.shards) (length placement.now.setup.servers) right.now }
-    ensures { result ≡ has_cell (true_rights (sizes_of placement.now.setup) (place_of placement.now)) right.now }
+    requires { IsKnownCellRight (length placement.now.setup.shards) (length placement.now.setup.servers) right.now }
+    ensures { result ≡ holds_cell (true_rights (sizes_of placement.now.setup) (place_of placement.now)) right.now }
 {
     is_as(&placement.cell(right.shard, right.server), right.state)
 }
 
 /// The crown is true of the placement.
 fn is_true_crown(placement: &Placement, crown: &Crown) -> bool
-    requires { FitsCrown (length placement.now.setup.shards) (length placement.now.setup.servers) crown.now }
-    ensures { result ≡ has_crown (true_rights (sizes_of placement.now.setup) (place_of placement.now)) crown.now }
+    requires { IsKnownCrown (length placement.now.setup.shards) (length placement.now.setup.servers) crown.now }
+    ensures { result ≡ holds_crown (true_rights (sizes_of placement.now.setup) (place_of placement.now)) crown.now }
 {
-    crown.lead == lead_at(placement, crown.shard) && crown.listed == placement.listed(crown.shard)
+    placement.lead(crown.shard) == Some(crown.lead) && crown.listed == placement.listed(crown.shard)
 }
 
 /// The first right to a cell that is not true of the placement.
 fn untrue_cell(placement: &Placement, cells: &[CellRight]) -> Option<Key>
-    requires { All (FitsCell (length placement.now.setup.shards) (length placement.now.setup.servers)) cells.now }
-    ensures { result ≡ first_cell (has_cell (true_rights (sizes_of placement.now.setup) (place_of placement.now))) cells.now }
+    requires { All (IsKnownCellRight (length placement.now.setup.shards) (length placement.now.setup.servers)) cells.now }
+    ensures { result ≡ first_cell (holds_cell (true_rights (sizes_of placement.now.setup) (place_of placement.now))) cells.now }
 {
     for right in cells {
         if !is_true_cell(placement, right) {
@@ -60,8 +59,8 @@ fn untrue_cell(placement: &Placement, cells: &[CellRight]) -> Option<Key>
 
 /// The first crown that is not true of the placement.
 fn untrue_crown(placement: &Placement, crowns: &[Crown]) -> Option<Key>
-    requires { All (FitsCrown (length placement.now.setup.shards) (length placement.now.setup.servers)) crowns.now }
-    ensures { result ≡ first_crown (has_crown (true_rights (sizes_of placement.now.setup) (place_of placement.now))) crowns.now }
+    requires { All (IsKnownCrown (length placement.now.setup.shards) (length placement.now.setup.servers)) crowns.now }
+    ensures { result ≡ first_crown (holds_crown (true_rights (sizes_of placement.now.setup) (place_of placement.now))) crowns.now }
 {
     for crown in crowns {
         if !is_true_crown(placement, crown) {
@@ -73,7 +72,7 @@ fn untrue_crown(placement: &Placement, crowns: &[Crown]) -> Option<Key>
 
 /// The lowest key of a parcel that is not true of the placement.
 fn untrue_key(placement: &Placement, parcel: &Parcel) -> Option<Key>
-    requires { FitsParcel (length placement.now.setup.shards) (length placement.now.setup.servers) parcel.now }
+    requires { IsKnownParcel (length placement.now.setup.shards) (length placement.now.setup.servers) parcel.now }
     ensures lowest { IfSome result (IsLowestKey (IsIn (hold_of parcel.now) (true_rights (sizes_of placement.now.setup) (place_of placement.now)))) }
     ensures none { IfNone result ((key : Key) → IsIn (hold_of parcel.now) (true_rights (sizes_of placement.now.setup) (place_of placement.now)) key) }
 {
@@ -85,7 +84,7 @@ fn untrue_key(placement: &Placement, parcel: &Parcel) -> Option<Key>
 
 /// The lowest key that is not true of the placement, in the first stream that declares such a key.
 pub(crate) fn first_untrue(placement: &Placement, streams: &[Stream]) -> Option<Key>
-    requires { All (FitsStream (length placement.now.setup.shards) (length placement.now.setup.servers)) streams.now }
+    requires { All (IsKnownStream (length placement.now.setup.shards) (length placement.now.setup.servers)) streams.now }
     ensures first { IfSome result (λ key. (i : ℕ) × IsFirst (IsTrueAt (sizes_of placement.now.setup) (place_of placement.now) streams.now) i key) }
     ensures none { IfNone result (AreTrue (sizes_of placement.now.setup) (place_of placement.now) streams.now) }
 {

@@ -1,6 +1,6 @@
 use Rattle.std.proofs.Common.{◌≡◌, ◌<◌, ◌∷◌, [], ◌++◌, length, rules}
 use Rattle.sm_placement.specs.Setup.{sizes_of}
-use Rattle.sm_verifier.proofs.Ends.{good_next, finals_next, rooms_next}
+use Rattle.sm_verifier.proofs.Ends.{good_next, finals_next, peaks_next}
 use Rattle.sm_verifier.proofs.Faults.{stream_fault}
 use Rattle.sm_verifier.proofs.checking.follow_all.Goals as goal
 
@@ -15,9 +15,9 @@ loop-stream-preserved c =
     let plan = c.args.plan.now in
     let i = c.loop-stream.stream in
     let parcels : c.push.new.self.items ≡ c.loop-stream.finals.items ++ c.in-Ok.parcel ∷ [] = search rules in
-    let rooms : c.push-in-Ok.new.self.items ≡ c.loop-stream.rooms.items ++ c.in-Ok.room ∷ [] = search rules in
+    let peaks : c.push-in-Ok.new.self.items ≡ c.loop-stream.peaks.items ++ c.in-Ok.peak ∷ [] = search rules in
     record {
       good = good_next s plan i c.loop-stream.invariant.good c.in-Ok.ensures.good;
       finals = finals_next s plan i c.loop-stream.finals.items c.push.new.self.items c.in-Ok.parcel c.loop-stream.invariant.finals (rw (← c.in-Ok.parcel-is) c.in-Ok.ensures.hold) parcels;
-      rooms = rooms_next s plan i c.loop-stream.rooms.items c.push-in-Ok.new.self.items c.in-Ok.room c.loop-stream.invariant.rooms (rw (← c.in-Ok.room-is) c.in-Ok.ensures.room) rooms;
+      peaks = peaks_next s plan i c.loop-stream.peaks.items c.push-in-Ok.new.self.items c.in-Ok.peak c.loop-stream.invariant.peaks (rw (← c.in-Ok.peak-is) c.in-Ok.ensures.peak) peaks;
     }

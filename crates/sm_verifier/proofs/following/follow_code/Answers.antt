@@ -6,7 +6,7 @@ use Rattle.sm_placement.specs.Sums.{bit}
 use Rattle.sm_reservation.specs.HoldOf.{hold_of}
 use Rattle.sm_plan_code.specs.Instr.{is_call}
 use Rattle.sm_verifier.specs.Stream.{Course, course, hold_before}
-use Rattle.sm_verifier.proofs.Rooms.{listing_at, room_next}
+use Rattle.sm_verifier.proofs.Peaks.{listing_at, peak_next}
 use Rattle.sm_verifier.proofs.Streams.{next, breaks_by, unsettled, good}
 use Rattle.sm_verifier.proofs.following.follow_code.Goals as goal
 use Rattle.sm_verifier.proofs.following.follow_code.Goals.{then-is_call, else-is_call}
@@ -27,12 +27,12 @@ loop-instr-preserved c =
     ] in
     let followed = next s c.loop-instr.instr-index c.loop-instr.calls (hold_of c.loop-instr.hold.rights) (hold_of c.follow_one.new.hold.rights) c.instr-item.result c.loop-instr.invariant.followed here (rw c.in_default.is at c.follow_one.ensures.answer) c.follow_one.ensures.grows in
     let listing = listing_at _ (hold_before s (c.loop-instr.instr-index + 1)) c.longest_list.ensures.listing followed.hold in
-    let top : c.max-room.result ≡ max c.loop-instr.room c.longest_list.result = search rules in
+    let top : c.max-peak.result ≡ max c.loop-instr.peak c.longest_list.result = search rules in
     record {
       at = rw c.loop-instr.invariant.at refl;
-      room = rw top (room_next s c.loop-instr.instr-index c.loop-instr.room c.longest_list.result c.follow_one.new.hold.rights c.loop-instr.invariant.room listing c.longest_list.ensures.count);
+      peak = rw top (peak_next s c.loop-instr.instr-index c.loop-instr.peak c.longest_list.result c.follow_one.new.hold.rights c.loop-instr.invariant.peak listing c.longest_list.ensures.count);
       small = omega arith;
-      places = c.follow_one.ensures.places c.loop-instr.invariant.places;
+      capacity = c.follow_one.ensures.capacity c.loop-instr.invariant.capacity;
       followed = rw count followed;
     }
 
@@ -48,7 +48,7 @@ returns-clause-good c =
     let end : c.loop-instr.instr-index ≡ length c.args.code.now = omega (arith, c.loop-instr-test.false, c.loop-instr.auto.instr-index-end) in
     good s c.loop-instr.instr-index c.loop-instr.calls (hold_of c.loop-instr.hold.rights) end c.loop-instr.invariant.followed (c.is_settled.ensures.0 (let passed = c.if-not-is_settled.false in cc))
 
-pub returns-clause-room : goal.returns-clause-room
-returns-clause-room c =
+pub returns-clause-peak : goal.returns-clause-peak
+returns-clause-peak c =
     let end : c.loop-instr.instr-index ≡ length c.args.code.now = omega (arith, c.loop-instr-test.false, c.loop-instr.auto.instr-index-end) in
-    rw end at c.loop-instr.invariant.room
+    rw end at c.loop-instr.invariant.peak
