@@ -1,0 +1,80 @@
+//! The laws of the protocol: what holds of every state that events lead to.
+ghost use Rattle.sm_protocol.specs.Laws.{ApprovedWhereReserved, BegunWhereAccepted, EffectsOnce, EndsAreReached, ExecutedServes, Headline, LogReplays, NumbersStaySmall, PlaysAreRuns, PlaysAreSafe, RoomIsConserved, TicketsOnce, UnrecordedChangesNothing, WithLosses};
+
+/// A checked plan is begun exactly where it is accepted, the log has its places and another plan may run.
+pub fn begun_where_accepted()
+    ensures { BegunWhereAccepted }
+{}
+
+/// A restart is approved exactly where the server is up, no unfinished stream's code mentions it, fewer servers are down than
+/// the limit, each shard that is live at it keeps its floor and what is reserved, and the log has two free places.
+pub fn approved_where_reserved()
+    ensures { ApprovedWhereReserved }
+{}
+
+/// From a state in whose log no unfinished stream has a lost call, whatever list of starts of checked plans, stream steps,
+/// refills, requests and restart events follows: no call is refused, the state is safe, and of each plan that isn't done some
+/// stream can step.
+pub fn headline()
+    ensures { Headline }
+{}
+
+/// Where calls may be lost: no try is one that its server must refuse, the state is safe, and of each plan that isn't done some
+/// stream can step, or one that hasn't made its end has spent its allowance.
+pub fn with_losses()
+    ensures { WithLosses }
+{}
+
+/// No number of a call has its effect twice.
+pub fn effects_once()
+    ensures { EffectsOnce }
+{}
+
+/// Who executes a request is the one server that serves its shard.
+pub fn executed_serves()
+    ensures { ExecutedServes }
+{}
+
+/// The recorded events and starts lead from the opening to the state, with the recorded answers. No pass is passed on twice,
+/// and what is passed on is an earlier pass, with its shard, sender, target and number.
+pub fn log_replays()
+    ensures { LogReplays }
+{}
+
+/// Each ticket is spent by one answer at most.
+pub fn tickets_once()
+    ensures { TicketsOnce }
+{}
+
+/// An event that is not recorded and starts no plan changes nothing.
+pub fn unrecorded_changes_nothing()
+    ensures { UnrecordedChangesNothing }
+{}
+
+/// Where all plans are done, the log has each stream's instructions in their order, each once, lost tries and refills aside,
+/// and then its end; and the placement is the end of the plans in the order of their starts, with servers down as the recorded
+/// restarts leave them, whatever the schedule was.
+pub fn ends_are_reached()
+    ensures { EndsAreReached }
+{}
+
+/// A list of events that is played with a hand is the run of those for which the hand has something, and all others are Unknown.
+pub fn plays_are_runs()
+    ensures { PlaysAreRuns }
+{}
+
+/// The headline, and the law on lost calls, of every list of events that is played with a hand of checked plans.
+pub fn plays_are_safe()
+    ensures { PlaysAreSafe }
+{}
+
+/// Of the room of each server and the live replicas of each shard, what is free in the pool, what is held or under way, and
+/// what nobody may use are together what there is.
+pub fn room_is_conserved()
+    ensures { RoomIsConserved }
+{}
+
+/// Versions and numbers stay below 2^47, and the log within its room.
+pub fn numbers_stay_small()
+    ensures { NumbersStaySmall }
+{}

@@ -1,0 +1,13 @@
+//! The protocol of the machine, as definitions and laws over them: what starts of plans, their steps, requests, restarts
+//! and lost calls do to a state.
+#![tactic(auto)]
+
+mod event;
+mod law;
+
+pub use event::{BeginFault, Event, Logged, Passage, Played, RefillFault};
+pub use law::{
+    approved_where_reserved, begun_where_accepted, effects_once, ends_are_reached, executed_serves,
+    headline, log_replays, numbers_stay_small, plays_are_runs, plays_are_safe, room_is_conserved,
+    tickets_once, unrecorded_changes_nothing, with_losses,
+};
