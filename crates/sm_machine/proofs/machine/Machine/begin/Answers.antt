@@ -1,0 +1,6 @@
+-- A plan begins, or it does not.
+use Rattle.sm_machine.proofs.SeenStart.{kept_by}
+use Rattle.sm_machine.proofs.machine.Machine.begin.Goals as goal
+
+pub invariant_of-self : goal.invariant_of-self
+invariant_of-self c = kept_by c.self.inside.engine c.start_by.new.self c.in-Ok.ready (λ r. r.0) c.start_by.result c.self.invariant c.start_by.ensures.started c.start_by.ensures.unchanged

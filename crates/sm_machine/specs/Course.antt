@@ -1,0 +1,49 @@
+-- A stream that was begun: how far it has come, and what it holds.
+use Rattle.std.specs.Prelude.{◌≡◌, ℕ, not, Option, Some, None, is_some}
+use Rattle.sm_reservation.specs.Hold.{Hold, no_hold}
+use Rattle.sm_reservation.specs.HoldOf.{hold_of}
+use Rattle.sm_reservation.specs.Rights.{Rights, no_rights}
+use Rattle.sm_reservation.specs.Capacity.{HoldModel, HasCapacity, HasCapacityAfter}
+use Rattle.sm_plan_code.specs.Plan.{IsOrderedParcel}
+use Rattle.sm_protocol.specs.State.{Progress, fresh}
+
+pub record CourseParts : Type 0 where
+  pub progress : Progress
+  -- what it holds; none once it has made its end
+  pub grant : Option HoldModel
+
+abbrev pub no_course : CourseParts
+no_course = record { progress = fresh; grant = None }
+
+-- the rights of a grant, and none where there is no grant
+abbrev pub hold_in : Option HoldModel → Hold
+hold_in None = no_hold
+hold_in (Some kept) = hold_of kept.rights
+
+abbrev pub rights_in : Option HoldModel → Rights
+rights_in None = no_rights
+rights_in (Some kept) = kept.rights
+
+-- there is room for the keys of a parcel that are new
+abbrev pub HasCapacityIn : Option HoldModel → Rights → Type 0
+HasCapacityIn None p = Unit {0}
+HasCapacityIn (Some kept) p = HasCapacity kept p
+
+-- there is room for the new keys of what is got, once what is given is out
+abbrev pub HasCapacityAfterIn : Option HoldModel → Rights → Rights → Type 0
+HasCapacityAfterIn None out got = Unit {0}
+HasCapacityAfterIn (Some kept) out got = HasCapacityAfter kept out got
+
+-- the lists of a grant are in order, and have no amount of 0
+abbrev pub IsGrantInOrder : Option HoldModel → Type 0
+IsGrantInOrder None = Unit {0}
+IsGrantInOrder (Some kept) = IsOrderedParcel kept.rights
+
+-- for how many keys it has room
+abbrev pub capacity_in : Option HoldModel → ℕ
+capacity_in None = 0
+capacity_in (Some kept) = kept.capacity
+
+-- a stream has a grant until it has made its end
+abbrev pub IsCourse : CourseParts → Type 0
+IsCourse x = is_some x.grant ≡ not x.progress.done

@@ -1,0 +1,28 @@
+-- What a start of a plan asks for, and what it leaves.
+use Rattle.std.specs.Prelude.{◌≡◌, ◌<◌, ℕ, length, slice_index}
+use Rattle.sm_placement.specs.Setup.{Sizes}
+use Rattle.sm_verifier.specs.Checked.{CheckedModel}
+use Rattle.sm_verifier.specs.Peak.{IsPeak}
+use Rattle.sm_verifier.specs.Stream.{stream_at}
+use Rattle.sm_plan_code.specs.Plan.{PlanModel}
+use Rattle.sm_protocol.specs.declared.event.BeginFault.{BeginFault}
+use Rattle.sm_protocol.specs.declared.event.Played.TheVariants as played
+use Rattle.sm_protocol.specs.State.{State}
+use Rattle.sm_protocol.specs.Steps.{Answered}
+use Rattle.sm_protocol.specs.Happens.{happens, Begin}
+use Rattle.sm_machine.specs.State.{Whole}
+use Rattle.sm_machine.specs.Working.{IsWorking}
+
+-- the first n streams of the plan take the room that was found for them
+abbrev pub AreRoomsOf : Sizes → CheckedModel → ℕ → Type 0
+AreRoomsOf c p n = (i : ℕ) → i < n → IsPeak (stream_at c p.plan i) (slice_index p.peaks i)
+
+-- The plan has started with this number, as the protocol says, and all that every machine keeps is kept.
+pub record IsStarted (x : Whole) (p : CheckedModel) (number : ℕ) (y : Whole) : Type 0 where
+  pub happens : happens x.state (Begin p.plan) ≡ (Answered (played.Begun number), y.state)
+  pub latest : number ≡ length x.state.plans
+  pub working : IsWorking y
+
+-- The plan does not start, as the protocol says.
+abbrev pub IsNotStarted : State → PlanModel → BeginFault → Type 0
+IsNotStarted w plan why = happens w (Begin plan) ≡ (Answered (played.NotBegun why), w)

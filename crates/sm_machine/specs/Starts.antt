@@ -1,0 +1,124 @@
+-- Plans that are ready to start, and what a start gives.
+use Rattle.std.specs.Prelude.{◌≡◌, ◌<◌, ◌≤◌, nat_lt, nat_le, ◌||◌, if◌then◌else◌, false, Option, None, ◌+◌, ◌++◌, ◌∷◌, [], count_by, ℕ, zero, suc, Some, List, length, map, slice_index, slice_index_or}
+use Rattle.sm_reservation.specs.Rights.{Rights, no_rights}
+use Rattle.sm_reservation.specs.Capacity.{HoldModel, most_keys}
+use Rattle.sm_reservation.specs.declared.stream_id.StreamId.{StreamId}
+use Rattle.sm_protocol.specs.State.{fresh, no_mark, stream_id, is_no_call, places_of}
+use Rattle.sm_verifier.specs.Checked.{CheckedModel}
+use Rattle.sm_reservation.specs.Hold.{Hold, no_hold, plus}
+use Rattle.sm_reservation.specs.HoldOf.{hold_of}
+use Rattle.sm_reservation.specs.CanJoin.{CanJoin}
+use Rattle.sm_reservation.specs.Short.{first_short}
+use Rattle.sm_plan_code.specs.Plan.{StreamModel}
+use Rattle.sm_machine.specs.Course.{CourseParts, no_course, rights_in, hold_in, capacity_in, HasCapacityIn}
+use Rattle.sm_machine.specs.Begun.{BegunParts, CarriedParts, course_at}
+use Rattle.sm_machine.specs.Tied.{declares, pool_left}
+use Rattle.sm_machine.specs.State.{Whole}
+use Rattle.sm_plan_code.specs.Plan.{PlanModel}
+use Rattle.sm_verifier.specs.declared.admission.Holding.{Holding}
+use Rattle.sm_verifier.specs.FirstHolding.{first_holding}
+use Rattle.sm_protocol.specs.declared.event.BeginFault.{BeginFault}
+use Rattle.sm_protocol.specs.declared.event.BeginFault.TheVariants as fault
+use Rattle.sm_verifier.specs.Step.{parcels_of}
+use Rattle.sm_protocol.specs.Happens.{started}
+
+-- a grant of nothing, with room for so many keys
+abbrev pub empty_kept : ℕ → HoldModel
+empty_kept n = record { rights = no_rights; capacity = n }
+
+-- a stream that has made nothing and holds nothing, with so much room
+abbrev pub ready_course : ℕ → CourseParts
+ready_course n = record { progress = fresh; grant = Some (empty_kept n) }
+
+-- a signal that was not posted, with room for its parcel
+abbrev pub ready_signal : Rights → CarriedParts
+ready_signal p = record { mark = no_mark; grant = Some (empty_kept (most_keys p)) }
+
+-- it holds nothing
+abbrev pub IsEmptyCourse : CourseParts → Type 0
+IsEmptyCourse x = rights_in x.grant ≡ no_rights
+
+abbrev pub IsEmptyCarried : CarriedParts → Type 0
+IsEmptyCarried x = rights_in x.grant ≡ no_rights
+
+-- the streams and the signals of a checked plan before its start: the first n streams, by the room that each takes
+abbrev pub first_courses : (ℕ → ℕ) → ℕ → List CourseParts
+first_courses rooms zero = []
+first_courses rooms (suc n) = first_courses rooms n ++ ready_course (rooms n) ∷ []
+
+abbrev pub ready_courses : CheckedModel → List CourseParts
+ready_courses p = first_courses (λ i. slice_index p.peaks i) (length p.plan.streams)
+
+abbrev pub ready_signals : CheckedModel → List CarriedParts
+ready_signals p = map ready_signal p.plan.signals
+
+-- the plan as it is begun, before its streams have what they declare
+abbrev pub begun_of : CheckedModel → ℕ → BegunParts
+begun_of p since = record { plan = p.plan; since = since; courses = ready_courses p; signals = ready_signals p; unfinished = length p.plan.streams }
+
+-- how many places of the log a stream takes
+abbrev pub places_of_stream : StreamModel → ℕ
+places_of_stream stream = stream.budget + stream.retries + count_by is_no_call stream.code + 1
+
+-- ---- what streams declare is taken out of a pool
+
+-- the stream may take these rights out of the pool
+pub record CanFillAt (free : Hold) (x : CourseParts) (p : Rights) : Type 0 where
+  pub running : x.progress.done ≡ false
+  pub enough : first_short free p ≡ None
+  pub fits : CanJoin (hold_in x.grant) (hold_of p)
+  pub room : HasCapacityIn x.grant p
+
+-- each stream may in its turn
+abbrev pub CanFillAll : BegunParts → Hold → Type 0
+CanFillAll n h = (i : ℕ) → i < length n.plan.streams → CanFillAt (pool_left h n.plan.streams i) (course_at n i) (declares n.plan.streams i)
+
+-- the stream has taken them
+pub record IsFilledBy (p : Rights) (old new : CourseParts) : Type 0 where
+  pub progress : new.progress ≡ old.progress
+  pub hold : hold_in new.grant ≡ plus (hold_in old.grant) p
+  pub capacity : capacity_in new.grant ≡ capacity_in old.grant
+
+-- the first n streams have taken what they declare, and the others stand as they stood
+pub record AreFilled (streams : List StreamModel) (n : ℕ) (old new : List CourseParts) : Type 0 where
+  pub count : length new ≡ length old
+  pub filled : (i : ℕ) → i < n → IsFilledBy (declares streams i) (slice_index_or old i no_course) (slice_index_or new i no_course)
+  pub left : (i : ℕ) → n ≤ i → slice_index_or new i no_course ≡ slice_index_or old i no_course
+
+-- ---- what a machine has after a start
+
+-- the grant has this, with so much room
+pub record IsGranted (p : Rights) (n : ℕ) (grant : Option HoldModel) : Type 0 where
+  pub hold : hold_in grant ≡ plus no_hold p
+  pub capacity : capacity_in grant ≡ n
+
+-- The plan is begun, its streams have what they declare, and of its signals none was posted. All else is as it was.
+pub record IsBegunIn (x : Whole) (p : CheckedModel) (y : Whole) : Type 0 where
+  pub state : y.state ≡ started x.state p.plan
+  pub pool : y.pool ≡ pool_left x.pool p.plan.streams (length p.plan.streams)
+  pub grants : (k i : ℕ) → k < length x.state.plans → y.grants k i ≡ x.grants k i
+  pub granted : (i : ℕ) → i < length p.plan.streams → IsGranted (declares p.plan.streams i) (slice_index p.peaks i) (y.grants (length x.state.plans) i)
+  pub parcels : (k q : ℕ) → k < length x.state.plans → y.parcels k q ≡ x.parcels k q
+  pub parceled : (q : ℕ) → q < length p.plan.signals → y.parcels (length x.state.plans) q ≡ Some (empty_kept (most_keys (parcels_of p.plan.signals q)))
+  pub unfinished : (k : ℕ) → k < length x.state.plans → y.unfinished k ≡ x.unfinished k
+  pub counted : y.unfinished (length x.state.plans) ≡ length p.plan.streams
+  pub running : y.running ≡ x.running
+  pub free : y.free ≡ x.free
+
+-- why the plan does not start, where memory is there: what holds it up, too few places of the log, or too many plans
+abbrev pub fault_after : Whole → PlanModel → Option Holding → Option BeginFault
+fault_after x plan (Some why) = Some (fault.Holding why)
+fault_after x plan None =
+    if nat_lt x.free (places_of plan) then Some fault.LogFull
+    else if nat_le 16 x.running || nat_lt 4294967295 (length x.state.plans) then Some fault.TooManyPlans
+    else None
+
+abbrev pub begin_fault : Whole → PlanModel → Option BeginFault
+begin_fault x plan = fault_after x plan (first_holding x.state.sizes x.state.place x.pool plan)
+
+-- ---- tokens
+
+-- one for each of the first n streams of a plan, in their order
+pub record AreTokens (plan n : ℕ) (tokens : List StreamId) : Type 0 where
+  pub count : length tokens ≡ n
+  pub each : (i : ℕ) (d : StreamId) → i < n → slice_index_or tokens i d ≡ stream_id plan i

@@ -1,0 +1,386 @@
+//! A plan that was begun.
+ghost use Rattle.std.specs.Prelude.{◌≡◌, ◌<◌, ◌+◌, ◌-◌, ◌==◌, ℕ, not, is_some, IfSome, Some, None, true, false, length, slice_get, slice_index_or};
+ghost use Rattle.sm_reservation.specs.Hold.{minus, plus};
+ghost use Rattle.sm_reservation.specs.HoldOf.{hold_of};
+ghost use Rattle.sm_reservation.specs.Capacity.{HasCapacity, HasCapacityAfter};
+ghost use Rattle.sm_reservation.specs.CanJoin.{CanJoin};
+ghost use Rattle.sm_reservation.specs.Short.{first_short};
+ghost use Rattle.sm_reservation.specs.Change.{portion_rights};
+ghost use Rattle.sm_reservation.specs.Rights.{no_rights};
+ghost use Rattle.sm_verifier.specs.Stream.{no_stream};
+ghost use Rattle.sm_verifier.specs.Step.{parcels_of};
+ghost use Rattle.sm_placement.specs.Setup.{sizes_of};
+ghost use Rattle.sm_plan_code.specs.Instr.{shard_of, IsOwn};
+ghost use Rattle.sm_plan_code.specs.Table.{exchange_of};
+ghost use Rattle.sm_protocol.specs.State.{fresh};
+ghost use Rattle.sm_machine.specs.Trade.{CanTrade, IsTradedBy};
+ghost use Rattle.sm_reservation.specs.Pool.{pool_hold, SameSize};
+ghost use Rattle.sm_machine.specs.Tied.{pool_left};
+ghost use Rattle.sm_machine.specs.Starts.{CanFillAll, AreFilled};
+ghost use Rattle.sm_machine.specs.Course.{hold_in, rights_in, capacity_in, HasCapacityIn, HasCapacityAfterIn, IsCourse, IsGrantInOrder};
+ghost use Rattle.sm_machine.specs.Begun.{course_at, carried_at, with_course, with_carried, IsBegunParts};
+
+use crate::progress::Progress;
+use crate::stream::Course;
+use sm_placement::Config;
+use sm_plan_code::{Instr, Plan};
+use sm_reservation::{Change, ClosedPool, Grant, Parcel, Pool};
+use std::marker::Model;
+
+/// A signal of a plan that was begun.
+pub(crate) struct Carried {
+    posted: bool,
+    grant: Option<Grant>,
+}
+
+impl Model for Carried {
+    ghost use Rattle.std.specs.Prelude.{is_none};
+    ghost use Rattle.sm_machine.specs.Begun.{CarriedParts};
+
+    ghost Value = { CarriedParts };
+
+    ghost view = { λ c. record { mark = record { posted = c.posted; awaited = is_none c.grant }; grant = c.grant } };
+}
+
+impl Carried {
+    /// A signal that was not posted, with an empty grant that has room for its parcel.
+    pub fn new(grant: Grant) -> Carried
+        ensures { result ≡ record { mark = record { posted = false; awaited = false }; grant = Some grant } }
+    {
+        Carried {
+            posted: false,
+            grant: Some(grant),
+        }
+    }
+
+    /// A law: what it carries is in order.
+    pub fn in_order(&self)
+        ensures order { IsGrantInOrder self.now.grant }
+        ensures there { is_some self.now.grant ≡ not self.now.mark.awaited }
+    {
+        match &self.grant {
+            Some(grant) => grant.rights_in_order(),
+            None => {}
+        }
+    }
+
+    /// The signal was posted.
+    pub fn is_posted(&self) -> bool
+        ensures { result ≡ self.now.mark.posted }
+    {
+        self.posted
+    }
+
+    /// The signal is posted: a stream gives its parcel up.
+    fn post(&mut self, course: &mut Course, parcel: &Parcel)
+        requires running { course.old.progress.done ≡ false }
+        requires there { self.old.mark.awaited ≡ false }
+        requires held { first_short (hold_in course.old.grant) parcel.now ≡ None }
+        requires fits { CanJoin (hold_in self.old.grant) (hold_of parcel.now) }
+        requires capacity { HasCapacityIn self.old.grant parcel.now }
+        ensures others { self.new ≡ record { mark = record self.old.mark { posted = true }; grant = self.new.grant } }
+        ensures hold { hold_in self.new.grant ≡ plus (hold_in self.old.grant) parcel.now }
+        ensures course { course.new ≡ record course.old { grant = course.new.grant } }
+        ensures left { hold_in course.new.grant ≡ minus (hold_in course.old.grant) parcel.now }
+        ensures capacity { capacity_in course.new.grant ≡ capacity_in course.old.grant }
+    {
+        self.posted = true;
+        match &mut self.grant {
+            Some(grant) => course.split(grant, parcel),
+            None => unreachable!(),
+        }
+    }
+
+    /// The signal is awaited: a stream takes its parcel.
+    fn wait(&mut self, course: &mut Course)
+        requires running { course.old.progress.done ≡ false }
+        requires there { self.old.mark.awaited ≡ false }
+        requires fits { CanJoin (hold_in course.old.grant) (hold_in self.old.grant) }
+        requires capacity { HasCapacityIn course.old.grant (rights_in self.old.grant) }
+        ensures value { self.new ≡ record { mark = record self.old.mark { awaited = true }; grant = None } }
+        ensures course { course.new ≡ record course.old { grant = course.new.grant } }
+        ensures hold { hold_in course.new.grant ≡ plus (hold_in course.old.grant) (rights_in self.old.grant) }
+        ensures capacity { capacity_in course.new.grant ≡ capacity_in course.old.grant }
+    {
+        match self.grant.take() {
+            Some(grant) => course.join(grant),
+            None => unreachable!(),
+        }
+    }
+
+    /// Ends a signal that carries nothing.
+    pub fn discard(self)
+        requires { rights_in self.grant ≡ no_rights }
+    {
+        let Carried { posted: _, grant } = self;
+        match grant {
+            Some(grant) => grant.discard(),
+            None => {}
+        }
+    }
+
+    /// It ends with the pool, with what it carries. Takes no memory.
+    fn close(self, pool: &ClosedPool) {
+        let Carried { posted: _, grant } = self;
+        match grant {
+            Some(grant) => pool.end(grant),
+            None => {}
+        }
+    }
+}
+
+/// Streams end with the pool.
+fn close_courses(courses: Vec<Course>, pool: &ClosedPool) {
+    let mut courses = courses;
+    for _ in 0..courses.len() {
+        match courses.pop() {
+            Some(course) => course.close(pool),
+            None => {}
+        }
+    }
+    courses.destroy_empty();
+}
+
+/// Signals end with the pool.
+fn close_signals(signals: Vec<Carried>, pool: &ClosedPool) {
+    let mut signals = signals;
+    for _ in 0..signals.len() {
+        match signals.pop() {
+            Some(signal) => signal.close(pool),
+            None => {}
+        }
+    }
+    signals.destroy_empty();
+}
+
+/// Plans end with the pool.
+pub(crate) fn close_plans(plans: Vec<Begun>, pool: &ClosedPool) {
+    let mut plans = plans;
+    for _ in 0..plans.len() {
+        match plans.pop() {
+            Some(plan) => plan.close(pool),
+            None => {}
+        }
+    }
+    plans.destroy_empty();
+}
+
+/// A plan that was begun, as it stands.
+pub(crate) struct Begun {
+    plan: Plan,
+    since: u32,
+    courses: Vec<Course>,
+    signals: Vec<Carried>,
+    unfinished: u32,
+}
+
+impl Model for Begun {
+    ghost use Rattle.sm_machine.specs.Begun.{BegunParts, IsBegunParts};
+
+    ghost Value = { BegunParts };
+
+    ghost view = { λ b. record { plan = b.plan; since = b.since; courses = b.courses.items; signals = b.signals.items; unfinished = b.unfinished } };
+
+    ghost invariant = { λ b. IsBegunParts (record { plan = b.plan; since = b.since; courses = b.courses.items; signals = b.signals.items; unfinished = b.unfinished }) };
+}
+
+impl Begun {
+    /// The plan.
+    pub fn plan(&self) -> &Plan
+        ensures value { result.now ≡ self.now.plan }
+        ensures parts { IsBegunParts self.now }
+    {
+        &self.plan
+    }
+
+    /// How many streams it has.
+    pub fn stream_count(&self) -> usize
+        ensures value { result ≡ length self.now.plan.streams }
+        ensures parts { IsBegunParts self.now }
+    {
+        self.courses.len()
+    }
+
+    /// How far a stream has come.
+    pub fn progress(&self, stream: usize) -> Progress
+        requires { stream < length self.now.plan.streams }
+        ensures { result ≡ (course_at self.now stream).progress }
+    {
+        self.courses[stream].progress()
+    }
+
+    /// The instruction that a stream makes next.
+    pub fn next_instruction(&self, stream: usize) -> Option<Instr>
+        requires { stream < length self.now.plan.streams }
+        ensures { result ≡ slice_get (slice_index_or self.now.plan.streams stream no_stream).code (course_at self.now stream).progress.at }
+    {
+        let at = self.progress(stream).at;
+        let parts = &self.plan.streams()[stream];
+        parts.code.get(at).copied()
+    }
+
+    /// How many tries of calls a stream may make.
+    pub fn allowance(&self, stream: usize) -> u64
+        requires { stream < length self.now.plan.streams }
+        ensures { result ≡ (slice_index_or self.now.plan.streams stream no_stream).budget + (slice_index_or self.now.plan.streams stream no_stream).retries + (course_at self.now stream).progress.refills }
+    {
+        let refills = self.progress(stream).refills;
+        let parts = &self.plan.streams()[stream];
+        u64::from(parts.budget) + u64::from(parts.retries) + u64::from(refills)
+    }
+
+    /// A stream comes to another place.
+    pub fn set_progress(&mut self, stream: usize, progress: Progress)
+        requires known { stream < length self.old.plan.streams }
+        requires done { progress.done ≡ (course_at self.old stream).progress.done }
+        ensures value { self.new ≡ with_course self.old stream (record (course_at self.old stream) { progress = progress }) }
+        ensures parts { IsBegunParts self.old }
+    {
+        self.courses[stream].set_progress(progress);
+    }
+
+    /// A stream gives up what an instruction needs for what it gives.
+    pub fn trade(&mut self, stream: usize, config: &Config, instr: &Instr) -> Change
+        requires stream { stream < length self.old.plan.streams }
+        requires running { (course_at self.old stream).progress.done ≡ false }
+        requires known { IfSome (shard_of instr.now) (λ s. s < length config.now.shards) }
+        requires own { IsOwn instr.now }
+        requires can { CanTrade (sizes_of config.now) instr.now (course_at self.old stream).grant }
+        ensures others { self.new ≡ with_course self.old stream (record (course_at self.old stream) { grant = (course_at self.new stream).grant }) }
+        ensures traded { IsTradedBy (sizes_of config.now) instr.now (course_at self.old stream).grant (course_at self.new stream).grant }
+        ensures change { result ≡ exchange_of (sizes_of config.now) instr.now (hold_in (course_at self.old stream).grant) }
+        ensures parts { IsBegunParts self.old }
+    {
+        self.courses[stream].trade(config, instr)
+    }
+
+    /// One stream less has not made its end. Answers whether it was the last.
+    pub fn finish_one(&mut self) -> bool
+        ensures left { self.new ≡ record self.old { unfinished = self.old.unfinished - 1 } }
+        ensures last { result ≡ (self.old.unfinished == 1) }
+        ensures parts { IsBegunParts self.old }
+    {
+        let last = self.unfinished == 1;
+        self.unfinished = self.unfinished.saturating_sub(1);
+        last
+    }
+
+    /// A law: what a stream holds is in order.
+    pub fn held_in_order(&self, stream: usize)
+        requires { stream < length self.now.plan.streams }
+        ensures order { IsGrantInOrder (course_at self.now stream).grant }
+        ensures there { IsCourse (course_at self.now stream) }
+    {
+        self.courses[stream].in_order();
+    }
+
+    /// A law: what a signal carries is in order.
+    pub fn carried_in_order(&self, signal: usize)
+        requires { signal < length self.now.plan.signals }
+        ensures order { IsGrantInOrder (carried_at self.now signal).grant }
+        ensures there { is_some (carried_at self.now signal).grant ≡ not (carried_at self.now signal).mark.awaited }
+    {
+        self.signals[signal].in_order();
+    }
+
+    /// A signal was posted.
+    pub fn is_posted(&self, signal: usize) -> bool
+        requires { signal < length self.now.plan.signals }
+        ensures { result ≡ (carried_at self.now signal).mark.posted }
+    {
+        self.signals[signal].is_posted()
+    }
+
+    /// A stream posts a signal, and gives its parcel up.
+    pub fn post(&mut self, stream: usize, signal: usize)
+        requires known { stream < length self.old.plan.streams }
+        requires signal { signal < length self.old.plan.signals }
+        requires running { (course_at self.old stream).progress.done ≡ false }
+        requires there { (carried_at self.old signal).mark.awaited ≡ false }
+        requires held { first_short (hold_in (course_at self.old stream).grant) (parcels_of self.old.plan.signals signal) ≡ None }
+        requires fits { CanJoin (hold_in (carried_at self.old signal).grant) (hold_of (parcels_of self.old.plan.signals signal)) }
+        requires capacity { HasCapacityIn (carried_at self.old signal).grant (parcels_of self.old.plan.signals signal) }
+        ensures others { self.new ≡ with_carried (with_course self.old stream (record (course_at self.old stream) { grant = (course_at self.new stream).grant })) signal (record { mark = record (carried_at self.old signal).mark { posted = true }; grant = (carried_at self.new signal).grant }) }
+        ensures hold { hold_in (carried_at self.new signal).grant ≡ plus (hold_in (carried_at self.old signal).grant) (parcels_of self.old.plan.signals signal) }
+        ensures left { hold_in (course_at self.new stream).grant ≡ minus (hold_in (course_at self.old stream).grant) (parcels_of self.old.plan.signals signal) }
+        ensures capacity { capacity_in (course_at self.new stream).grant ≡ capacity_in (course_at self.old stream).grant }
+        ensures parts { IsBegunParts self.old }
+    {
+        let parcel = &self.plan.signals()[signal];
+        let course = &mut self.courses[stream];
+        self.signals[signal].post(course, parcel);
+    }
+
+    /// A stream takes the parcel of a signal that was posted.
+    pub fn wait(&mut self, stream: usize, signal: usize)
+        requires known { stream < length self.old.plan.streams }
+        requires signal { signal < length self.old.plan.signals }
+        requires running { (course_at self.old stream).progress.done ≡ false }
+        requires there { (carried_at self.old signal).mark.awaited ≡ false }
+        requires fits { CanJoin (hold_in (course_at self.old stream).grant) (hold_in (carried_at self.old signal).grant) }
+        requires capacity { HasCapacityIn (course_at self.old stream).grant (rights_in (carried_at self.old signal).grant) }
+        ensures others { self.new ≡ with_carried (with_course self.old stream (record (course_at self.old stream) { grant = (course_at self.new stream).grant })) signal (record { mark = record (carried_at self.old signal).mark { awaited = true }; grant = None }) }
+        ensures hold { hold_in (course_at self.new stream).grant ≡ plus (hold_in (course_at self.old stream).grant) (rights_in (carried_at self.old signal).grant) }
+        ensures capacity { capacity_in (course_at self.new stream).grant ≡ capacity_in (course_at self.old stream).grant }
+        ensures parts { IsBegunParts self.old }
+    {
+        let course = &mut self.courses[stream];
+        self.signals[signal].wait(course);
+    }
+
+    /// A stream makes its end, and gives what it holds up.
+    pub fn end(&mut self, stream: usize) -> Grant
+        requires known { stream < length self.old.plan.streams }
+        requires running { (course_at self.old stream).progress.done ≡ false }
+        ensures grant { (course_at self.old stream).grant ≡ Some result }
+        ensures after { self.new ≡ with_course self.old stream (record { progress = record (course_at self.old stream).progress { done = true }; grant = None }) }
+        ensures parts { IsBegunParts self.old }
+    {
+        self.courses[stream].end()
+    }
+
+    /// A plan that is begun now, with its streams and its signals.
+    pub fn new(plan: Plan, since: u32, courses: Vec<Course>, signals: Vec<Carried>) -> Begun
+        requires courses { length courses.items ≡ length plan.streams }
+        requires signals { length signals.items ≡ length plan.signals }
+        ensures { result ≡ record { plan = plan; since = since; courses = courses.items; signals = signals.items; unfinished = length plan.streams } }
+    {
+        let unfinished = plan.streams().len() as u32;
+        Begun {
+            plan,
+            since,
+            courses,
+            signals,
+            unfinished,
+        }
+    }
+
+    /// Each stream takes what it declares out of a pool. Takes no memory.
+    pub fn fill(&mut self, pool: &mut Pool)
+        requires { CanFillAll self.old (pool_hold pool.old) }
+        ensures others { self.new ≡ record self.old { courses = self.new.courses } }
+        ensures filled { AreFilled self.old.plan.streams (length self.old.plan.streams) self.old.courses self.new.courses }
+        ensures taken { pool_hold pool.new ≡ pool_left (pool_hold pool.old) self.old.plan.streams (length self.old.plan.streams) }
+        ensures size { SameSize pool.old pool.new }
+    {
+        let streams = self.plan.streams();
+        let courses = &mut self.courses;
+        for stream in 0..streams.len() {
+            let parts = &streams[stream];
+            courses[stream].fill(pool, &parts.holds);
+        }
+    }
+
+    /// It ends with the pool, with what its streams hold and its signals carry. Takes no memory.
+    fn close(self, pool: &ClosedPool) {
+        let Begun {
+            plan: _,
+            since: _,
+            courses,
+            signals,
+            unfinished: _,
+        } = self;
+        close_courses(courses, pool);
+        close_signals(signals, pool);
+    }
+}

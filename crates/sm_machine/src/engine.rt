@@ -1,0 +1,545 @@
+#![tactic(auto, unfolding(crate::specs::State::whole_of))]
+//! The fields of a machine, read and written one at a time.
+ghost use Rattle.std.specs.Prelude.{◌≡◌, ◌<◌, ◌≤◌, ◌+◌, ◌-◌, ◌^◌, ◌∷◌, ◌==◌, if◌then◌else◌, ℕ, suc, not, is_some, Some, None, Ok, IsOk, OnOk, IfOk, OnErr, IfErr, IfSome, [], replicate, vec_capacity, true, false, length};
+ghost use Rattle.std.specs.Option.{ForSome};
+ghost use Rattle.sm_placement.specs.Sums.{put, put2};
+ghost use Rattle.sm_placement.specs.Rows.{IsKnownCall};
+ghost use Rattle.sm_placement.specs.Place.{called_numbered, publish};
+ghost use Rattle.sm_plan_code.specs.Instr.{shard_of, IsOwn};
+ghost use Rattle.sm_plan_code.specs.Table.{exchange_of};
+ghost use Rattle.sm_protocol.specs.State.{is_begun, progress_of, next_instruction, allowance, signal_count, parcel_at, set_progress, recorded};
+ghost use Rattle.sm_reservation.specs.Hold.{minus, plus};
+ghost use Rattle.sm_reservation.specs.HoldOf.{hold_of};
+ghost use Rattle.sm_reservation.specs.CanJoin.{CanJoin};
+ghost use Rattle.sm_reservation.specs.Short.{first_short};
+ghost use Rattle.sm_reservation.specs.Pool.{pool_hold, HasSize, IsKnownHold};
+ghost use Rattle.sm_placement.specs.Setup.{sizes_of};
+ghost use Rattle.sm_placement.specs.Layout.{place_of};
+ghost use Rattle.sm_placement.specs.Place.{forget_numbers};
+ghost use Rattle.sm_reservation.specs.Pool.{true_rights};
+ghost use Rattle.sm_machine.specs.Opening.{place_of_rows};
+ghost use Rattle.sm_machine.specs.Course.{hold_in, rights_in, capacity_in, HasCapacityIn, IsGrantInOrder};
+ghost use Rattle.sm_machine.specs.State.{whole_of, state_of, grant_of, with_state, with_stream, with_signal, opened_whole};
+ghost use Rattle.sm_verifier.specs.FirstHolding.{first_holding};
+ghost use Rattle.sm_machine.specs.Ready.{IsReadyToTrade};
+ghost use Rattle.sm_machine.specs.Starts.{CanFillAll, IsBegunIn, begun_of};
+ghost use Rattle.sm_machine.specs.Trade.{IsTradedBy};
+ghost use Rattle.sm_machine.specs.Requested.{reply_of};
+ghost use Rattle.std.specs.Prelude.{IsTrue, OnOk, IfErr};
+ghost use Rattle.sm_task_controller.specs.Decision.{denial};
+ghost use Rattle.sm_machine.specs.Engaged.{engaged_by};
+ghost use Rattle.sm_placement.specs.Place.{set_down};
+ghost use Rattle.sm_machine.specs.Restarts.{live_there, CanPayLive, CanGetLive};
+ghost use Rattle.sm_machine.specs.Restarted.{down_whole, up_whole};
+ghost use Rattle.sm_protocol.specs.Ticket.{is_open_ticket};
+
+use crate::begun::{Begun, close_plans};
+use crate::journal::{Journal, TicketParts};
+use crate::opening::Opening;
+use crate::progress::Progress;
+use crate::ready_plan::ReadyPlan;
+use crate::requests::reply;
+use crate::restarts::{get_live, pay_live};
+use crate::rooms::Rooms;
+use crate::token::StreamToken;
+use sm_placement::{Entry, Placement};
+use sm_plan_code::{Instr, ServerCall};
+use sm_protocol::{Event, Logged, Played};
+use sm_reservation::{Change, Pool, StreamId};
+use sm_server::{ServerId, ShardId};
+use sm_task_controller::{Approved, Denied, decide};
+use sm_verifier::{Checked, Holding, admit};
+use std::alloc::Global;
+use std::marker::Model;
+
+/// All that a machine has.
+pub(crate) struct Engine {
+    opening: Opening,
+    placement: Placement,
+    pool: Pool,
+    entries: Vec<(ShardId, Entry)>,
+    numbers: Vec<u64>,
+    next_number: u64,
+    plans: Vec<Begun>,
+    journal: Journal,
+    free: u64,
+    running: u32,
+    halted: bool,
+}
+
+impl Model for Engine {
+    ghost use Rattle.std.specs.Prelude.{◌≡◌, ◌≤◌, length, vec_capacity};
+    ghost use Rattle.sm_machine.specs.Machine.{MachineModel};
+
+    ghost Value = { MachineModel };
+
+    ghost view = { λ m. record { opening = m.opening; placement = m.placement; pool = m.pool; entries = m.entries.items; numbers = m.numbers.items; next_number = m.next_number; plans = m.plans.items; journal = m.journal; free = m.free; running = m.running; halted = m.halted } };
+
+    ghost invariant = { λ m. (length m.entries.items ≤ length m.journal.log) × (length m.journal.log ≤ m.journal.room) × (m.journal.room ≤ vec_capacity m.entries) × (length m.numbers.items ≡ length m.placement.setup.shards) × (m.pool.shards ≡ length m.placement.setup.shards) × (m.pool.servers ≡ length m.placement.setup.servers) };
+}
+
+impl Engine {
+    /// A machine with no plan over a placement, with the memory that was taken for it. Takes no memory.
+    pub fn of(alloc: Global, placement: Placement, rooms: Rooms, room: u32) -> Engine
+        requires opening { place_of_rows rooms.opening ≡ forget_numbers (place_of placement) }
+        requires pool { pool_hold rooms.pool ≡ true_rights (sizes_of placement.setup) (place_of placement) }
+        requires shards { rooms.pool.shards ≡ length placement.setup.shards }
+        requires servers { rooms.pool.servers ≡ length placement.setup.servers }
+        requires entries { rooms.entries.items ≡ [] }
+        requires capacity { room ≤ vec_capacity rooms.entries }
+        requires numbers { rooms.numbers.items ≡ replicate (length placement.setup.shards) 0 }
+        requires journal { rooms.journal ≡ record { log = []; room = room } }
+        ensures { whole_of result ≡ opened_whole placement.setup (place_of placement) room }
+    {
+        let mut placement = placement;
+        let down = u64::from(placement.down_count());
+        placement.forget_numbers();
+        let Rooms {
+            opening,
+            pool,
+            entries,
+            numbers,
+            journal,
+        } = rooms;
+        Engine {
+            opening,
+            placement,
+            pool,
+            entries,
+            numbers,
+            next_number: 1,
+            plans: Vec::new(alloc),
+            journal,
+            free: u64::from(room).saturating_sub(down),
+            running: 0,
+            halted: false,
+        }
+    }
+
+    /// The machine is halted.
+    pub fn is_halted(&self) -> bool
+        ensures { result ≡ (state_of self.now).halted }
+    {
+        self.halted
+    }
+
+    /// The halt flag is set so.
+    pub fn set_halted(&mut self, halted: bool)
+        ensures { whole_of self.new ≡ with_state (whole_of self.old) (record (state_of self.old) { halted = halted }) }
+    {
+        self.halted = halted;
+    }
+
+    /// The placement as it stands.
+    pub fn placement(&self) -> &Placement
+        ensures place { place_of result.now ≡ (state_of self.now).place }
+        ensures sizes { sizes_of result.now.setup ≡ (state_of self.now).sizes }
+        ensures setup { result.now.setup ≡ self.now.placement.setup }
+    {
+        &self.placement
+    }
+
+    /// The rights that nobody has.
+    pub fn pool(&self) -> &Pool
+        ensures hold { pool_hold result.now ≡ (whole_of self.now).pool }
+        ensures size { HasSize (state_of self.now).sizes result.now }
+    {
+        &self.pool
+    }
+
+    /// The recorded events, the oldest first.
+    pub fn log(&self) -> &[Logged]
+        ensures { result.now ≡ (state_of self.now).log }
+    {
+        self.journal.log()
+    }
+
+    /// The stream was begun.
+    pub fn is_begun(&self, id: StreamId) -> bool
+        ensures { result ≡ is_begun (state_of self.now) id }
+    {
+        let plan = id.plan as usize;
+        if plan >= self.plans.len() {
+            return false;
+        }
+        (id.stream as usize) < self.plans[plan].stream_count()
+    }
+
+    /// How far a stream has come.
+    pub fn progress(&self, id: StreamId) -> Progress
+        requires { is_begun (state_of self.now) id ≡ true }
+        ensures { result ≡ progress_of (state_of self.now) id }
+    {
+        self.plans[id.plan as usize].progress(id.stream as usize)
+    }
+
+    /// The instruction that a stream makes next.
+    pub fn next_instruction(&self, id: StreamId) -> Option<Instr>
+        requires { is_begun (state_of self.now) id ≡ true }
+        ensures { result ≡ next_instruction (state_of self.now) id }
+    {
+        self.plans[id.plan as usize].next_instruction(id.stream as usize)
+    }
+
+    /// How many tries of calls a stream may make.
+    pub fn allowance(&self, id: StreamId) -> u64
+        requires { is_begun (state_of self.now) id ≡ true }
+        ensures { result ≡ allowance (state_of self.now) id }
+    {
+        self.plans[id.plan as usize].allowance(id.stream as usize)
+    }
+
+    /// A stream comes to another place.
+    pub fn set_progress(&mut self, id: StreamId, progress: Progress)
+        requires known { is_begun (state_of self.old) id ≡ true }
+        requires done { progress.done ≡ (progress_of (state_of self.old) id).done }
+        ensures { whole_of self.new ≡ with_state (whole_of self.old) (record (state_of self.old) { progress = set_progress (state_of self.old) id progress }) }
+    {
+        self.plans[id.plan as usize].set_progress(id.stream as usize, progress);
+    }
+
+    /// A law: no more entries were added than events are recorded.
+    pub fn entries_fit(&self)
+        ensures { length (state_of self.now).entries ≤ length (state_of self.now).log }
+    {
+        let _entries = self.entries.len();
+    }
+
+    /// How many places of the log are neither used nor set aside.
+    pub fn free(&self) -> u64
+        ensures { result ≡ (whole_of self.now).free }
+    {
+        self.free
+    }
+
+    /// An event is recorded, with its answer.
+    pub fn record(&mut self, event: Event, answer: Played)
+        requires { length (state_of self.old).log < (state_of self.old).room }
+        ensures { whole_of self.new ≡ with_state (whole_of self.old) (recorded (state_of self.old) event answer) }
+    {
+        self.journal.record(event, answer);
+    }
+
+    /// A stream gives up what an instruction needs for what it gives.
+    pub fn trade(&mut self, id: StreamId, instr: &Instr) -> Change
+        requires { IsReadyToTrade (whole_of self.old) id instr.now }
+        ensures whole { whole_of self.new ≡ record (whole_of self.old) { grants = put2 (whole_of self.old).grants id.plan id.stream (grant_of self.new id) } }
+        ensures traded { IsTradedBy (state_of self.old).sizes instr.now (grant_of self.old id) (grant_of self.new id) }
+        ensures change { result ≡ exchange_of (state_of self.old).sizes instr.now (hold_in (grant_of self.old id)) }
+    {
+        let config = self.placement.config();
+        self.plans[id.plan as usize].trade(id.stream as usize, config, instr)
+    }
+
+    /// A signal was posted.
+    pub fn is_posted(&self, id: StreamId, signal: u32) -> bool
+        requires begun { is_begun (state_of self.now) id ≡ true }
+        requires signal { signal < signal_count (state_of self.now) id.plan }
+        ensures { result ≡ ((state_of self.now).marks id.plan signal).posted }
+    {
+        self.plans[id.plan as usize].is_posted(signal as usize)
+    }
+
+    /// A shard's highest handover number.
+    pub fn number(&self, shard: ShardId) -> u64
+        requires { shard < (state_of self.now).sizes.shards }
+        ensures { result ≡ (state_of self.now).numbers shard }
+    {
+        self.numbers[shard.number() as usize]
+    }
+
+    /// A shard's highest handover number is another one.
+    pub fn set_number(&mut self, shard: ShardId, number: u64)
+        requires { shard < (state_of self.old).sizes.shards }
+        ensures { whole_of self.new ≡ with_state (whole_of self.old) (record (state_of self.old) { numbers = put (state_of self.old).numbers shard number }) }
+    {
+        self.numbers[shard.number() as usize] = number;
+    }
+
+    /// The number of the next call.
+    pub fn next_number(&self) -> u64
+        ensures { result ≡ (state_of self.now).next_number }
+    {
+        self.next_number
+    }
+
+    /// The next call has another number.
+    pub fn set_next_number(&mut self, number: u64)
+        ensures { whole_of self.new ≡ with_state (whole_of self.old) (record (state_of self.old) { next_number = number }) }
+    {
+        self.next_number = number;
+    }
+
+    /// A call comes to its server, which serves it. Answers whether it has its effect now.
+    pub fn serve(&mut self, call: &ServerCall, number: u64) -> bool
+        requires shard { call.now.shard < (state_of self.old).sizes.shards }
+        requires server { call.now.server < (state_of self.old).sizes.servers }
+        requires party { IsKnownCall (state_of self.old).sizes.servers call.now.call }
+        requires number { 1 ≤ number }
+        requires served { IsOk (called_numbered (state_of self.old).sizes (state_of self.old).place call.now.shard call.now.server call.now.call number) }
+        ensures effect { called_numbered (state_of self.old).sizes (state_of self.old).place call.now.shard call.now.server call.now.call number ≡ Ok (record { place = (state_of self.new).place; fresh = result }) }
+        ensures whole { whole_of self.new ≡ with_state (whole_of self.old) (record (state_of self.old) { place = (state_of self.new).place }) }
+    {
+        match self
+            .placement
+            .call_numbered(call.server, call.shard, call.call, number)
+        {
+            Ok(fresh) => fresh,
+            Err(_) => unreachable!(),
+        }
+    }
+
+    /// The published map has another entry of a shard.
+    pub fn publish(&mut self, shard: ShardId, listed: Option<ServerId>)
+        requires shard { shard < (state_of self.old).sizes.shards }
+        requires listed { ForSome listed (λ server. server < (state_of self.old).sizes.servers) }
+        requires version { (state_of self.old).place.version shard < 2 ^ 47 }
+        requires room { length (state_of self.old).entries < length (state_of self.old).log }
+        requires within { length (state_of self.old).log ≤ (state_of self.old).room }
+        ensures { whole_of self.new ≡ with_state (whole_of self.old) (record (state_of self.old) { place = publish (state_of self.old).place shard listed; entries = (shard, record { server = listed; version = suc ((state_of self.old).place.version shard) }) ∷ (state_of self.old).entries }) }
+    {
+        self.placement.publish(shard, listed);
+        let entry = self.placement.entry(shard);
+        match self.entries.push((shard, entry)) {
+            Ok(()) => {}
+            Err(_) => unreachable!(),
+        }
+    }
+
+    /// A law: what a stream holds is in order.
+    pub fn held_in_order(&self, id: StreamId)
+        requires { is_begun (state_of self.now) id ≡ true }
+        ensures order { IsGrantInOrder (grant_of self.now id) }
+        ensures there { is_some (grant_of self.now id) ≡ not (progress_of (state_of self.now) id).done }
+    {
+        self.plans[id.plan as usize].held_in_order(id.stream as usize);
+    }
+
+    /// A law: what a signal carries is in order.
+    pub fn carried_in_order(&self, id: StreamId, signal: u32)
+        requires begun { is_begun (state_of self.now) id ≡ true }
+        requires signal { signal < signal_count (state_of self.now) id.plan }
+        ensures order { IsGrantInOrder ((whole_of self.now).parcels id.plan signal) }
+        ensures there { is_some ((whole_of self.now).parcels id.plan signal) ≡ not ((state_of self.now).marks id.plan signal).awaited }
+    {
+        self.plans[id.plan as usize].carried_in_order(signal as usize);
+    }
+
+    /// A stream posts a signal, and gives its parcel up.
+    pub fn post(&mut self, id: StreamId, signal: u32)
+        requires begun { is_begun (state_of self.old) id ≡ true }
+        requires signal { signal < signal_count (state_of self.old) id.plan }
+        requires running { (progress_of (state_of self.old) id).done ≡ false }
+        requires there { ((state_of self.old).marks id.plan signal).awaited ≡ false }
+        requires held { first_short (hold_in (grant_of self.old id)) (parcel_at (state_of self.old) id.plan signal) ≡ None }
+        requires fits { CanJoin (hold_in ((whole_of self.old).parcels id.plan signal)) (hold_of (parcel_at (state_of self.old) id.plan signal)) }
+        requires capacity { HasCapacityIn ((whole_of self.old).parcels id.plan signal) (parcel_at (state_of self.old) id.plan signal) }
+        ensures whole { whole_of self.new ≡ with_signal (record (whole_of self.old) { grants = put2 (whole_of self.old).grants id.plan id.stream (grant_of self.new id) }) id.plan signal (record ((state_of self.old).marks id.plan signal) { posted = true }) ((whole_of self.new).parcels id.plan signal) }
+        ensures sent { hold_in ((whole_of self.new).parcels id.plan signal) ≡ plus (hold_in ((whole_of self.old).parcels id.plan signal)) (parcel_at (state_of self.old) id.plan signal) }
+        ensures left { hold_in (grant_of self.new id) ≡ minus (hold_in (grant_of self.old id)) (parcel_at (state_of self.old) id.plan signal) }
+        ensures capacity { capacity_in (grant_of self.new id) ≡ capacity_in (grant_of self.old id) }
+    {
+        self.plans[id.plan as usize].post(id.stream as usize, signal as usize);
+    }
+
+    /// A stream takes the parcel of a signal that was posted.
+    pub fn wait(&mut self, id: StreamId, signal: u32)
+        requires begun { is_begun (state_of self.old) id ≡ true }
+        requires signal { signal < signal_count (state_of self.old) id.plan }
+        requires running { (progress_of (state_of self.old) id).done ≡ false }
+        requires there { ((state_of self.old).marks id.plan signal).awaited ≡ false }
+        requires fits { CanJoin (hold_in (grant_of self.old id)) (hold_in ((whole_of self.old).parcels id.plan signal)) }
+        requires capacity { HasCapacityIn (grant_of self.old id) (rights_in ((whole_of self.old).parcels id.plan signal)) }
+        ensures whole { whole_of self.new ≡ with_signal (record (whole_of self.old) { grants = put2 (whole_of self.old).grants id.plan id.stream (grant_of self.new id) }) id.plan signal (record ((state_of self.old).marks id.plan signal) { awaited = true }) None }
+        ensures hold { hold_in (grant_of self.new id) ≡ plus (hold_in (grant_of self.old id)) (rights_in ((whole_of self.old).parcels id.plan signal)) }
+        ensures capacity { capacity_in (grant_of self.new id) ≡ capacity_in (grant_of self.old id) }
+    {
+        self.plans[id.plan as usize].wait(id.stream as usize, signal as usize);
+    }
+
+    /// A stream makes its end, and gives what it holds back.
+    pub fn give_back(&mut self, id: StreamId)
+        requires begun { is_begun (state_of self.old) id ≡ true }
+        requires running { (progress_of (state_of self.old) id).done ≡ false }
+        requires below { IsKnownHold (state_of self.old).sizes.shards (state_of self.old).sizes.servers (hold_in (grant_of self.old id)) }
+        requires fits { CanJoin (whole_of self.old).pool (hold_in (grant_of self.old id)) }
+        ensures { whole_of self.new ≡ record (with_stream (whole_of self.old) id (record (progress_of (state_of self.old) id) { done = true }) None) { pool = plus (whole_of self.old).pool (rights_in (grant_of self.old id)) } }
+    {
+        let grant = self.plans[id.plan as usize].end(id.stream as usize);
+        self.pool.give_back(grant);
+    }
+
+    /// A stream less of a plan has not made its end, and with the last one a plan less is unfinished.
+    pub fn finish_one(&mut self, id: StreamId)
+        requires begun { is_begun (state_of self.old) id ≡ true }
+        ensures { whole_of self.new ≡ record (whole_of self.old) { unfinished = put (whole_of self.old).unfinished id.plan ((whole_of self.old).unfinished id.plan - 1); running = if (whole_of self.old).unfinished id.plan == 1 then (whole_of self.old).running - 1 else (whole_of self.old).running } }
+    {
+        if self.plans[id.plan as usize].finish_one() {
+            self.running = self.running.saturating_sub(1);
+        }
+    }
+
+    /// Places of the log become free.
+    pub fn set_free(&mut self, free: u64)
+        ensures { whole_of self.new ≡ record (whole_of self.old) { free = free } }
+    {
+        self.free = free;
+    }
+
+    /// How many plans were begun.
+    pub fn plan_count(&self) -> usize
+        ensures { result ≡ length (state_of self.now).plans }
+    {
+        self.plans.len()
+    }
+
+    /// How many plans are unfinished.
+    pub fn running(&self) -> u32
+        ensures { result ≡ (whole_of self.now).running }
+    {
+        self.running
+    }
+
+    /// So many plans are unfinished.
+    pub fn set_running(&mut self, running: u32)
+        ensures { whole_of self.new ≡ record (whole_of self.old) { running = running } }
+    {
+        self.running = running;
+    }
+
+    /// What holds a plan up that was checked for the machine's configuration.
+    pub fn holding(&self, checked: &Checked) -> Option<Holding>
+        requires { checked.now.setup ≡ self.now.placement.setup }
+        ensures { result ≡ first_holding (state_of self.now).sizes (state_of self.now).place (whole_of self.now).pool checked.now.plan }
+    {
+        let _plan = checked.plan().streams();
+        match admit(checked, &self.pool, &self.placement) {
+            Ok(()) => None,
+            Err(why) => Some(why),
+        }
+    }
+
+    /// A plan is begun, and its streams take what they declare. Where memory is short the plan comes back.
+    pub fn add_plan(&mut self, ready: ReadyPlan) -> Result<Vec<StreamToken>, ReadyPlan>
+        requires { CanFillAll (begun_of ready 0) (whole_of self.old).pool }
+        ensures ok { OnOk result (IsBegunIn (whole_of self.old) ready (whole_of self.new)) }
+        ensures none { IfOk result (λ tokens. tokens.items ≡ []) }
+        ensures room { IfOk result (λ tokens. length ready.plan.streams ≤ vec_capacity tokens) }
+        ensures err { OnErr result (self.new ≡ self.old) }
+        ensures back { IfErr result (λ back. back ≡ ready) }
+    {
+        match self.plans.reserve(1) {
+            Ok(()) => {}
+            Err(_) => return Err(ready),
+        }
+        let _room = self.journal.room();
+        let since = self.journal.len() as u32;
+        let (mut begun, tokens) = ready.into_begun(since);
+        begun.fill(&mut self.pool);
+        match self.plans.push(begun) {
+            Ok(()) => Ok(tokens),
+            Err(_) => unreachable!(),
+        }
+    }
+
+    /// What a server answers to a request, which came directly or with the ticket of its pass.
+    pub fn reply(&self, shard: ShardId, server: ServerId, sent: Option<TicketParts>) -> Played
+        requires shard { shard < (state_of self.now).sizes.shards }
+        requires server { server < (state_of self.now).sizes.servers }
+        ensures { result ≡ reply_of (state_of self.now) shard server sent }
+    {
+        let place = self.journal.next_place();
+        reply(&self.placement, shard, server, sent, place)
+    }
+
+    /// The log has just this pass, and its request was not passed on yet.
+    pub fn is_open(&self, ticket: &TicketParts) -> bool
+        ensures { result ≡ is_open_ticket (state_of self.now).log ticket.now }
+    {
+        self.journal.is_open(ticket)
+    }
+
+    /// The placement as it stands. The pool ends, with all that streams hold and signals carry. Takes no memory.
+    pub fn into_placement(self) -> Placement
+        ensures place { place_of result ≡ (state_of self).place }
+        ensures sizes { sizes_of result.setup ≡ (state_of self).sizes }
+        ensures setup { result.setup ≡ self.placement.setup }
+    {
+        let Engine {
+            opening: _,
+            placement,
+            pool,
+            entries: _,
+            numbers: _,
+            next_number: _,
+            plans,
+            journal: _,
+            free: _,
+            running: _,
+            halted: _,
+        } = self;
+        let closed = pool.close();
+        close_plans(plans, &closed);
+        placement
+    }
+
+    /// The server is known, and down.
+    pub fn is_down(&self, server: ServerId) -> bool
+        ensures down { result ≡ (state_of self.now).place.down server }
+        ensures known { IsTrue result → server < (state_of self.now).sizes.servers }
+    {
+        let servers = self.placement.config().server_count();
+        server.number() < servers && self.placement.is_down(server)
+    }
+
+    /// A server is up, and the spare replicas that are live at it are in the pool.
+    pub fn bring_up(&mut self, server: ServerId)
+        requires server { server < (state_of self.old).sizes.servers }
+        requires fits { CanGetLive (whole_of self.old).pool (live_there (set_down (state_of self.old).place server false) server) (state_of self.old).sizes.shards }
+        ensures { whole_of self.new ≡ up_whole (whole_of self.old) server }
+    {
+        self.placement.set_up(server);
+        get_live(&mut self.pool, &self.placement, server);
+    }
+
+    /// A server is down, and the spare replicas that were live at it are out of the pool.
+    pub fn take_down(&mut self, server: ServerId)
+        requires server { server < (state_of self.old).sizes.servers }
+        requires spare { CanPayLive (whole_of self.old).pool (live_there (state_of self.old).place server) (state_of self.old).sizes.shards }
+        ensures { whole_of self.new ≡ down_whole (whole_of self.old) server }
+    {
+        pay_live(&mut self.pool, &self.placement, server);
+        self.placement.set_down(server);
+    }
+
+    /// How many plans were begun.
+    pub fn begun_count(&self) -> usize
+        ensures { result ≡ length (state_of self.now).plans }
+    {
+        self.plans.len()
+    }
+
+    /// The lowest stream of a plan that engages a server.
+    pub fn engaged_by(&self, plan: u32, server: ServerId) -> Option<StreamId>
+        requires { plan < length (state_of self.now).plans }
+        ensures { result ≡ engaged_by (state_of self.now) server plan }
+    {
+        self.plans[plan as usize].engaged(plan, server)
+    }
+
+    /// Whether a server may be restarted now, as its lowest engaging stream is this one.
+    pub fn decide(&self, server: ServerId, engaged: Option<StreamId>) -> Result<Approved, Denied>
+        requires server { server < (state_of self.now).sizes.servers }
+        requires free { (whole_of self.now).free < 2 ^ 32 }
+        ensures approved { OnOk result (denial (state_of self.now).sizes (state_of self.now).place (whole_of self.now).pool engaged (whole_of self.now).free server ≡ None) }
+        ensures denied { IfErr result (λ why. denial (state_of self.now).sizes (state_of self.now).place (whole_of self.now).pool engaged (whole_of self.now).free server ≡ Some why) }
+    {
+        decide(
+            &self.placement,
+            &self.pool,
+            engaged,
+            self.free as u32,
+            server,
+        )
+    }
+}

@@ -1,0 +1,351 @@
+//! Machines.
+ghost use Rattle.std.specs.Prelude.{◌≡◌, ◌≢◌, ◌≤◌, ◌<◌, ◌⊎◌, IfOk, OnOk, IfErr, OnErr, length, true, false, ◌∷◌, [], if◌then◌else◌, ◌+◌};
+ghost use Rattle.sm_placement.specs.Place.{down_count};
+ghost use Rattle.sm_placement.specs.Lead.{IsSettled};
+ghost use Rattle.sm_protocol.specs.State.{opened, is_begun, progress_of};
+ghost use Rattle.sm_machine.specs.declared.opened.OpenFault.TheVariants.{LogFull};
+ghost use Rattle.sm_placement.specs.Sums.{bit};
+ghost use Rattle.sm_placement.specs.Setup.{Setup, sizes_of};
+ghost use Rattle.sm_placement.specs.Layout.{place_of};
+ghost use Rattle.sm_machine.specs.Permits.{passing_below};
+ghost use Rattle.sm_reservation.specs.Pool.{pool_hold, HasSize};
+ghost use Rattle.sm_protocol.specs.State.{pool};
+ghost use Rattle.sm_protocol.specs.Steps.{Answered, Refused};
+ghost use Rattle.sm_protocol.specs.Happens as happening;
+ghost use Rattle.sm_protocol.specs.Happens.{Happening, happens};
+ghost use Rattle.sm_protocol.specs.Safe.{IsSafe, SomeCanStep, SomeCanStepOrSpent};
+ghost use Rattle.sm_protocol.specs.Laws.{IsReached, FitsConfig, HasNoLost};
+ghost use Rattle.sm_machine.specs.State.{whole_of, state_of};
+ghost use Rattle.sm_machine.specs.Played.{played_of};
+ghost use Rattle.sm_protocol.specs.declared.event.BeginFault.TheVariants as fault;
+ghost use Rattle.sm_protocol.specs.declared.event.Played.TheVariants as played;
+ghost use Rattle.sm_machine.specs.Starts.{AreTokens};
+ghost use Rattle.sm_machine.specs.Started.{IsStarted, IsNotStarted};
+ghost use Rattle.sm_machine.specs.Requested.{played_by, tickets_in};
+ghost use Rattle.sm_machine.specs.Restarted.{restart_of, approval_of};
+ghost use Rattle.sm_protocol.specs.Happens.{engaged};
+ghost use Rattle.sm_protocol.specs.Hand.{tickets_of, spends};
+ghost use Rattle.sm_machine.specs.Losses.{refill_answer, is_lost_answer, IsStepOver};
+
+use crate::answer::{Answer, answer_to, answer_with};
+use crate::engine::Engine;
+use crate::link::Link;
+use crate::opened::{MOST_PLACES, OpenFault, permits_of};
+use crate::permit::{Permit, close_permits};
+use crate::ready_plan::make_ready;
+use crate::rooms::Rooms;
+use crate::step::Step;
+use crate::ticket::Ticket;
+use crate::token::{StreamToken, close_tokens};
+use sm_placement::{Config, Placement};
+use sm_protocol::{BeginFault, Event, Logged, Passage, RefillFault};
+use sm_reservation::{Pool, StreamId};
+use sm_server::{ServerId, ShardId};
+use sm_task_controller::Denied;
+use sm_verifier::Checked;
+use std::alloc::Global;
+use std::marker::Model;
+
+/// Plans that run over a placement, with the log of what has happened.
+///
+/// Events led to its state by the protocol, and nobody has a right that is not the state's.
+pub struct Machine {
+    engine: Engine,
+}
+
+impl Model for Machine {
+    ghost use Rattle.sm_machine.specs.Machine.{MachineModel};
+    ghost use Rattle.sm_machine.specs.State.{whole_of};
+    ghost use Rattle.sm_machine.specs.Working.{IsWorking};
+
+    ghost Value = { MachineModel };
+
+    ghost view = { λ m. m.engine };
+
+    ghost invariant = { λ m. IsWorking (whole_of m.engine) };
+}
+
+impl Machine {
+    /// Opens a machine over a settled placement, with a log of so many places: at most 1,048,576, and one at least for each
+    /// server that is down. There is a permit for each of those, by their numbers. At a fault the placement comes back.
+    pub fn open(
+        alloc: Global,
+        placement: Placement,
+        log_room: u32,
+    ) -> Result<(Machine, Vec<Permit>), (Placement, OpenFault)>
+        requires { IsSettled (sizes_of placement.setup) (place_of placement) }
+        ensures state { IfOk result (λ r. state_of r.0 ≡ opened (sizes_of placement.setup) (place_of placement) log_room) }
+        ensures permits { IfOk result (λ r. r.1.items ≡ passing_below (place_of placement).down (length placement.setup.servers)) }
+        ensures fits { OnOk result ((log_room ≤ 1048576) × (down_count (sizes_of placement.setup) (place_of placement) ≤ log_room)) }
+        ensures back { IfErr result (λ e. e.0 ≡ placement) }
+        ensures full { IfErr result (λ e. e.1 ≡ LogFull → (1048576 < log_room) ⊎ (log_room < down_count (sizes_of placement.setup) (place_of placement))) }
+    {
+        let servers = placement.config().server_count();
+        if log_room > MOST_PLACES || log_room < placement.down_count() {
+            return Err((placement, OpenFault::LogFull));
+        }
+        let rooms = match Rooms::of(alloc, &placement, log_room) {
+            Ok(rooms) => rooms,
+            Err(_) => return Err((placement, OpenFault::NoMemory)),
+        };
+        let empty = match Vec::with_capacity(alloc, servers as usize) {
+            Ok(empty) => empty,
+            Err(_) => return Err((placement, OpenFault::NoMemory)),
+        };
+        let permits = permits_of(empty, &placement);
+        let engine = Engine::of(alloc, placement, rooms, log_room);
+        Ok((Machine { engine }, permits))
+    }
+
+    /// A law: events led to the state of every machine, so that all laws of the protocol hold of it.
+    pub fn is_reached(&self)
+        ensures { (setup : Setup) × IsReached setup (state_of self.now) }
+    {
+        let _halted = self.engine.is_halted();
+    }
+
+    /// A law: no event that fits is one of which a call is refused, the state is safe, and of each plan that isn't done some
+    /// stream can step, or one that hasn't made its end has spent its allowance. Where no unfinished stream has a lost call in
+    /// the log, some stream can step.
+    pub fn is_safe(&self)
+        ensures served { (e : Happening) → FitsConfig (state_of self.now).sizes e → (happens (state_of self.now) e).0 ≢ Refused }
+        ensures safe { IsSafe (state_of self.now) }
+        ensures onward { SomeCanStepOrSpent (state_of self.now) }
+        ensures unlost { HasNoLost (state_of self.now) → SomeCanStep (state_of self.now) }
+    {
+        let _halted = self.engine.is_halted();
+    }
+
+    /// A plan begins that was checked for the machine's configuration: its streams have what they declare, and each has a
+    /// token. Where it does not begin, the checked plan comes back, and nothing changes.
+    pub fn begin(
+        &mut self,
+        alloc: Global,
+        checked: Checked,
+    ) -> Result<Vec<StreamToken>, (Checked, BeginFault)>
+        requires { checked.setup ≡ self.old.placement.setup }
+        ensures answer { OnOk result ((happens (state_of self.old) (happening.Begin checked.plan)).0 ≡ Answered (played.Begun (length (state_of self.old).plans))) }
+        ensures state { OnOk result (state_of self.new ≡ (happens (state_of self.old) (happening.Begin checked.plan)).1) }
+        ensures tokens { IfOk result (λ tokens. AreTokens (length (state_of self.old).plans) (length checked.plan.streams) tokens.items) }
+        ensures fault { IfErr result (λ e. e.1 ≢ fault.NoMemory → IsNotStarted (state_of self.old) checked.plan e.1) }
+        ensures unchanged { OnErr result (self.new ≡ self.old) }
+        ensures back { IfErr result (λ e. e.0 ≡ checked) }
+    {
+        let ready = match make_ready(alloc, checked) {
+            Ok(ready) => ready,
+            Err((checked, _)) => return Err((checked, BeginFault::NoMemory)),
+        };
+        match self.engine.start_by(ready) {
+            Ok((_, tokens)) => Ok(tokens),
+            Err((ready, why)) => Err((ready.back(), why)),
+        }
+    }
+
+    /// A stream makes its next step, and no call is refused: the next instruction is made, or the end.
+    ///
+    /// Takes no memory.
+    pub fn step(&mut self, token: &mut StreamToken) -> Step
+        ensures answer { (happens (state_of self.old) (happening.Step token.old)).0 ≡ Answered (played_of result) }
+        ensures state { state_of self.new ≡ (happens (state_of self.old) (happening.Step token.old)).1 }
+        ensures token { token.new ≡ token.old }
+    {
+        self.engine.step_by(token.id(), Passage::Through)
+    }
+
+    /// Halts the machine: steps are answered Halted until it is resumed. This is no event.
+    pub fn halt(&mut self)
+        ensures { state_of self.new ≡ record (state_of self.old) { halted = true } }
+    {
+        self.engine.set_halted(true);
+    }
+
+    /// Lets a halted machine go on.
+    pub fn resume(&mut self)
+        ensures { state_of self.new ≡ record (state_of self.old) { halted = false } }
+    {
+        self.engine.set_halted(false);
+    }
+
+    /// The placement as it stands.
+    pub fn placement(&self) -> &Placement
+        ensures place { place_of result.now ≡ (state_of self.now).place }
+        ensures sizes { sizes_of result.now.setup ≡ (state_of self.now).sizes }
+        ensures setup { result.now.setup ≡ self.now.placement.setup }
+    {
+        self.engine.placement()
+    }
+
+    /// The rights that no stream holds and no parcel carries.
+    pub fn pool(&self) -> &Pool
+        ensures hold { pool_hold result.now ≡ pool (state_of self.now) }
+        ensures size { HasSize (state_of self.now).sizes result.now }
+    {
+        self.engine.pool()
+    }
+
+    /// The recorded events with their answers, the oldest first.
+    pub fn log(&self) -> &[Logged]
+        ensures { result.now ≡ (state_of self.now).log }
+    {
+        self.engine.log()
+    }
+
+    /// The stream was begun by this machine.
+    pub fn is_begun(&self, id: StreamId) -> bool
+        ensures { result ≡ is_begun (state_of self.now) id }
+    {
+        self.engine.is_begun(id)
+    }
+
+    /// The stream has made its end.
+    pub fn is_done(&self, id: StreamId) -> bool
+        requires { is_begun (state_of self.now) id ≡ true }
+        ensures { result ≡ (progress_of (state_of self.now) id).done }
+    {
+        self.engine.progress(id).done
+    }
+
+    /// A request for a shard comes to a server.
+    ///
+    /// Takes no memory.
+    pub fn arrive(&mut self, shard: ShardId, server: ServerId) -> Answer
+        requires shard { shard < (state_of self.old).sizes.shards }
+        requires server { server < (state_of self.old).sizes.servers }
+        ensures answer { (happens (state_of self.old) (happening.Arrive shard server)).0 ≡ Answered (played_by result) }
+        ensures state { state_of self.new ≡ (happens (state_of self.old) (happening.Arrive shard server)).1 }
+        ensures tickets { tickets_in result ≡ tickets_of shard server (played_by result) }
+    {
+        let event = Event::Arrive { shard, server };
+        let reply = self.engine.ask(shard, server, None, event);
+        answer_to(shard, server, reply)
+    }
+
+    /// A request that was passed on comes to the server that it was passed to. Its ticket is spent by an answer of the server,
+    /// and else comes back.
+    ///
+    /// Takes no memory.
+    pub fn pass_on(&mut self, ticket: Ticket) -> Answer
+        ensures answer { (happens (state_of self.old) (happening.PassOn ticket)).0 ≡ Answered (played_by result) }
+        ensures state { state_of self.new ≡ (happens (state_of self.old) (happening.PassOn ticket)).1 }
+        ensures tickets { tickets_in result ≡ (if spends (played_by result) then tickets_of ticket.shard ticket.target (played_by result) else ticket ∷ []) }
+    {
+        let parts = ticket.parts();
+        if !self.engine.is_open(&parts) {
+            return Answer::Unknown(ticket);
+        }
+        let event = Event::PassOn { place: parts.place };
+        let reply = self
+            .engine
+            .ask(parts.shard, parts.target, Some(parts), event);
+        answer_with(ticket, reply)
+    }
+
+    /// Ends the machine, with the rights to go on, and answers its placement as it stands. All that streams hold and
+    /// signals carry ends with the machine's pool. Takes no memory.
+    pub fn give_up(self, tokens: Vec<StreamToken>, permits: Vec<Permit>) -> Placement
+        ensures place { place_of result ≡ (state_of self).place }
+        ensures sizes { sizes_of result.setup ≡ (state_of self).sizes }
+        ensures setup { result.setup ≡ self.placement.setup }
+    {
+        close_tokens(tokens);
+        close_permits(permits);
+        let Machine { engine } = self;
+        engine.into_placement()
+    }
+
+    /// A restart has ended: the server of the permit is up. Where it was not down, the permit comes back.
+    ///
+    /// Takes no memory.
+    pub fn done(&mut self, permit: Permit) -> Result<(), Permit>
+        ensures answer { (happens (state_of self.old) (happening.Done permit)).0 ≡ Answered (restart_of result) }
+        ensures state { state_of self.new ≡ (happens (state_of self.old) (happening.Done permit)).1 }
+        ensures back { IfErr result (λ p. p ≡ permit) }
+    {
+        if !self.engine.is_down(permit.server()) {
+            return Err(permit);
+        }
+        let server = permit.into_server();
+        self.engine.end_restart(server);
+        Ok(())
+    }
+
+    /// The lowest unfinished stream whose code mentions the server.
+    pub fn engaged(&self, server: ServerId) -> Option<StreamId>
+        ensures { result ≡ engaged (state_of self.now) server }
+    {
+        self.engine.engaged(server)
+    }
+
+    /// The cluster manager asks whether a server may be restarted. Where it may, it is down then, and the permit ends the restart.
+    ///
+    /// Takes no memory.
+    pub fn approve(&mut self, server: ServerId) -> Result<Permit, Denied>
+        requires { server < (state_of self.old).sizes.servers }
+        ensures answer { (happens (state_of self.old) (happening.Approve server)).0 ≡ Answered (approval_of result) }
+        ensures state { state_of self.new ≡ (happens (state_of self.old) (happening.Approve server)).1 }
+        ensures permit { IfOk result (λ permit. permit ≡ server) }
+    {
+        let engaged = self.engine.engaged(server);
+        match self.engine.decide(server, engaged) {
+            Ok(_) => {
+                self.engine.start_restart(server);
+                Ok(Permit::new(server))
+            }
+            Err(why) => Err(why),
+        }
+    }
+
+    /// The configuration.
+    pub fn config(&self) -> &Config
+        ensures setup { result.now ≡ self.now.placement.setup }
+        ensures sizes { sizes_of result.now ≡ (state_of self.now).sizes }
+    {
+        self.engine.placement().config()
+    }
+
+    /// How many of its instructions a stream has made.
+    pub fn position(&self, id: StreamId) -> usize
+        requires { is_begun (state_of self.now) id ≡ true }
+        ensures { result ≡ (progress_of (state_of self.now) id).at }
+    {
+        self.engine.progress(id).at
+    }
+
+    /// How many tries of calls a stream has made.
+    pub fn calls(&self, id: StreamId) -> u64
+        requires { is_begun (state_of self.now) id ≡ true }
+        ensures { result ≡ (progress_of (state_of self.now) id).tries }
+    {
+        self.engine.progress(id).tries
+    }
+
+    /// Raises a stream's allowance of tries, by 262,144 at most at once.
+    ///
+    /// Takes no memory.
+    pub fn refill(&mut self, token: &mut StreamToken, more: u32) -> Result<(), RefillFault>
+        requires { more ≤ 262144 }
+        ensures answer { (happens (state_of self.old) (happening.Refill token.old more)).0 ≡ Answered (refill_answer result) }
+        ensures state { state_of self.new ≡ (happens (state_of self.old) (happening.Refill token.old more)).1 }
+        ensures token { token.new ≡ token.old }
+    {
+        self.engine.refill(token.id(), more)
+    }
+
+    /// A stream makes its next step over a link. The link is asked once, under the number of the try, where the step tries a
+    /// call, and else not at all. Lost is answered exactly where the link's count of losses has risen.
+    ///
+    /// Takes no memory.
+    pub fn step_over<L: Link>(&mut self, token: &mut StreamToken, link: &mut L) -> Step
+        ensures over { IsStepOver L.asked link.old link.new (state_of self.old) token.old (played_of result) (state_of self.new) }
+        ensures count { L.losses link.new ≡ L.losses link.old + bit (is_lost_answer (played_of result)) }
+        ensures token { token.new ≡ token.old }
+    {
+        let id = token.id();
+        if !self.engine.makes_try(id) {
+            return self.engine.step_by(id, Passage::Through);
+        }
+        let number = self.engine.try_number(id);
+        let passage = link.passage(id, number);
+        self.engine.step_by(id, passage)
+    }
+}

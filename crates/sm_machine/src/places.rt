@@ -1,0 +1,34 @@
+//! The places of the log that a plan takes.
+ghost use Rattle.std.specs.Prelude.{◌≡◌, ◌≤◌, ◌*◌, length, count_by, sum_by};
+ghost use Rattle.sm_protocol.specs.State.{is_no_call, places_of};
+ghost use Rattle.sm_machine.specs.Starts.{places_of_stream};
+
+use sm_plan_code::{Instr, Plan, is_call};
+
+/// How many instructions are no calls.
+fn count_no_calls(code: &[Instr]) -> usize
+    ensures count { result ≡ count_by is_no_call code.now }
+    ensures within { result ≤ length code.now }
+{
+    let mut count = 0;
+    for instr in code {
+        if !is_call(instr) {
+            count += 1;
+        }
+    }
+    count
+}
+
+/// How many places of the log a plan takes.
+pub(crate) fn places_of(plan: &Plan) -> u64
+    ensures value { result ≡ places_of plan.now }
+    ensures within { result ≤ 64 * 528385 }
+{
+    let streams = plan.streams();
+    let mut places = 0;
+    for stream in streams {
+        let rest = count_no_calls(&stream.code) as u64;
+        places += u64::from(stream.budget) + u64::from(stream.retries) + rest + 1;
+    }
+    places
+}

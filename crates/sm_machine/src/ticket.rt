@@ -1,0 +1,61 @@
+//! Tickets of requests that were passed on.
+ghost use Rattle.std.specs.Prelude.{◌≡◌};
+
+use crate::journal::TicketParts;
+use sm_server::{ServerId, ShardId};
+use std::marker::Model;
+
+/// A request that a server has passed on, under way to another one. It can be neither copied nor dropped.
+pub struct Ticket {
+    parts: TicketParts,
+}
+
+impl Model for Ticket {
+    ghost use Rattle.sm_protocol.specs.Ticket.{Ticket};
+
+    ghost Value = { Ticket };
+
+    ghost view = { λ ticket. ticket.parts };
+}
+
+impl Ticket {
+    /// The ticket of a pass.
+    pub(crate) fn new(parts: TicketParts) -> Ticket
+        ensures { result ≡ parts }
+    {
+        Ticket { parts }
+    }
+
+    /// What the log records of it.
+    pub(crate) fn parts(&self) -> TicketParts
+        ensures { result ≡ self.now }
+    {
+        self.parts
+    }
+
+    /// The log's place of the pass.
+    pub fn place(&self) -> u32
+        ensures { result ≡ self.now.place }
+    {
+        self.parts.place
+    }
+
+    /// The shard that the request is for.
+    pub fn shard(&self) -> ShardId
+        ensures { result ≡ self.now.shard }
+    {
+        self.parts.shard
+    }
+
+    /// The server that the request was passed to.
+    pub fn target(&self) -> ServerId
+        ensures { result ≡ self.now.target }
+    {
+        self.parts.target
+    }
+
+    /// Spends a ticket that is sent nowhere.
+    pub fn abandon(self) {
+        let Ticket { parts: _ } = self;
+    }
+}

@@ -1,0 +1,57 @@
+//! Tokens of streams.
+ghost use Rattle.std.specs.Prelude.{◌≡◌};
+ghost use Rattle.sm_protocol.specs.State.{stream_id};
+
+use sm_reservation::StreamId;
+use std::marker::Model;
+
+/// The right to make the steps of a stream. It can be neither copied nor dropped.
+pub struct StreamToken {
+    id: StreamId,
+}
+
+impl Model for StreamToken {
+    ghost use Rattle.sm_reservation.specs.declared.stream_id.StreamId.{StreamId};
+
+    ghost Value = { StreamId };
+
+    ghost view = { λ token. token.id };
+}
+
+impl StreamToken {
+    /// The token of a stream.
+    pub(crate) fn new(id: StreamId) -> StreamToken
+        ensures { result ≡ id }
+    {
+        StreamToken { id }
+    }
+
+    /// Which stream it is.
+    pub fn id(&self) -> StreamId
+        ensures { result ≡ self.now }
+    {
+        self.id
+    }
+
+    /// Which stream it was.
+    pub(crate) fn into_id(self) -> StreamId
+        ensures { result ≡ self }
+    {
+        let StreamToken { id } = self;
+        id
+    }
+}
+
+/// Tokens end with their machine. Takes no memory.
+pub(crate) fn close_tokens(tokens: Vec<StreamToken>) {
+    let mut tokens = tokens;
+    for _ in 0..tokens.len() {
+        match tokens.pop() {
+            Some(token) => {
+                let _ = token.into_id();
+            }
+            None => {}
+        }
+    }
+    tokens.destroy_empty();
+}
