@@ -1,5 +1,5 @@
 -- Names of which none stands twice: a set keeps each of them, in their order.
-use Rattle.std.proofs.Common.{◌≡◌, ◌++◌, ◌||◌, ℕ, Bool, true, false, cond, List, [], ◌∷◌, ◌+◌, ◌<◌, length, take, drop, get_or, refl, ap, sym, ◌∙◌, append_assoc, true≢false}
+use Rattle.std.proofs.Common.{◌≡◌, ◌++◌, ℕ, Bool, true, false, cond, List, [], ◌∷◌, ◌+◌, ◌<◌, length, take, drop, get_or, refl, ap, sym, ◌∙◌, append_assoc, true≢false}
 use Rattle.std.specs.List.{list_any}
 use Rattle.std.specs.Str.{bytes_eq}
 use Rattle.std.proofs.lemmas.List.{drop_more, take_more, take-append-drop}
@@ -7,10 +7,7 @@ use Rattle.indexmap.specs.IndexSet.{insert_key}
 use Rattle.sm_placement.specs.Names.{has_double}
 use Rattle.sm_placement.specs.Setup.{Setup, IsSetup, names_of_servers, names_of_shards}
 use Rattle.sm_placement.proofs.DoubleLemmas.{has_double_push, has_double_append}
-
-or_right : (a b : Bool) → (a || b) ≡ false → b ≡ false
-or_right true b h = absurd (true≢false h)
-or_right false b h = h
+use Rattle.sm_placement.proofs.NamedLemmas.{or_first as or_left, or_second as or_right}
 
 single_front : (b : Bool) (front back : List (List ℕ)) → has_double front ≡ b → has_double (front ++ back) ≡ false → b ≡ false
 single_front true front back e h = absurd (true≢false (sym (has_double_append front back e) ∙ h))
@@ -32,10 +29,6 @@ taken_more names i name old new h at single is_old is_new =
     new_taken (take i names) rest name (ap has_double split ∙ single) ∙
     ap (λ n. take i names ++ n ∷ []) at ∙
     sym (take_more names i name h)
-
-or_left : (a b : Bool) → (a || b) ≡ false → a ≡ false
-or_left true b h = h
-or_left false b h = refl
 
 pub single_servers : (setup : Setup) → IsSetup setup → has_double (names_of_servers setup) ≡ false
 single_servers setup is = or_left (has_double (names_of_servers setup)) (has_double (names_of_shards setup)) is.distinct_names

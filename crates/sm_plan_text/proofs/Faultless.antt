@@ -9,8 +9,8 @@ use Rattle.serde_json.specs.Data.{Data, Num, Items}
 use Rattle.serde_json.specs.Find.{as_str, as_array, as_number, as_u64}
 use Rattle.sm_plan_text.specs.declared.fault.TextFault.{TextFault}
 use Rattle.sm_plan_text.specs.declared.member.Member.{Member}
-use Rattle.sm_plan_text.specs.Faults.{noted, lower}
-use Rattle.sm_plan_text.specs.Values.{found, text_in, up_to, whole_of, limited, number_in, number_or, entries, entries_of, entries_in, number_named, id_of, id_named, id_in}
+use Rattle.sm_plan_text.specs.Faults.{noted, lower_fault}
+use Rattle.sm_plan_text.specs.Values.{found, text_in, up_to, whole_number_of, limited, number_in, number_or, entries, items_of, entries_in, number_named, id_of, id_named, id_in}
 use Rattle.sm_plan_text.specs.Tables.{one, maybe, whole, text, known, list, known_list, entry_faults, limit_fault, number_fault, text_fault, name_fault, list_fault, found_faults, row_faults, walked}
 
 -- ---- no fault in all, no fault in each part
@@ -25,7 +25,7 @@ nil_right (x ∷ xs) ys h = absurd (cc)
 
 pub noted_some : (best : TextFault) (faults : List TextFault) → noted (Some best) faults ≡ None → ⊥
 noted_some best [] h = cc
-noted_some best (fault ∷ faults) h = noted_some (lower (Some best) fault) faults h
+noted_some best (fault ∷ faults) h = noted_some (lower_fault (Some best) fault) faults h
 
 -- where nothing is answered there is no fault
 pub none_noted : (faults : List TextFault) → noted None faults ≡ None → faults ≡ []
@@ -58,7 +58,7 @@ up_to_below limit n k h = grind (arith, nat_tests)
 
 limited_at : (limit default : ℕ) → default ≤ limit → (o : Option Data) → unwrap_or (option_map (limited limit) o) default ≤ limit
 limited_at limit default h None = h
-limited_at limit default h (Some d) = up_to-le limit (unwrap_or (whole_of d) 0)
+limited_at limit default h (Some d) = up_to-le limit (unwrap_or (whole_number_of d) 0)
 
 pub number_in-le : (m : Member) (limit : ℕ) (d : Data) → number_in m limit d ≤ limit
 number_in-le m limit d = limited_at limit 0 (omega arith) (found m d)
@@ -79,12 +79,12 @@ number_kept : (m : Member) (limit : ℕ) (n : Option Num) → number_fault m lim
 number_kept m limit None h = absurd (cc)
 number_kept m limit (Some n) h = limit_kept m limit (as_u64 n) h
 
-number_kept_at : (m : Member) (limit : ℕ) (o : Option Data) → found_faults (one m (whole limit)) o ≡ [] → min limit (unwrap_or (option_and_then whole_of o) limit) ≤ unwrap_or (option_map (limited limit) o) 0
+number_kept_at : (m : Member) (limit : ℕ) (o : Option Data) → found_faults (one m (whole limit)) o ≡ [] → min limit (unwrap_or (option_and_then whole_number_of o) limit) ≤ unwrap_or (option_map (limited limit) o) 0
 number_kept_at m limit None h = absurd (cc)
 number_kept_at m limit (Some d) h = number_kept m limit (as_number d) h
 
 -- a number without a fault is the one that can be read
-pub number_is_read : (m : Member) (limit : ℕ) (d : Data) → row_faults d (one m (whole limit)) ≡ [] → min limit (unwrap_or (option_and_then whole_of (found m d)) limit) ≤ number_in m limit d
+pub number_is_read : (m : Member) (limit : ℕ) (d : Data) → row_faults d (one m (whole limit)) ≡ [] → min limit (unwrap_or (option_and_then whole_number_of (found m d)) limit) ≤ number_in m limit d
 number_is_read m limit d h = number_kept_at m limit (found m d) h
 
 -- ---- texts
@@ -147,7 +147,7 @@ count_kept m limit (Some items) h =
     let test : nat_le (length (entries items)) limit ≡ true = if_nil (nat_le (length (entries items)) limit) _ h in
     grind (arith, nat_tests)
 
-count_kept_at : (m : Member) (limit : ℕ) (o : Option Data) → found_faults (one m (list limit)) o ≡ [] → length (unwrap_or (option_map entries_of o) []) ≤ limit
+count_kept_at : (m : Member) (limit : ℕ) (o : Option Data) → found_faults (one m (list limit)) o ≡ [] → length (unwrap_or (option_map items_of o) []) ≤ limit
 count_kept_at m limit None h = absurd (cc)
 count_kept_at m limit (Some d) h = count_kept m limit (as_array d) h
 
@@ -155,7 +155,7 @@ count_kept_at m limit (Some d) h = count_kept m limit (as_array d) h
 pub entries_within : (m : Member) (limit : ℕ) (d : Data) → row_faults d (one m (list limit)) ≡ [] → length (entries_in m d) ≤ limit
 entries_within m limit d h = count_kept_at m limit (found m d) h
 
-optional_kept : (m : Member) (limit : ℕ) (o : Option Data) → found_faults (maybe m (list limit)) o ≡ [] → length (unwrap_or (option_map entries_of o) []) ≤ limit
+optional_kept : (m : Member) (limit : ℕ) (o : Option Data) → found_faults (maybe m (list limit)) o ≡ [] → length (unwrap_or (option_map items_of o) []) ≤ limit
 optional_kept m limit None h = omega arith
 optional_kept m limit (Some d) h = count_kept m limit (as_array d) h
 
@@ -173,11 +173,11 @@ each_known m names (d ∷ ds) h =
     (entry_known m names d (nil_left (entry_faults m names d) (flat_map (entry_faults m names) ds) h))
     (each_known m names ds (nil_right (entry_faults m names d) (flat_map (entry_faults m names) ds) h))
 
-names_kept : (m : Member) (limit : ℕ) (names : List (List ℕ)) (o : Option Data) → found_faults (maybe m (known_list limit names)) o ≡ [] → (length (unwrap_or (option_map entries_of o) []) ≤ limit) × All (λ e. unwrap_or (id_named names e) 0 < length names) (unwrap_or (option_map entries_of o) [])
+names_kept : (m : Member) (limit : ℕ) (names : List (List ℕ)) (o : Option Data) → found_faults (maybe m (known_list limit names)) o ≡ [] → (length (unwrap_or (option_map items_of o) []) ≤ limit) × All (λ e. unwrap_or (id_named names e) 0 < length names) (unwrap_or (option_map items_of o) [])
 names_kept m limit names None h = (omega arith, All-nil (λ e. unwrap_or (id_named names e) 0 < length names))
 names_kept m limit names (Some d) h = (
-  count_kept m limit (as_array d) (nil_left (list_fault m limit (as_array d)) (flat_map (entry_faults m names) (entries_of d)) h),
-  each_known m names (entries_of d) (nil_right (list_fault m limit (as_array d)) (flat_map (entry_faults m names) (entries_of d)) h),
+  count_kept m limit (as_array d) (nil_left (list_fault m limit (as_array d)) (flat_map (entry_faults m names) (items_of d)) h),
+  each_known m names (items_of d) (nil_right (list_fault m limit (as_array d)) (flat_map (entry_faults m names) (items_of d)) h),
 )
 
 -- a list of names without a fault has no more entries than its limit, and each names what is there

@@ -1,5 +1,5 @@
 -- The servers, shards, calls, moves and events of a document without faults: they are a configuration, and each id is below its count.
-use Rattle.std.proofs.Common.{◌≡◌, ◌++◌, ◌+◌, ◌-◌, ◌<◌, ◌≤◌, ◌^◌, ℕ, Bool, true, false, cond, ◌&&◌, ◌||◌, not, List, [], ◌∷◌, length, map, Option, Some, None, is_some, option_and_then, nat_lt, nat_le, refl, ap, sym, ◌∙◌, arith, true≢false, lt-ltb, le-leb, length-append, add-zero, All}
+use Rattle.std.proofs.Common.{◌≡◌, ◌++◌, ◌+◌, ◌-◌, ◌<◌, ◌≤◌, ℕ, Bool, true, false, cond, ◌&&◌, ◌||◌, not, List, [], ◌∷◌, length, map, Option, Some, None, is_some, option_and_then, nat_le, refl, ap, sym, ◌∙◌, arith, le-leb, length-append, add-zero, All}
 use Rattle.std.specs.List.{flat_map, enumerate_from, filter_map, cons_option, list_any, list_all}
 use Rattle.std.specs.Str.{bytes_eq}
 use Rattle.std.proofs.lemmas.List.{map_push}
@@ -23,22 +23,15 @@ use Rattle.sm_plan_text.specs.Members.{text_of}
 use Rattle.sm_plan_text.specs.Values.{text_found, text_in, flag_in, number_in, entries_in, names_in, id_of, id_in}
 use Rattle.sm_plan_text.specs.Tables.{one, maybe, whole, name, new_name, known, known_or_null, list, is_among, row_faults, object_faults, own_faults, by_word, walked}
 use Rattle.sm_plan_text.specs.Servers.{server_table, server_faults, server_in, id_if_down, down_in}
-use Rattle.sm_plan_text.specs.Shards.{cap_limit, cell_count, shard_table, cell_table, cell_faults, shard_faults, shard_in, named_cell, cells_of, cells_in}
-use Rattle.sm_plan_text.specs.Calls.{NamedCall, call_word, word_table, call_table, call_faults, call_of, call_by, call_in}
+use Rattle.sm_plan_text.specs.Shards.{cap_limit, cell_count, shard_table, cell_table, cell_faults, shard_faults, shard_in, named_cell, cells_of_shard, cells_in}
+use Rattle.sm_plan_text.specs.Calls.{NamedCall, call_word, word_table, call_table, call_faults, call_worded, call_by, call_in}
 use Rattle.sm_plan_text.specs.declared.event.EventWord.{EventWord}
 use Rattle.sm_plan_text.specs.declared.event.EventWord.TheVariants as event_word_of
 use Rattle.sm_plan_text.specs.Events.{IsKnownEvent, event_word, event_table, event_faults, event_of, event_by, event_in}
 use Rattle.sm_plan_text.specs.Moves.{IsKnownMove, move_table, move_faults, move_in}
 use Rattle.sm_plan_text.proofs.ServerLemmas.{names_in_push}
 use Rattle.sm_plan_text.proofs.Faultless.{nil_left, nil_right, walked_entries, walked_front, up_to_below, number_in-le, number_is_read, text_passes, id_known, entries_within}
-
-and_first : (a b : Bool) → (a && b) ≡ true → a ≡ true
-and_first true b h = refl
-and_first false b h = h
-
-and_second : (a b : Bool) → (a && b) ≡ true → b ≡ true
-and_second true b h = h
-and_second false b h = absurd (true≢false (sym h))
+use Rattle.sm_placement.proofs.SetupLemmas.{and_first, and_second}
 
 and_both : (a b : Bool) → a ≡ true → b ≡ true → (a && b) ≡ true
 and_both true b h k = k
@@ -105,7 +98,7 @@ all_entries P h (d ∷ ds) = All-cons P d ds (h d) (all_entries P h ds)
 room_good : (d : Data) → is_good_server (server_in d) ≡ true
 room_good d =
     let within = number_in-le members.Room 4294967295 d in
-    lt-ltb (number_in members.Room 4294967295 d) (2 ^ 32) (omega arith)
+    le-leb (number_in members.Room 4294967295 d) 4294967295 within
 
 pub servers_good : (ds : List Data) → list_all is_good_server (map server_in ds) ≡ true
 servers_good ds = all_rows is_good_server server_in ds (all_entries (λ d. is_good_server (server_in d) ≡ true) room_good ds)
@@ -186,7 +179,7 @@ numbers_good d cap =
     let load = number_in-le members.Load 4294967295 d in
     let want = number_in-le members.Want 1024 d in
     let spread = number_in-le members.Spread 1024 d in
-    and_both (nat_lt (number_in members.Load 4294967295 d) (2 ^ 32)) _ (lt-ltb (number_in members.Load 4294967295 d) (2 ^ 32) (omega arith))
+    and_both (nat_le (number_in members.Load 4294967295 d) 4294967295) _ (le-leb (number_in members.Load 4294967295 d) 4294967295 load)
     (and_both (nat_le (number_in members.Want 1024 d) 1024) _ (le-leb (number_in members.Want 1024 d) 1024 want)
     (and_both (nat_le (number_in members.Cap (cap_limit d) d) 1024) _ (le-leb (number_in members.Cap (cap_limit d) d) 1024 (omega arith))
     (and_both (nat_le (number_in members.Spread 1024 d) 1024) _ (le-leb (number_in members.Spread 1024 d) 1024 spread)
@@ -213,12 +206,12 @@ cell_count_within servers ds h =
     omega arith)
     [] ds h (omega arith)
 
-cells_from : (servers : List (List ℕ)) (n total : ℕ) (ds : List Data) → n + length ds ≤ total → All (λ d. All (λ e. id_in servers members.Server e < length servers) (entries_in members.Cells d)) ds → All (λ cell. (cell.0 < total) × (cell.1 < length servers)) (flat_map (cells_of servers) (enumerate_from n ds))
+cells_from : (servers : List (List ℕ)) (n total : ℕ) (ds : List Data) → n + length ds ≤ total → All (λ d. All (λ e. id_in servers members.Server e < length servers) (entries_in members.Cells d)) ds → All (λ cell. (cell.0 < total) × (cell.1 < length servers)) (flat_map (cells_of_shard servers) (enumerate_from n ds))
 cells_from servers n total [] h good = All-nil (λ cell. (cell.0 < total) × (cell.1 < length servers))
 cells_from servers n total (d ∷ ds) h good =
     let IsWithin : NamedCell → Type 0 = λ cell. (cell.0 < total) × (cell.1 < length servers) in
     let entries : List Data = entries_in members.Cells d in
-    All-append IsWithin (cells_of servers (n, d)) (flat_map (cells_of servers) (enumerate_from (n + 1) ds))
+    All-append IsWithin (cells_of_shard servers (n, d)) (flat_map (cells_of_shard servers) (enumerate_from (n + 1) ds))
     (All-map IsWithin (named_cell servers (id_of n)) entries
     (All-weaker (λ e. id_in servers members.Server e < length servers) (λ e. IsWithin (named_cell servers (id_of n) e)) (λ e is. (up_to_below 4294967295 n total (omega arith), is)) entries
     (All-head (λ x. All (λ e. id_in servers members.Server e < length servers) (entries_in members.Cells x)) d ds good)))
@@ -231,7 +224,7 @@ cells_within servers ds h =
 
 -- ---- calls
 
-word_known : (servers : List (List ℕ)) (d : Data) (w : CallWord) → flat_map (row_faults d) (word_table servers w) ≡ [] → IsKnownCall (length servers) (call_of servers d w)
+word_known : (servers : List (List ℕ)) (d : Data) (w : CallWord) → flat_map (row_faults d) (word_table servers w) ≡ [] → IsKnownCall (length servers) (call_worded servers d w)
 word_known servers d word.Add h = tt
 word_known servers d word.Drop h = tt
 word_known servers d word.Change h = tt

@@ -18,11 +18,11 @@ use Rattle.sm_reservation.specs.declared.right.Spare.{Spare}
 use Rattle.sm_reservation.specs.declared.right.Key.{Key}
 use Rattle.sm_reservation.specs.declared.right.Key.TheVariants as key
 use Rattle.sm_reservation.specs.Rows.{same}
-use Rattle.sm_reservation.specs.Key.{cell_place, crown_place, room_place, spare_place, key_count, IsOnce}
+use Rattle.sm_reservation.specs.Key.{key_of_cell, key_of_crown, key_of_room, key_of_spare, key_count, IsOnce}
 use Rattle.sm_reservation.specs.InOrder.{sorted}
 use Rattle.sm_reservation.proofs.Places.{same_trans, same_is}
 use Rattle.sm_reservation.proofs.SortedRows.{sorted_permutes}
-use Rattle.sm_plan_code.specs.Plan.{IsSmallParcel, FitsCell, FitsLead, FitsCrown, FitsParcel}
+use Rattle.sm_plan_code.specs.Plan.{IsSmallParcel, IsKnownCellRight, IsKnownLead, IsKnownCrown, IsKnownParcel}
 use Rattle.sm_plan_text.specs.declared.fault.TextFault.{TextFault}
 use Rattle.sm_plan_text.specs.declared.fault.TextFault.TheVariants.{Shape}
 use Rattle.sm_plan_text.specs.declared.member.Member.{Member}
@@ -30,10 +30,10 @@ use Rattle.sm_plan_text.specs.declared.member.Member.TheVariants as members
 use Rattle.sm_plan_text.specs.declared.parcel.LeadWord.{LeadWord}
 use Rattle.sm_plan_text.specs.declared.parcel.LeadWord.TheVariants as word
 use Rattle.sm_plan_text.specs.Members.{text_of}
-use Rattle.sm_plan_text.specs.Faults.{noted, lower}
+use Rattle.sm_plan_text.specs.Faults.{noted, lower_fault}
 use Rattle.sm_plan_text.specs.Values.{found, text_found, number_named, number_in, id_of, id_named, id_in, entries_in}
 use Rattle.sm_plan_text.specs.Tables.{one, maybe, known, known_or_null, list, keyed, name_fault, found_faults, row_faults, object_faults, own_faults, by_word, texts_found, is_same_key, has_double_key, double_faults, walked}
-use Rattle.sm_plan_text.specs.Parcels.{right_table, right_faults, right_in, lead_word, lead_table, crown_table, crown_faults, lead_of, crown_by, crown_in, room_table, room_faults, room_in, spare_table, spare_faults, spare_in, parcel_table, parcel_faults, rights_in, HaveIds, parcel_in}
+use Rattle.sm_plan_text.specs.Parcels.{right_table, right_faults, right_in, lead_word, lead_table, crown_table, crown_faults, lead_worded, crown_by, crown_in, room_table, room_faults, room_in, spare_table, spare_faults, spare_in, parcel_table, parcel_faults, parcel_lists_in, HaveIds, parcel_in}
 use Rattle.sm_plan_text.proofs.Faultless.{none_noted, nil_left, nil_right, if_nil, walked_entries, number_in-le, id_known, id_within, optional_within}
 use Rattle.sm_plan_text.proofs.KeyLemmas.{keyed_faults}
 
@@ -42,7 +42,7 @@ pub none_added : (best : Option TextFault) (faults : List TextFault) → noted b
 none_added None faults h = none_noted faults h
 none_added (Some best) [] h = refl
 none_added (Some best) (fault ∷ faults) h =
-    let some : (lower (Some best) fault ∷ faults) ≡ [] = none_noted (lower (Some best) fault ∷ faults) h in
+    let some : (lower_fault (Some best) fault ∷ faults) ≡ [] = none_noted (lower_fault (Some best) fault ∷ faults) h in
     absurd (cc)
 
 -- ---- references that have one id have one text
@@ -190,7 +190,7 @@ ends_fit servers d h = (
   id_known members.To servers d (nil_left (row_faults d (one members.To (known servers))) _ (nil_right (row_faults d (one members.From (known servers))) _ h)),
 )
 
-lead_fits : (servers : List (List ℕ)) (d : Data) (w : LeadWord) → flat_map (row_faults d) (lead_table servers w) ≡ [] → FitsLead (length servers) (lead_of servers d w)
+lead_fits : (servers : List (List ℕ)) (d : Data) (w : LeadWord) → flat_map (row_faults d) (lead_table servers w) ≡ [] → IsKnownLead (length servers) (lead_worded servers d w)
 lead_fits servers d word.Gone h = tt
 lead_fits servers d word.At h = id_known members.Server servers d (nil_left (row_faults d (one members.Server (known servers))) _ h)
 lead_fits servers d word.Ready h = ends_fit servers d h
@@ -200,7 +200,7 @@ lead_fits servers d word.Handed h = ends_fit servers d h
 record IsCrown (shards servers : List (List ℕ)) (d : Data) (crown : Crown) : Type 0 where
   shard : row_faults d (one members.Shard (known shards)) ≡ []
   place : crown.shard ≡ id_in shards members.Shard d
-  fits : FitsCrown (length shards) (length servers) crown
+  fits : IsKnownCrown (length shards) (length servers) crown
 
 crown_by_word : (shards servers : List (List ℕ)) (d : Data) (o : Option LeadWord) → by_word members.Crowns members.Lead (crown_table shards servers) d o ≡ [] → IsCrown shards servers d (crown_by shards servers d o)
 crown_by_word shards servers d None h =
@@ -273,7 +273,7 @@ same_reference names m d e few a b h =
     let y = reference_named names m e b in
     one_key m d e x.said y.said x.stands y.stands (same_text names m d e few x y h)
 
-same_right : (shards servers : List (List ℕ)) (d e : Data) → length shards ≤ 4294967296 → length servers ≤ 4294967296 → IsRight shards servers d → IsRight shards servers e → cell_place (right_in shards servers d) ≡ cell_place (right_in shards servers e) → is_same_key (texts_found (members.Shard ∷ members.Server ∷ []) d) (texts_found (members.Shard ∷ members.Server ∷ []) e) ≡ true
+same_right : (shards servers : List (List ℕ)) (d e : Data) → length shards ≤ 4294967296 → length servers ≤ 4294967296 → IsRight shards servers d → IsRight shards servers e → key_of_cell (right_in shards servers d) ≡ key_of_cell (right_in shards servers e) → is_same_key (texts_found (members.Shard ∷ members.Server ∷ []) d) (texts_found (members.Shard ∷ members.Server ∷ []) e) ≡ true
 same_right shards servers d e few_shards few_servers a b h =
     let s = reference_named shards members.Shard d a.shard in
     let t = reference_named shards members.Shard e b.shard in
@@ -284,27 +284,27 @@ same_right shards servers d e few_shards few_servers a b h =
     (same_text servers members.Server d e few_servers u v (ap (λ p. p.1) h))
 
 -- no key stands twice in a parcel without faults
-pub parcel_is_once : (place : Member) (shards servers : List (List ℕ)) (d : Data) → HaveIds shards servers → parcel_faults place shards servers [] d ≡ [] → IsOnce (rights_in shards servers d)
+pub parcel_is_once : (place : Member) (shards servers : List (List ℕ)) (d : Data) → HaveIds shards servers → parcel_faults place shards servers [] d ≡ [] → IsOnce (parcel_lists_in shards servers d)
 parcel_is_once place shards servers d few h = each
   where
     is : IsFaultless shards servers d
     is = faultless place shards servers d h
 
-    each : (k : Key) → key_count (rights_in shards servers d) k ≤ 1
+    each : (k : Key) → key_count (parcel_lists_in shards servers d) k ≤ 1
     each (key.CellRight s v) =
-        once_at cell_place (right_in shards servers) (members.Shard ∷ members.Server ∷ []) (IsRight shards servers)
+        once_at key_of_cell (right_in shards servers) (members.Shard ∷ members.Server ∷ []) (IsRight shards servers)
         (λ e f a b at. same_right shards servers e f few.shards few.servers a b at)
         (s, v) (entries_in members.Cells d) is.cells is.cell_list.single
     each (key.Crown s) =
-        once_at crown_place (crown_in shards servers) (members.Shard ∷ []) (λ e. IsCrown shards servers e (crown_in shards servers e))
+        once_at key_of_crown (crown_in shards servers) (members.Shard ∷ []) (λ e. IsCrown shards servers e (crown_in shards servers e))
         (λ e f a b at. same_reference shards members.Shard e f few.shards a.shard b.shard (sym a.place ∙ ap (λ p. p.0) at ∙ b.place))
         (s, 0) (entries_in members.Crowns d) is.crowns is.crown_list.single
     each (key.Room v) =
-        once_at room_place (room_in servers) (members.Server ∷ []) (λ e. row_faults e (one members.Server (known servers)) ≡ [])
+        once_at key_of_room (room_in servers) (members.Server ∷ []) (λ e. row_faults e (one members.Server (known servers)) ≡ [])
         (λ e f a b at. same_reference servers members.Server e f few.servers a b (ap (λ p. p.0) at))
         (v, 0) (entries_in members.Room d) is.room is.room_list.single
     each (key.Spare s) =
-        once_at spare_place (spare_in shards) (members.Shard ∷ []) (λ e. row_faults e (one members.Shard (known shards)) ≡ [])
+        once_at key_of_spare (spare_in shards) (members.Shard ∷ []) (λ e. row_faults e (one members.Shard (known shards)) ≡ [])
         (λ e f a b at. same_reference shards members.Shard e f few.shards a b (ap (λ p. p.0) at))
         (s, 0) (entries_in members.Spare d) is.spare is.spare_list.single
 
@@ -328,19 +328,19 @@ each_entry P h [] = All-nil P
 each_entry P h (d ∷ ds) = All-cons P d ds (h d) (each_entry P h ds)
 
 -- each id in a parcel without faults is below its count
-pub parcel_fits : (place : Member) (shards servers : List (List ℕ)) (d : Data) → parcel_faults place shards servers [] d ≡ [] → FitsParcel (length shards) (length servers) (parcel_in shards servers d)
+pub parcel_fits : (place : Member) (shards servers : List (List ℕ)) (d : Data) → parcel_faults place shards servers [] d ≡ [] → IsKnownParcel (length shards) (length servers) (parcel_in shards servers d)
 parcel_fits place shards servers d h =
     let is = faultless place shards servers d h in
     record {
-      cells = all_sorted cell_place (FitsCell (length shards) (length servers)) (right_in shards servers) (entries_in members.Cells d)
-          (All-weaker (IsRight shards servers) (λ e. FitsCell (length shards) (length servers) (right_in shards servers e)) (λ e a. (id_known members.Shard shards e a.shard, id_known members.Server servers e a.server)) (entries_in members.Cells d) is.cells);
-      crowns = all_sorted crown_place (FitsCrown (length shards) (length servers)) (crown_in shards servers) (entries_in members.Crowns d)
-          (All-weaker (λ e. IsCrown shards servers e (crown_in shards servers e)) (λ e. FitsCrown (length shards) (length servers) (crown_in shards servers e)) (λ e a. a.fits) (entries_in members.Crowns d) is.crowns);
-      room = All-filter (λ x. nat_lt 0 x.amount) (λ x. x.server < length servers) (sorted room_place (map (room_in servers) (entries_in members.Room d)))
-          (all_sorted room_place (λ x. x.server < length servers) (room_in servers) (entries_in members.Room d)
+      cells = all_sorted key_of_cell (IsKnownCellRight (length shards) (length servers)) (right_in shards servers) (entries_in members.Cells d)
+          (All-weaker (IsRight shards servers) (λ e. IsKnownCellRight (length shards) (length servers) (right_in shards servers e)) (λ e a. (id_known members.Shard shards e a.shard, id_known members.Server servers e a.server)) (entries_in members.Cells d) is.cells);
+      crowns = all_sorted key_of_crown (IsKnownCrown (length shards) (length servers)) (crown_in shards servers) (entries_in members.Crowns d)
+          (All-weaker (λ e. IsCrown shards servers e (crown_in shards servers e)) (λ e. IsKnownCrown (length shards) (length servers) (crown_in shards servers e)) (λ e a. a.fits) (entries_in members.Crowns d) is.crowns);
+      room = All-filter (λ x. nat_lt 0 x.amount) (λ x. x.server < length servers) (sorted key_of_room (map (room_in servers) (entries_in members.Room d)))
+          (all_sorted key_of_room (λ x. x.server < length servers) (room_in servers) (entries_in members.Room d)
           (All-weaker (λ e. row_faults e (one members.Server (known servers)) ≡ []) (λ e. id_in servers members.Server e < length servers) (λ e a. id_known members.Server servers e a) (entries_in members.Room d) is.room));
-      spare = All-filter (λ x. nat_lt 0 x.amount) (λ x. x.shard < length shards) (sorted spare_place (map (spare_in shards) (entries_in members.Spare d)))
-          (all_sorted spare_place (λ x. x.shard < length shards) (spare_in shards) (entries_in members.Spare d)
+      spare = All-filter (λ x. nat_lt 0 x.amount) (λ x. x.shard < length shards) (sorted key_of_spare (map (spare_in shards) (entries_in members.Spare d)))
+          (all_sorted key_of_spare (λ x. x.shard < length shards) (spare_in shards) (entries_in members.Spare d)
           (All-weaker (λ e. row_faults e (one members.Shard (known shards)) ≡ []) (λ e. id_in shards members.Shard e < length shards) (λ e a. id_known members.Shard shards e a) (entries_in members.Spare d) is.spare));
     }
 
@@ -348,17 +348,17 @@ parcel_fits place shards servers d h =
 pub parcel_is_small : (place : Member) (shards servers : List (List ℕ)) (d : Data) → parcel_faults place shards servers [] d ≡ [] → IsSmallParcel (parcel_in shards servers d)
 parcel_is_small place shards servers d h =
     let is = faultless place shards servers d h in
-    let room : List Room = sorted room_place (map (room_in servers) (entries_in members.Room d)) in
-    let spare : List Spare = sorted spare_place (map (spare_in shards) (entries_in members.Spare d)) in
+    let room : List Room = sorted key_of_room (map (room_in servers) (entries_in members.Room d)) in
+    let spare : List Spare = sorted key_of_spare (map (spare_in shards) (entries_in members.Spare d)) in
     record {
-      cells = sorted_length cell_place (right_in shards servers) (entries_in members.Cells d) is.cell_list.count;
-      crowns = sorted_length crown_place (crown_in shards servers) (entries_in members.Crowns d) is.crown_list.count;
-      room = kept_length (λ x. nat_lt 0 x.amount) room (sorted_length room_place (room_in servers) (entries_in members.Room d) is.room_list.count);
-      spare = kept_length (λ x. nat_lt 0 x.amount) spare (sorted_length spare_place (spare_in shards) (entries_in members.Spare d) is.spare_list.count);
+      cells = sorted_length key_of_cell (right_in shards servers) (entries_in members.Cells d) is.cell_list.count;
+      crowns = sorted_length key_of_crown (crown_in shards servers) (entries_in members.Crowns d) is.crown_list.count;
+      room = kept_length (λ x. nat_lt 0 x.amount) room (sorted_length key_of_room (room_in servers) (entries_in members.Room d) is.room_list.count);
+      spare = kept_length (λ x. nat_lt 0 x.amount) spare (sorted_length key_of_spare (spare_in shards) (entries_in members.Spare d) is.spare_list.count);
       room_amounts = All-filter (λ x. nat_lt 0 x.amount) (λ x. x.amount ≤ 4294967295) room
-          (all_sorted room_place (λ x. x.amount ≤ 4294967295) (room_in servers) (entries_in members.Room d)
+          (all_sorted key_of_room (λ x. x.amount ≤ 4294967295) (room_in servers) (entries_in members.Room d)
           (each_entry (λ e. number_in members.Amount 4294967295 e ≤ 4294967295) (number_in-le members.Amount 4294967295) (entries_in members.Room d)));
       spare_amounts = All-filter (λ x. nat_lt 0 x.amount) (λ x. x.amount ≤ 4294967295) spare
-          (all_sorted spare_place (λ x. x.amount ≤ 4294967295) (spare_in shards) (entries_in members.Spare d)
+          (all_sorted key_of_spare (λ x. x.amount ≤ 4294967295) (spare_in shards) (entries_in members.Spare d)
           (each_entry (λ e. number_in members.Amount 4294967295 e ≤ 4294967295) (number_in-le members.Amount 4294967295) (entries_in members.Spare d)));
     }

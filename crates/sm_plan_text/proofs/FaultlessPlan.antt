@@ -8,7 +8,7 @@ use Rattle.serde_json.specs.Data.{Data, Num}
 use Rattle.serde_json.specs.Find.{as_object, as_number, as_u64}
 use Rattle.sm_reservation.specs.Rights.{Rights, no_rights}
 use Rattle.sm_plan_code.specs.declared.instruction.Instr.{Instr}
-use Rattle.sm_plan_code.specs.Plan.{StreamParts, PlanParts, IsSmallParcel, IsSmallStream, KnowsSignal, IsOrderedParcel, IsPlan, FitsParcel, FitsInstr, FitsStream, FitsPlan}
+use Rattle.sm_plan_code.specs.Plan.{StreamModel, PlanModel, IsSmallParcel, IsSmallStream, KnowsSignal, IsOrderedParcel, IsPlan, IsKnownParcel, IsKnownInstr, IsKnownStream, IsKnownPlan}
 use Rattle.sm_plan_text.specs.declared.fault.TextFault.{TextFault}
 use Rattle.sm_plan_text.specs.declared.fault.TextFault.TheVariants.{Shape}
 use Rattle.sm_plan_text.specs.declared.member.Member.{Member}
@@ -16,11 +16,11 @@ use Rattle.sm_plan_text.specs.declared.member.Member.TheVariants as members
 use Rattle.sm_plan_text.specs.declared.instruction.InstrWord.{InstrWord}
 use Rattle.sm_plan_text.specs.declared.instruction.InstrWord.TheVariants as word
 use Rattle.sm_plan_text.specs.Members.{text_of}
-use Rattle.sm_plan_text.specs.Values.{found, text_found, whole_of, under, number_or, number_below, entries_in, id_in}
+use Rattle.sm_plan_text.specs.Values.{found, text_found, whole_number_of, under, number_or, number_below, entries_in, id_in}
 use Rattle.sm_plan_text.specs.Tables.{one, maybe, whole, known, below, format, object, list, below_fault, index_fault, found_faults, row_faults, object_faults, own_faults, by_word, walked}
-use Rattle.sm_plan_text.specs.Parcels.{parcel_faults, rights_in, HaveIds, parcel_in}
+use Rattle.sm_plan_text.specs.Parcels.{parcel_faults, parcel_lists_in, HaveIds, parcel_in}
 use Rattle.sm_plan_text.specs.Instructions.{instr_word, instr_table, instr_faults, instr_of, instr_by, instr_in}
-use Rattle.sm_plan_text.specs.Plans.{faults_within, knows_retries, stream_table, stream_faults, stream_in, plan_table, signal_count, plan_faults, plan_in}
+use Rattle.sm_plan_text.specs.Plans.{faults_within, knows_retries, stream_table, stream_faults, stream_in, plan_table, signal_count_in, plan_faults, plan_in}
 use Rattle.sm_plan_text.proofs.Faultless.{nil_left, nil_right, walked_entries, up_to_below, number_in-le, number_or-le, id_known, if_nil, entries_within, optional_within}
 use Rattle.sm_plan_text.proofs.FaultlessParcel.{parcel_is_once, parcel_fits, parcel_is_small}
 use Rattle.sm_reservation.proofs.InOrder.{in_order_is_ordered, in_order_is_positive}
@@ -29,7 +29,7 @@ use Rattle.sm_reservation.proofs.InOrder.{in_order_is_ordered, in_order_is_posit
 
 -- a parcel is in order, within its limits, and fits
 record IsGoodParcel (shards servers : ℕ) (r : Rights) : Type 0 where
-  fits : FitsParcel shards servers r
+  fits : IsKnownParcel shards servers r
   small : IsSmallParcel r
   ordered : IsOrderedParcel r
 
@@ -38,8 +38,8 @@ parcel_good place shards servers d few h = record {
   fits = parcel_fits place shards servers d h;
   small = parcel_is_small place shards servers d h;
   ordered = record {
-    ordered = in_order_is_ordered (rights_in shards servers d) (parcel_is_once place shards servers d few h);
-    positive = in_order_is_positive (rights_in shards servers d);
+    ordered = in_order_is_ordered (parcel_lists_in shards servers d) (parcel_is_once place shards servers d few h);
+    positive = in_order_is_positive (parcel_lists_in shards servers d);
   };
 }
 
@@ -55,16 +55,16 @@ index_kept_of : (m : Member) (count : ℕ) (n : Option Num) → index_fault m co
 index_kept_of m count None h = absurd (cc)
 index_kept_of m count (Some n) h = index_kept m count (as_u64 n) h
 
-index_kept_at : (m : Member) (count : ℕ) (o : Option Data) → found_faults (one m (below count)) o ≡ [] → under count (unwrap_or (option_and_then whole_of o) 0) < count
+index_kept_at : (m : Member) (count : ℕ) (o : Option Data) → found_faults (one m (below count)) o ≡ [] → under count (unwrap_or (option_and_then whole_number_of o) 0) < count
 index_kept_at m count None h = absurd (cc)
 index_kept_at m count (Some d) h = index_kept_of m count (as_number d) h
 
 -- a signal without a fault is below the count
 signal_known : (m : Member) (count : ℕ) (d : Data) → row_faults d (one m (below count)) ≡ [] → number_below count m d < count
-signal_known m count d h = up_to_below 4294967295 (under count (unwrap_or (option_and_then whole_of (found m d)) 0)) count (index_kept_at m count (found m d) h)
+signal_known m count d h = up_to_below 4294967295 (under count (unwrap_or (option_and_then whole_number_of (found m d)) 0)) count (index_kept_at m count (found m d) h)
 
 abbrev IsGoodInstr : ℕ → ℕ → ℕ → Instr → Type 0
-IsGoodInstr shards servers signals i = FitsInstr shards servers i × KnowsSignal signals i
+IsGoodInstr shards servers signals i = IsKnownInstr shards servers i × KnowsSignal signals i
 
 module _ (shards servers : List (List ℕ)) (signals : ℕ) (d : Data) where
   abbrev IsGood : Instr → Type 0
@@ -122,9 +122,9 @@ retries_within true d = number_or-le 0 members.Retries 262144 d (omega arith)
 retries_within false d = omega arith
 
 -- a stream is within its limits, knows its signals, and fits
-record IsGoodStream (shards servers count : ℕ) (s : StreamParts) : Type 0 where
+record IsGoodStream (shards servers count : ℕ) (s : StreamModel) : Type 0 where
   small : IsSmallStream s
-  fits : FitsStream shards servers s
+  fits : IsKnownStream shards servers s
   signals : All (KnowsSignal count) s.code
   ordered : IsOrderedParcel s.holds
 
@@ -150,7 +150,7 @@ stream_good shards servers signals retries d few h =
       };
       fits = record {
         holds = holds.fits;
-        code = All-weaker (IsGoodInstr (length shards) (length servers) signals) (FitsInstr (length shards) (length servers)) (λ i is. is.0) instructions code;
+        code = All-weaker (IsGoodInstr (length shards) (length servers) signals) (IsKnownInstr (length shards) (length servers)) (λ i is. is.0) instructions code;
       };
       signals = All-weaker (IsGoodInstr (length shards) (length servers) signals) (KnowsSignal signals) (λ i is. is.1) instructions code;
       ordered = holds.ordered;
@@ -159,18 +159,18 @@ stream_good shards servers signals retries d few h =
 -- ---- plans
 
 -- a plan is one, and fits
-pub record IsGoodPlan (shards servers : ℕ) (p : PlanParts) : Type 0 where
+pub record IsGoodPlan (shards servers : ℕ) (p : PlanModel) : Type 0 where
   pub plan : IsPlan p
-  pub fits : FitsPlan shards servers p
+  pub fits : IsKnownPlan shards servers p
 
 pub plan_good : (place : Member) (shards servers : List (List ℕ)) (d : Data) → HaveIds shards servers → plan_faults place shards servers [] d ≡ [] → IsGoodPlan (length shards) (length servers) (plan_in shards servers d)
 plan_good place shards servers d few h =
     let own : List TextFault = own_faults place plan_table d in
     let signal_items : List Data = entries_in members.Signals d in
     let stream_items : List Data = entries_in members.Streams d in
-    let read : Data → StreamParts = stream_in shards servers (signal_count d) (knows_retries d) in
+    let read : Data → StreamModel = stream_in shards servers (signal_count_in d) (knows_retries d) in
     let of_signals : List TextFault = walked (parcel_faults members.Signals shards servers) [] signal_items in
-    let of_streams : List TextFault = walked (stream_faults shards servers (signal_count d) (knows_retries d)) [] stream_items in
+    let of_streams : List TextFault = walked (stream_faults shards servers (signal_count_in d) (knows_retries d)) [] stream_items in
     let to_signals : own ++ of_signals ≡ [] = nil_left (own ++ of_signals) of_streams h in
     let rows = nil_right (object_faults place (map (λ row. text_of row.member) plan_table) d) (flat_map (row_faults d) plan_table) (nil_left own of_signals to_signals) in
     let after_format = nil_right (row_faults d (maybe members.Format format)) _ rows in
@@ -181,27 +181,27 @@ plan_good place shards servers d few h =
     let parcels : All (IsGoodParcel (length shards) (length servers)) (map (parcel_in shards servers) signal_items) =
     All-map (IsGoodParcel (length shards) (length servers)) (parcel_in shards servers) signal_items
     (walked_entries (parcel_faults members.Signals shards servers) (λ e. IsGoodParcel (length shards) (length servers) (parcel_in shards servers e)) (λ before e none. parcel_good members.Signals shards servers e few none) [] signal_items (nil_right own of_signals to_signals)) in
-    let good : All (IsGoodStream (length shards) (length servers) (signal_count d)) (map read stream_items) =
-    All-map (IsGoodStream (length shards) (length servers) (signal_count d)) read stream_items
-    (walked_entries (stream_faults shards servers (signal_count d) (knows_retries d)) (λ e. IsGoodStream (length shards) (length servers) (signal_count d) (read e)) (λ before e none. stream_good shards servers (signal_count d) (knows_retries d) e few none) [] stream_items (nil_right (own ++ of_signals) of_streams h)) in
+    let good : All (IsGoodStream (length shards) (length servers) (signal_count_in d)) (map read stream_items) =
+    All-map (IsGoodStream (length shards) (length servers) (signal_count_in d)) read stream_items
+    (walked_entries (stream_faults shards servers (signal_count_in d) (knows_retries d)) (λ e. IsGoodStream (length shards) (length servers) (signal_count_in d) (read e)) (λ before e none. stream_good shards servers (signal_count_in d) (knows_retries d) e few none) [] stream_items (nil_right (own ++ of_signals) of_streams h)) in
     record {
       plan = record {
         small = record {
           budget = number_in-le members.Budget 262144 d;
           stream_count = subst (λ n. n ≤ 64) (sym (length-map stream_items read)) streams;
           signal_count = subst (λ n. n ≤ 256) (sym (length-map signal_items (parcel_in shards servers))) signals;
-          streams = All-weaker (IsGoodStream (length shards) (length servers) (signal_count d)) IsSmallStream (λ s is. is.small) (map read stream_items) good;
+          streams = All-weaker (IsGoodStream (length shards) (length servers) (signal_count_in d)) IsSmallStream (λ s is. is.small) (map read stream_items) good;
           signals = All-weaker (IsGoodParcel (length shards) (length servers)) IsSmallParcel (λ p is. is.small) (map (parcel_in shards servers) signal_items) parcels;
         };
-        signals = subst (λ n. All (λ (s : StreamParts). All (KnowsSignal n) s.code) (map read stream_items)) (sym (length-map signal_items (parcel_in shards servers)))
-            (All-weaker (IsGoodStream (length shards) (length servers) (signal_count d)) (λ (s : StreamParts). All (KnowsSignal (signal_count d)) s.code) (λ s is. is.signals) (map read stream_items) good);
+        signals = subst (λ n. All (λ (s : StreamModel). All (KnowsSignal n) s.code) (map read stream_items)) (sym (length-map signal_items (parcel_in shards servers)))
+            (All-weaker (IsGoodStream (length shards) (length servers) (signal_count_in d)) (λ (s : StreamModel). All (KnowsSignal (signal_count_in d)) s.code) (λ s is. is.signals) (map read stream_items) good);
         parcels = record {
-          streams = All-weaker (IsGoodStream (length shards) (length servers) (signal_count d)) (λ (s : StreamParts). IsOrderedParcel s.holds) (λ s is. is.ordered) (map read stream_items) good;
+          streams = All-weaker (IsGoodStream (length shards) (length servers) (signal_count_in d)) (λ (s : StreamModel). IsOrderedParcel s.holds) (λ s is. is.ordered) (map read stream_items) good;
           signals = All-weaker (IsGoodParcel (length shards) (length servers)) IsOrderedParcel (λ p is. is.ordered) (map (parcel_in shards servers) signal_items) parcels;
         };
       };
       fits = record {
-        streams = All-weaker (IsGoodStream (length shards) (length servers) (signal_count d)) (FitsStream (length shards) (length servers)) (λ s is. is.fits) (map read stream_items) good;
-        signals = All-weaker (IsGoodParcel (length shards) (length servers)) (FitsParcel (length shards) (length servers)) (λ p is. is.fits) (map (parcel_in shards servers) signal_items) parcels;
+        streams = All-weaker (IsGoodStream (length shards) (length servers) (signal_count_in d)) (IsKnownStream (length shards) (length servers)) (λ s is. is.fits) (map read stream_items) good;
+        signals = All-weaker (IsGoodParcel (length shards) (length servers)) (IsKnownParcel (length shards) (length servers)) (λ p is. is.fits) (map (parcel_in shards servers) signal_items) parcels;
       };
     }

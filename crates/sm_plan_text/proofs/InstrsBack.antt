@@ -5,7 +5,7 @@ use Rattle.sm_server.specs.declared.call.Role.{Role}
 use Rattle.sm_server.specs.declared.call.Role.TheVariants.{Primary, Secondary}
 use Rattle.sm_plan_code.specs.declared.instruction.Instr.{Instr}
 use Rattle.sm_plan_code.specs.declared.instruction.Instr.TheVariants as instr
-use Rattle.sm_plan_code.specs.Plan.{FitsInstr, KnowsSignal}
+use Rattle.sm_plan_code.specs.Plan.{IsKnownInstr, KnowsSignal}
 use Rattle.sm_plan_text.specs.declared.member.Member.{Member}
 use Rattle.sm_plan_text.specs.declared.member.Member.TheVariants.{Shard, Server, Other, Role as RoleMember, To, Signal}
 use Rattle.sm_plan_text.specs.Values.{role_named, under, id_of}
@@ -29,7 +29,7 @@ signal_read : (n k : ℕ) → n ≤ 256 → k < n → id_of (under n k) ≡ k
 signal_read n k few h = grind (arith, nat_tests)
 
 -- an instruction that is written has no fault
-pub instr_no_fault : (shards servers : List (List ℕ)) (signals : ℕ) (i : Instr) → LeadBack shards → LeadBack servers → FitsInstr (length shards) (length servers) i → KnowsSignal signals i → instr_faults shards servers signals [] (instr_data shards servers i) ≡ []
+pub instr_no_fault : (shards servers : List (List ℕ)) (signals : ℕ) (i : Instr) → LeadBack shards → LeadBack servers → IsKnownInstr (length shards) (length servers) i → KnowsSignal signals i → instr_faults shards servers signals [] (instr_data shards servers i) ≡ []
 instr_no_fault shards servers signals (instr.PrepareAdd s v u) a b (h, k, j) known = no_faults _ _ (named Shard shards s a h) (no_faults _ _ (named Server servers v b k) (no_faults _ _ (named Other servers u b j) refl))
 instr_no_fault shards servers signals (instr.PrepareDrop s u v) a b (h, k, j) known = no_faults _ _ (named Shard shards s a h) (no_faults _ _ (named Server servers u b k) (no_faults _ _ (named Other servers v b j) refl))
 instr_no_fault shards servers signals (instr.Add s v role) a b (h, k, j) known = no_faults _ _ (named Shard shards s a h) (no_faults _ _ (named Server servers v b k) (no_faults _ _ (role_no_fault RoleMember role) refl))
@@ -41,7 +41,7 @@ instr_no_fault shards servers signals (instr.Signal k) a b h known = no_faults _
 instr_no_fault shards servers signals (instr.Wait k) a b h known = no_faults _ _ (signal_no_fault signals k known) refl
 
 -- an instruction that is written is read as that instruction
-pub instr_back : (shards servers : List (List ℕ)) (signals : ℕ) (i : Instr) → signals ≤ 256 → LeadBack shards → LeadBack servers → FitsInstr (length shards) (length servers) i → KnowsSignal signals i → instr_in shards servers signals (instr_data shards servers i) ≡ i
+pub instr_back : (shards servers : List (List ℕ)) (signals : ℕ) (i : Instr) → signals ≤ 256 → LeadBack shards → LeadBack servers → IsKnownInstr (length shards) (length servers) i → KnowsSignal signals i → instr_in shards servers signals (instr_data shards servers i) ≡ i
 instr_back shards servers signals (instr.PrepareAdd s v u) few a b (h, k, j) known = three instr.PrepareAdd _ _ _ _ _ _ (id_read shards s a h) (id_read servers v b k) (id_read servers u b j)
 instr_back shards servers signals (instr.PrepareDrop s u v) few a b (h, k, j) known = three instr.PrepareDrop _ _ _ _ _ _ (id_read shards s a h) (id_read servers u b k) (id_read servers v b j)
 instr_back shards servers signals (instr.Add s v role) few a b (h, k, j) known = three instr.Add _ _ _ _ _ _ (id_read shards s a h) (id_read servers v b k) (role_read role)

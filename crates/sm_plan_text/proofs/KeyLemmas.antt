@@ -11,9 +11,10 @@ use Rattle.serde_json.specs.Data.{Data}
 use Rattle.serde_json.specs.View.{view}
 use Rattle.serde_json.specs.declared.value.Value.{Value}
 use Rattle.sm_plan_text.specs.declared.member.Member.{Member}
-use Rattle.sm_plan_text.specs.Values.{found, entries_in, entries_of}
+use Rattle.sm_plan_text.specs.Values.{found, entries_in, items_of}
 use Rattle.sm_plan_text.specs.Tables.{maybe, list, keyed, texts_eq, is_same_key, has_double_key, double_faults, found_faults, row_faults}
 use Rattle.sm_plan_text.proofs.WalkLemmas.{entry_at}
+use Rattle.sm_placement.proofs.DoubleLemmas.{or_more, or_swap}
 
 abbrev pub Texts : Type 0
 Texts = List (List ℕ)
@@ -54,13 +55,6 @@ drop_none (k ∷ front) back =
     ∙ sym (list_any-append (is_same_key k) front back)) ∙
     ap (λ b. list_any (is_same_key k) (front ++ back) || b) (drop_none front back)
 
-or_swap : (a b c d : Bool) → ((a || (b || false)) || (c || d)) ≡ ((a || c) || (b || d))
-or_swap true b c d = refl
-or_swap false true true d = refl
-or_swap false true false d = refl
-or_swap false false true d = refl
-or_swap false false false d = refl
-
 -- with a key more, a key is doubled where one was, or where the new one stood before
 pub double_push : (keys : List (Option Texts)) (k : Option Texts) → has_double_key (keys ++ k ∷ []) ≡ (has_double_key keys || list_any (is_same_key k) keys)
 double_push [] k = refl
@@ -69,11 +63,6 @@ double_push (j ∷ keys) k =
     ap (λ b. (list_any (is_same_key j) keys || (is_same_key j k || false)) || b) (double_push keys k) ∙
     or_swap (list_any (is_same_key j) keys) (is_same_key j k) (has_double_key keys) (list_any (is_same_key k) keys) ∙
     ap (λ b. (list_any (is_same_key j) keys || has_double_key keys) || (b || list_any (is_same_key k) keys)) (same_sym j k)
-
-or_more : (a b c d : Bool) → (a || b) ≡ true → (b ≡ true → d ≡ true) → ((a || c) || d) ≡ true
-or_more true b c d h k = refl
-or_more false b true d h k = refl
-or_more false b false d h k = k h
 
 -- a doubled key stays doubled when keys follow
 pub double_more : (keys more : List (Option Texts)) → has_double_key keys ≡ true → has_double_key (keys ++ more) ≡ true
@@ -162,7 +151,7 @@ module _ {K : Type 0} (texts : K → Texts) where
 
 -- ---- the faults of a list with keys
 
-keyed_at : (m : Member) (limit : ℕ) (key : List Member) (o : Option Data) → found_faults (maybe m (keyed limit key)) o ≡ found_faults (maybe m (list limit)) o ++ double_faults m key (unwrap_or (option_map entries_of o) [])
+keyed_at : (m : Member) (limit : ℕ) (key : List Member) (o : Option Data) → found_faults (maybe m (keyed limit key)) o ≡ found_faults (maybe m (list limit)) o ++ double_faults m key (unwrap_or (option_map items_of o) [])
 keyed_at m limit key None = refl
 keyed_at m limit key (Some d) = refl
 

@@ -10,7 +10,7 @@ use Rattle.sm_placement.specs.Names.{has_double}
 use Rattle.sm_placement.specs.Setup.{Setup, is_too_large, has_good_names, has_doubled_name, has_good_numbers}
 use Rattle.sm_placement.specs.Config.{config_fault}
 use Rattle.sm_placement.specs.Rows.{IsKnownCall}
-use Rattle.sm_plan_code.specs.Plan.{FitsPlan}
+use Rattle.sm_plan_code.specs.Plan.{IsKnownPlan}
 use Rattle.sm_plan_text.specs.declared.fault.TextFault.{TextFault}
 use Rattle.sm_plan_text.specs.declared.member.Member.TheVariants as members
 use Rattle.sm_plan_text.specs.Members.{text_of}
@@ -23,7 +23,7 @@ use Rattle.sm_plan_text.specs.Parcels.{HaveIds}
 use Rattle.sm_plan_text.specs.Plans.{faults_within, plan_faults, plan_in}
 use Rattle.sm_plan_text.specs.Events.{IsKnownEvent, event_faults, event_in}
 use Rattle.sm_plan_text.specs.Moves.{IsKnownMove, move_faults, move_in}
-use Rattle.sm_plan_text.specs.Documents.{document_table, document_faults, servers_in, shards_in, server_names, shard_names, setup_in, rows_in, IsDocument}
+use Rattle.sm_plan_text.specs.Documents.{document_table, document_faults, servers_in, shards_in, server_names_in, shard_names_in, setup_in, rows_in, IsDocument}
 use Rattle.sm_plan_text.proofs.Faultless.{nil_left, nil_right, walked_entries, entries_within, optional_within, names_known, id_within, number_in-le, number_or-le}
 use Rattle.sm_plan_text.proofs.FaultlessPlan.{plan_good}
 use Rattle.sm_plan_text.proofs.ShardLemmas.{cell_count_is}
@@ -35,19 +35,19 @@ record IsFaultless (d : Data) : Type 0 where
   shard_count : length (shards_in d) ≤ 4096
   plan_count : length (entries_in members.Plans d) ≤ 16
   move_count : length (entries_in members.Moves d) ≤ 4096
-  asks : (length (entries_in members.Asks d) ≤ 16) × All (λ e. unwrap_or (id_named (shard_names d) e) 0 < length (shard_names d)) (entries_in members.Asks d)
+  asks : (length (entries_in members.Asks d) ≤ 16) × All (λ e. unwrap_or (id_named (shard_names_in d) e) 0 < length (shard_names_in d)) (entries_in members.Asks d)
   servers : walked server_faults [] (servers_in d) ≡ []
-  shards : walked (shard_faults (server_names d)) [] (shards_in d) ≡ []
-  calls : walked (call_faults (shard_names d) (server_names d)) [] (entries_in members.Calls d) ≡ []
-  plan : faults_within (plan_faults members.Plan (shard_names d) (server_names d) []) (found members.Plan d) ≡ []
-  plans : walked (plan_faults members.Plans (shard_names d) (server_names d)) [] (entries_in members.Plans d) ≡ []
-  events : walked (event_faults (shard_names d) (server_names d)) [] (entries_in members.Events d) ≡ []
-  moves : walked (move_faults (shard_names d) (server_names d)) [] (entries_in members.Moves d) ≡ []
+  shards : walked (shard_faults (server_names_in d)) [] (shards_in d) ≡ []
+  calls : walked (call_faults (shard_names_in d) (server_names_in d)) [] (entries_in members.Calls d) ≡ []
+  plan : faults_within (plan_faults members.Plan (shard_names_in d) (server_names_in d) []) (found members.Plan d) ≡ []
+  plans : walked (plan_faults members.Plans (shard_names_in d) (server_names_in d)) [] (entries_in members.Plans d) ≡ []
+  events : walked (event_faults (shard_names_in d) (server_names_in d)) [] (entries_in members.Events d) ≡ []
+  moves : walked (move_faults (shard_names_in d) (server_names_in d)) [] (entries_in members.Moves d) ≡ []
 
 faultless_parts : (d : Data) → document_faults d ≡ [] → IsFaultless d
 faultless_parts d h =
-    let S : List (List ℕ) = server_names d in
-    let N : List (List ℕ) = shard_names d in
+    let S : List (List ℕ) = server_names_in d in
+    let N : List (List ℕ) = shard_names_in d in
     let own : List TextFault = own_faults members.Document (document_table N S) d in
     let of_servers : List TextFault = walked server_faults [] (servers_in d) in
     let of_shards : List TextFault = walked (shard_faults S) [] (shards_in d) in
@@ -116,11 +116,11 @@ setup_is_good d h =
     (not_large (length (map server_in (servers_in d))) (length (map shard_in (shards_in d)))
     (subst (λ n. n ≤ 1024) (sym (length-map (servers_in d) server_in)) parts.server_count)
     (subst (λ n. n ≤ 4096) (sym (length-map (shards_in d) shard_in)) parts.shard_count))
-    (both_true _ _ (servers_named (servers_in d) parts.servers) (shards_named (server_names d) (shards_in d) parts.shards))
+    (both_true _ _ (servers_named (servers_in d) parts.servers) (shards_named (server_names_in d) (shards_in d) parts.shards))
     (both_false _ _
     (ap has_double (names_of_rows (servers_in d)) ∙ (servers_distinct (servers_in d) parts.servers).single)
-    (ap has_double (names_of_shard_rows (shards_in d)) ∙ (shards_distinct (server_names d) (shards_in d) parts.shards).single))
-    (both_true _ _ (servers_good (servers_in d)) (shards_good (server_names d) (shards_in d) parts.shards))
+    (ap has_double (names_of_shard_rows (shards_in d)) ∙ (shards_distinct (server_names_in d) (shards_in d) parts.shards).single))
+    (both_true _ _ (servers_good (servers_in d)) (shards_good (server_names_in d) (shards_in d) parts.shards))
 
 -- ---- ids
 
@@ -128,11 +128,11 @@ names_counted : (ds : List Data) → IsDistinct ds → length (names_in ds) ≡ 
 names_counted ds distinct = ap length distinct.names ∙ length-map ds (text_in members.Name)
 
 -- the names of a document without faults are no more than ids have numbers
-pub names_are_few : (d : Data) → document_faults d ≡ [] → HaveIds (shard_names d) (server_names d)
+pub names_are_few : (d : Data) → document_faults d ≡ [] → HaveIds (shard_names_in d) (server_names_in d)
 names_are_few d h =
     let parts : IsFaultless d = faultless_parts d h in
     let servers = names_counted (servers_in d) (servers_distinct (servers_in d) parts.servers) in
-    let shards = names_counted (shards_in d) (shards_distinct (server_names d) (shards_in d) parts.shards) in
+    let shards = names_counted (shards_in d) (shards_distinct (server_names_in d) (shards_in d) parts.shards) in
     let most_servers = parts.server_count in
     let most_shards = parts.shard_count in
     record { shards = omega arith; servers = omega arith }
@@ -150,48 +150,52 @@ AreWithin shards servers calls = All (λ call. (call.0 < shards) × (call.1 < se
 
 -- ---- plans
 
-plan_fits : (shards servers : List (List ℕ)) (o : Option Data) → HaveIds shards servers → faults_within (plan_faults members.Plan shards servers []) o ≡ [] → IfSome (option_map (plan_in shards servers) o) (FitsPlan (length shards) (length servers))
+plan_fits : (shards servers : List (List ℕ)) (o : Option Data) → HaveIds shards servers → faults_within (plan_faults members.Plan shards servers []) o ≡ [] → IfSome (option_map (plan_in shards servers) o) (IsKnownPlan (length shards) (length servers))
 plan_fits shards servers None few h = tt
 plan_fits shards servers (Some d) few h = (plan_good members.Plan shards servers d few h).fits
 
-plans_fit : (shards servers : List (List ℕ)) (ds : List Data) → HaveIds shards servers → walked (plan_faults members.Plans shards servers) [] ds ≡ [] → All (FitsPlan (length shards) (length servers)) (map (plan_in shards servers) ds)
+-- the plan of a document without faults has none
+pub plan_without_faults : (d : Data) → document_faults d ≡ [] → faults_within (plan_faults members.Plan (shard_names_in d) (server_names_in d) []) (found members.Plan d) ≡ []
+plan_without_faults d h = (faultless_parts d h).plan
+
+plans_fit : (shards servers : List (List ℕ)) (ds : List Data) → HaveIds shards servers → walked (plan_faults members.Plans shards servers) [] ds ≡ [] → All (IsKnownPlan (length shards) (length servers)) (map (plan_in shards servers) ds)
 plans_fit shards servers ds few h =
-    All-map (FitsPlan (length shards) (length servers)) (plan_in shards servers) ds
-    (walked_entries (plan_faults members.Plans shards servers) (λ d. FitsPlan (length shards) (length servers) (plan_in shards servers d)) (λ before d none. (plan_good members.Plans shards servers d few none).fits) [] ds h)
+    All-map (IsKnownPlan (length shards) (length servers)) (plan_in shards servers) ds
+    (walked_entries (plan_faults members.Plans shards servers) (λ d. IsKnownPlan (length shards) (length servers) (plan_in shards servers d)) (λ before d none. (plan_good members.Plans shards servers d few none).fits) [] ds h)
 
 pub document_is_known : (d : Data) → document_faults d ≡ [] → IsDocument (rows_in d)
 document_is_known d h =
     let parts : IsFaultless d = faultless_parts d h in
-    let servers : length (server_names d) ≡ length (map server_in (servers_in d)) = names_counted (servers_in d) (servers_distinct (servers_in d) parts.servers) ∙ sym (length-map (servers_in d) server_in) in
-    let shards : length (shard_names d) ≡ length (map shard_in (shards_in d)) = names_counted (shards_in d) (shards_distinct (server_names d) (shards_in d) parts.shards) ∙ sym (length-map (shards_in d) shard_in) in
+    let servers : length (server_names_in d) ≡ length (map server_in (servers_in d)) = names_counted (servers_in d) (servers_distinct (servers_in d) parts.servers) ∙ sym (length-map (servers_in d) server_in) in
+    let shards : length (shard_names_in d) ≡ length (map shard_in (shards_in d)) = names_counted (shards_in d) (shards_distinct (server_names_in d) (shards_in d) parts.shards) ∙ sym (length-map (shards_in d) shard_in) in
     record {
-      cells = subst (λ n. All (λ cell. (cell.0 < n) × (cell.1 < length (map server_in (servers_in d)))) (cells_in (server_names d) (shards_in d))) (sym (length-map (shards_in d) shard_in))
-          (subst (λ n. All (λ cell. (cell.0 < length (shards_in d)) × (cell.1 < n)) (cells_in (server_names d) (shards_in d))) servers (cells_within (server_names d) (shards_in d) parts.shards));
-      listed = subst (λ n. All (λ entry. IfSome entry (λ server. server < n)) (map (listed_in (server_names d)) (shards_in d))) servers
-          (All-map (λ entry. IfSome entry (λ server. server < length (server_names d))) (listed_in (server_names d)) (shards_in d) (λ k e below. id_within (server_names d) members.Listed (get_or (shards_in d) k e)));
+      cells = subst (λ n. All (λ cell. (cell.0 < n) × (cell.1 < length (map server_in (servers_in d)))) (cells_in (server_names_in d) (shards_in d))) (sym (length-map (shards_in d) shard_in))
+          (subst (λ n. All (λ cell. (cell.0 < length (shards_in d)) × (cell.1 < n)) (cells_in (server_names_in d) (shards_in d))) servers (cells_within (server_names_in d) (shards_in d) parts.shards));
+      listed = subst (λ n. All (λ entry. IfSome entry (λ server. server < n)) (map (listed_in (server_names_in d)) (shards_in d))) servers
+          (All-map (λ entry. IfSome entry (λ server. server < length (server_names_in d))) (listed_in (server_names_in d)) (shards_in d) (λ k e below. id_within (server_names_in d) members.Listed (get_or (shards_in d) k e)));
       down = subst (λ n. All (λ server. server < n) (rows_in d).down) (sym (length-map (servers_in d) server_in)) (down_within (servers_in d));
-      calls = each_where_there (λ call. (call.0 < length (map shard_in (shards_in d))) × (call.1 < length (map server_in (servers_in d))) × IsKnownCall (length (map server_in (servers_in d))) call.2) (call_in (shard_names d) (server_names d)) (list_in members.Calls d)
-          (subst (λ n. AreWithin (length (map shard_in (shards_in d))) n (map (call_in (shard_names d) (server_names d)) (entries_in members.Calls d))) servers
-          (subst (λ n. AreWithin n (length (server_names d)) (map (call_in (shard_names d) (server_names d)) (entries_in members.Calls d))) shards (calls_within (shard_names d) (server_names d) (entries_in members.Calls d) parts.calls)));
-      plan = subst (λ n. IfSome (rows_in d).plan (FitsPlan (length (map shard_in (shards_in d))) n)) servers
-          (subst (λ n. IfSome (rows_in d).plan (FitsPlan n (length (server_names d)))) shards (plan_fits (shard_names d) (server_names d) (found members.Plan d) (names_are_few d h) parts.plan));
-      plans = each_where_there (FitsPlan (length (map shard_in (shards_in d))) (length (map server_in (servers_in d)))) (plan_in (shard_names d) (server_names d)) (list_in members.Plans d)
-          (subst (λ n. All (FitsPlan (length (map shard_in (shards_in d))) n) (map (plan_in (shard_names d) (server_names d)) (entries_in members.Plans d))) servers
-          (subst (λ n. All (FitsPlan n (length (server_names d))) (map (plan_in (shard_names d) (server_names d)) (entries_in members.Plans d))) shards (plans_fit (shard_names d) (server_names d) (entries_in members.Plans d) (names_are_few d h) parts.plans)));
-      events = each_where_there (IsKnownEvent (length (map shard_in (shards_in d))) (length (map server_in (servers_in d)))) (event_in (shard_names d) (server_names d)) (list_in members.Events d)
-          (subst (λ n. All (IsKnownEvent (length (map shard_in (shards_in d))) n) (map (event_in (shard_names d) (server_names d)) (entries_in members.Events d))) servers
-          (subst (λ n. All (IsKnownEvent n (length (server_names d))) (map (event_in (shard_names d) (server_names d)) (entries_in members.Events d))) shards (events_within (shard_names d) (server_names d) (entries_in members.Events d) parts.events)));
-      moves = each_where_there (IsKnownMove (length (map shard_in (shards_in d))) (length (map server_in (servers_in d)))) (move_in (shard_names d) (server_names d)) (list_in members.Moves d)
-          (subst (λ n. All (IsKnownMove (length (map shard_in (shards_in d))) n) (map (move_in (shard_names d) (server_names d)) (entries_in members.Moves d))) servers
-          (subst (λ n. All (IsKnownMove n (length (server_names d))) (map (move_in (shard_names d) (server_names d)) (entries_in members.Moves d))) shards (moves_within (shard_names d) (server_names d) (entries_in members.Moves d) parts.moves)));
-      drain = subst (λ n. IfSome (rows_in d).drain (λ server. server < n)) servers (id_within (server_names d) members.Drain d);
-      asks = subst (λ n. All (λ shard. shard < n) (ids_in (shard_names d) members.Asks d)) shards
-          (All-map (λ shard. shard < length (shard_names d)) (λ entry. unwrap_or (id_named (shard_names d) entry) 0) (entries_in members.Asks d) parts.asks.1);
-      listed_length = length-map (shards_in d) (listed_in (server_names d)) ∙ sym (length-map (shards_in d) shard_in);
-      cell_count = subst (λ n. n ≤ 1048576) (sym (cell_count_is (server_names d) (shards_in d))) (cell_count_within (server_names d) (shards_in d) parts.shards);
+      calls = each_where_there (λ call. (call.0 < length (map shard_in (shards_in d))) × (call.1 < length (map server_in (servers_in d))) × IsKnownCall (length (map server_in (servers_in d))) call.2) (call_in (shard_names_in d) (server_names_in d)) (list_in members.Calls d)
+          (subst (λ n. AreWithin (length (map shard_in (shards_in d))) n (map (call_in (shard_names_in d) (server_names_in d)) (entries_in members.Calls d))) servers
+          (subst (λ n. AreWithin n (length (server_names_in d)) (map (call_in (shard_names_in d) (server_names_in d)) (entries_in members.Calls d))) shards (calls_within (shard_names_in d) (server_names_in d) (entries_in members.Calls d) parts.calls)));
+      plan = subst (λ n. IfSome (rows_in d).plan (IsKnownPlan (length (map shard_in (shards_in d))) n)) servers
+          (subst (λ n. IfSome (rows_in d).plan (IsKnownPlan n (length (server_names_in d)))) shards (plan_fits (shard_names_in d) (server_names_in d) (found members.Plan d) (names_are_few d h) parts.plan));
+      plans = each_where_there (IsKnownPlan (length (map shard_in (shards_in d))) (length (map server_in (servers_in d)))) (plan_in (shard_names_in d) (server_names_in d)) (list_in members.Plans d)
+          (subst (λ n. All (IsKnownPlan (length (map shard_in (shards_in d))) n) (map (plan_in (shard_names_in d) (server_names_in d)) (entries_in members.Plans d))) servers
+          (subst (λ n. All (IsKnownPlan n (length (server_names_in d))) (map (plan_in (shard_names_in d) (server_names_in d)) (entries_in members.Plans d))) shards (plans_fit (shard_names_in d) (server_names_in d) (entries_in members.Plans d) (names_are_few d h) parts.plans)));
+      events = each_where_there (IsKnownEvent (length (map shard_in (shards_in d))) (length (map server_in (servers_in d)))) (event_in (shard_names_in d) (server_names_in d)) (list_in members.Events d)
+          (subst (λ n. All (IsKnownEvent (length (map shard_in (shards_in d))) n) (map (event_in (shard_names_in d) (server_names_in d)) (entries_in members.Events d))) servers
+          (subst (λ n. All (IsKnownEvent n (length (server_names_in d))) (map (event_in (shard_names_in d) (server_names_in d)) (entries_in members.Events d))) shards (events_within (shard_names_in d) (server_names_in d) (entries_in members.Events d) parts.events)));
+      moves = each_where_there (IsKnownMove (length (map shard_in (shards_in d))) (length (map server_in (servers_in d)))) (move_in (shard_names_in d) (server_names_in d)) (list_in members.Moves d)
+          (subst (λ n. All (IsKnownMove (length (map shard_in (shards_in d))) n) (map (move_in (shard_names_in d) (server_names_in d)) (entries_in members.Moves d))) servers
+          (subst (λ n. All (IsKnownMove n (length (server_names_in d))) (map (move_in (shard_names_in d) (server_names_in d)) (entries_in members.Moves d))) shards (moves_within (shard_names_in d) (server_names_in d) (entries_in members.Moves d) parts.moves)));
+      drain = subst (λ n. IfSome (rows_in d).drain (λ server. server < n)) servers (id_within (server_names_in d) members.Drain d);
+      asks = subst (λ n. All (λ shard. shard < n) (ids_in (shard_names_in d) members.Asks d)) shards
+          (All-map (λ shard. shard < length (shard_names_in d)) (λ entry. unwrap_or (id_named (shard_names_in d) entry) 0) (entries_in members.Asks d) parts.asks.1);
+      listed_length = length-map (shards_in d) (listed_in (server_names_in d)) ∙ sym (length-map (shards_in d) shard_in);
+      cell_count = subst (λ n. n ≤ 1048576) (sym (cell_count_is (server_names_in d) (shards_in d))) (cell_count_within (server_names_in d) (shards_in d) parts.shards);
       limit = number_in-le members.Limit 1024 d;
       log = number_or-le 65536 members.Log 1048576 d (omega arith);
-      plan_count = counted_where_there 16 (plan_in (shard_names d) (server_names d)) (list_in members.Plans d) parts.plan_count;
-      move_count = counted_where_there 4096 (move_in (shard_names d) (server_names d)) (list_in members.Moves d) parts.move_count;
-      ask_count = subst (λ n. n ≤ 16) (sym (length-map (entries_in members.Asks d) (λ entry. unwrap_or (id_named (shard_names d) entry) 0))) parts.asks.0;
+      plan_count = counted_where_there 16 (plan_in (shard_names_in d) (server_names_in d)) (list_in members.Plans d) parts.plan_count;
+      move_count = counted_where_there 4096 (move_in (shard_names_in d) (server_names_in d)) (list_in members.Moves d) parts.move_count;
+      ask_count = subst (λ n. n ≤ 16) (sym (length-map (entries_in members.Asks d) (λ entry. unwrap_or (id_named (shard_names_in d) entry) 0))) parts.asks.0;
     }

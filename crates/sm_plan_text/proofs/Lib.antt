@@ -17,6 +17,7 @@ pub mod FaultlessParcel
 pub mod FaultlessPlan
 pub mod FaultlessDocument
 pub mod Known
+pub mod ReadPlans
 pub mod Written
 pub mod PlainData
 pub mod NamesBack
@@ -25,3 +26,5 @@ pub mod ListsBack
 pub mod RightsBack
 pub mod PlansBack
 pub mod WrittenPlans
+pub mod Readable
+pub mod PlanTextBack

@@ -3,7 +3,7 @@ use Rattle.std.proofs.Common.{◌≡◌, ◌++◌, ◌<◌, ◌≤◌, ℕ, Bool
 use Rattle.std.proofs.lemmas.List.Elements.{All-nil, All-cons, All-append, All-push, All-weaker}
 use Rattle.std.proofs.lemmas.Bool.Decides.{nat_tests}
 use Rattle.sm_plan_text.specs.declared.fault.TextFault.{TextFault}
-use Rattle.sm_plan_text.specs.Faults.{number_of, lower, noted, answered, IsFirstOfLowest}
+use Rattle.sm_plan_text.specs.Faults.{number_of, lower_fault, noted, answered, IsFirstOfLowest}
 use Rattle.sm_plan_text.proofs.Faultless.{none_noted}
 
 abbrev AllAbove : ℕ → List TextFault → Type 0
@@ -38,23 +38,23 @@ first_of_lowest (fault ∷ faults) = going (fault ∷ faults) [] [] faults fault
 
 -- ---- a part of a walk, noted apart
 
-lower_of_three : (best : Option TextFault) (x y : TextFault) → lower (Some (lower best x)) y ≡ lower best (lower (Some x) y)
+lower_of_three : (best : Option TextFault) (x y : TextFault) → lower_fault (Some (lower_fault best x)) y ≡ lower_fault best (lower_fault (Some x) y)
 lower_of_three None x y = refl
 lower_of_three (Some b) x y = three (nat_lt (number_of x) (number_of b)) (nat_lt (number_of y) (number_of x)) refl refl
   where
-    three : (xb yx : Bool) → nat_lt (number_of x) (number_of b) ≡ xb → nat_lt (number_of y) (number_of x) ≡ yx → lower (Some (lower (Some b) x)) y ≡ lower (Some b) (lower (Some x) y)
+    three : (xb yx : Bool) → nat_lt (number_of x) (number_of b) ≡ xb → nat_lt (number_of y) (number_of x) ≡ yx → lower_fault (Some (lower_fault (Some b) x)) y ≡ lower_fault (Some b) (lower_fault (Some x) y)
     three xb yx e f = grind (arith, nat_tests)
 
-part_from : (faults : List TextFault) (best : Option TextFault) (first chosen : TextFault) → noted (Some first) faults ≡ Some chosen → noted (Some (lower best first)) faults ≡ Some (lower best chosen)
-part_from [] best first chosen e = ap (option_map (lower best)) e
+part_from : (faults : List TextFault) (best : Option TextFault) (first chosen : TextFault) → noted (Some first) faults ≡ Some chosen → noted (Some (lower_fault best first)) faults ≡ Some (lower_fault best chosen)
+part_from [] best first chosen e = ap (option_map (lower_fault best)) e
 part_from (fault ∷ faults) best first chosen e =
-    ap (λ f. noted (Some f) faults) (lower_of_three best first fault) ∙ part_from faults best (lower (Some first) fault) chosen e
+    ap (λ f. noted (Some f) faults) (lower_of_three best first fault) ∙ part_from faults best (lower_fault (Some first) fault) chosen e
 
 -- nothing was noted
 pub part_none : (best : Option TextFault) (faults : List TextFault) → None ≡ answered faults → best ≡ noted best faults
 part_none best faults e = sym (ap (noted best) (none_noted faults (sym e)))
 
 -- what was noted is noted once more
-pub part_some : (best : Option TextFault) (fault : TextFault) (faults : List TextFault) → Some fault ≡ answered faults → Some (lower best fault) ≡ noted best faults
+pub part_some : (best : Option TextFault) (fault : TextFault) (faults : List TextFault) → Some fault ≡ answered faults → Some (lower_fault best fault) ≡ noted best faults
 part_some best fault [] e = absurd (cc)
 part_some best fault (first ∷ faults) e = sym (part_from faults best first fault (sym e))

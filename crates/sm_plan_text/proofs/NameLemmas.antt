@@ -1,19 +1,13 @@
 -- Names as texts and as bytes.
-use Rattle.std.proofs.Common.{◌≡◌, ◌++◌, ◌+◌, ℕ, Bool, true, false, cond, not, ◌||◌, List, [], ◌∷◌, map, refl, ap, String, string_bytes}
-use Rattle.std.specs.List.{list_any, prefix_len, position}
+use Rattle.std.proofs.Common.{◌≡◌, ◌++◌, ◌+◌, ℕ, true, false, cond, ◌||◌, List, [], ◌∷◌, map, refl, ap, String, string_bytes}
+use Rattle.std.specs.List.{list_any, position}
 use Rattle.std.specs.Str.{bytes_eq}
 use Rattle.std.specs.String.{string_eq}
 use Rattle.std.specs.declared.alloc.Global.{Global}
-use Rattle.std.proofs.lemmas.List.{map_push, length-map}
+use Rattle.std.proofs.lemmas.List.{map_push}
 use Rattle.indexmap.specs.IndexSet.{insert_key}
 use Rattle.sm_plan_text.specs.Tables.{is_among}
-
-prefix_len-map : {X Y : Type 0} (f : X → Y) (p : Y → Bool) (xs : List X) → prefix_len p (map f xs) ≡ prefix_len (λ x. p (f x)) xs
-prefix_len-map f p [] = refl
-prefix_len-map f p (x ∷ xs) = ap (λ n. cond (p (f x)) (1 + n) 0) (prefix_len-map f p xs)
-
-position-map : {X Y : Type 0} (f : X → Y) (p : Y → Bool) (xs : List X) → position p (map f xs) ≡ position (λ x. p (f x)) xs
-position-map f p xs = rw (prefix_len-map f (λ y. not (p y)) xs, length-map xs f) refl
+use Rattle.sm_placement.proofs.ConfigLemmas.{position_map as position-map}
 
 pub position_bytes : (name : List ℕ) (keys : List (String Global)) → position (bytes_eq name) (map string_bytes keys) ≡ position (λ key. bytes_eq name (string_bytes key)) keys
 position_bytes name keys = position-map string_bytes (bytes_eq name) keys

@@ -12,7 +12,7 @@ use Rattle.sm_reservation.specs.declared.right.Spare.{Spare}
 use Rattle.sm_reservation.specs.Rights.{Rights}
 use Rattle.sm_plan_code.specs.declared.instruction.Instr.{Instr}
 use Rattle.sm_plan_code.specs.declared.instruction.Instr.TheVariants as instr
-use Rattle.sm_plan_code.specs.Plan.{StreamParts, PlanParts}
+use Rattle.sm_plan_code.specs.Plan.{StreamModel, PlanModel}
 use Rattle.sm_plan_text.specs.PlanTexts.{list_data, listed_data, right_data, crown_by_lead, crown_data, room_data, spare_data, parcel_data, instr_data, has_retries, stream_data, plan_data}
 
 -- no float, and no more levels than n
@@ -111,7 +111,7 @@ instr_plain shards servers (instr.Unlist s) = record { floats = refl; levels = o
 instr_plain shards servers (instr.Signal k) = record { floats = refl; levels = omega arith }
 instr_plain shards servers (instr.Wait k) = record { floats = refl; levels = omega arith }
 
-stream_plain : (shards servers : List (List ℕ)) (retries : Bool) (s : StreamParts) → IsPlain 4 (stream_data shards servers retries s)
+stream_plain : (shards servers : List (List ℕ)) (retries : Bool) (s : StreamModel) → IsPlain 4 (stream_data shards servers retries s)
 stream_plain shards servers true s =
     object_plain 3 _
     (and_plain 3 _ _ _ (whole_plain 3 s.budget)
@@ -126,7 +126,7 @@ stream_plain shards servers false s =
     (none_plain 3))))
 
 -- a plan nests six deep
-pub plan_is_plain : (shards servers : List (List ℕ)) (p : PlanParts) → IsPlain 6 (plan_data shards servers p)
+pub plan_is_plain : (shards servers : List (List ℕ)) (p : PlanModel) → IsPlain 6 (plan_data shards servers p)
 plan_is_plain shards servers p =
     object_plain 5 _
     (and_plain 5 _ _ _ (whole_plain 5 p.budget)

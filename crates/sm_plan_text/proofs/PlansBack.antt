@@ -12,10 +12,10 @@ use Rattle.sm_reservation.specs.declared.right.Room.{Room}
 use Rattle.sm_reservation.specs.declared.right.Spare.{Spare}
 use Rattle.sm_reservation.specs.Rights.{Rights}
 use Rattle.sm_reservation.specs.Rows.{before, Rises}
-use Rattle.sm_reservation.specs.Key.{cell_place, crown_place, room_place, spare_place, IsOrdered}
+use Rattle.sm_reservation.specs.Key.{key_of_cell, key_of_crown, key_of_room, key_of_spare, IsOrdered}
 use Rattle.sm_reservation.specs.InOrder.{in_order}
 use Rattle.sm_plan_code.specs.declared.instruction.Instr.{Instr}
-use Rattle.sm_plan_code.specs.Plan.{StreamParts, PlanParts, IsSmallParcel, IsSmallStream, IsSmallPlan, IsPlan, KnowsSignal, FitsCell, FitsCrown, FitsInstr, FitsParcel, FitsStream, FitsPlan}
+use Rattle.sm_plan_code.specs.Plan.{StreamModel, PlanModel, IsSmallParcel, IsSmallStream, IsSmallPlan, IsPlan, KnowsSignal, IsKnownCellRight, IsKnownCrown, IsKnownInstr, IsKnownParcel, IsKnownStream, IsKnownPlan}
 use Rattle.sm_plan_text.specs.declared.member.Member.{Member}
 use Rattle.sm_plan_text.specs.declared.member.Member.TheVariants as members
 use Rattle.sm_plan_text.specs.Values.{entries}
@@ -50,42 +50,42 @@ keyed_no_fault : {T : Type 0} (m : Member) (key : List Member) (place : T → �
 keyed_no_fault m key place f P differ xs few h rises = no_faults _ _ (list_no_fault m 4096 (map f xs) (mapped_within f xs 4096 few)) (keys_no_fault m key place f P differ xs h rises)
 
 -- the room, and the spare replicas, of a parcel that fits and is small
-abbrev IsRoom : ℕ → Room → Type 0
-IsRoom servers x = (x.server < servers) × (x.amount ≤ 4294967295)
+abbrev IsPeak : ℕ → Room → Type 0
+IsPeak servers x = (x.server < servers) × (x.amount ≤ 4294967295)
 
 abbrev IsSpare : ℕ → Spare → Type 0
 IsSpare shards x = (x.shard < shards) × (x.amount ≤ 4294967295)
 
-pub parcel_no_fault : (place : Member) (shards servers : List (List ℕ)) → LeadBack shards → LeadBack servers → (earlier : List Data) (r : Rights) → FitsParcel (length shards) (length servers) r → IsSmallParcel r → IsPlaced r → parcel_faults place shards servers earlier (parcel_data shards servers r) ≡ []
+pub parcel_no_fault : (place : Member) (shards servers : List (List ℕ)) → LeadBack shards → LeadBack servers → (earlier : List Data) (r : Rights) → IsKnownParcel (length shards) (length servers) r → IsSmallParcel r → IsPlaced r → parcel_faults place shards servers earlier (parcel_data shards servers r) ≡ []
 parcel_no_fault place shards servers a b earlier r fits small placed =
-    let room : All (IsRoom (length servers)) r.room = All-both (λ x. x.server < length servers) (λ x. x.amount ≤ 4294967295) r.room fits.room small.room_amounts in
+    let room : All (IsPeak (length servers)) r.room = All-both (λ x. x.server < length servers) (λ x. x.amount ≤ 4294967295) r.room fits.room small.room_amounts in
     let spare : All (IsSpare (length shards)) r.spare = All-both (λ x. x.shard < length shards) (λ x. x.amount ≤ 4294967295) r.spare fits.spare small.spare_amounts in
     no_faults _ _ (no_faults _ _ (no_faults _ _ (no_faults _ _
-    (no_faults _ _ (keyed_no_fault members.Cells (members.Shard ∷ members.Server ∷ []) cell_place (right_data shards servers) (FitsCell (length shards) (length servers)) (cells_differ shards servers a b) r.cells small.cells fits.cells placed.ordered.cells)
-    (no_faults _ _ (keyed_no_fault members.Crowns (members.Shard ∷ []) crown_place (crown_data shards servers) (FitsCrown (length shards) (length servers)) (crowns_differ shards servers a) r.crowns small.crowns fits.crowns placed.ordered.crowns)
-    (no_faults _ _ (keyed_no_fault members.Room (members.Server ∷ []) room_place (room_data servers) (IsRoom (length servers)) (rooms_differ servers b) r.room small.room room placed.ordered.room)
-    (no_faults _ _ (keyed_no_fault members.Spare (members.Shard ∷ []) spare_place (spare_data shards) (IsSpare (length shards)) (spares_differ shards a) r.spare small.spare spare placed.ordered.spare) refl))))
-    (walk_no_fault (right_data shards servers) (right_faults shards servers) (FitsCell (length shards) (length servers)) (right_no_fault shards servers a b) r.cells fits.cells))
-    (walk_no_fault (crown_data shards servers) (crown_faults shards servers) (FitsCrown (length shards) (length servers)) (crown_no_fault shards servers a b) r.crowns fits.crowns))
-    (walk_no_fault (room_data servers) (room_faults servers) (IsRoom (length servers)) (room_no_fault servers b) r.room room))
+    (no_faults _ _ (keyed_no_fault members.Cells (members.Shard ∷ members.Server ∷ []) key_of_cell (right_data shards servers) (IsKnownCellRight (length shards) (length servers)) (cells_differ shards servers a b) r.cells small.cells fits.cells placed.ordered.cells)
+    (no_faults _ _ (keyed_no_fault members.Crowns (members.Shard ∷ []) key_of_crown (crown_data shards servers) (IsKnownCrown (length shards) (length servers)) (crowns_differ shards servers a) r.crowns small.crowns fits.crowns placed.ordered.crowns)
+    (no_faults _ _ (keyed_no_fault members.Room (members.Server ∷ []) key_of_room (room_data servers) (IsPeak (length servers)) (rooms_differ servers b) r.room small.room room placed.ordered.room)
+    (no_faults _ _ (keyed_no_fault members.Spare (members.Shard ∷ []) key_of_spare (spare_data shards) (IsSpare (length shards)) (spares_differ shards a) r.spare small.spare spare placed.ordered.spare) refl))))
+    (walk_no_fault (right_data shards servers) (right_faults shards servers) (IsKnownCellRight (length shards) (length servers)) (right_no_fault shards servers a b) r.cells fits.cells))
+    (walk_no_fault (crown_data shards servers) (crown_faults shards servers) (IsKnownCrown (length shards) (length servers)) (crown_no_fault shards servers a b) r.crowns fits.crowns))
+    (walk_no_fault (room_data servers) (room_faults servers) (IsPeak (length servers)) (room_no_fault servers b) r.room room))
     (walk_no_fault (spare_data shards) (spare_faults shards) (IsSpare (length shards)) (spare_no_fault shards a) r.spare spare)
 
-pub parcel_back : (shards servers : List (List ℕ)) → LeadBack shards → LeadBack servers → (r : Rights) → FitsParcel (length shards) (length servers) r → IsSmallParcel r → IsPlaced r → parcel_in shards servers (parcel_data shards servers r) ≡ r
+pub parcel_back : (shards servers : List (List ℕ)) → LeadBack shards → LeadBack servers → (r : Rights) → IsKnownParcel (length shards) (length servers) r → IsSmallParcel r → IsPlaced r → parcel_in shards servers (parcel_data shards servers r) ≡ r
 parcel_back shards servers a b r fits small placed =
-    let room : All (IsRoom (length servers)) r.room = All-both (λ x. x.server < length servers) (λ x. x.amount ≤ 4294967295) r.room fits.room small.room_amounts in
+    let room : All (IsPeak (length servers)) r.room = All-both (λ x. x.server < length servers) (λ x. x.amount ≤ 4294967295) r.room fits.room small.room_amounts in
     let spare : All (IsSpare (length shards)) r.spare = All-both (λ x. x.shard < length shards) (λ x. x.amount ≤ 4294967295) r.spare fits.spare small.spare_amounts in
     ap in_order (four (λ (cells : List CellRight) (crowns : List Crown) (room : List Room) (spare : List Spare). record { cells = cells; crowns = crowns; room = room; spare = spare }) _ _ _ _ _ _ _ _
-    (list_read (right_data shards servers) (right_in shards servers) (FitsCell (length shards) (length servers)) (right_back shards servers a b) r.cells fits.cells)
-    (list_read (crown_data shards servers) (crown_in shards servers) (FitsCrown (length shards) (length servers)) (crown_back shards servers a b) r.crowns fits.crowns)
-    (list_read (room_data servers) (room_in servers) (IsRoom (length servers)) (room_back servers b) r.room room)
+    (list_read (right_data shards servers) (right_in shards servers) (IsKnownCellRight (length shards) (length servers)) (right_back shards servers a b) r.cells fits.cells)
+    (list_read (crown_data shards servers) (crown_in shards servers) (IsKnownCrown (length shards) (length servers)) (crown_back shards servers a b) r.crowns fits.crowns)
+    (list_read (room_data servers) (room_in servers) (IsPeak (length servers)) (room_back servers b) r.room room)
     (list_read (spare_data shards) (spare_in shards) (IsSpare (length shards)) (spare_back shards a) r.spare spare))
     ∙ placed.same
 
 -- ---- streams
 
 -- a stream of a plan with so many signals, of format 2 or of format 1
-pub record IsWritable (shard_count server_count signal_count : ℕ) (with_retries : Bool) (s : StreamParts) : Type 0 where
-  pub fits : FitsStream shard_count server_count s
+pub record IsWritable (shard_count server_count signal_count : ℕ) (with_retries : Bool) (s : StreamModel) : Type 0 where
+  pub fits : IsKnownStream shard_count server_count s
   pub small : IsSmallStream s
   pub signals : All (KnowsSignal signal_count) s.code
   pub placed : IsPlaced s.holds
@@ -93,22 +93,22 @@ pub record IsWritable (shard_count server_count signal_count : ℕ) (with_retrie
 
 -- an instruction that fits and knows its signal
 abbrev IsKnown : ℕ → ℕ → ℕ → Instr → Type 0
-IsKnown shards servers signals i = FitsInstr shards servers i × KnowsSignal signals i
+IsKnown shards servers signals i = IsKnownInstr shards servers i × KnowsSignal signals i
 
-code_known : (shards servers signals : ℕ) (retries : Bool) (s : StreamParts) → IsWritable shards servers signals retries s → All (IsKnown shards servers signals) s.code
-code_known shards servers signals retries s h = All-both (FitsInstr shards servers) (KnowsSignal signals) s.code h.fits.code h.signals
+code_known : (shards servers signals : ℕ) (retries : Bool) (s : StreamModel) → IsWritable shards servers signals retries s → All (IsKnown shards servers signals) s.code
+code_known shards servers signals retries s h = All-both (IsKnownInstr shards servers) (KnowsSignal signals) s.code h.fits.code h.signals
 
-code_no_fault : (shards servers : List (List ℕ)) → LeadBack shards → LeadBack servers → (signals : ℕ) (retries : Bool) (s : StreamParts) → IsWritable (length shards) (length servers) signals retries s → walked (instr_faults shards servers signals) [] (entries (items_of (map (instr_data shards servers) s.code))) ≡ []
+code_no_fault : (shards servers : List (List ℕ)) → LeadBack shards → LeadBack servers → (signals : ℕ) (retries : Bool) (s : StreamModel) → IsWritable (length shards) (length servers) signals retries s → walked (instr_faults shards servers signals) [] (entries (items_of (map (instr_data shards servers) s.code))) ≡ []
 code_no_fault shards servers a b signals retries s h =
     walk_no_fault (instr_data shards servers) (instr_faults shards servers signals) (IsKnown (length shards) (length servers) signals)
     (λ earlier i known. instr_no_fault shards servers signals i a b known.0 known.1) s.code (code_known (length shards) (length servers) signals retries s h)
 
-code_back : (shards servers : List (List ℕ)) → LeadBack shards → LeadBack servers → (signals : ℕ) → signals ≤ 256 → (retries : Bool) (s : StreamParts) → IsWritable (length shards) (length servers) signals retries s → map (instr_in shards servers signals) (entries (items_of (map (instr_data shards servers) s.code))) ≡ s.code
+code_back : (shards servers : List (List ℕ)) → LeadBack shards → LeadBack servers → (signals : ℕ) → signals ≤ 256 → (retries : Bool) (s : StreamModel) → IsWritable (length shards) (length servers) signals retries s → map (instr_in shards servers signals) (entries (items_of (map (instr_data shards servers) s.code))) ≡ s.code
 code_back shards servers a b signals few retries s h =
     list_read (instr_data shards servers) (instr_in shards servers signals) (IsKnown (length shards) (length servers) signals)
     (λ i known. instr_back shards servers signals i few a b known.0 known.1) s.code (code_known (length shards) (length servers) signals retries s h)
 
-pub stream_no_fault : (shards servers : List (List ℕ)) → LeadBack shards → LeadBack servers → (signals : ℕ) (retries : Bool) (earlier : List Data) (s : StreamParts) → IsWritable (length shards) (length servers) signals retries s → stream_faults shards servers signals retries earlier (stream_data shards servers retries s) ≡ []
+pub stream_no_fault : (shards servers : List (List ℕ)) → LeadBack shards → LeadBack servers → (signals : ℕ) (retries : Bool) (earlier : List Data) (s : StreamModel) → IsWritable (length shards) (length servers) signals retries s → stream_faults shards servers signals retries earlier (stream_data shards servers retries s) ≡ []
 stream_no_fault shards servers a b signals true earlier s h =
     no_faults _ _ (no_faults _ _
     (no_faults _ _ (number_no_fault members.Budget 262144 s.budget h.small.budget)
@@ -123,10 +123,10 @@ stream_no_fault shards servers a b signals false earlier s h =
     (parcel_no_fault members.Holds shards servers a b [] s.holds h.fits.holds h.small.holds h.placed))
     (code_no_fault shards servers a b signals false s h)
 
-abbrev stream : ℕ → ℕ → Rights → List Instr → StreamParts
+abbrev stream : ℕ → ℕ → Rights → List Instr → StreamModel
 stream budget retries holds code = record { budget = budget; retries = retries; holds = holds; code = code }
 
-pub stream_back : (shards servers : List (List ℕ)) → LeadBack shards → LeadBack servers → (signals : ℕ) → signals ≤ 256 → (retries : Bool) (s : StreamParts) → IsWritable (length shards) (length servers) signals retries s → stream_in shards servers signals retries (stream_data shards servers retries s) ≡ s
+pub stream_back : (shards servers : List (List ℕ)) → LeadBack shards → LeadBack servers → (signals : ℕ) → signals ≤ 256 → (retries : Bool) (s : StreamModel) → IsWritable (length shards) (length servers) signals retries s → stream_in shards servers signals retries (stream_data shards servers retries s) ≡ s
 stream_back shards servers a b signals few true s h =
     four stream _ _ _ _ _ _ _ _
     (number_read 262144 s.budget h.small.budget) (number_read 262144 s.retries h.small.retries)
@@ -140,12 +140,12 @@ stream_back shards servers a b signals few false s h =
 
 -- a parcel of a plan
 pub record IsWritableParcel (shard_count server_count : ℕ) (r : Rights) : Type 0 where
-  pub fits : FitsParcel shard_count server_count r
+  pub fits : IsKnownParcel shard_count server_count r
   pub small : IsSmallParcel r
   pub placed : IsPlaced r
 
 -- the value that is written for a plan of format 2, or of format 1
-abbrev plan_as : List (List ℕ) → List (List ℕ) → Bool → PlanParts → Data
+abbrev plan_as : List (List ℕ) → List (List ℕ) → Bool → PlanModel → Data
 plan_as shards servers retries p = saying (
     (members.Budget, whole_data p.budget) ∷
     (members.Format, whole_data (cond retries 2 1)) ∷
@@ -153,13 +153,13 @@ plan_as shards servers retries p = saying (
     (members.Streams, list_data (map (stream_data shards servers retries) p.streams)) ∷ [])
 
 -- how many signals are read
-abbrev signals_read : List (List ℕ) → List (List ℕ) → PlanParts → ℕ
+abbrev signals_read : List (List ℕ) → List (List ℕ) → PlanModel → ℕ
 signals_read shards servers p = length (entries (items_of (map (parcel_data shards servers) p.signals)))
 
-signals_counted : (shards servers : List (List ℕ)) (p : PlanParts) → signals_read shards servers p ≡ length p.signals
+signals_counted : (shards servers : List (List ℕ)) (p : PlanModel) → signals_read shards servers p ≡ length p.signals
 signals_counted shards servers p = ap length (entries_back (map (parcel_data shards servers) p.signals)) ∙ length-map p.signals (parcel_data shards servers)
 
-plan_clean : (place : Member) (shards servers : List (List ℕ)) → LeadBack shards → LeadBack servers → (retries : Bool) (p : PlanParts) → IsSmallPlan p → All (IsWritableParcel (length shards) (length servers)) p.signals → All (IsWritable (length shards) (length servers) (signals_read shards servers p) retries) p.streams → plan_faults place shards servers [] (plan_as shards servers retries p) ≡ []
+plan_clean : (place : Member) (shards servers : List (List ℕ)) → LeadBack shards → LeadBack servers → (retries : Bool) (p : PlanModel) → IsSmallPlan p → All (IsWritableParcel (length shards) (length servers)) p.signals → All (IsWritable (length shards) (length servers) (signals_read shards servers p) retries) p.streams → plan_faults place shards servers [] (plan_as shards servers retries p) ≡ []
 plan_clean place shards servers a b true p small parcels streams =
     no_faults _ _ (no_faults _ _
     (no_faults _ _ (number_no_fault members.Budget 262144 p.budget small.budget)
@@ -175,17 +175,17 @@ plan_clean place shards servers a b false p small parcels streams =
     (walk_no_fault (parcel_data shards servers) (parcel_faults members.Signals shards servers) (IsWritableParcel (length shards) (length servers)) (λ earlier r h. parcel_no_fault members.Signals shards servers a b earlier r h.fits h.small h.placed) p.signals parcels))
     (walk_no_fault (stream_data shards servers false) (stream_faults shards servers (signals_read shards servers p) false) (IsWritable (length shards) (length servers) (signals_read shards servers p) false) (stream_no_fault shards servers a b (signals_read shards servers p) false) p.streams streams)
 
-streams_back : (shards servers : List (List ℕ)) → LeadBack shards → LeadBack servers → (retries : Bool) (p : PlanParts) → IsSmallPlan p → All (IsWritable (length shards) (length servers) (signals_read shards servers p) retries) p.streams
+streams_back : (shards servers : List (List ℕ)) → LeadBack shards → LeadBack servers → (retries : Bool) (p : PlanModel) → IsSmallPlan p → All (IsWritable (length shards) (length servers) (signals_read shards servers p) retries) p.streams
     → map (stream_in shards servers (signals_read shards servers p) retries) (entries (items_of (map (stream_data shards servers retries) p.streams))) ≡ p.streams
 streams_back shards servers a b retries p small streams =
     let n : ℕ = signals_read shards servers p in
     let few : n ≤ 256 = subst (λ k. k ≤ 256) (sym (signals_counted shards servers p)) small.signal_count in
     list_read (stream_data shards servers retries) (stream_in shards servers n retries) (IsWritable (length shards) (length servers) n retries) (stream_back shards servers a b n few retries) p.streams streams
 
-abbrev plan : ℕ → List StreamParts → List Rights → PlanParts
+abbrev plan : ℕ → List StreamModel → List Rights → PlanModel
 plan budget streams signals = record { budget = budget; streams = streams; signals = signals }
 
-plan_read_back : (shards servers : List (List ℕ)) → LeadBack shards → LeadBack servers → (retries : Bool) (p : PlanParts) → IsSmallPlan p → All (IsWritableParcel (length shards) (length servers)) p.signals → All (IsWritable (length shards) (length servers) (signals_read shards servers p) retries) p.streams → plan_in shards servers (plan_as shards servers retries p) ≡ p
+plan_read_back : (shards servers : List (List ℕ)) → LeadBack shards → LeadBack servers → (retries : Bool) (p : PlanModel) → IsSmallPlan p → All (IsWritableParcel (length shards) (length servers)) p.signals → All (IsWritable (length shards) (length servers) (signals_read shards servers p) retries) p.streams → plan_in shards servers (plan_as shards servers retries p) ≡ p
 plan_read_back shards servers a b true p small parcels streams =
     three plan _ _ _ _ _ _
     (number_read 262144 p.budget small.budget)
@@ -199,14 +199,14 @@ plan_read_back shards servers a b false p small parcels streams =
 
 -- ---- what every plan has
 
-no_retries : (streams : List StreamParts) (i : ℕ) (d : StreamParts) → i < length streams → list_any (λ s. nat_lt 0 s.retries) streams ≡ false → (get_or streams i d).retries ≡ 0
+no_retries : (streams : List StreamModel) (i : ℕ) (d : StreamModel) → i < length streams → list_any (λ s. nat_lt 0 s.retries) streams ≡ false → (get_or streams i d).retries ≡ 0
 no_retries streams i d h none = positive _ refl
   where
     positive : (b : Bool) → nat_lt 0 (get_or streams i d).retries ≡ b → (get_or streams i d).retries ≡ 0
     positive false e = grind (arith, nat_tests)
     positive true e = absurd (true≢false (sym (list_any_at (λ s. nat_lt 0 s.retries) streams i d h e) ∙ none))
 
-streams_writable : (shards servers : List (List ℕ)) (p : PlanParts) → IsPlan p → FitsPlan (length shards) (length servers) p → All (λ s. IsPlaced s.holds) p.streams → All (IsWritable (length shards) (length servers) (signals_read shards servers p) (has_retries p)) p.streams
+streams_writable : (shards servers : List (List ℕ)) (p : PlanModel) → IsPlan p → IsKnownPlan (length shards) (length servers) p → All (λ s. IsPlaced s.holds) p.streams → All (IsWritable (length shards) (length servers) (signals_read shards servers p) (has_retries p)) p.streams
 streams_writable shards servers p is fits placed = λ i d h. record {
   fits = fits.streams i d h;
   small = is.small.streams i d h;
@@ -215,15 +215,15 @@ streams_writable shards servers p is fits placed = λ i d h. record {
   retries = λ none. no_retries p.streams i d h none;
 }
 
-parcels_writable : (shards servers : List (List ℕ)) (p : PlanParts) → IsPlan p → FitsPlan (length shards) (length servers) p → All IsPlaced p.signals → All (IsWritableParcel (length shards) (length servers)) p.signals
+parcels_writable : (shards servers : List (List ℕ)) (p : PlanModel) → IsPlan p → IsKnownPlan (length shards) (length servers) p → All IsPlaced p.signals → All (IsWritableParcel (length shards) (length servers)) p.signals
 parcels_writable shards servers p is fits placed = λ i d h. record { fits = fits.signals i d h; small = is.small.signals i d h; placed = placed i d h }
 
 -- what is written for a plan has no fault
-pub plan_no_fault : (place : Member) (shards servers : List (List ℕ)) (p : PlanParts) → LeadBack shards → LeadBack servers → IsPlan p → FitsPlan (length shards) (length servers) p → All (λ s. IsPlaced s.holds) p.streams → All IsPlaced p.signals → plan_faults place shards servers [] (plan_data shards servers p) ≡ []
+pub plan_no_fault : (place : Member) (shards servers : List (List ℕ)) (p : PlanModel) → LeadBack shards → LeadBack servers → IsPlan p → IsKnownPlan (length shards) (length servers) p → All (λ s. IsPlaced s.holds) p.streams → All IsPlaced p.signals → plan_faults place shards servers [] (plan_data shards servers p) ≡ []
 plan_no_fault place shards servers p a b is fits held carried =
     plan_clean place shards servers a b (has_retries p) p is.small (parcels_writable shards servers p is fits carried) (streams_writable shards servers p is fits held)
 
 -- what is written for a plan is read as that plan
-pub plan_back : (shards servers : List (List ℕ)) (p : PlanParts) → LeadBack shards → LeadBack servers → IsPlan p → FitsPlan (length shards) (length servers) p → All (λ s. IsPlaced s.holds) p.streams → All IsPlaced p.signals → plan_in shards servers (plan_data shards servers p) ≡ p
+pub plan_back : (shards servers : List (List ℕ)) (p : PlanModel) → LeadBack shards → LeadBack servers → IsPlan p → IsKnownPlan (length shards) (length servers) p → All (λ s. IsPlaced s.holds) p.streams → All IsPlaced p.signals → plan_in shards servers (plan_data shards servers p) ≡ p
 plan_back shards servers p a b is fits held carried =
     plan_read_back shards servers a b (has_retries p) p is.small (parcels_writable shards servers p is fits carried) (streams_writable shards servers p is fits held)

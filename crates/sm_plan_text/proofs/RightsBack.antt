@@ -12,8 +12,8 @@ use Rattle.sm_reservation.specs.declared.right.Crown.{Crown}
 use Rattle.sm_reservation.specs.declared.right.Room.{Room}
 use Rattle.sm_reservation.specs.declared.right.Spare.{Spare}
 use Rattle.sm_reservation.specs.Rows.{before}
-use Rattle.sm_reservation.specs.Key.{cell_place, crown_place, room_place, spare_place}
-use Rattle.sm_plan_code.specs.Plan.{FitsCell, FitsLead, FitsCrown}
+use Rattle.sm_reservation.specs.Key.{key_of_cell, key_of_crown, key_of_room, key_of_spare}
+use Rattle.sm_plan_code.specs.Plan.{IsKnownCellRight, IsKnownLead, IsKnownCrown}
 use Rattle.sm_plan_text.specs.declared.member.Member.TheVariants as members
 use Rattle.sm_plan_text.specs.Values.{id_named}
 use Rattle.sm_plan_text.specs.Tables.{known_or_null, text_fault, value_faults, texts_found, is_same_key}
@@ -32,11 +32,11 @@ plain_read : (state : PlainCell) → unwrap_or (plain_named (plain_text state)) 
 plain_read plain.Absent = refl
 plain_read plain.Secondary = refl
 
-pub right_no_fault : (shards servers : List (List ℕ)) → LeadBack shards → LeadBack servers → (earlier : List Data) (x : CellRight) → FitsCell (length shards) (length servers) x → right_faults shards servers earlier (right_data shards servers x) ≡ []
+pub right_no_fault : (shards servers : List (List ℕ)) → LeadBack shards → LeadBack servers → (earlier : List Data) (x : CellRight) → IsKnownCellRight (length shards) (length servers) x → right_faults shards servers earlier (right_data shards servers x) ≡ []
 right_no_fault shards servers a b earlier x h =
     no_faults _ _ (named members.Shard shards x.shard a h.0) (no_faults _ _ (named members.Server servers x.server b h.1) (no_faults _ _ (plain_no_fault x.state) refl))
 
-pub right_back : (shards servers : List (List ℕ)) → LeadBack shards → LeadBack servers → (x : CellRight) → FitsCell (length shards) (length servers) x → right_in shards servers (right_data shards servers x) ≡ x
+pub right_back : (shards servers : List (List ℕ)) → LeadBack shards → LeadBack servers → (x : CellRight) → IsKnownCellRight (length shards) (length servers) x → right_in shards servers (right_data shards servers x) ≡ x
 right_back shards servers a b x h =
     three (λ (s v : ℕ) (state : PlainCell). record { shard = s; server = v; state = state }) _ _ _ _ _ _ (id_read shards x.shard a h.0) (id_read servers x.server b h.1) (plain_read x.state)
 
@@ -50,7 +50,7 @@ listed_read : (servers : List (List ℕ)) (o : Option ℕ) → LeadBack servers 
 listed_read servers None b h = refl
 listed_read servers (Some v) b h = id_back servers v b h
 
-crown_clean : (shards servers : List (List ℕ)) → LeadBack shards → LeadBack servers → (earlier : List Data) (l : Lead) (x : Crown) → x.shard < length shards → FitsLead (length servers) l → IfSome x.listed (λ v. v < length servers) → crown_faults shards servers earlier (crown_by_lead shards servers l x) ≡ []
+crown_clean : (shards servers : List (List ℕ)) → LeadBack shards → LeadBack servers → (earlier : List Data) (l : Lead) (x : Crown) → x.shard < length shards → IsKnownLead (length servers) l → IfSome x.listed (λ v. v < length servers) → crown_faults shards servers earlier (crown_by_lead shards servers l x) ≡ []
 crown_clean shards servers a b earlier lead.Gone x h k j =
     no_faults _ _ (named members.Shard shards x.shard a h) (no_faults _ _ (listed_no_fault servers x.listed b j) refl)
 crown_clean shards servers a b earlier (lead.At u) x h k j =
@@ -62,13 +62,13 @@ crown_clean shards servers a b earlier (lead.Handing u v) x h k j =
 crown_clean shards servers a b earlier (lead.Handed u v) x h k j =
     no_faults _ _ (named members.Shard shards x.shard a h) (no_faults _ _ (listed_no_fault servers x.listed b j) (no_faults _ _ (named members.From servers u b k.0) (no_faults _ _ (named members.To servers v b k.1) refl)))
 
-pub crown_no_fault : (shards servers : List (List ℕ)) → LeadBack shards → LeadBack servers → (earlier : List Data) (x : Crown) → FitsCrown (length shards) (length servers) x → crown_faults shards servers earlier (crown_data shards servers x) ≡ []
+pub crown_no_fault : (shards servers : List (List ℕ)) → LeadBack shards → LeadBack servers → (earlier : List Data) (x : Crown) → IsKnownCrown (length shards) (length servers) x → crown_faults shards servers earlier (crown_data shards servers x) ≡ []
 crown_no_fault shards servers a b earlier x (h, k, j) = crown_clean shards servers a b earlier x.lead x h k j
 
 abbrev crown : ℕ → Lead → Option ℕ → Crown
 crown s l o = record { shard = s; lead = l; listed = o }
 
-crown_read : (shards servers : List (List ℕ)) → LeadBack shards → LeadBack servers → (s : ℕ) (l : Lead) (o : Option ℕ) → s < length shards → FitsLead (length servers) l → IfSome o (λ v. v < length servers) → crown_in shards servers (crown_by_lead shards servers l (crown s l o)) ≡ crown s l o
+crown_read : (shards servers : List (List ℕ)) → LeadBack shards → LeadBack servers → (s : ℕ) (l : Lead) (o : Option ℕ) → s < length shards → IsKnownLead (length servers) l → IfSome o (λ v. v < length servers) → crown_in shards servers (crown_by_lead shards servers l (crown s l o)) ≡ crown s l o
 crown_read shards servers a b s lead.Gone o h k j =
     three crown _ _ _ _ _ _ (id_read shards s a h) refl (listed_read servers o b j)
 crown_read shards servers a b s (lead.At u) o h k j =
@@ -80,7 +80,7 @@ crown_read shards servers a b s (lead.Handing u v) o h k j =
 crown_read shards servers a b s (lead.Handed u v) o h k j =
     three crown _ _ _ _ _ _ (id_read shards s a h) (both lead.Handed _ _ _ _ (id_read servers u b k.0) (id_read servers v b k.1)) (listed_read servers o b j)
 
-pub crown_back : (shards servers : List (List ℕ)) → LeadBack shards → LeadBack servers → (x : Crown) → FitsCrown (length shards) (length servers) x → crown_in shards servers (crown_data shards servers x) ≡ x
+pub crown_back : (shards servers : List (List ℕ)) → LeadBack shards → LeadBack servers → (x : Crown) → IsKnownCrown (length shards) (length servers) x → crown_in shards servers (crown_data shards servers x) ≡ x
 crown_back shards servers a b x (h, k, j) = crown_read shards servers a b x.shard x.lead x.listed h k j
 
 -- ---- room and spare replicas
@@ -111,7 +111,7 @@ two_texts shards servers a b s v t w hs ht hv hw rises false q e f = refl
 two_texts shards servers a b s v t w hs ht hv hw rises true false e f = refl
 two_texts shards servers a b s v t w hs ht hv hw rises true true e f = absurd (before_apart s v t w rises (same_number shards s t a hs ht e) (same_number servers v w b hv hw f))
 
-pub cells_differ : (shards servers : List (List ℕ)) → LeadBack shards → LeadBack servers → (x y : CellRight) → FitsCell (length shards) (length servers) x → FitsCell (length shards) (length servers) y → before (cell_place x) (cell_place y) ≡ true
+pub cells_differ : (shards servers : List (List ℕ)) → LeadBack shards → LeadBack servers → (x y : CellRight) → IsKnownCellRight (length shards) (length servers) x → IsKnownCellRight (length shards) (length servers) y → before (key_of_cell x) (key_of_cell y) ≡ true
     → is_same_key (texts_found (members.Shard ∷ members.Server ∷ []) (right_data shards servers x)) (texts_found (members.Shard ∷ members.Server ∷ []) (right_data shards servers y)) ≡ false
 cells_differ shards servers a b x y h k rises = two_texts shards servers a b x.shard x.server y.shard y.server h.0 k.0 h.1 k.1 rises _ _ refl refl
 
@@ -122,16 +122,16 @@ crown_key shards servers (lead.Ready u v) x = refl
 crown_key shards servers (lead.Handing u v) x = refl
 crown_key shards servers (lead.Handed u v) x = refl
 
-pub crowns_differ : (shards servers : List (List ℕ)) → LeadBack shards → (x y : Crown) → FitsCrown (length shards) (length servers) x → FitsCrown (length shards) (length servers) y → before (crown_place x) (crown_place y) ≡ true
+pub crowns_differ : (shards servers : List (List ℕ)) → LeadBack shards → (x y : Crown) → IsKnownCrown (length shards) (length servers) x → IsKnownCrown (length shards) (length servers) y → before (key_of_crown x) (key_of_crown y) ≡ true
     → is_same_key (texts_found (members.Shard ∷ []) (crown_data shards servers x)) (texts_found (members.Shard ∷ []) (crown_data shards servers y)) ≡ false
 crowns_differ shards servers a x y h k rises =
     both is_same_key _ _ _ _ (crown_key shards servers x.lead x) (crown_key shards servers y.lead y)
     ∙ one_text shards a x.shard y.shard h.0 k.0 rises _ refl
 
-pub rooms_differ : (servers : List (List ℕ)) → LeadBack servers → (x y : Room) → (x.server < length servers) × (x.amount ≤ 4294967295) → (y.server < length servers) × (y.amount ≤ 4294967295) → before (room_place x) (room_place y) ≡ true
+pub rooms_differ : (servers : List (List ℕ)) → LeadBack servers → (x y : Room) → (x.server < length servers) × (x.amount ≤ 4294967295) → (y.server < length servers) × (y.amount ≤ 4294967295) → before (key_of_room x) (key_of_room y) ≡ true
     → is_same_key (texts_found (members.Server ∷ []) (room_data servers x)) (texts_found (members.Server ∷ []) (room_data servers y)) ≡ false
 rooms_differ servers b x y h k rises = one_text servers b x.server y.server h.0 k.0 rises _ refl
 
-pub spares_differ : (shards : List (List ℕ)) → LeadBack shards → (x y : Spare) → (x.shard < length shards) × (x.amount ≤ 4294967295) → (y.shard < length shards) × (y.amount ≤ 4294967295) → before (spare_place x) (spare_place y) ≡ true
+pub spares_differ : (shards : List (List ℕ)) → LeadBack shards → (x y : Spare) → (x.shard < length shards) × (x.amount ≤ 4294967295) → (y.shard < length shards) × (y.amount ≤ 4294967295) → before (key_of_spare x) (key_of_spare y) ≡ true
     → is_same_key (texts_found (members.Shard ∷ []) (spare_data shards x)) (texts_found (members.Shard ∷ []) (spare_data shards y)) ≡ false
 spares_differ shards a x y h k rises = one_text shards a x.shard y.shard h.0 k.0 rises _ refl

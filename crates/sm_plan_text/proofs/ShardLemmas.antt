@@ -5,19 +5,19 @@ use Rattle.std.proofs.lemmas.List.{flat_map_more, length-map}
 use Rattle.serde_json.specs.Data.{Data}
 use Rattle.sm_plan_text.specs.declared.member.Member.TheVariants as members
 use Rattle.sm_plan_text.specs.Values.{entries_in, id_of}
-use Rattle.sm_plan_text.specs.Shards.{named_cell, cells_of, cells_in, cell_count}
+use Rattle.sm_plan_text.specs.Shards.{named_cell, cells_of_shard, cells_in, cell_count}
 use Rattle.sm_plan_text.proofs.WalkLemmas.{enumerate_push}
 
-pub cells_in_push : (servers : List (List ℕ)) (ds : List Data) (d : Data) → cells_in servers (ds ++ d ∷ []) ≡ cells_in servers ds ++ cells_of servers (length ds, d)
+pub cells_in_push : (servers : List (List ℕ)) (ds : List Data) (d : Data) → cells_in servers (ds ++ d ∷ []) ≡ cells_in servers ds ++ cells_of_shard servers (length ds, d)
 cells_in_push servers ds d =
-    ap (flat_map (cells_of servers)) (enumerate_push 0 ds d ∙ ap (λ n. enumerate_from 0 ds ++ (n, d) ∷ []) (zero-add (length ds))) ∙
-    sym (flat_map_more (cells_of servers) [] (enumerate_from 0 ds) (length ds, d))
+    ap (flat_map (cells_of_shard servers)) (enumerate_push 0 ds d ∙ ap (λ n. enumerate_from 0 ds ++ (n, d) ∷ []) (zero-add (length ds))) ∙
+    sym (flat_map_more (cells_of_shard servers) [] (enumerate_from 0 ds) (length ds, d))
 
-cell_count_from : (servers : List (List ℕ)) (n : ℕ) (ds : List Data) → length (flat_map (cells_of servers) (enumerate_from n ds)) ≡ length (flat_map (entries_in members.Cells) ds)
+cell_count_from : (servers : List (List ℕ)) (n : ℕ) (ds : List Data) → length (flat_map (cells_of_shard servers) (enumerate_from n ds)) ≡ length (flat_map (entries_in members.Cells) ds)
 cell_count_from servers n [] = refl
 cell_count_from servers n (d ∷ ds) =
-    length-append (cells_of servers (n, d)) (flat_map (cells_of servers) (enumerate_from (n + 1) ds)) ∙
-    ap (λ k. k + length (flat_map (cells_of servers) (enumerate_from (n + 1) ds))) (length-map (entries_in members.Cells d) (named_cell servers (id_of n))) ∙
+    length-append (cells_of_shard servers (n, d)) (flat_map (cells_of_shard servers) (enumerate_from (n + 1) ds)) ∙
+    ap (λ k. k + length (flat_map (cells_of_shard servers) (enumerate_from (n + 1) ds))) (length-map (entries_in members.Cells d) (named_cell servers (id_of n))) ∙
     ap (λ k. length (entries_in members.Cells d) + k) (cell_count_from servers (n + 1) ds) ∙
     sym (length-append (entries_in members.Cells d) (flat_map (entries_in members.Cells) ds))
 

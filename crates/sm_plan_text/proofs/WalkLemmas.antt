@@ -6,13 +6,13 @@ use Rattle.serde_json.specs.Data.{Data}
 use Rattle.serde_json.specs.View.{view}
 use Rattle.serde_json.specs.declared.value.Value.{Value}
 use Rattle.sm_plan_text.specs.declared.fault.TextFault.{TextFault}
-use Rattle.sm_plan_text.specs.Faults.{noted, lower}
+use Rattle.sm_plan_text.specs.Faults.{noted, lower_fault}
 use Rattle.sm_plan_text.specs.Tables.{walked}
 
 -- the faults of one part and then of the next
 pub noted_append : (best : Option TextFault) (xs ys : List TextFault) → noted best (xs ++ ys) ≡ noted (noted best xs) ys
 noted_append best [] ys = refl
-noted_append best (x ∷ xs) ys = noted_append (Some (lower best x)) xs ys
+noted_append best (x ∷ xs) ys = noted_append (Some (lower_fault best x)) xs ys
 
 -- what is left of a walk, one entry on
 pub walked_more : (faults : List Data → Data → List TextFault) (ds : List Data) (i : ℕ) (d : Data) (best next : Option TextFault) → i < length ds → d ≡ get_or ds i d → next ≡ noted best (faults (take i ds) d) → noted next (walked faults (take (i + 1) ds) (drop (i + 1) ds)) ≡ noted best (walked faults (take i ds) (drop i ds))

@@ -5,7 +5,7 @@ use Rattle.sm_placement.specs.Setup.{Setup, IsSetup, names_of_servers, names_of_
 use Rattle.sm_placement.proofs.NamedLemmas.{server_named_at, shard_named_at}
 use Rattle.sm_reservation.specs.Rights.{Rights}
 use Rattle.sm_reservation.proofs.InOrder.{in_order_of_ordered}
-use Rattle.sm_plan_code.specs.Plan.{PlanParts, IsOrderedParcel, IsPlan, FitsPlan}
+use Rattle.sm_plan_code.specs.Plan.{PlanModel, IsOrderedParcel, IsPlan, IsKnownPlan}
 use Rattle.sm_plan_text.specs.declared.member.Member.{Member}
 use Rattle.sm_plan_text.specs.Faults.{answered}
 use Rattle.sm_plan_text.specs.Values.{number_named}
@@ -39,15 +39,15 @@ shard_names_lead setup is =
 placed : (r : Rights) → IsOrderedParcel r → IsPlaced r
 placed r h = record { ordered = h.ordered; same = in_order_of_ordered r h.ordered h.positive }
 
-pub written_is_read : (place : Member) (setup : Setup) (p : PlanParts) → IsSetup setup → IsPlan p → FitsPlan (length setup.shards) (length setup.servers) p → IsReadBack place (names_of_shards setup) (names_of_servers setup) p
+pub written_is_read : (place : Member) (setup : Setup) (p : PlanModel) → IsSetup setup → IsPlan p → IsKnownPlan (length setup.shards) (length setup.servers) p → IsReadBack place (names_of_shards setup) (names_of_servers setup) p
 written_is_read place setup p setup_is plan_is fits =
     let shards = names_of_shards setup in
     let servers = names_of_servers setup in
     let a : LeadBack shards = shard_names_lead setup setup_is in
     let b : LeadBack servers = server_names_lead setup setup_is in
-    let within : FitsPlan (length shards) (length servers) p =
-    subst (λ n. FitsPlan n (length servers) p) (sym (length-map setup.shards (λ r. r.name)))
-    (subst (λ n. FitsPlan (length setup.shards) n p) (sym (length-map setup.servers (λ r. r.name))) fits) in
+    let within : IsKnownPlan (length shards) (length servers) p =
+    subst (λ n. IsKnownPlan n (length servers) p) (sym (length-map setup.shards (λ r. r.name)))
+    (subst (λ n. IsKnownPlan (length setup.shards) n p) (sym (length-map setup.servers (λ r. r.name))) fits) in
     let held : All (λ s. IsPlaced s.holds) p.streams = λ i d h. placed _ (plan_is.parcels.streams i d h) in
     let carried : All IsPlaced p.signals = λ i d h. placed _ (plan_is.parcels.signals i d h) in
     record {
@@ -56,5 +56,5 @@ written_is_read place setup p setup_is plan_is fits =
     }
 
 -- a text whose value is the one that is written for a plan is read as that plan
-pub text_is_read : (shards servers : List (List ℕ)) (p : PlanParts) (bytes : List ℕ) → data_of bytes ≡ Some (plan_data shards servers p) → IsReadBack members.Document shards servers p → read_plan shards servers bytes ≡ Ok p
+pub text_is_read : (shards servers : List (List ℕ)) (p : PlanModel) (bytes : List ℕ) → data_of bytes ≡ Some (plan_data shards servers p) → IsReadBack members.Document shards servers p → read_plan shards servers bytes ≡ Ok p
 text_is_read shards servers p bytes is back = rw is (rw back.faultless (ap Ok back.same))

@@ -10,6 +10,7 @@ use Rattle.sm_plan_text.specs.declared.call.CallWord.{CallWord}
 use Rattle.sm_plan_text.specs.declared.call.CallWord.TheVariants as word
 use Rattle.sm_plan_text.specs.Values.{text_found, number_in, id_in, role_in}
 use Rattle.sm_plan_text.specs.Tables.{Row, one, whole, known, role, worded_faults}
+use Rattle.sm_plan_code.specs.declared.limits.TheConstants.{MOST_NUMBER}
 
 abbrev pub call_word : List ℕ → Option CallWord
 call_word text =
@@ -25,8 +26,8 @@ abbrev pub word_table : List (List ℕ) → CallWord → List Row
 word_table servers word.Add = one Role role ∷ []
 word_table servers word.Drop = []
 word_table servers word.Change = one From role ∷ one To role ∷ []
-word_table servers word.PrepareAdd = one Other (known servers) ∷ one Number (whole 4294967295) ∷ []
-word_table servers word.PrepareDrop = one Other (known servers) ∷ one Number (whole 4294967295) ∷ []
+word_table servers word.PrepareAdd = one Other (known servers) ∷ one Number (whole MOST_NUMBER) ∷ []
+word_table servers word.PrepareDrop = one Other (known servers) ∷ one Number (whole MOST_NUMBER) ∷ []
 
 abbrev pub call_table : List (List ℕ) → List (List ℕ) → CallWord → List Row
 call_table shards servers w = one Shard (known shards) ∷ one Server (known servers) ∷ word_table servers w
@@ -34,12 +35,12 @@ call_table shards servers w = one Shard (known shards) ∷ one Server (known ser
 abbrev pub call_faults : List (List ℕ) → List (List ℕ) → List Data → Data → List TextFault
 call_faults shards servers before d = worded_faults Calls CallMember call_word (call_table shards servers) d
 
-abbrev pub call_of : List (List ℕ) → Data → CallWord → Call
-call_of servers d word.Add = call.Add (role_in Role d)
-call_of servers d word.Drop = call.Drop
-call_of servers d word.Change = call.Change (role_in From d) (role_in To d)
-call_of servers d word.PrepareAdd = call.PrepareAdd (id_in servers Other d) (number_in Number 4294967295 d)
-call_of servers d word.PrepareDrop = call.PrepareDrop (id_in servers Other d) (number_in Number 4294967295 d)
+abbrev pub call_worded : List (List ℕ) → Data → CallWord → Call
+call_worded servers d word.Add = call.Add (role_in Role d)
+call_worded servers d word.Drop = call.Drop
+call_worded servers d word.Change = call.Change (role_in From d) (role_in To d)
+call_worded servers d word.PrepareAdd = call.PrepareAdd (id_in servers Other d) (number_in Number MOST_NUMBER d)
+call_worded servers d word.PrepareDrop = call.PrepareDrop (id_in servers Other d) (number_in Number MOST_NUMBER d)
 
 -- a call, with the shard that it is for and the server that it is made at
 abbrev pub NamedCall : Type 0
@@ -47,7 +48,7 @@ NamedCall = ℕ × ℕ × Call
 
 abbrev pub call_by : List (List ℕ) → List (List ℕ) → Data → Option CallWord → NamedCall
 call_by shards servers d None = (0, 0, call.Drop)
-call_by shards servers d (Some w) = (id_in shards Shard d, id_in servers Server d, call_of servers d w)
+call_by shards servers d (Some w) = (id_in shards Shard d, id_in servers Server d, call_worded servers d w)
 
 abbrev pub call_in : List (List ℕ) → List (List ℕ) → Data → NamedCall
 call_in shards servers d = call_by shards servers d (option_and_then call_word (text_found CallMember d))

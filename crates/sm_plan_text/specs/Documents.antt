@@ -4,7 +4,7 @@ use Rattle.serde_json.specs.Data.{Data}
 use Rattle.sm_placement.specs.Setup.{Setup}
 use Rattle.sm_placement.specs.Opening.{NamedCell}
 use Rattle.sm_placement.specs.Rows.{IsKnownCall}
-use Rattle.sm_plan_code.specs.Plan.{PlanParts, FitsPlan}
+use Rattle.sm_plan_code.specs.Plan.{PlanModel, IsKnownPlan}
 use Rattle.sm_plan_text.specs.declared.fault.TextFault.{TextFault}
 use Rattle.sm_plan_text.specs.declared.member.Member.TheVariants as members
 use Rattle.sm_plan_text.specs.Values.{found, number_in, number_or, list_in, entries_in, names_in, id_named, ids_in}
@@ -17,9 +17,12 @@ use Rattle.sm_plan_text.specs.declared.event.EventText.{EventText}
 use Rattle.sm_plan_text.specs.Events.{IsKnownEvent, event_faults, event_in}
 use Rattle.sm_plan_text.specs.declared.moves.MoveText.{MoveText}
 use Rattle.sm_plan_text.specs.Moves.{IsKnownMove, move_faults, move_in}
+use Rattle.sm_plan_text.specs.declared.limits.TheConstants.{MOST_EVENTS, MOST_MOVES, MOST_ASKS, LOG_PLACES}
+use Rattle.sm_plan_code.specs.declared.limits.TheConstants.{MOST_PLACES, MOST_PLANS}
+use Rattle.sm_placement.specs.declared.limits.TheConstants.{MOST_SERVERS, MOST_SHARDS, MOST_CELLS}
 
 -- what a document says
-pub record DocumentRows : Type 0 where
+pub record DocumentModel : Type 0 where
   pub setup : Setup
   pub cells : List NamedCell
   pub listed : List (Option ℕ)
@@ -27,8 +30,8 @@ pub record DocumentRows : Type 0 where
   pub limit : ℕ
   pub log : ℕ
   pub calls : Option (List NamedCall)
-  pub plan : Option PlanParts
-  pub plans : Option (List PlanParts)
+  pub plan : Option PlanModel
+  pub plans : Option (List PlanModel)
   pub events : Option (List EventText)
   pub moves : Option (List MoveText)
   pub drain : Option ℕ
@@ -36,17 +39,17 @@ pub record DocumentRows : Type 0 where
 
 abbrev pub document_table : List (List ℕ) → List (List ℕ) → List Row
 document_table shards servers =
-    one members.Limit (whole 1024) ∷
-    one members.Servers (list 1024) ∷
-    one members.Shards (list 4096) ∷
-    maybe members.Log (whole 1048576) ∷
-    maybe members.Calls (list 1048576) ∷
+    one members.Limit (whole MOST_SERVERS) ∷
+    one members.Servers (list MOST_SERVERS) ∷
+    one members.Shards (list MOST_SHARDS) ∷
+    maybe members.Log (whole MOST_PLACES) ∷
+    maybe members.Calls (list MOST_EVENTS) ∷
     maybe members.Plan object ∷
-    maybe members.Plans (list 16) ∷
-    maybe members.Events (list 1048576) ∷
-    maybe members.Moves (list 4096) ∷
+    maybe members.Plans (list MOST_PLANS) ∷
+    maybe members.Events (list MOST_EVENTS) ∷
+    maybe members.Moves (list MOST_MOVES) ∷
     maybe members.Drain (known servers) ∷
-    maybe members.Asks (known_list 16 shards) ∷ []
+    maybe members.Asks (known_list MOST_ASKS shards) ∷ []
 
 abbrev pub servers_in : Data → List Data
 servers_in d = entries_in members.Servers d
@@ -55,61 +58,61 @@ abbrev pub shards_in : Data → List Data
 shards_in d = entries_in members.Shards d
 
 -- the names of the servers, and of the shards
-abbrev pub server_names : Data → List (List ℕ)
-server_names d = names_in (servers_in d)
+abbrev pub server_names_in : Data → List (List ℕ)
+server_names_in d = names_in (servers_in d)
 
-abbrev pub shard_names : Data → List (List ℕ)
-shard_names d = names_in (shards_in d)
+abbrev pub shard_names_in : Data → List (List ℕ)
+shard_names_in d = names_in (shards_in d)
 
 -- all faults of a document, as a walk meets them: its own, and then those of the objects in it
 abbrev pub document_faults : Data → List TextFault
 document_faults d =
-    own_faults members.Document (document_table (shard_names d) (server_names d)) d
+    own_faults members.Document (document_table (shard_names_in d) (server_names_in d)) d
     ++ walked server_faults [] (servers_in d)
-    ++ walked (shard_faults (server_names d)) [] (shards_in d)
-    ++ walked (call_faults (shard_names d) (server_names d)) [] (entries_in members.Calls d)
-    ++ faults_within (plan_faults members.Plan (shard_names d) (server_names d) []) (found members.Plan d)
-    ++ walked (plan_faults members.Plans (shard_names d) (server_names d)) [] (entries_in members.Plans d)
-    ++ walked (event_faults (shard_names d) (server_names d)) [] (entries_in members.Events d)
-    ++ walked (move_faults (shard_names d) (server_names d)) [] (entries_in members.Moves d)
+    ++ walked (shard_faults (server_names_in d)) [] (shards_in d)
+    ++ walked (call_faults (shard_names_in d) (server_names_in d)) [] (entries_in members.Calls d)
+    ++ faults_within (plan_faults members.Plan (shard_names_in d) (server_names_in d) []) (found members.Plan d)
+    ++ walked (plan_faults members.Plans (shard_names_in d) (server_names_in d)) [] (entries_in members.Plans d)
+    ++ walked (event_faults (shard_names_in d) (server_names_in d)) [] (entries_in members.Events d)
+    ++ walked (move_faults (shard_names_in d) (server_names_in d)) [] (entries_in members.Moves d)
 
 abbrev pub setup_in : Data → Setup
 setup_in d = record { servers = map server_in (servers_in d); shards = map shard_in (shards_in d) }
 
-abbrev pub rows_in : Data → DocumentRows
+abbrev pub rows_in : Data → DocumentModel
 rows_in d = record {
   setup = setup_in d;
-  cells = cells_in (server_names d) (shards_in d);
-  listed = map (listed_in (server_names d)) (shards_in d);
+  cells = cells_in (server_names_in d) (shards_in d);
+  listed = map (listed_in (server_names_in d)) (shards_in d);
   down = down_in (servers_in d);
-  limit = number_in members.Limit 1024 d;
-  log = number_or 65536 members.Log 1048576 d;
-  calls = option_map (map (call_in (shard_names d) (server_names d))) (list_in members.Calls d);
-  plan = option_map (plan_in (shard_names d) (server_names d)) (found members.Plan d);
-  plans = option_map (map (plan_in (shard_names d) (server_names d))) (list_in members.Plans d);
-  events = option_map (map (event_in (shard_names d) (server_names d))) (list_in members.Events d);
-  moves = option_map (map (move_in (shard_names d) (server_names d))) (list_in members.Moves d);
-  drain = option_and_then (id_named (server_names d)) (found members.Drain d);
-  asks = ids_in (shard_names d) members.Asks d;
+  limit = number_in members.Limit MOST_SERVERS d;
+  log = number_or LOG_PLACES members.Log MOST_PLACES d;
+  calls = option_map (map (call_in (shard_names_in d) (server_names_in d))) (list_in members.Calls d);
+  plan = option_map (plan_in (shard_names_in d) (server_names_in d)) (found members.Plan d);
+  plans = option_map (map (plan_in (shard_names_in d) (server_names_in d))) (list_in members.Plans d);
+  events = option_map (map (event_in (shard_names_in d) (server_names_in d))) (list_in members.Events d);
+  moves = option_map (map (move_in (shard_names_in d) (server_names_in d))) (list_in members.Moves d);
+  drain = option_and_then (id_named (server_names_in d)) (found members.Drain d);
+  asks = ids_in (shard_names_in d) members.Asks d;
 }
 
 -- every id is below its count
-pub record IsDocument (rows : DocumentRows) : Type 0 where
+pub record IsDocument (rows : DocumentModel) : Type 0 where
   pub cells : All (λ cell. (cell.0 < length rows.setup.shards) × (cell.1 < length rows.setup.servers)) rows.cells
   pub listed : All (λ entry. IfSome entry (λ server. server < length rows.setup.servers)) rows.listed
   pub down : All (λ server. server < length rows.setup.servers) rows.down
   pub calls : IfSome rows.calls (λ calls. All (λ call. (call.0 < length rows.setup.shards) × (call.1 < length rows.setup.servers) × IsKnownCall (length rows.setup.servers) call.2) calls)
-  pub plan : IfSome rows.plan (FitsPlan (length rows.setup.shards) (length rows.setup.servers))
-  pub plans : IfSome rows.plans (All (FitsPlan (length rows.setup.shards) (length rows.setup.servers)))
+  pub plan : IfSome rows.plan (IsKnownPlan (length rows.setup.shards) (length rows.setup.servers))
+  pub plans : IfSome rows.plans (All (IsKnownPlan (length rows.setup.shards) (length rows.setup.servers)))
   pub events : IfSome rows.events (All (IsKnownEvent (length rows.setup.shards) (length rows.setup.servers)))
   pub moves : IfSome rows.moves (All (IsKnownMove (length rows.setup.shards) (length rows.setup.servers)))
   pub drain : IfSome rows.drain (λ server. server < length rows.setup.servers)
   pub asks : All (λ shard. shard < length rows.setup.shards) rows.asks
   -- each shard has its entry in the published map, and there are no more cells than a placement may be opened with
   pub listed_length : length rows.listed ≡ length rows.setup.shards
-  pub cell_count : length rows.cells ≤ 1048576
-  pub limit : rows.limit ≤ 1024
-  pub log : rows.log ≤ 1048576
-  pub plan_count : IfSome rows.plans (λ plans. length plans ≤ 16)
-  pub move_count : IfSome rows.moves (λ moves. length moves ≤ 4096)
-  pub ask_count : length rows.asks ≤ 16
+  pub cell_count : length rows.cells ≤ MOST_CELLS
+  pub limit : rows.limit ≤ MOST_SERVERS
+  pub log : rows.log ≤ MOST_PLACES
+  pub plan_count : IfSome rows.plans (λ plans. length plans ≤ MOST_PLANS)
+  pub move_count : IfSome rows.moves (λ moves. length moves ≤ MOST_MOVES)
+  pub ask_count : length rows.asks ≤ MOST_ASKS

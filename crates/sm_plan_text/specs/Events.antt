@@ -10,6 +10,7 @@ use Rattle.sm_plan_text.specs.declared.event.EventWord.{EventWord}
 use Rattle.sm_plan_text.specs.declared.event.EventWord.TheVariants as word
 use Rattle.sm_plan_text.specs.Values.{text_found, number_in, number_or, id_in, after_in}
 use Rattle.sm_plan_text.specs.Tables.{Row, one, maybe, whole, known, when, worded_faults}
+use Rattle.sm_plan_code.specs.declared.limits.TheConstants.{MOST_NUMBER, MOST_CALLS}
 
 abbrev pub event_word : List ℕ → Option EventWord
 event_word text =
@@ -25,34 +26,34 @@ event_word text =
 
 -- the members that an event has by its word
 abbrev pub event_table : List (List ℕ) → List (List ℕ) → EventWord → List Row
-event_table shards servers word.Step = maybe Plan (whole 4294967295) ∷ one Stream (whole 4294967295) ∷ []
+event_table shards servers word.Step = maybe Plan (whole MOST_NUMBER) ∷ one Stream (whole MOST_NUMBER) ∷ []
 event_table shards servers word.Request = one Shard (known shards) ∷ one Server (known servers) ∷ []
-event_table shards servers word.PassOn = one Ticket (whole 4294967295) ∷ []
+event_table shards servers word.PassOn = one Ticket (whole MOST_NUMBER) ∷ []
 event_table shards servers word.Approve = one Server (known servers) ∷ []
 event_table shards servers word.Done = one Server (known servers) ∷ []
-event_table shards servers word.Lose = maybe Plan (whole 4294967295) ∷ one Stream (whole 4294967295) ∷ one When when ∷ []
-event_table shards servers word.Refill = maybe Plan (whole 4294967295) ∷ one Stream (whole 4294967295) ∷ one More (whole 262144) ∷ []
-event_table shards servers word.Begin = one Plan (whole 4294967295) ∷ []
+event_table shards servers word.Lose = maybe Plan (whole MOST_NUMBER) ∷ one Stream (whole MOST_NUMBER) ∷ one When when ∷ []
+event_table shards servers word.Refill = maybe Plan (whole MOST_NUMBER) ∷ one Stream (whole MOST_NUMBER) ∷ one More (whole MOST_CALLS) ∷ []
+event_table shards servers word.Begin = one Plan (whole MOST_NUMBER) ∷ []
 
 abbrev pub event_faults : List (List ℕ) → List (List ℕ) → List Data → Data → List TextFault
 event_faults shards servers before d = worded_faults Events EventMember event_word (event_table shards servers) d
 
 -- the plan whose stream is meant: the first one if none is named
-abbrev pub plan_in : Data → ℕ
-plan_in d = number_or 0 Plan 4294967295 d
+abbrev pub plan_number_in : Data → ℕ
+plan_number_in d = number_or 0 Plan MOST_NUMBER d
 
-abbrev pub stream_in : Data → ℕ
-stream_in d = number_in Stream 4294967295 d
+abbrev pub stream_number_in : Data → ℕ
+stream_number_in d = number_in Stream MOST_NUMBER d
 
 abbrev pub event_of : List (List ℕ) → List (List ℕ) → Data → EventWord → EventText
-event_of shards servers d word.Step = event.Step (plan_in d) (stream_in d)
+event_of shards servers d word.Step = event.Step (plan_number_in d) (stream_number_in d)
 event_of shards servers d word.Request = event.Request (id_in shards Shard d) (id_in servers Server d)
-event_of shards servers d word.PassOn = event.PassOn (number_in Ticket 4294967295 d)
+event_of shards servers d word.PassOn = event.PassOn (number_in Ticket MOST_NUMBER d)
 event_of shards servers d word.Approve = event.Approve (id_in servers Server d)
 event_of shards servers d word.Done = event.Done (id_in servers Server d)
-event_of shards servers d word.Lose = event.Lose (plan_in d) (stream_in d) (after_in When d)
-event_of shards servers d word.Refill = event.Refill (plan_in d) (stream_in d) (number_in More 262144 d)
-event_of shards servers d word.Begin = event.Begin (number_in Plan 4294967295 d)
+event_of shards servers d word.Lose = event.Lose (plan_number_in d) (stream_number_in d) (after_in When d)
+event_of shards servers d word.Refill = event.Refill (plan_number_in d) (stream_number_in d) (number_in More MOST_CALLS d)
+event_of shards servers d word.Begin = event.Begin (number_in Plan MOST_NUMBER d)
 
 abbrev pub event_by : List (List ℕ) → List (List ℕ) → Data → Option EventWord → EventText
 event_by shards servers d None = event.Begin 0
@@ -69,5 +70,5 @@ IsKnownEvent shards servers (event.PassOn ticket) = Unit {0}
 IsKnownEvent shards servers (event.Approve server) = server < servers
 IsKnownEvent shards servers (event.Done server) = server < servers
 IsKnownEvent shards servers (event.Lose plan stream after) = Unit {0}
-IsKnownEvent shards servers (event.Refill plan stream more) = more ≤ 262144
+IsKnownEvent shards servers (event.Refill plan stream more) = more ≤ MOST_CALLS
 IsKnownEvent shards servers (event.Begin plan) = Unit {0}

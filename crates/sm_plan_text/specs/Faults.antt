@@ -12,14 +12,14 @@ number_of (TooMany _) = 5
 number_of (Number _) = 6
 
 -- the one of lower number, of equals the first
-abbrev pub lower : Option TextFault → TextFault → TextFault
-lower None later = later
-lower (Some best) later = if nat_lt (number_of later) (number_of best) then later else best
+abbrev pub lower_fault : Option TextFault → TextFault → TextFault
+lower_fault None later = later
+lower_fault (Some best) later = if nat_lt (number_of later) (number_of best) then later else best
 
 -- what is answered once these faults have come too
 abbrev pub noted : Option TextFault → List TextFault → Option TextFault
 noted best [] = best
-noted best (fault ∷ faults) = noted (Some (lower best fault)) faults
+noted best (fault ∷ faults) = noted (Some (lower_fault best fault)) faults
 
 -- what is answered of the faults that a walk meets
 abbrev pub answered : List TextFault → Option TextFault

@@ -12,4 +12,5 @@ pub mod Instructions
 pub mod Plans
 pub mod PlanTexts
 pub mod Documents
+pub mod Opened
 pub mod Reading

@@ -20,6 +20,7 @@ use Rattle.sm_plan_text.specs.declared.parcel.LeadWord.TheVariants as word
 use Rattle.sm_plan_text.specs.Values.{text_found, number_in, id_in, entries_in}
 use Rattle.sm_plan_text.specs.Tables.{Row, one, maybe, whole, text, known, known_or_null, keyed, own_faults, worded_faults, walked}
 use Rattle.sm_plan_text.specs.Shards.{listed_in}
+use Rattle.sm_plan_code.specs.declared.limits.TheConstants.{MOST_AMOUNT, MOST_RIGHTS}
 
 -- ---- rights to cells
 
@@ -70,16 +71,16 @@ crown_table shards servers w = one members.Shard (known shards) ∷ maybe member
 abbrev pub crown_faults : List (List ℕ) → List (List ℕ) → List Data → Data → List TextFault
 crown_faults shards servers before d = worded_faults members.Crowns members.Lead lead_word (crown_table shards servers) d
 
-abbrev pub lead_of : List (List ℕ) → Data → LeadWord → Lead
-lead_of servers d word.Gone = lead.Gone
-lead_of servers d word.At = lead.At (id_in servers members.Server d)
-lead_of servers d word.Ready = lead.Ready (id_in servers members.From d) (id_in servers members.To d)
-lead_of servers d word.Handing = lead.Handing (id_in servers members.From d) (id_in servers members.To d)
-lead_of servers d word.Handed = lead.Handed (id_in servers members.From d) (id_in servers members.To d)
+abbrev pub lead_worded : List (List ℕ) → Data → LeadWord → Lead
+lead_worded servers d word.Gone = lead.Gone
+lead_worded servers d word.At = lead.At (id_in servers members.Server d)
+lead_worded servers d word.Ready = lead.Ready (id_in servers members.From d) (id_in servers members.To d)
+lead_worded servers d word.Handing = lead.Handing (id_in servers members.From d) (id_in servers members.To d)
+lead_worded servers d word.Handed = lead.Handed (id_in servers members.From d) (id_in servers members.To d)
 
 abbrev pub crown_by : List (List ℕ) → List (List ℕ) → Data → Option LeadWord → Crown
 crown_by shards servers d None = record { shard = 0; lead = lead.Gone; listed = None }
-crown_by shards servers d (Some w) = record { shard = id_in shards members.Shard d; lead = lead_of servers d w; listed = listed_in servers d }
+crown_by shards servers d (Some w) = record { shard = id_in shards members.Shard d; lead = lead_worded servers d w; listed = listed_in servers d }
 
 abbrev pub crown_in : List (List ℕ) → List (List ℕ) → Data → Crown
 crown_in shards servers d = crown_by shards servers d (option_and_then lead_word (text_found members.Lead d))
@@ -87,45 +88,45 @@ crown_in shards servers d = crown_by shards servers d (option_and_then lead_word
 -- ---- room and spare replicas
 
 abbrev pub room_table : List (List ℕ) → List Row
-room_table servers = one members.Server (known servers) ∷ one members.Amount (whole 4294967295) ∷ []
+room_table servers = one members.Server (known servers) ∷ one members.Amount (whole MOST_AMOUNT) ∷ []
 
 abbrev pub room_faults : List (List ℕ) → List Data → Data → List TextFault
 room_faults servers before d = own_faults members.Room (room_table servers) d
 
 abbrev pub room_in : List (List ℕ) → Data → Room
-room_in servers d = record { server = id_in servers members.Server d; amount = number_in members.Amount 4294967295 d }
+room_in servers d = record { server = id_in servers members.Server d; amount = number_in members.Amount MOST_AMOUNT d }
 
 abbrev pub spare_table : List (List ℕ) → List Row
-spare_table shards = one members.Shard (known shards) ∷ one members.Amount (whole 4294967295) ∷ []
+spare_table shards = one members.Shard (known shards) ∷ one members.Amount (whole MOST_AMOUNT) ∷ []
 
 abbrev pub spare_faults : List (List ℕ) → List Data → Data → List TextFault
 spare_faults shards before d = own_faults members.Spare (spare_table shards) d
 
 abbrev pub spare_in : List (List ℕ) → Data → Spare
-spare_in shards d = record { shard = id_in shards members.Shard d; amount = number_in members.Amount 4294967295 d }
+spare_in shards d = record { shard = id_in shards members.Shard d; amount = number_in members.Amount MOST_AMOUNT d }
 
 -- ---- parcels
 
 -- each key stands once in its list: a cell's shard and server, a crown's shard, a server, or a shard
 abbrev pub parcel_table : List Row
 parcel_table =
-    maybe members.Cells (keyed 4096 (members.Shard ∷ members.Server ∷ [])) ∷
-    maybe members.Crowns (keyed 4096 (members.Shard ∷ [])) ∷
-    maybe members.Room (keyed 4096 (members.Server ∷ [])) ∷
-    maybe members.Spare (keyed 4096 (members.Shard ∷ [])) ∷ []
+    maybe members.Cells (keyed MOST_RIGHTS (members.Shard ∷ members.Server ∷ [])) ∷
+    maybe members.Crowns (keyed MOST_RIGHTS (members.Shard ∷ [])) ∷
+    maybe members.Room (keyed MOST_RIGHTS (members.Server ∷ [])) ∷
+    maybe members.Spare (keyed MOST_RIGHTS (members.Shard ∷ [])) ∷ []
 
--- the faults of the parcel that stands in this place, and then of its entries
+-- the faults of the parcel that stands in this member, and then of its entries
 abbrev pub parcel_faults : Member → List (List ℕ) → List (List ℕ) → List Data → Data → List TextFault
-parcel_faults place shards servers before d =
-    own_faults place parcel_table d
+parcel_faults parent shards servers before d =
+    own_faults parent parcel_table d
     ++ walked (right_faults shards servers) [] (entries_in members.Cells d)
     ++ walked (crown_faults shards servers) [] (entries_in members.Crowns d)
     ++ walked (room_faults servers) [] (entries_in members.Room d)
     ++ walked (spare_faults shards) [] (entries_in members.Spare d)
 
 -- the rights of a parcel as they are written
-abbrev pub rights_in : List (List ℕ) → List (List ℕ) → Data → Rights
-rights_in shards servers d = record {
+abbrev pub parcel_lists_in : List (List ℕ) → List (List ℕ) → Data → Rights
+parcel_lists_in shards servers d = record {
   cells = map (right_in shards servers) (entries_in members.Cells d);
   crowns = map (crown_in shards servers) (entries_in members.Crowns d);
   room = map (room_in servers) (entries_in members.Room d);
@@ -139,4 +140,4 @@ pub record HaveIds (shard_names server_names : List (List ℕ)) : Type 0 where
 
 -- the parcel: its rights in the order of their keys, without amounts of 0
 abbrev pub parcel_in : List (List ℕ) → List (List ℕ) → Data → Rights
-parcel_in shards servers d = in_order (rights_in shards servers d)
+parcel_in shards servers d = in_order (parcel_lists_in shards servers d)

@@ -17,7 +17,7 @@ use Rattle.sm_reservation.specs.declared.right.Spare.{Spare}
 use Rattle.sm_reservation.specs.Rights.{Rights}
 use Rattle.sm_plan_code.specs.declared.instruction.Instr.{Instr}
 use Rattle.sm_plan_code.specs.declared.instruction.Instr.TheVariants as instr
-use Rattle.sm_plan_code.specs.Plan.{StreamParts, PlanParts}
+use Rattle.sm_plan_code.specs.Plan.{StreamModel, PlanModel}
 use Rattle.sm_plan_text.specs.declared.member.Member.{Member}
 use Rattle.sm_plan_text.specs.declared.member.Member.TheVariants.{Server, Shard, State, Lead as LeadMember, Listed, From, To, Amount, Cells, Crowns, Room as RoomMember, Spare as SpareMember, Do, Other, Role as RoleMember, Signal, Budget, Code, Holds, Retries, Format, Signals, Streams}
 use Rattle.sm_plan_text.specs.Members.{text_of}
@@ -152,11 +152,11 @@ instr_data shards servers (instr.Wait k) = signal_data (codes "wait") k
 -- ---- plans
 
 -- some stream has retries
-abbrev pub has_retries : PlanParts → Bool
+abbrev pub has_retries : PlanModel → Bool
 has_retries p = list_any (λ s. nat_lt 0 s.retries) p.streams
 
 -- a stream, whose retries are written in plans of format 2
-abbrev pub stream_data : List (List ℕ) → List (List ℕ) → Bool → StreamParts → Data
+abbrev pub stream_data : List (List ℕ) → List (List ℕ) → Bool → StreamModel → Data
 stream_data shards servers retries s = saying (
     (Budget, whole_data s.budget) ∷
     (Code, list_data (map (instr_data shards servers) s.code)) ∷
@@ -164,10 +164,10 @@ stream_data shards servers retries s = saying (
     (if retries then (Retries, whole_data s.retries) ∷ [] else []))
 
 -- Format 1 has no retries.
-abbrev pub format_of : PlanParts → ℕ
+abbrev pub format_of : PlanModel → ℕ
 format_of p = if has_retries p then 2 else 1
 
-abbrev pub plan_data : List (List ℕ) → List (List ℕ) → PlanParts → Data
+abbrev pub plan_data : List (List ℕ) → List (List ℕ) → PlanModel → Data
 plan_data shards servers p = saying (
     (Budget, whole_data p.budget) ∷
     (Format, whole_data (format_of p)) ∷
@@ -175,12 +175,12 @@ plan_data shards servers p = saying (
     (Streams, list_data (map (stream_data shards servers (has_retries p)) p.streams)) ∷ [])
 
 -- what is written for a plan
-abbrev pub plan_text : List (List ℕ) → List (List ℕ) → PlanParts → List ℕ
+abbrev pub plan_text : List (List ℕ) → List (List ℕ) → PlanModel → List ℕ
 plan_text shards servers p = compact_text (plan_data shards servers p)
 
 -- ---- what is written is read back
 
--- the value that is written for a plan has no fault, in whatever place it stands, and is read as that plan
-pub record IsReadBack (place : Member) (shards servers : List (List ℕ)) (p : PlanParts) : Type 0 where
-  pub faultless : answered (plan_faults place shards servers [] (plan_data shards servers p)) ≡ None
+-- the value that is written for a plan has no fault, in whatever member it stands, and is read as that plan
+pub record IsReadBack (parent : Member) (shards servers : List (List ℕ)) (p : PlanModel) : Type 0 where
+  pub faultless : answered (plan_faults parent shards servers [] (plan_data shards servers p)) ≡ None
   pub same : plan_in shards servers (plan_data shards servers p) ≡ p

@@ -4,7 +4,7 @@ use Rattle.std.specs.Str.{is_utf8}
 use Rattle.serde_json.specs.Data.{Data}
 use Rattle.serde_json.specs.Read as json
 use Rattle.sm_placement.specs.Config.{setup_of}
-use Rattle.sm_plan_code.specs.Plan.{PlanParts}
+use Rattle.sm_plan_code.specs.Plan.{PlanModel}
 use Rattle.sm_plan_text.specs.declared.fault.TextFault.{TextFault}
 use Rattle.sm_plan_text.specs.declared.fault.TextFault.TheVariants.{NotJson}
 use Rattle.sm_plan_text.specs.declared.member.Member.TheVariants as members
@@ -12,7 +12,7 @@ use Rattle.sm_plan_text.specs.declared.document.Document.{Document}
 use Rattle.sm_plan_text.specs.declared.document.Parts.{Parts}
 use Rattle.sm_plan_text.specs.Faults.{answered}
 use Rattle.sm_plan_text.specs.Plans.{plan_faults, plan_in}
-use Rattle.sm_plan_text.specs.Documents.{DocumentRows, document_faults, rows_in}
+use Rattle.sm_plan_text.specs.Documents.{DocumentModel, document_faults, rows_in}
 
 -- the JSON value that the bytes are in UTF-8
 abbrev pub data_of : List ℕ → Option Data
@@ -22,24 +22,24 @@ abbrev unless : {A : Type 0} → Option TextFault → A → Result A TextFault
 unless None read = Ok read
 unless (Some fault) read = Err fault
 
-abbrev pub read_data : Option Data → Result DocumentRows TextFault
+abbrev pub read_data : Option Data → Result DocumentModel TextFault
 read_data None = Err NotJson
 read_data (Some d) = unless (answered (document_faults d)) (rows_in d)
 
 -- what the bytes are read as: a document, or the fault that is answered
-abbrev pub read : List ℕ → Result DocumentRows TextFault
+abbrev pub read : List ℕ → Result DocumentModel TextFault
 read bytes = read_data (data_of bytes)
 
-abbrev pub read_plan_data : List (List ℕ) → List (List ℕ) → Option Data → Result PlanParts TextFault
+abbrev pub read_plan_data : List (List ℕ) → List (List ℕ) → Option Data → Result PlanModel TextFault
 read_plan_data shards servers None = Err NotJson
 read_plan_data shards servers (Some d) = unless (answered (plan_faults members.Document shards servers [] d)) (plan_in shards servers d)
 
 -- what the bytes are read as that are to be one plan, where shards and servers have these names
-abbrev pub read_plan : List (List ℕ) → List (List ℕ) → List ℕ → Result PlanParts TextFault
+abbrev pub read_plan : List (List ℕ) → List (List ℕ) → List ℕ → Result PlanModel TextFault
 read_plan shards servers bytes = read_plan_data shards servers (data_of bytes)
 
 -- what a document says that was read
-abbrev pub rows_of : Document → DocumentRows
+abbrev pub rows_of : Document → DocumentModel
 rows_of d = record {
   setup = d.config;
   cells = d.cells.items;
@@ -57,7 +57,7 @@ rows_of d = record {
 }
 
 -- the same of a document whose servers and shards are not a configuration yet
-abbrev pub rows_of_parts : Parts → DocumentRows
+abbrev pub rows_of_parts : Parts → DocumentModel
 rows_of_parts p = record {
   setup = setup_of p.servers.items p.shards.items;
   cells = p.cells.items;

@@ -7,12 +7,13 @@ use Rattle.sm_placement.specs.Setup.{ShardRow}
 use Rattle.sm_placement.specs.Opening.{NamedCell}
 use Rattle.sm_plan_text.specs.declared.fault.TextFault.{TextFault}
 use Rattle.sm_plan_text.specs.declared.member.Member.TheVariants.{Shards, Name, Load, Want, Cap, Spread, Listed, Cells, Server, State}
-use Rattle.sm_plan_text.specs.Values.{found, text_in, whole_of, number_in, entries_in, names_in, id_named, id_in, id_of, role_in}
+use Rattle.sm_plan_text.specs.Values.{found, text_in, whole_number_of, number_in, entries_in, names_in, id_named, id_in, id_of, role_in}
 use Rattle.sm_plan_text.specs.Tables.{Row, one, maybe, new_name, whole, known, known_or_null, role, list, own_faults, walked}
+use Rattle.sm_placement.specs.declared.limits.TheConstants.{MOST_LOAD, MOST_REPLICAS, MOST_CELLS}
 
 -- no more replicas of a shard may be away at once than it wants, where it says how many it wants
 abbrev pub cap_limit : Data → ℕ
-cap_limit d = min 1024 (unwrap_or (option_and_then whole_of (found Want d)) 1024)
+cap_limit d = min MOST_REPLICAS (unwrap_or (option_and_then whole_number_of (found Want d)) MOST_REPLICAS)
 
 -- how many cells these shards have
 abbrev pub cell_count : List Data → ℕ
@@ -21,10 +22,10 @@ cell_count shards = length (flat_map (entries_in Cells) shards)
 abbrev pub shard_table : List (List ℕ) → List (List ℕ) → ℕ → Data → List Row
 shard_table servers taken most_cells d =
     one Name (new_name taken) ∷
-    one Load (whole 4294967295) ∷
-    one Want (whole 1024) ∷
+    one Load (whole MOST_LOAD) ∷
+    one Want (whole MOST_REPLICAS) ∷
     one Cap (whole (cap_limit d)) ∷
-    one Spread (whole 1024) ∷
+    one Spread (whole MOST_REPLICAS) ∷
     maybe Listed (known_or_null servers) ∷
     one Cells (list most_cells) ∷ []
 
@@ -39,7 +40,7 @@ cell_faults servers before d = own_faults Cells (cell_table servers) d
 -- the faults of a shard, and then of its cells. All shards may have 1,048,576 cells together
 abbrev pub faults_of_shard : List (List ℕ) → List (List ℕ) → ℕ → Data → List TextFault
 faults_of_shard servers taken cells d =
-    own_faults Shards (shard_table servers taken (1048576 - cells) d) d
+    own_faults Shards (shard_table servers taken (MOST_CELLS - cells) d) d
     ++ walked (cell_faults servers) [] (entries_in Cells d)
 
 -- the faults of a shard that stands behind these
@@ -49,10 +50,10 @@ shard_faults servers before d = faults_of_shard servers (names_in before) (cell_
 abbrev pub shard_in : Data → ShardRow
 shard_in d = record {
   name = text_in Name d;
-  load = number_in Load 4294967295 d;
-  want = number_in Want 1024 d;
+  load = number_in Load MOST_LOAD d;
+  want = number_in Want MOST_REPLICAS d;
   cap = number_in Cap (cap_limit d) d;
-  spread = number_in Spread 1024 d;
+  spread = number_in Spread MOST_REPLICAS d;
 }
 
 -- the server that the shard's entry in the published map names
@@ -62,8 +63,8 @@ listed_in servers d = option_and_then (id_named servers) (found Listed d)
 abbrev pub named_cell : List (List ℕ) → ℕ → Data → NamedCell
 named_cell servers shard d = (shard, id_in servers Server d, cell_in (role_in State d))
 
-abbrev pub cells_of : List (List ℕ) → ℕ × Data → List NamedCell
-cells_of servers numbered = map (named_cell servers (id_of numbered.0)) (entries_in Cells numbered.1)
+abbrev pub cells_of_shard : List (List ℕ) → ℕ × Data → List NamedCell
+cells_of_shard servers numbered = map (named_cell servers (id_of numbered.0)) (entries_in Cells numbered.1)
 
 abbrev pub cells_in : List (List ℕ) → List Data → List NamedCell
-cells_in servers shards = flat_map (cells_of servers) (enumerate_from 0 shards)
+cells_in servers shards = flat_map (cells_of_shard servers) (enumerate_from 0 shards)

@@ -10,7 +10,7 @@ use Rattle.sm_plan_text.specs.declared.fault.TextFault.{TextFault}
 use Rattle.sm_plan_text.specs.declared.fault.TextFault.TheVariants.{Shape, UnknownName, TooMany, Number}
 use Rattle.sm_plan_text.specs.declared.member.Member.{Member}
 use Rattle.sm_plan_text.specs.Members.{text_of}
-use Rattle.sm_plan_text.specs.Values.{found, text_found, entries, entries_of, number_named, role_named, after_named}
+use Rattle.sm_plan_text.specs.Values.{found, text_found, entries, items_of, number_named, role_named, after_named}
 
 -- what a member's value is to be
 pub data Want : Type 0 where
@@ -147,8 +147,8 @@ value_faults m (text passes) d = text_fault m passes (as_str d)
 value_faults m (known names) d = name_fault m names (as_str d)
 value_faults m (known_or_null names) d = if is_some (as_null d) then [] else name_fault m names (as_str d)
 value_faults m (list limit) d = list_fault m limit (as_array d)
-value_faults m (known_list limit names) d = list_fault m limit (as_array d) ++ flat_map (entry_faults m names) (entries_of d)
-value_faults m (keyed limit key) d = list_fault m limit (as_array d) ++ double_faults m key (entries_of d)
+value_faults m (known_list limit names) d = list_fault m limit (as_array d) ++ flat_map (entry_faults m names) (items_of d)
+value_faults m (keyed limit key) d = list_fault m limit (as_array d) ++ double_faults m key (items_of d)
 value_faults m (below count) d = index_fault m count (as_number d)
 value_faults m format d = format_fault m (as_number d)
 value_faults m object d = if is_some (as_object d) then [] else Shape m ∷ []
@@ -166,32 +166,32 @@ abbrev pub keys_of : Members → List (List ℕ)
 keys_of no_members = []
 keys_of (member key d rest) = key ∷ keys_of rest
 
-abbrev pub has_unknown : List (List ℕ) → Members → Bool
-has_unknown names members = list_any (λ key. not (is_among names key)) (keys_of members)
+abbrev pub has_unknown_member : List (List ℕ) → Members → Bool
+has_unknown_member names members = list_any (λ key. not (is_among names key)) (keys_of members)
 
 abbrev unknown_fault : Member → List (List ℕ) → Option Members → List TextFault
-unknown_fault place names None = Shape place ∷ []
-unknown_fault place names (Some members) = if has_unknown names members then Shape place ∷ [] else []
+unknown_fault parent names None = Shape parent ∷ []
+unknown_fault parent names (Some members) = if has_unknown_member names members then Shape parent ∷ [] else []
 
--- what stands in this place is no object, or has a member that is none of these
+-- what stands in this member is no object, or has a member that is none of these
 abbrev pub object_faults : Member → List (List ℕ) → Data → List TextFault
-object_faults place names d = unknown_fault place names (as_object d)
+object_faults parent names d = unknown_fault parent names (as_object d)
 
--- the faults of the object itself that stands in this place, where this is its table
+-- the faults of the object itself that stands in this member, where this is its table
 abbrev pub own_faults : Member → List Row → Data → List TextFault
-own_faults place table d = object_faults place (map (λ row. text_of row.member) table) d ++ flat_map (row_faults d) table
+own_faults parent table d = object_faults parent (map (λ row. text_of row.member) table) d ++ flat_map (row_faults d) table
 
--- what stands in this place is no object, or a word of it isn't listed
+-- what stands in this member is no object, or a word of it isn't listed
 abbrev pub unlisted_faults : Member → Member → Data → List TextFault
-unlisted_faults place word d = (if is_some (as_object d) then [] else Shape place ∷ []) ++ Shape word ∷ []
+unlisted_faults parent word d = (if is_some (as_object d) then [] else Shape parent ∷ []) ++ Shape word ∷ []
 
 abbrev pub by_word : {W : Type 0} → Member → Member → (W → List Row) → Data → Option W → List TextFault
-by_word place word table d None = unlisted_faults place word d
-by_word place word table d (Some w) = object_faults place (text_of word ∷ map (λ row. text_of row.member) (table w)) d ++ flat_map (row_faults d) (table w)
+by_word parent word table d None = unlisted_faults parent word d
+by_word parent word table d (Some w) = object_faults parent (text_of word ∷ map (λ row. text_of row.member) (table w)) d ++ flat_map (row_faults d) (table w)
 
 -- the faults of the object itself, where a word of it says which table it has
 abbrev pub worded_faults : {W : Type 0} → Member → Member → (List ℕ → Option W) → (W → List Row) → Data → List TextFault
-worded_faults place word named table d = by_word place word table d (option_and_then named (text_found word d))
+worded_faults parent word named table d = by_word parent word table d (option_and_then named (text_found word d))
 
 -- The faults of the entries of a list, front to back. Those of an entry may depend on the entries before it.
 abbrev pub walked : (List Data → Data → List TextFault) → List Data → List Data → List TextFault

@@ -10,6 +10,7 @@ use Rattle.sm_server.specs.declared.call.Role.TheVariants.{Primary, Secondary}
 use Rattle.sm_plan_text.specs.declared.member.Member.{Member}
 use Rattle.sm_plan_text.specs.declared.member.Member.TheVariants as members
 use Rattle.sm_plan_text.specs.Members.{text_of}
+use Rattle.sm_plan_code.specs.declared.limits.TheConstants.{MOST_NUMBER}
 
 -- the value of a member
 abbrev pub found : Member → Data → Option Data
@@ -33,11 +34,11 @@ abbrev pub under : ℕ → ℕ → ℕ
 under count n = if nat_lt n count then n else 0
 
 -- the whole number that a value is
-abbrev pub whole_of : Data → Option ℕ
-whole_of d = option_and_then as_u64 (as_number d)
+abbrev pub whole_number_of : Data → Option ℕ
+whole_number_of d = option_and_then as_u64 (as_number d)
 
 abbrev pub limited : ℕ → Data → ℕ
-limited limit d = up_to limit (unwrap_or (whole_of d) 0)
+limited limit d = up_to limit (unwrap_or (whole_number_of d) 0)
 
 abbrev pub number_in : Member → ℕ → Data → ℕ
 number_in member limit d = unwrap_or (option_map (limited limit) (found member d)) 0
@@ -51,12 +52,12 @@ abbrev pub entries : Items → List Data
 entries no_items = []
 entries (item d ds) = d ∷ entries ds
 
-abbrev pub entries_of : Data → List Data
-entries_of d = unwrap_or (option_map entries (as_array d)) []
+abbrev pub items_of : Data → List Data
+items_of d = unwrap_or (option_map entries (as_array d)) []
 
 -- the entries of a list that may be missing
 abbrev pub list_in : Member → Data → Option (List Data)
-list_in member d = option_map entries_of (found member d)
+list_in member d = option_map items_of (found member d)
 
 abbrev pub entries_in : Member → Data → List Data
 entries_in member d = unwrap_or (list_in member d) []
@@ -71,11 +72,11 @@ number_named names text = position (λ name. bytes_eq text name) names
 
 -- the number of an object as an id, which has 32 bits
 abbrev pub id_of : ℕ → ℕ
-id_of n = up_to 4294967295 n
+id_of n = up_to MOST_NUMBER n
 
 -- the whole number that is below a count, as an id
 abbrev pub number_below : ℕ → Member → Data → ℕ
-number_below count member d = id_of (under count (unwrap_or (option_and_then whole_of (found member d)) 0))
+number_below count member d = id_of (under count (unwrap_or (option_and_then whole_number_of (found member d)) 0))
 
 -- the id of the object that a value names
 abbrev pub id_named : List (List ℕ) → Data → Option ℕ

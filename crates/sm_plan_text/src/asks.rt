@@ -8,6 +8,7 @@ ghost use Rattle.sm_plan_text.specs.Values.{id_named, ids_in};
 ghost use Rattle.sm_plan_text.specs.Tables.{maybe, known_list, entry_faults, row_faults};
 
 use crate::fault::Faults;
+use crate::limits::MOST_ASKS;
 use crate::member::Member;
 use crate::names::Names;
 use crate::object::{known, list_or_empty};
@@ -52,8 +53,8 @@ pub fn read_asks(
 ) -> Result<Vec<ShardId>, AllocError>
     ensures asks { IfOk result (λ asks. asks.items ≡ ids_in shards.now members.Asks (view document.now)) }
     ensures faults { OnOk result (faults.new.lowest
-        ≡ noted faults.old.lowest (row_faults (view document.now) (maybe members.Asks (known_list 16 shards.now)))) }
+        ≡ noted faults.old.lowest (row_faults (view document.now) (maybe members.Asks (known_list MOST_ASKS shards.now)))) }
 {
-    let items = list_or_empty(document, Member::Asks, 16, faults);
+    let items = list_or_empty(document, Member::Asks, MOST_ASKS, faults);
     read_list(alloc, items, shards, faults)
 }

@@ -7,13 +7,14 @@ ghost use Rattle.sm_plan_text.specs.Members.{text_of};
 ghost use Rattle.sm_plan_text.specs.Faults.{noted};
 ghost use Rattle.sm_plan_text.specs.Values.{text_found};
 ghost use Rattle.sm_plan_text.specs.Tables.{row_faults, unlisted_faults, walked};
-ghost use Rattle.sm_plan_text.specs.Calls.{call_word, word_table, call_table, call_faults, call_of, call_in};
+ghost use Rattle.sm_plan_text.specs.Calls.{call_word, word_table, call_table, call_faults, call_worded, call_in};
 
 use crate::fault::Faults;
 use crate::member::Member;
 use crate::names::Names;
 use crate::object::{note_unknown, note_unlisted, number, reference, role, text};
 use serde_json::Value;
+use sm_plan_code::MOST_NUMBER;
 use sm_server::{Call, ServerId, ShardId};
 use std::alloc::{AllocError, Global};
 
@@ -95,7 +96,7 @@ fn read_word(object: &Value, faults: &mut Faults) -> Option<CallWord>
 /// What a call with this word is.
 #[tactic(auto, using(crate::proofs::WalkLemmas::noted_append))]
 fn read_rest(word: CallWord, object: &Value, servers: &Names, faults: &mut Faults) -> Call
-    ensures call { result ≡ call_of servers.now (view object.now) word }
+    ensures call { result ≡ call_worded servers.now (view object.now) word }
     ensures faults { faults.new.lowest ≡ noted faults.old.lowest (flat_map (row_faults (view object.now)) (word_table servers.now word)) }
 {
     match word {
@@ -108,7 +109,7 @@ fn read_rest(word: CallWord, object: &Value, servers: &Names, faults: &mut Fault
         }
         CallWord::PrepareAdd => {
             let owner = reference(object, Member::Other, servers, faults);
-            let number = number(object, Member::Number, 4_294_967_295, faults);
+            let number = number(object, Member::Number, MOST_NUMBER, faults);
             Call::PrepareAdd {
                 owner: ServerId::new(owner),
                 number: u64::from(number),
@@ -116,7 +117,7 @@ fn read_rest(word: CallWord, object: &Value, servers: &Names, faults: &mut Fault
         }
         CallWord::PrepareDrop => {
             let new_owner = reference(object, Member::Other, servers, faults);
-            let number = number(object, Member::Number, 4_294_967_295, faults);
+            let number = number(object, Member::Number, MOST_NUMBER, faults);
             Call::PrepareDrop {
                 new_owner: ServerId::new(new_owner),
                 number: u64::from(number),

@@ -15,6 +15,7 @@ use crate::asks::read_asks;
 use crate::call::read_calls;
 use crate::event::{EventText, read_events};
 use crate::fault::{Faults, TextFault};
+use crate::limits::{DOWN_LIMIT, LOG_PLACES, MOST_EVENTS, MOST_MOVES};
 use crate::member::Member;
 use crate::moves::{MoveText, read_moves};
 use crate::names::Names;
@@ -25,8 +26,10 @@ use crate::plan::{read_plan_where_there, read_plans};
 use crate::server::read_servers;
 use crate::shard::read_shards;
 use serde_json::Value;
-use sm_placement::{Config, ConfigFault, Server, Shard};
-use sm_plan_code::Plan;
+use sm_placement::{
+    Config, ConfigFault, MOST_SERVERS, MOST_SHARDS, OpenFault, Placement, Server, Shard,
+};
+use sm_plan_code::{MOST_PLACES, MOST_PLANS, Plan};
 use sm_server::{Call, Cell, ServerId, ShardId};
 use std::alloc::{AllocError, Global};
 
@@ -58,6 +61,33 @@ pub struct Document {
     pub drain: Option<ServerId>,
     /// The shards to ask for while plans run.
     pub asks: Vec<ShardId>,
+}
+
+impl Document {
+    ghost use Rattle.sm_placement.specs.Setup.{sizes_of};
+    ghost use Rattle.sm_placement.specs.Lead.{IsSettled};
+    ghost use Rattle.sm_placement.specs.Opening.{opened_place, open_fault};
+    ghost use Rattle.sm_placement.specs.Layout.{place_of};
+    ghost use Rattle.sm_plan_text.specs.Opened.{opening_of};
+
+    /// The placement that the document names, or the first reason why it is not opened; want of memory may stand before
+    /// any other.
+    pub fn open(&self, alloc: Global) -> Result<Placement, OpenFault>
+        ensures ok { IfOk result (λ p. place_of p ≡ opened_place (opening_of (rows_of self.now))) }
+        ensures setup { IfOk result (λ p. p.setup ≡ self.now.config) }
+        ensures valid { OnOk result (open_fault (sizes_of self.now.config) (opening_of (rows_of self.now)) ≡ None) }
+        ensures settled { IfOk result (λ p. IsSettled (sizes_of self.now.config) (place_of p)) }
+        ensures refused { IfErr result (λ why. why ≢ OpenFault.NoMemory → open_fault (sizes_of self.now.config) (opening_of (rows_of self.now)) ≡ Some why) }
+    {
+        Placement::open(
+            alloc,
+            &self.config,
+            self.cells.as_slice(),
+            self.listed.as_slice(),
+            self.down.as_slice(),
+            self.limit,
+        )
+    }
 }
 
 /// What a document says, before its servers and shards are a configuration.
@@ -157,15 +187,15 @@ fn read_parts(alloc: Global, value: &Value, faults: &mut Faults) -> Result<Parts
     ensures faults { OnOk result (faults.new.lowest ≡ noted faults.old.lowest (document_faults (view value.now))) }
 {
     note_unknown(value, Member::Document, members(), faults);
-    let limit = number(value, Member::Limit, 1024, faults);
-    let server_items = list(value, Member::Servers, 1024, faults);
-    let shard_items = list(value, Member::Shards, 4096, faults);
-    let log = number_or(value, Member::Log, 65_536, 1_048_576, faults);
-    let call_items = list_or_none(value, Member::Calls, 1_048_576, faults);
+    let limit = number(value, Member::Limit, DOWN_LIMIT, faults);
+    let server_items = list(value, Member::Servers, MOST_SERVERS, faults);
+    let shard_items = list(value, Member::Shards, MOST_SHARDS, faults);
+    let log = number_or(value, Member::Log, LOG_PLACES, MOST_PLACES, faults);
+    let call_items = list_or_none(value, Member::Calls, MOST_EVENTS, faults);
     let plan_object = inner_or_none(value, Member::Plan, faults);
-    let plan_items = list_or_none(value, Member::Plans, 16, faults);
-    let event_items = list_or_none(value, Member::Events, 1_048_576, faults);
-    let move_items = list_or_none(value, Member::Moves, 4096, faults);
+    let plan_items = list_or_none(value, Member::Plans, MOST_PLANS, faults);
+    let event_items = list_or_none(value, Member::Events, MOST_EVENTS, faults);
+    let move_items = list_or_none(value, Member::Moves, MOST_MOVES, faults);
     // Some members of the document name what stands in its lists, and their faults come before those of the lists.
     let mut listed_faults = Faults { lowest: None };
     let servers = read_servers(alloc, server_items, &mut listed_faults)?;

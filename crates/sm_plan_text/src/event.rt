@@ -7,13 +7,14 @@ ghost use Rattle.sm_plan_text.specs.Members.{text_of};
 ghost use Rattle.sm_plan_text.specs.Faults.{noted};
 ghost use Rattle.sm_plan_text.specs.Values.{text_found};
 ghost use Rattle.sm_plan_text.specs.Tables.{one, maybe, whole, row_faults, unlisted_faults, walked};
-ghost use Rattle.sm_plan_text.specs.Events.{event_word, event_table, event_faults, event_of, event_in, plan_in, stream_in};
+ghost use Rattle.sm_plan_text.specs.Events.{event_word, event_table, event_faults, event_of, event_in, plan_number_in, stream_number_in};
 
 use crate::fault::Faults;
 use crate::member::Member;
 use crate::names::Names;
 use crate::object::{after, note_unknown, note_unlisted, number, number_or, reference, text};
 use serde_json::Value;
+use sm_plan_code::{MOST_CALLS, MOST_NUMBER};
 use sm_server::{ServerId, ShardId};
 use std::alloc::{AllocError, Global};
 
@@ -113,13 +114,13 @@ fn read_word(object: &Value, faults: &mut Faults) -> Option<EventWord>
 /// The plan and the stream that are meant.
 #[tactic(auto, using(crate::proofs::WalkLemmas::noted_append))]
 fn read_stream(object: &Value, faults: &mut Faults) -> (u32, u32)
-    ensures plan { result.0 ≡ plan_in (view object.now) }
-    ensures stream { result.1 ≡ stream_in (view object.now) }
-    ensures faults { faults.new.lowest ≡ noted (noted faults.old.lowest (row_faults (view object.now) (maybe members.Plan (whole 4294967295))))
-        (row_faults (view object.now) (one members.Stream (whole 4294967295))) }
+    ensures plan { result.0 ≡ plan_number_in (view object.now) }
+    ensures stream { result.1 ≡ stream_number_in (view object.now) }
+    ensures faults { faults.new.lowest ≡ noted (noted faults.old.lowest (row_faults (view object.now) (maybe members.Plan (whole MOST_NUMBER))))
+        (row_faults (view object.now) (one members.Stream (whole MOST_NUMBER))) }
 {
-    let plan = number_or(object, Member::Plan, 0, 4_294_967_295, faults);
-    let stream = number(object, Member::Stream, 4_294_967_295, faults);
+    let plan = number_or(object, Member::Plan, 0, MOST_NUMBER, faults);
+    let stream = number(object, Member::Stream, MOST_NUMBER, faults);
     (plan, stream)
 }
 
@@ -146,7 +147,7 @@ fn read_rest(
             EventText::Request { shard, server }
         }
         EventWord::PassOn => EventText::PassOn {
-            ticket: number(object, Member::Ticket, 4_294_967_295, faults),
+            ticket: number(object, Member::Ticket, MOST_NUMBER, faults),
         },
         EventWord::Approve => EventText::Approve {
             server: ServerId::new(reference(object, Member::Server, servers, faults)),
@@ -165,11 +166,11 @@ fn read_rest(
         }
         EventWord::Refill => {
             let (plan, stream) = read_stream(object, faults);
-            let more = number(object, Member::More, 262_144, faults);
+            let more = number(object, Member::More, MOST_CALLS, faults);
             EventText::Refill { plan, stream, more }
         }
         EventWord::Begin => EventText::Begin {
-            plan: number(object, Member::Plan, 4_294_967_295, faults),
+            plan: number(object, Member::Plan, MOST_NUMBER, faults),
         },
     }
 }

@@ -5,8 +5,8 @@ ghost use Rattle.serde_json.specs.View.{view, members_view};
 ghost use Rattle.sm_placement.specs.Names.{is_name_byte, is_name};
 ghost use Rattle.sm_plan_text.specs.Members.{text_of};
 ghost use Rattle.sm_plan_text.specs.Faults.{noted};
-ghost use Rattle.sm_plan_text.specs.Values.{found, whole_of, text_found, text_in, flag_in, number_in, number_or, number_below, limited, entries_of, list_in, entries_in, id_of, id_named, id_in, role_named, role_in, after_named, after_in};
-ghost use Rattle.sm_plan_text.specs.Tables.{is_among, has_unknown, object_faults, unlisted_faults, row_faults, value_faults, count_faults, one, maybe, whole, flag, name, new_name, known, known_or_null, role, when, list, keyed, below, format, object as an_object};
+ghost use Rattle.sm_plan_text.specs.Values.{found, whole_number_of, text_found, text_in, flag_in, number_in, number_or, number_below, limited, items_of, list_in, entries_in, id_of, id_named, id_in, role_named, role_in, after_named, after_in};
+ghost use Rattle.sm_plan_text.specs.Tables.{is_among, has_unknown_member, object_faults, unlisted_faults, row_faults, value_faults, count_faults, one, maybe, whole, flag, name, new_name, known, known_or_null, role, when, list, keyed, below, format, object as an_object};
 
 use crate::fault::{Faults, TextFault};
 use crate::key::has_double_key;
@@ -36,7 +36,7 @@ fn is_known(key: &str, known: &[Member]) -> bool
 
 #[tactic(auto, using(crate::proofs::ObjectLemmas::any_key))]
 fn has_unknown(members: &Map<String, Value>, known: &[Member]) -> bool
-    ensures { result ≡ has_unknown (map text_of known.now) (members_view members.now.entries) }
+    ensures { result ≡ has_unknown_member (map text_of known.now) (members_view members.now.entries) }
 {
     for key in members.keys() {
         if !is_known(key.as_str(), known) {
@@ -46,33 +46,33 @@ fn has_unknown(members: &Map<String, Value>, known: &[Member]) -> bool
     false
 }
 
-/// Notes that what stands in a place is no object, or has a member that it does not know.
-pub fn note_unknown(object: &Value, place: Member, known: &[Member], faults: &mut Faults)
-    ensures { faults.new.lowest ≡ noted faults.old.lowest (object_faults place (map text_of known.now) (view object.now)) }
+/// Notes that what stands in a member is no object, or has a member that it does not know.
+pub fn note_unknown(object: &Value, parent: Member, known: &[Member], faults: &mut Faults)
+    ensures { faults.new.lowest ≡ noted faults.old.lowest (object_faults parent (map text_of known.now) (view object.now)) }
 {
     match object.as_object() {
         Some(members) => {
             if has_unknown(members, known) {
-                faults.note(TextFault::Shape { member: place });
+                faults.note(TextFault::Shape { member: parent });
             }
         }
-        None => faults.note(TextFault::Shape { member: place }),
+        None => faults.note(TextFault::Shape { member: parent }),
     }
 }
 
-/// Notes that what stands in a place has a word that is not listed, or is no object.
-pub fn note_unlisted(object: &Value, place: Member, word: Member, faults: &mut Faults)
-    ensures { faults.new.lowest ≡ noted faults.old.lowest (unlisted_faults place word (view object.now)) }
+/// Notes that what stands in a member has a word that is not listed, or is no object.
+pub fn note_unlisted(object: &Value, parent: Member, word: Member, faults: &mut Faults)
+    ensures { faults.new.lowest ≡ noted faults.old.lowest (unlisted_faults parent word (view object.now)) }
 {
     if !object.is_object() {
-        faults.note(TextFault::Shape { member: place });
+        faults.note(TextFault::Shape { member: parent });
     }
     faults.note(TextFault::Shape { member: word });
 }
 
 /// The whole number that a member is.
 pub fn whole_number(object: &Value, member: Member) -> Option<u64>
-    ensures { result ≡ option_and_then whole_of (found member (view object.now)) }
+    ensures { result ≡ option_and_then whole_number_of (found member (view object.now)) }
 {
     match find(object, member) {
         Some(value) => value.as_u64(),
@@ -443,7 +443,7 @@ fn note_count(count: usize, member: Member, limit: usize, faults: &mut Faults)
 /// The entries of a value that is a list of at most so many.
 #[tactic(auto, using(crate::proofs::ObjectLemmas::entries_view, crate::proofs::ObjectLemmas::length_entries))]
 fn entries<'a>(value: &'a Value, member: Member, limit: usize, faults: &mut Faults) -> &'a [Value]
-    ensures entries { map view result.now ≡ entries_of (view value.now) }
+    ensures entries { map view result.now ≡ items_of (view value.now) }
     ensures faults { faults.new.lowest ≡ noted faults.old.lowest (value_faults member (list limit) (view value.now)) }
 {
     match value.as_array() {

@@ -11,21 +11,20 @@ ghost use Rattle.sm_plan_text.specs.Members.{text_of};
 ghost use Rattle.sm_plan_text.specs.Faults.{noted};
 ghost use Rattle.sm_plan_text.specs.Values.{text_found, id_in, entries_in};
 ghost use Rattle.sm_plan_text.specs.Tables.{one, text as text_want, known, row_faults, own_faults, unlisted_faults, walked};
-ghost use Rattle.sm_plan_text.specs.Parcels.{plain_named, plain_in, right_faults, right_in, lead_word, lead_table, crown_table, crown_faults, lead_of, crown_in, room_faults, room_in, spare_faults, spare_in, parcel_table, parcel_faults, rights_in, HaveIds, parcel_in};
+ghost use Rattle.sm_plan_text.specs.Parcels.{plain_named, plain_in, right_faults, right_in, lead_word, lead_table, crown_table, crown_faults, lead_worded, crown_in, room_faults, room_in, spare_faults, spare_in, parcel_table, parcel_faults, parcel_lists_in, HaveIds, parcel_in};
 
 use crate::fault::{Faults, TextFault};
+use crate::limits::AMOUNT_LIMIT;
 use crate::member::Member;
 use crate::names::Names;
 use crate::object::{keyed, note_unknown, number, reference, reference_or_none, text};
 use crate::shard::server_id;
 use serde_json::Value;
 use sm_placement::Lead;
+use sm_plan_code::MOST_RIGHTS;
 use sm_reservation::{CellRight, Crown, Lists, Parcel, ParcelFault, PlainCell, Room, Spare};
 use sm_server::{ServerId, ShardId};
 use std::alloc::{AllocError, Global};
-
-/// How many rights of each kind a parcel may have.
-const MOST_RIGHTS: usize = 4096;
 
 /// The word that says where the primary of a crown's shard stands.
 #[derive(Clone, Copy)]
@@ -183,7 +182,7 @@ fn read_ends(object: &Value, servers: &Names, faults: &mut Faults) -> (ServerId,
 
 /// Where the primary stands, by the word of a crown.
 fn read_lead(word: LeadWord, object: &Value, servers: &Names, faults: &mut Faults) -> Lead
-    ensures lead { result ≡ lead_of servers.now (view object.now) word }
+    ensures lead { result ≡ lead_worded servers.now (view object.now) word }
     ensures faults { faults.new.lowest ≡ noted faults.old.lowest (flat_map (row_faults (view object.now)) (lead_table servers.now word)) }
 {
     match word {
@@ -271,7 +270,7 @@ fn read_room(object: &Value, servers: &Names, faults: &mut Faults) -> Room
         faults,
     );
     let server = reference(object, Member::Server, servers, faults);
-    let amount = number(object, Member::Amount, 4_294_967_295, faults);
+    let amount = number(object, Member::Amount, AMOUNT_LIMIT, faults);
     Room {
         server: ServerId::new(server),
         amount: u64::from(amount),
@@ -308,7 +307,7 @@ fn read_spare(object: &Value, shards: &Names, faults: &mut Faults) -> Spare
         faults,
     );
     let shard = reference(object, Member::Shard, shards, faults);
-    let amount = number(object, Member::Amount, 4_294_967_295, faults);
+    let amount = number(object, Member::Amount, AMOUNT_LIMIT, faults);
     Spare {
         shard: ShardId::new(shard),
         amount: u64::from(amount),
@@ -346,18 +345,18 @@ struct Entries<'a> {
 fn read_entries<'a>(
     alloc: Global,
     object: &'a Value,
-    place: Member,
+    parent: Member,
     faults: &mut Faults,
 ) -> Result<Entries<'a>, AllocError>
     ensures cells { IfOk result (λ entries. map view entries.cells.now ≡ entries_in members.Cells (view object.now)) }
     ensures crowns { IfOk result (λ entries. map view entries.crowns.now ≡ entries_in members.Crowns (view object.now)) }
     ensures room { IfOk result (λ entries. map view entries.room.now ≡ entries_in members.Room (view object.now)) }
     ensures spare { IfOk result (λ entries. map view entries.spare.now ≡ entries_in members.Spare (view object.now)) }
-    ensures faults { OnOk result (faults.new.lowest ≡ noted faults.old.lowest (own_faults place parcel_table (view object.now))) }
+    ensures faults { OnOk result (faults.new.lowest ≡ noted faults.old.lowest (own_faults parent parcel_table (view object.now))) }
 {
     note_unknown(
         object,
-        place,
+        parent,
         &[Member::Cells, Member::Crowns, Member::Room, Member::Spare],
         faults,
     );
@@ -380,15 +379,15 @@ fn read_entries<'a>(
 fn read_lists(
     alloc: Global,
     object: &Value,
-    place: Member,
+    parent: Member,
     shards: &Names,
     servers: &Names,
     faults: &mut Faults,
 ) -> Result<Lists, AllocError>
-    ensures rights { IfOk result (λ lists. rights_of lists ≡ rights_in shards.now servers.now (view object.now)) }
-    ensures faults { OnOk result (faults.new.lowest ≡ noted faults.old.lowest (parcel_faults place shards.now servers.now [] (view object.now))) }
+    ensures rights { IfOk result (λ lists. rights_of lists ≡ parcel_lists_in shards.now servers.now (view object.now)) }
+    ensures faults { OnOk result (faults.new.lowest ≡ noted faults.old.lowest (parcel_faults parent shards.now servers.now [] (view object.now))) }
 {
-    let entries = read_entries(alloc, object, place, faults)?;
+    let entries = read_entries(alloc, object, parent, faults)?;
     let cells = read_rights(alloc, entries.cells, shards, servers, faults)?;
     let crowns = read_crowns(alloc, entries.crowns, shards, servers, faults)?;
     let room = read_rooms(alloc, entries.room, servers, faults)?;
@@ -429,19 +428,19 @@ fn parcel_of(alloc: Global, lists: Lists) -> Result<Parcel, AllocError>
     }
 }
 
-/// The parcel that stands in a place. Where keys stand twice, which is noted, it is empty.
+/// The parcel that stands in a member. Where keys stand twice, which is noted, it is empty.
 pub fn read_parcel(
     alloc: Global,
     object: &Value,
-    place: Member,
+    parent: Member,
     shards: &Names,
     servers: &Names,
     faults: &mut Faults,
 ) -> Result<Parcel, AllocError>
     ensures parcel { IfOk result (λ parcel. HaveIds shards.now servers.now → faults.new.lowest ≡ None
         → parcel ≡ parcel_in shards.now servers.now (view object.now)) }
-    ensures faults { OnOk result (faults.new.lowest ≡ noted faults.old.lowest (parcel_faults place shards.now servers.now [] (view object.now))) }
+    ensures faults { OnOk result (faults.new.lowest ≡ noted faults.old.lowest (parcel_faults parent shards.now servers.now [] (view object.now))) }
 {
-    let lists = read_lists(alloc, object, place, shards, servers, faults)?;
+    let lists = read_lists(alloc, object, parent, shards, servers, faults)?;
     parcel_of(alloc, lists)
 }

@@ -22,12 +22,11 @@ use crate::object::{
 };
 use crate::parcel::{empty_parcel, read_parcel};
 use serde_json::Value;
-use sm_plan_code::{Parts, Plan, Stream};
+use sm_plan_code::{
+    MOST_CALLS, MOST_INSTRUCTIONS, MOST_SIGNALS, MOST_STREAMS, Parts, Plan, Stream,
+};
 use sm_reservation::Parcel;
 use std::alloc::{AllocError, Global};
-
-/// The greatest budget, of a plan and of a stream, and the most retries of a stream.
-const MOST_CALLS: u32 = 262_144;
 
 /// The streams of a plan say how many retries they have: in each format but 1, which a plan is of that says nothing.
 fn knows_retries(plan: &Value) -> bool
@@ -52,9 +51,9 @@ fn stream_members(retries: bool) -> &'static [Member]
 
 /// How many retries a stream has, where it may say so.
 fn read_retries(stream: &Value, retries: bool, faults: &mut Faults) -> u32
-    ensures value { result ≡ (if retries then number_or 0 members.Retries 262144 (view stream.now) else 0) }
+    ensures value { result ≡ (if retries then number_or 0 members.Retries MOST_CALLS (view stream.now) else 0) }
     ensures faults { faults.new.lowest
-        ≡ noted faults.old.lowest (flat_map (row_faults (view stream.now)) (if retries then maybe members.Retries (whole 262144) ∷ [] else [])) }
+        ≡ noted faults.old.lowest (flat_map (row_faults (view stream.now)) (if retries then maybe members.Retries (whole MOST_CALLS) ∷ [] else [])) }
 {
     if retries {
         number_or(stream, Member::Retries, 0, MOST_CALLS, faults)
@@ -101,7 +100,7 @@ fn read_stream(
     note_unknown(object, Member::Streams, stream_members(retries), faults);
     let budget = number(object, Member::Budget, MOST_CALLS, faults);
     let inner_holds = inner(object, Member::Holds, faults);
-    let items = list(object, Member::Code, 4096, faults);
+    let items = list(object, Member::Code, MOST_INSTRUCTIONS, faults);
     let retries = read_retries(object, retries, faults);
     let holds = read_holds(alloc, inner_holds, shards, servers, faults)?;
     let code = read_code(alloc, items, shards, servers, signals, faults)?;
@@ -155,22 +154,22 @@ fn read_signals(
     Ok(parcels)
 }
 
-/// The parts of the plan that stands in a place.
+/// The parts of the plan that stands in a member.
 fn read_plan_object(
     alloc: Global,
     object: &Value,
-    place: Member,
+    parent: Member,
     shards: &Names,
     servers: &Names,
     faults: &mut Faults,
 ) -> Result<Parts, AllocError>
     ensures parts { IfOk result (λ parts. HaveIds shards.now servers.now → faults.new.lowest ≡ None
         → parts_of parts ≡ plan_in shards.now servers.now (view object.now)) }
-    ensures faults { OnOk result (faults.new.lowest ≡ noted faults.old.lowest (plan_faults place shards.now servers.now [] (view object.now))) }
+    ensures faults { OnOk result (faults.new.lowest ≡ noted faults.old.lowest (plan_faults parent shards.now servers.now [] (view object.now))) }
 {
     note_unknown(
         object,
-        place,
+        parent,
         &[
             Member::Format,
             Member::Budget,
@@ -181,8 +180,8 @@ fn read_plan_object(
     );
     note_format(object, Member::Format, faults);
     let budget = number(object, Member::Budget, MOST_CALLS, faults);
-    let signal_items = list_or_empty(object, Member::Signals, 256, faults);
-    let stream_items = list(object, Member::Streams, 64, faults);
+    let signal_items = list_or_empty(object, Member::Signals, MOST_SIGNALS, faults);
+    let stream_items = list(object, Member::Streams, MOST_STREAMS, faults);
     let signals = read_signals(alloc, signal_items, shards, servers, faults)?;
     let streams = read_streams(
         alloc,
@@ -210,20 +209,20 @@ fn make_plan(parts: Parts) -> Option<Plan>
     }
 }
 
-/// The plan that stands in a place; where it has no faults it is one.
+/// The plan that stands in a member; where it has no faults it is one.
 pub fn read_plan_at(
     alloc: Global,
     object: &Value,
-    place: Member,
+    parent: Member,
     shards: &Names,
     servers: &Names,
     faults: &mut Faults,
 ) -> Result<Option<Plan>, AllocError>
     ensures plan { IfOk result (λ plan. HaveIds shards.now servers.now → faults.new.lowest ≡ None
         → plan ≡ Some (plan_in shards.now servers.now (view object.now))) }
-    ensures faults { OnOk result (faults.new.lowest ≡ noted faults.old.lowest (plan_faults place shards.now servers.now [] (view object.now))) }
+    ensures faults { OnOk result (faults.new.lowest ≡ noted faults.old.lowest (plan_faults parent shards.now servers.now [] (view object.now))) }
 {
-    let parts = read_plan_object(alloc, object, place, shards, servers, faults)?;
+    let parts = read_plan_object(alloc, object, parent, shards, servers, faults)?;
     Ok(make_plan(parts))
 }
 

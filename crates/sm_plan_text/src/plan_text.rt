@@ -4,7 +4,7 @@ ghost use Rattle.std.specs.Str.{bytes_eq};
 ghost use Rattle.indexmap.specs.IndexSet.{insert_key};
 ghost use Rattle.serde_json.specs.View.{view};
 ghost use Rattle.sm_placement.specs.Setup.{IsSetup, names_of_servers, names_of_shards};
-ghost use Rattle.sm_plan_code.specs.Plan.{FitsPlan};
+ghost use Rattle.sm_plan_code.specs.Plan.{IsKnownPlan};
 ghost use Rattle.sm_plan_text.specs.Reading.{read_plan, read_plan_data};
 
 use crate::document::parse;
@@ -49,7 +49,7 @@ fn from_value(alloc: Global, config: &Config, value: &Value) -> Result<Plan, Tex
     ensures ok { IfOk result (λ plan. read_plan_data (names_of_shards config.now) (names_of_servers config.now) (Some (view value.now)) ≡ Ok plan) }
     ensures refused { IfErr result (λ why. why ≢ TextFault.NoMemory
         → read_plan_data (names_of_shards config.now) (names_of_servers config.now) (Some (view value.now)) ≡ Err why) }
-    ensures fits { IfOk result (λ plan. FitsPlan (length config.now.shards) (length config.now.servers) plan) }
+    ensures fits { IfOk result (λ plan. IsKnownPlan (length config.now.shards) (length config.now.servers) plan) }
 {
     let shards = shard_names(alloc, config)?;
     let servers = server_names(alloc, config)?;
@@ -76,7 +76,7 @@ pub fn read_plan(alloc: Global, config: &Config, bytes: &[u8]) -> Result<Plan, T
     ensures ok { IfOk result (λ plan. read_plan (names_of_shards config.now) (names_of_servers config.now) bytes.now ≡ Ok plan) }
     ensures refused { IfErr result (λ why. why ≢ TextFault.NoMemory
         → read_plan (names_of_shards config.now) (names_of_servers config.now) bytes.now ≡ Err why) }
-    ensures fits { IfOk result (λ plan. FitsPlan (length config.now.shards) (length config.now.servers) plan) }
+    ensures fits { IfOk result (λ plan. IsKnownPlan (length config.now.shards) (length config.now.servers) plan) }
 {
     let value = parse(alloc, bytes)?;
     from_value(alloc, config, &value)

@@ -11,6 +11,7 @@ ghost use Rattle.sm_plan_text.specs.Tables.{own_faults, walked};
 ghost use Rattle.sm_plan_text.specs.Servers.{server_table, server_faults, server_in, down_in};
 
 use crate::fault::Faults;
+use crate::limits::LOAD_LIMIT;
 use crate::member::Member;
 use crate::names::Names;
 use crate::object::{flag_or_false, id, name, new_name, note_unknown, number};
@@ -48,7 +49,7 @@ fn read_server(
     );
     let name_text = new_name(alloc, object, Member::Name, taken, faults)?;
     let region = name(alloc, object, Member::Region, faults)?;
-    let room = number(object, Member::Room, 4_294_967_295, faults);
+    let room = number(object, Member::Room, LOAD_LIMIT, faults);
     let down = flag_or_false(object, Member::Down, faults);
     let row = Server {
         name: name_text,
@@ -59,11 +60,11 @@ fn read_server(
 }
 
 /// Adds a server that is down.
-fn add_down(down: &mut Vec<ServerId>, is_down: bool, place: usize) -> Result<(), AllocError>
-    ensures { OnOk result (down.new.items ≡ (if is_down then down.old.items ++ id_of place ∷ [] else down.old.items)) }
+fn add_down(down: &mut Vec<ServerId>, is_down: bool, index: usize) -> Result<(), AllocError>
+    ensures { OnOk result (down.new.items ≡ (if is_down then down.old.items ++ id_of index ∷ [] else down.old.items)) }
 {
     if is_down {
-        down.push(ServerId::new(id(place)))?;
+        down.push(ServerId::new(id(index)))?;
     }
     Ok(())
 }

@@ -9,21 +9,19 @@ ghost use Rattle.sm_plan_text.specs.declared.member.Member.TheVariants as member
 ghost use Rattle.sm_plan_text.specs.Faults.{noted};
 ghost use Rattle.sm_plan_text.specs.Values.{text_in, names_in, entries_in};
 ghost use Rattle.sm_plan_text.specs.Tables.{own_faults, walked};
-ghost use Rattle.sm_plan_text.specs.Shards.{cap_limit, shard_table, faults_of_shard, shard_faults, shard_in, listed_in, cell_table, cell_faults, named_cell, cells_of, cells_in};
+ghost use Rattle.sm_plan_text.specs.Shards.{cap_limit, shard_table, faults_of_shard, shard_faults, shard_in, listed_in, cell_table, cell_faults, named_cell, cells_of_shard, cells_in};
 
 use crate::fault::Faults;
+use crate::limits::{LOAD_LIMIT, WANT_LIMIT};
 use crate::member::Member;
 use crate::names::Names;
 use crate::object::{
     id, list, new_name, note_unknown, number, reference, reference_or_none, role, whole_number,
 };
 use serde_json::Value;
-use sm_placement::Shard;
+use sm_placement::{MOST_CELLS, MOST_REPLICAS, Shard};
 use sm_server::{Cell, Role, ServerId, ShardId};
 use std::alloc::{AllocError, Global};
-
-/// How many cells all shards may have.
-const MOST_CELLS: usize = 1_048_576;
 
 /// A cell with the shard and the server that it is of.
 type NamedCell = (ShardId, ServerId, Cell);
@@ -42,8 +40,8 @@ fn cap_limit(object: &Value) -> u32
     ensures { result ≡ cap_limit (view object.now) }
 {
     match whole_number(object, Member::Want) {
-        Some(want) => want.min(1024) as u32,
-        None => 1024,
+        Some(want) => want.min(WANT_LIMIT) as u32,
+        None => MOST_REPLICAS,
     }
 }
 
@@ -78,10 +76,10 @@ fn read_shard<'a>(
         faults,
     );
     let name = new_name(alloc, object, Member::Name, taken, faults)?;
-    let load = number(object, Member::Load, 4_294_967_295, faults);
-    let want = number(object, Member::Want, 1024, faults);
+    let load = number(object, Member::Load, LOAD_LIMIT, faults);
+    let want = number(object, Member::Want, MOST_REPLICAS, faults);
     let cap = number(object, Member::Cap, cap_limit(object), faults);
-    let spread = number(object, Member::Spread, 1024, faults);
+    let spread = number(object, Member::Spread, MOST_REPLICAS, faults);
     let listed = reference_or_none(object, Member::Listed, servers, faults);
     let cells = list(object, Member::Cells, most_cells, faults);
     let row = Shard {
@@ -160,7 +158,7 @@ fn add_shard(
     ensures rows { OnOk result (map shard_row shards.new.rows.items ≡ map shard_row shards.old.rows.items ++ shard_in (view object.now) ∷ []) }
     ensures names { OnOk result (shards.new.names ≡ insert_key bytes_eq shards.old.names (text_in members.Name (view object.now))) }
     ensures listed { OnOk result (shards.new.listed.items ≡ shards.old.listed.items ++ listed_in servers.now (view object.now) ∷ []) }
-    ensures cells { OnOk result (shards.new.cells.items ≡ shards.old.cells.items ++ cells_of servers.now (length shards.old.rows.items, view object.now)) }
+    ensures cells { OnOk result (shards.new.cells.items ≡ shards.old.cells.items ++ cells_of_shard servers.now (length shards.old.rows.items, view object.now)) }
     ensures faults { OnOk result (faults.new.lowest
         ≡ noted faults.old.lowest (faults_of_shard servers.now shards.old.names (length shards.old.cells.items) (view object.now))) }
 {

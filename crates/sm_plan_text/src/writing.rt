@@ -5,7 +5,7 @@ ghost use Rattle.serde_json.specs.View.{view};
 ghost use Rattle.sm_placement.specs.declared.lead.Lead.TheVariants.{Gone, At};
 ghost use Rattle.sm_plan_code.specs.declared.instruction.Instr.TheVariants.{Add, Drop, Change};
 ghost use Rattle.sm_placement.specs.Setup.{Setup, IsSetup, names_of_servers, names_of_shards};
-ghost use Rattle.sm_plan_code.specs.Plan.{PlanParts, IsPlan, FitsStream, FitsPlan};
+ghost use Rattle.sm_plan_code.specs.Plan.{PlanModel, IsPlan, IsKnownStream, IsKnownPlan};
 ghost use Rattle.sm_plan_text.specs.declared.member.Member.{Member};
 ghost use Rattle.sm_plan_text.specs.declared.member.Member.TheVariants as members;
 ghost use Rattle.sm_plan_text.specs.Reading.{data_of, read_plan};
@@ -241,10 +241,10 @@ trait PlanPart {
 }
 
 impl PlanPart for CellRight {
-    ghost use Rattle.sm_plan_code.specs.Plan.{FitsCell};
+    ghost use Rattle.sm_plan_code.specs.Plan.{IsKnownCellRight};
     ghost use Rattle.sm_plan_text.specs.PlanTexts.{right_data};
 
-    ghost fits = { FitsCell };
+    ghost fits = { IsKnownCellRight };
 
     ghost written_as = { right_data };
 
@@ -258,10 +258,10 @@ impl PlanPart for CellRight {
 }
 
 impl PlanPart for Crown {
-    ghost use Rattle.sm_plan_code.specs.Plan.{FitsCrown};
+    ghost use Rattle.sm_plan_code.specs.Plan.{IsKnownCrown};
     ghost use Rattle.sm_plan_text.specs.PlanTexts.{crown_data};
 
-    ghost fits = { FitsCrown };
+    ghost fits = { IsKnownCrown };
 
     ghost written_as = { crown_data };
 
@@ -303,10 +303,10 @@ impl PlanPart for Spare {
 }
 
 impl PlanPart for Parcel {
-    ghost use Rattle.sm_plan_code.specs.Plan.{FitsParcel};
+    ghost use Rattle.sm_plan_code.specs.Plan.{IsKnownParcel};
     ghost use Rattle.sm_plan_text.specs.PlanTexts.{parcel_data};
 
-    ghost fits = { FitsParcel };
+    ghost fits = { IsKnownParcel };
 
     ghost written_as = { parcel_data };
 
@@ -320,10 +320,10 @@ impl PlanPart for Parcel {
 }
 
 impl PlanPart for Instr {
-    ghost use Rattle.sm_plan_code.specs.Plan.{FitsInstr};
+    ghost use Rattle.sm_plan_code.specs.Plan.{IsKnownInstr};
     ghost use Rattle.sm_plan_text.specs.PlanTexts.{instr_data};
 
-    ghost fits = { FitsInstr };
+    ghost fits = { IsKnownInstr };
 
     ghost written_as = { instr_data };
 
@@ -373,7 +373,7 @@ fn stream_value(
     with_retries: bool,
     stream: &Stream,
 ) -> Result<Value, AllocError>
-    requires { FitsStream (length config.now.shards) (length config.now.servers) stream.now }
+    requires { IsKnownStream (length config.now.shards) (length config.now.servers) stream.now }
     ensures { IfOk result (λ value. view value ≡ stream_data (names_of_shards config.now) (names_of_servers config.now) with_retries stream.now) }
 {
     let code = list_value(alloc, config, stream.code.as_slice())?;
@@ -397,7 +397,7 @@ fn streams_value(
     with_retries: bool,
     streams: &[Stream],
 ) -> Result<Value, AllocError>
-    requires { All (FitsStream (length config.now.shards) (length config.now.servers)) streams.now }
+    requires { All (IsKnownStream (length config.now.shards) (length config.now.servers)) streams.now }
     ensures { IfOk result (λ value. view value ≡ list_data (map (stream_data (names_of_shards config.now) (names_of_servers config.now) with_retries) streams.now)) }
 {
     let mut values = Vec::with_capacity(alloc, streams.len())?;
@@ -416,7 +416,7 @@ fn has_retries(streams: &[Stream]) -> bool
 
 /// A plan.
 fn plan_value(alloc: Global, config: &Config, plan: &Plan) -> Result<Value, AllocError>
-    requires { FitsPlan (length config.now.shards) (length config.now.servers) plan.now }
+    requires { IsKnownPlan (length config.now.shards) (length config.now.servers) plan.now }
     ensures { IfOk result (λ value. view value ≡ plan_data (names_of_shards config.now) (names_of_servers config.now) plan.now) }
 {
     let with_retries = has_retries(plan.streams());
@@ -433,7 +433,7 @@ fn plan_value(alloc: Global, config: &Config, plan: &Plan) -> Result<Value, Allo
 
 /// What is written for a plan is read as that plan.
 fn read_back(config: &Config, plan: &Plan)
-    requires { FitsPlan (length config.now.shards) (length config.now.servers) plan.now }
+    requires { IsKnownPlan (length config.now.shards) (length config.now.servers) plan.now }
     ensures { IsReadBack members.Document (names_of_shards config.now) (names_of_servers config.now) plan.now }
 {
     let _shards = config.shard_count();
@@ -443,7 +443,7 @@ fn read_back(config: &Config, plan: &Plan)
 /// The bytes of a plan's value.
 #[tactic(auto, using(crate::proofs::PlainData::plan_is_plain, crate::proofs::Texts::data_of_text))]
 fn bytes_of(alloc: Global, config: &Config, plan: &Plan) -> Result<Vec<u8>, AllocError>
-    requires { FitsPlan (length config.now.shards) (length config.now.servers) plan.now }
+    requires { IsKnownPlan (length config.now.shards) (length config.now.servers) plan.now }
     ensures text { IfOk result (λ text. text.items ≡ plan_text (names_of_shards config.now) (names_of_servers config.now) plan.now) }
     ensures data { IfOk result (λ text. data_of text.items ≡ Some (plan_data (names_of_shards config.now) (names_of_servers config.now) plan.now)) }
 {
@@ -454,7 +454,7 @@ fn bytes_of(alloc: Global, config: &Config, plan: &Plan) -> Result<Vec<u8>, Allo
 /// in the order of their bytes. A plan without retries is of format 1, and one with retries of format 2.
 #[tactic(auto, using(crate::proofs::WrittenPlans::text_is_read))]
 pub fn write_plan(alloc: Global, config: &Config, plan: &Plan) -> Result<Vec<u8>, AllocError>
-    requires { FitsPlan (length config.now.shards) (length config.now.servers) plan.now }
+    requires { IsKnownPlan (length config.now.shards) (length config.now.servers) plan.now }
     ensures text { IfOk result (λ text. text.items ≡ plan_text (names_of_shards config.now) (names_of_servers config.now) plan.now) }
     ensures reads_back { IfOk result (λ text. read_plan (names_of_shards config.now) (names_of_servers config.now) text.items ≡ Ok plan.now) }
 {
@@ -462,7 +462,13 @@ pub fn write_plan(alloc: Global, config: &Config, plan: &Plan) -> Result<Vec<u8>
     bytes_of(alloc, config, plan)
 }
 
-/// What is written for a plan is read as that plan: no fault is found in it, in whatever place it stands.
+/// What is written for a plan is read as that plan: no fault is found in it, in whatever member it stands.
 pub fn written_plan_is_read()
-    ensures { (place : Member) (setup : Setup) (p : PlanParts) → IsSetup setup → IsPlan p → FitsPlan (length setup.shards) (length setup.servers) p → IsReadBack place (names_of_shards setup) (names_of_servers setup) p }
+    ensures { (parent : Member) (setup : Setup) (p : PlanModel) → IsSetup setup → IsPlan p → IsKnownPlan (length setup.shards) (length setup.servers) p → IsReadBack parent (names_of_shards setup) (names_of_servers setup) p }
+{}
+
+/// The text of a plan is read as that plan: its bytes, over the names of a configuration.
+pub fn plan_text_is_read()
+    ensures { (setup : Setup) (p : PlanModel) → IsSetup setup → IsPlan p → IsKnownPlan (length setup.shards) (length setup.servers) p
+        → read_plan (names_of_shards setup) (names_of_servers setup) (plan_text (names_of_shards setup) (names_of_servers setup) p) ≡ Ok p }
 {}

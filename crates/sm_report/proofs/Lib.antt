@@ -1,4 +1,6 @@
 pub mod CommandLine
-pub mod Reported
+pub mod Onward
+pub mod Inputs
 pub mod Texts
 pub mod OneReport
+pub mod SomeReport

@@ -3,15 +3,11 @@ use Rattle.std.specs.Prelude.{◌<◌, ℕ, ◌+◌, length, List, [], ◌∷◌
 use Rattle.std.specs.Fmt.{decimal}
 use Rattle.sm_server.specs.declared.call.Refusal.{Refusal}
 use Rattle.sm_server.specs.declared.call.Refusal.TheVariants.{Down, AlreadyHeld, NotHeld, WrongRole, NoRoom}
-use Rattle.sm_server.specs.declared.call.Call.{Call}
 use Rattle.sm_placement.specs.Setup.{Setup, Sizes}
 use Rattle.sm_placement.specs.Rows.{IsKnownCall}
 use Rattle.sm_placement.specs.Place.{Place, called}
+use Rattle.sm_plan_text.specs.Calls.{NamedCall}
 use Rattle.sm_report.specs.Lines.{line}
-
--- a call, with the shard that it is for and the server that it is made at
-abbrev pub NamedCall : Type 0
-NamedCall = ℕ × ℕ × Call
 
 -- the call's shard and servers are known
 abbrev pub IsKnownNamed : Setup → NamedCall → Type 0

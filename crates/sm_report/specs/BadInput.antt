@@ -11,7 +11,8 @@ bad_input_line what = line (codes "bad input: " ∷ what ∷ [])
 abbrev pub bad_member_line : List ℕ → List ℕ → List ℕ
 bad_member_line what member = line (codes "bad input: " ∷ what ∷ codes " " ∷ member ∷ [])
 
--- the line that says what is wrong with a text
+-- The line that says what is wrong with a text. The one of NoMemory is in no report: where memory is short, nothing is
+-- written.
 abbrev pub text_fault_line : TextFault → List ℕ
 text_fault_line NoMemory = bad_input_line (codes "1 NoMemory")
 text_fault_line NotJson = bad_input_line (codes "2 NotJson")

@@ -1,38 +1,29 @@
--- What is reported of a plan on a placement: that it is accepted, or why it is refused or held.
-use Rattle.std.specs.Prelude.{◌≡◌, ◌≢◌, ◌⊎◌, ℕ, List, [], ◌∷◌, ◌++◌, codes, length, count_by, sum_by}
+-- The lines of a plan at a placement: that it is accepted, or why it is refused or held.
+use Rattle.std.specs.Prelude.{ℕ, List, [], ◌∷◌, ◌++◌, codes, length, count_by, sum_by}
 use Rattle.std.specs.List.{flat_map}
 use Rattle.std.specs.Fmt.{decimal}
-use Rattle.sm_placement.specs.Setup.{Setup, sizes_of}
-use Rattle.sm_placement.specs.Place.{Place}
+use Rattle.sm_placement.specs.Setup.{Setup}
 use Rattle.sm_reservation.specs.declared.right.Key.{Key}
 use Rattle.sm_reservation.specs.declared.right.Key.TheVariants as key
-use Rattle.sm_reservation.specs.Pool.{true_rights}
 use Rattle.sm_plan_code.specs.declared.instruction.Why.{Why}
 use Rattle.sm_plan_code.specs.declared.instruction.Why.TheVariants as why
 use Rattle.sm_plan_code.specs.Instr.{is_call}
-use Rattle.sm_plan_code.specs.Plan.{PlanParts}
+use Rattle.sm_plan_code.specs.Plan.{PlanModel}
 use Rattle.sm_verifier.specs.declared.checking.Fault.{Fault}
 use Rattle.sm_verifier.specs.declared.checking.Fault.TheVariants as fault
 use Rattle.sm_verifier.specs.declared.admission.Holding.{Holding}
 use Rattle.sm_verifier.specs.declared.admission.Holding.TheVariants as holding
-use Rattle.sm_verifier.specs.Plan.{IsSound, IsFault}
-use Rattle.sm_verifier.specs.Admission.{IsAdmitted, IsHolding}
-use Rattle.sm_report.specs.declared.status.Status.TheVariants.{Done}
 use Rattle.sm_report.specs.Lines.{line}
 use Rattle.sm_report.specs.Ending.{server_name, shard_name}
-use Rattle.sm_report.specs.Report.{Output, refused}
 
 -- ---- a plan that is accepted
 
 -- how many calls stand in the codes of a plan's streams
-abbrev pub call_count : PlanParts → ℕ
+abbrev pub call_count : PlanModel → ℕ
 call_count plan = sum_by (λ stream. count_by is_call stream.code) plan.streams
 
-abbrev pub accepted_line : PlanParts → List ℕ
+abbrev pub accepted_line : PlanModel → List ℕ
 accepted_line plan = line (codes "accepted: calls " ∷ decimal (call_count plan) ∷ codes " streams " ∷ decimal (length plan.streams) ∷ [])
-
-abbrev pub accepted : PlanParts → Output
-accepted plan = record { text = accepted_line plan; status = Done }
 
 -- ---- a plan that is refused
 
@@ -52,8 +43,8 @@ why_name why.OverBudget = codes "OverBudget"
 abbrev pub budget_line : ℕ → ℕ → List ℕ
 budget_line streams plan = line (codes "refused: 2 Budget streams " ∷ decimal streams ∷ codes " plan " ∷ decimal plan ∷ [])
 
-abbrev pub signal_line : ℕ → ℕ → ℕ → List ℕ
-signal_line signal posts waits = line (codes "refused: 3 SignalNotOnce signal " ∷ decimal signal ∷ codes " posts " ∷ decimal posts ∷ codes " waits " ∷ decimal waits ∷ [])
+abbrev pub misused_signal_line : ℕ → ℕ → ℕ → List ℕ
+misused_signal_line signal posts waits = line (codes "refused: 3 SignalNotOnce signal " ∷ decimal signal ∷ codes " posts " ∷ decimal posts ∷ codes " waits " ∷ decimal waits ∷ [])
 
 abbrev pub stream_line : ℕ → ℕ → Why → List ℕ
 stream_line stream at w = line (codes "refused: 4 Stream stream " ∷ decimal stream ∷ codes " at " ∷ decimal at ∷ codes " " ∷ why_name w ∷ [])
@@ -64,11 +55,12 @@ position_text position = codes " " ++ decimal position
 abbrev pub stuck_line : List ℕ → List ℕ
 stuck_line positions = line (codes "refused: 5 Stuck positions" ∷ flat_map position_text positions ∷ [])
 
--- the line that says what is wrong with a plan
+-- The line that says what is wrong with a plan. The one of NoMemory is in no report: where memory is short, nothing is
+-- written.
 abbrev pub fault_line : Fault → List ℕ
 fault_line fault.NoMemory = line (codes "refused: 1 NoMemory" ∷ [])
 fault_line (fault.Budget streams plan) = budget_line streams plan
-fault_line (fault.SignalNotOnce signal posts waits) = signal_line signal posts waits
+fault_line (fault.SignalNotOnce signal posts waits) = misused_signal_line signal posts waits
 fault_line (fault.Stream stream at w) = stream_line stream at w
 fault_line (fault.Stuck positions) = stuck_line positions.items
 
@@ -89,24 +81,11 @@ short_line what name free declared = line (codes "held: " ∷ what ∷ codes " "
 abbrev pub down_line : List ℕ → List ℕ
 down_line server = line (codes "held: 5 ServerDown server " ∷ server ∷ [])
 
--- the line that says why a plan may not start
+-- The line that says why a plan may not start. Of room and spare replicas no line of 1 or 2 is in a report, since only
+-- cell rights and crowns are Untrue or Taken.
 abbrev pub holding_line : Setup → Holding → List ℕ
 holding_line setup (holding.Untrue k) = key_line (codes "1 Untrue") (key_text setup k)
 holding_line setup (holding.Taken k) = key_line (codes "2 Taken") (key_text setup k)
 holding_line setup (holding.ShortRoom v free declared) = short_line (codes "3 ShortRoom server") (server_name setup v) free declared
 holding_line setup (holding.ShortSpare s free declared) = short_line (codes "4 ShortSpare shard") (shard_name setup s) free declared
 holding_line setup (holding.ServerDown v) = down_line (server_name setup v)
-
--- ---- the report
-
--- what is reported of a fault; where memory was short there is no report
-abbrev pub IsFaultReport : Fault → Output → Type 0
-IsFaultReport f output = (f ≢ fault.NoMemory) × (output ≡ refused (fault_line f))
-
--- What is reported of a plan at a placement whose pool has all rights: the first fault of the plan, or the first reason
--- why it may not start there, or that it is accepted.
-abbrev pub IsPlanReport : Setup → Place → PlanParts → Output → Type 0
-IsPlanReport setup p plan output =
-    ((f : Fault) × IsFault (sizes_of setup) plan f × IsFaultReport f output)
-    ⊎ ((h : Holding) × IsSound (sizes_of setup) plan × IsHolding (sizes_of setup) p (true_rights (sizes_of setup) p) plan h × (output ≡ refused (holding_line setup h)))
-    ⊎ (IsSound (sizes_of setup) plan × IsAdmitted (sizes_of setup) p (true_rights (sizes_of setup) p) plan × (output ≡ accepted plan))

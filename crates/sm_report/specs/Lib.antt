@@ -5,6 +5,8 @@ pub mod Ending
 pub mod Answers
 pub mod Opening
 pub mod BadInput
-pub mod Report
 pub mod Checking
+pub mod Report
+pub mod Early
+pub mod Stages
 pub mod Output

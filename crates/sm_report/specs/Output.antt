@@ -1,68 +1,69 @@
--- What is reported, and how the report ends, for all the bytes that may be read.
-use Rattle.std.specs.Prelude.{◌≡◌, ℕ, Bool, true, false, List, ◌++◌, length, Option, Some, None, Result, Ok, Err, nat_lt}
-use Rattle.sm_placement.specs.declared.opening.OpenFault.{OpenFault}
+-- What each command reports, for all the bytes that may be read.
+use Rattle.std.specs.Prelude.{◌≡◌, ℕ, List, ◌++◌, Option, IfSome, Result}
 use Rattle.sm_placement.specs.Setup.{Setup, sizes_of}
 use Rattle.sm_placement.specs.Place.{Place}
-use Rattle.sm_placement.specs.Opening.{Opening, opened, open_fault}
-use Rattle.sm_plan_code.specs.Plan.{PlanParts}
-use Rattle.sm_plan_text.specs.declared.fault.TextFault.{TextFault}
-use Rattle.sm_plan_text.specs.declared.fault.TextFault.TheVariants.{Shape}
+use Rattle.sm_plan_code.specs.Plan.{PlanModel}
 use Rattle.sm_plan_text.specs.declared.member.Member.TheVariants as member
-use Rattle.sm_plan_text.specs.Documents.{DocumentRows}
-use Rattle.sm_plan_text.specs.Reading.{read}
+use Rattle.sm_plan_text.specs.Calls.{NamedCall}
+use Rattle.sm_plan_text.specs.Documents.{DocumentModel}
 use Rattle.sm_report.specs.declared.command.Command.{Command}
 use Rattle.sm_report.specs.declared.command.Command.TheVariants.{Calls, Check}
-use Rattle.sm_report.specs.declared.status.Status.TheVariants.{Done}
-use Rattle.sm_report.specs.Answers.{NamedCall, answer_lines, place_after_all}
-use Rattle.sm_report.specs.BadInput.{text_fault_line, too_long_line}
+use Rattle.sm_report.specs.Answers.{answer_lines, place_after_all}
+use Rattle.sm_report.specs.Checking.{accepted_line}
 use Rattle.sm_report.specs.Ending.{ending}
-use Rattle.sm_report.specs.Opening.{open_fault_line}
-use Rattle.sm_report.specs.Report.{Output, bad_input, refused}
-use Rattle.sm_report.specs.Checking.{IsPlanReport}
+use Rattle.sm_report.specs.Report.{Output, done}
+use Rattle.sm_report.specs.Stages.{Then, read_stage, member_stage, placement_stage, AtCheck, AtStart}
 
--- what the placement of a document is opened with
-abbrev pub opening_of : DocumentRows → Opening
-opening_of d = record { cells = d.cells; listed = d.listed; down = d.down; limit = d.limit }
+-- ---- `calls`
 
 -- the answers to calls that are made one after the other, and the placement after them
-abbrev pub called_output : Setup → Place → List NamedCall → Output
-called_output setup p calls = record {
-  text = answer_lines (sizes_of setup) p 0 calls ++ ending setup (place_after_all (sizes_of setup) p calls);
-  status = Done;
-}
+abbrev pub calls_output : Setup → Place → List NamedCall → Output
+calls_output setup p calls = done (answer_lines (sizes_of setup) p 0 calls ++ ending setup (place_after_all (sizes_of setup) p calls))
 
--- calls on the placement of a document, which may be refused
-abbrev pub opened_output : DocumentRows → List NamedCall → Option OpenFault → Output
-opened_output d calls (Some fault) = refused (open_fault_line d.setup fault)
-opened_output d calls None = called_output d.setup (opened (opening_of d)) calls
+-- the calls of a document at a placement
+abbrev pub IsCalled : DocumentModel → List NamedCall → Place → Output → Type 0
+IsCalled d calls p output = output ≡ calls_output d.setup p calls
 
--- the calls of a document, which may lack them
-abbrev pub calls_output : DocumentRows → Option (List NamedCall) → Output
-calls_output d None = bad_input (text_fault_line (Shape member.Calls))
-calls_output d (Some calls) = opened_output d calls (open_fault (sizes_of d.setup) (opening_of d))
+abbrev pub IsOpenedForCalls : DocumentModel → List NamedCall → Output → Type 0
+IsOpenedForCalls d calls = Then (placement_stage d) (IsCalled d calls)
 
--- what is reported of the plan of a document, at its placement, which may be refused
-abbrev pub IsOpenedReport : DocumentRows → PlanParts → Option OpenFault → Output → Type 0
-IsOpenedReport d plan (Some fault) output = output ≡ refused (open_fault_line d.setup fault)
-IsOpenedReport d plan None output = IsPlanReport d.setup (opened (opening_of d)) plan output
+abbrev pub IsCallsReport : DocumentModel → Output → Type 0
+IsCallsReport d = Then (member_stage member.Calls d.calls) (IsOpenedForCalls d)
 
--- what is reported of the plan of a document, which may lack it
-abbrev pub IsCheckReport : DocumentRows → Option PlanParts → Output → Type 0
-IsCheckReport d None output = output ≡ bad_input (text_fault_line (Shape member.Plan))
-IsCheckReport d (Some plan) output = IsOpenedReport d plan (open_fault (sizes_of d.setup) (opening_of d)) output
+-- ---- `check`
 
-abbrev pub IsDocumentReport : Command → DocumentRows → Output → Type 0
-IsDocumentReport Calls d output = output ≡ calls_output d d.calls
-IsDocumentReport Check d output = IsCheckReport d d.plan output
+-- a plan that may start is accepted
+abbrev pub IsAcceptedReport : PlanModel → Output → Type 0
+IsAcceptedReport plan output = output ≡ done (accepted_line plan)
 
-abbrev pub IsReadReport : Command → Result DocumentRows TextFault → Output → Type 0
-IsReadReport command (Err fault) output = output ≡ bad_input (text_fault_line fault)
-IsReadReport command (Ok d) output = IsDocumentReport command d output
+-- a plan at a placement
+abbrev pub IsPlanReport : Setup → PlanModel → Place → Output → Type 0
+IsPlanReport setup plan p = AtCheck (sizes_of setup) plan (AtStart setup p plan (IsAcceptedReport plan))
 
-abbrev pub IsReportWithin : Bool → Command → List ℕ → Output → Type 0
-IsReportWithin true command bytes output = output ≡ bad_input too_long_line
-IsReportWithin false command bytes output = IsReadReport command (read bytes) output
+abbrev pub IsOpenedForCheck : DocumentModel → PlanModel → Output → Type 0
+IsOpenedForCheck d plan = Then (placement_stage d) (IsPlanReport d.setup plan)
+
+abbrev pub IsCheckReport : DocumentModel → Output → Type 0
+IsCheckReport d = Then (member_stage member.Plan d.plan) (IsOpenedForCheck d)
+
+-- ---- all commands
+
+abbrev pub IsDocumentReport : Command → DocumentModel → Output → Type 0
+IsDocumentReport Calls d = IsCallsReport d
+IsDocumentReport Check d = IsCheckReport d
 
 -- what a command reports of the bytes that are read, where there may be at most so many
 abbrev pub IsReport : Command → ℕ → List ℕ → Output → Type 0
-IsReport command most bytes output = IsReportWithin (nat_lt most (length bytes)) command bytes output
+IsReport command most bytes = Then (read_stage most bytes) (IsDocumentReport command)
+
+-- bytes that a reader may have given, which are those that were left in it where these are known
+abbrev pub IsInput : Option (List ℕ) → List ℕ → Type 0
+IsInput left bytes = IfSome left (λ known. bytes ≡ known)
+
+-- bytes that a reader may have given are read as this document, or end the report so
+abbrev pub IsReadAs : Option (List ℕ) → ℕ → Result DocumentModel Output → Type 0
+IsReadAs left most found = (bytes : List ℕ) × IsInput left bytes × (read_stage most bytes ≡ found)
+
+-- what a command reports of bytes that a reader may have given
+abbrev pub IsReportOf : Command → ℕ → Option (List ℕ) → Output → Type 0
+IsReportOf command most left output = (bytes : List ℕ) × IsInput left bytes × IsReport command most bytes output

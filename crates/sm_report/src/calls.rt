@@ -4,13 +4,16 @@ ghost use Rattle.sm_placement.specs.Layout.{place_of};
 ghost use Rattle.sm_plan_text.specs.Documents.{IsDocument};
 ghost use Rattle.sm_plan_text.specs.Reading.{rows_of};
 ghost use Rattle.sm_report.specs.Answers.{IsKnownNamed};
-ghost use Rattle.sm_report.specs.Output.{called_output, calls_output};
+ghost use Rattle.sm_report.specs.Early.{IfMade};
+ghost use Rattle.sm_report.specs.Output.{calls_output, IsCallsReport};
 
 use crate::answers::make_calls;
+use crate::early::Early;
 use crate::ending::push_ending;
 use crate::made::Made;
-use sm_placement::{OpenFault, Placement};
-use sm_plan_text::{Document, Member, TextFault};
+use crate::stages::{member, placement};
+use sm_placement::Placement;
+use sm_plan_text::{Document, Member};
 use sm_server::{Call, ServerId, ShardId};
 use std::alloc::{AllocError, Global};
 
@@ -21,7 +24,7 @@ fn report_made(
     calls: &[(ShardId, ServerId, Call)],
 ) -> Result<Made, AllocError>
     requires { All (IsKnownNamed placement.old.setup) calls.now }
-    ensures { IfOk result (λ made. made ≡ called_output placement.old.setup (place_of placement.old) calls.now) }
+    ensures { IfOk result (λ made. made ≡ calls_output placement.old.setup (place_of placement.old) calls.now) }
 {
     let mut text = String::new(alloc);
     make_calls(&mut text, placement, calls)?;
@@ -29,25 +32,12 @@ fn report_made(
     Ok(Made::done(text))
 }
 
-/// The report of a document's calls.
-pub fn report_calls(alloc: Global, document: &Document) -> Result<Made, AllocError>
-    requires { IsDocument (rows_of document.now) }
-    ensures { IfOk result (λ made. made ≡ calls_output (rows_of document.now) (rows_of document.now).calls) }
+/// The report of a document's calls, which are taken out of it.
+pub fn report_calls(alloc: Global, document: &mut Document) -> Result<Made, Early>
+    requires { IsDocument (rows_of document.old) }
+    ensures { IfMade result (IsCallsReport (rows_of document.old)) }
 {
-    let Some(calls) = &document.calls else {
-        let member = Member::Calls;
-        return Made::bad_input(alloc, TextFault::Shape { member });
-    };
-    match Placement::open(
-        alloc,
-        &document.config,
-        document.cells.as_slice(),
-        document.listed.as_slice(),
-        document.down.as_slice(),
-        document.limit,
-    ) {
-        Ok(mut placement) => report_made(alloc, &mut placement, calls.as_slice()),
-        Err(OpenFault::NoMemory) => Err(AllocError),
-        Err(fault) => Made::refused(alloc, &document.config, fault),
-    }
+    let calls = member(alloc, Member::Calls, document.calls.take())?;
+    let mut placement = placement(alloc, document)?;
+    Ok(report_made(alloc, &mut placement, calls.as_slice())?)
 }

@@ -1,10 +1,10 @@
 //! A report that is made and not yet written.
-ghost use Rattle.std.specs.Prelude.{◌≡◌, ◌≢◌, ◌<◌, ℕ, take, IfOk};
+ghost use Rattle.std.specs.Prelude.{◌≡◌, ◌≢◌, ◌<◌, ℕ, take, IfOk, string_bytes};
 ghost use Rattle.std.specs.Io.KnownBytes.{Appends};
 ghost use Rattle.sm_report.specs.BadInput.{text_fault_line, too_long_line};
 ghost use Rattle.sm_report.specs.Opening.{open_fault_line};
-ghost use Rattle.sm_report.specs.Checking.{accepted, fault_line, holding_line};
-ghost use Rattle.sm_report.specs.Report.{bad_input, refused};
+ghost use Rattle.sm_report.specs.Checking.{accepted_line, fault_line, holding_line};
+ghost use Rattle.sm_report.specs.Report.{bad_input, refused, done};
 ghost use Rattle.sm_report.specs.Status.{code_of};
 
 use crate::bad_input::{push_text_fault, push_too_long};
@@ -20,29 +20,26 @@ use std::alloc::{AllocError, Global};
 use std::io::Write;
 use std::marker::Model;
 
-/// A report that is made and not yet written: its text, and how it ends once that is written.
+/// A report that is made and not yet written: the bytes of its text, and how it ends once these are written.
 #[derive(Drop)]
 pub struct Made {
-    text: String,
+    text: Vec<u8>,
     status: Status,
 }
 
 impl Model for Made {
-    ghost use Rattle.std.specs.Prelude.{◌<◌, string_bytes};
+    ghost use Rattle.std.specs.Prelude.{◌<◌};
     ghost use Rattle.sm_report.specs.Status.{code_of};
     ghost use Rattle.sm_report.specs.Report.{Output};
 
     ghost Value = { Output };
 
-    ghost view = { λ made. record { text = string_bytes made.text; status = made.status } };
+    ghost view = { λ made. record { text = made.text.items; status = made.status } };
 
     ghost invariant = { λ made. code_of made.status < 3 };
 }
 
 impl Made {
-    ghost use Rattle.std.specs.Prelude.{string_bytes};
-    ghost use Rattle.sm_report.specs.declared.status.Status.TheVariants.{Done};
-
     /// The report of an input that is no document for the command.
     pub fn bad_input(alloc: Global, fault: TextFault) -> Result<Self, AllocError>
         ensures { IfOk result (λ made. made ≡ bad_input (text_fault_line fault)) }
@@ -50,7 +47,7 @@ impl Made {
         let mut text = String::new(alloc);
         push_text_fault(&mut text, fault)?;
         Ok(Made {
-            text,
+            text: text.into_bytes(),
             status: Status::BadInput,
         })
     }
@@ -62,28 +59,28 @@ impl Made {
         let mut text = String::new(alloc);
         push_too_long(&mut text)?;
         Ok(Made {
-            text,
+            text: text.into_bytes(),
             status: Status::BadInput,
         })
     }
 
     /// The report of a command whose placement or plan is refused.
-    fn with_refusal(text: String) -> Self
+    fn refused(text: String) -> Self
         ensures { result ≡ refused (string_bytes text) }
     {
         Made {
-            text,
+            text: text.into_bytes(),
             status: Status::Refused,
         }
     }
 
     /// The report of a placement that is not opened.
-    pub fn refused(alloc: Global, config: &Config, fault: OpenFault) -> Result<Self, AllocError>
+    pub fn unopened(alloc: Global, config: &Config, fault: OpenFault) -> Result<Self, AllocError>
         ensures { IfOk result (λ made. made ≡ refused (open_fault_line config.now fault)) }
     {
         let mut text = String::new(alloc);
         push_open_fault(&mut text, config, fault)?;
-        Ok(Made::with_refusal(text))
+        Ok(Made::refused(text))
     }
 
     /// The report of a plan that does not pass the check.
@@ -92,7 +89,7 @@ impl Made {
     {
         let mut text = String::new(alloc);
         push_fault(&mut text, fault)?;
-        Ok(Made::with_refusal(text))
+        Ok(Made::refused(text))
     }
 
     /// The report of a plan that may not start.
@@ -101,12 +98,12 @@ impl Made {
     {
         let mut text = String::new(alloc);
         push_holding(&mut text, config, holding)?;
-        Ok(Made::with_refusal(text))
+        Ok(Made::refused(text))
     }
 
     /// The report of a plan that is accepted.
     pub fn accepted(alloc: Global, plan: &Plan) -> Result<Self, AllocError>
-        ensures { IfOk result (λ made. made ≡ accepted plan.now) }
+        ensures { IfOk result (λ made. made ≡ done (accepted_line plan.now)) }
     {
         let mut text = String::new(alloc);
         push_accepted(&mut text, plan)?;
@@ -115,10 +112,10 @@ impl Made {
 
     /// The report of a command that was carried out.
     pub fn done(text: String) -> Self
-        ensures { result ≡ record { text = string_bytes text; status = Done } }
+        ensures { result ≡ done (string_bytes text) }
     {
         Made {
-            text,
+            text: text.into_bytes(),
             status: Status::Done,
         }
     }
@@ -130,7 +127,7 @@ impl Made {
         ensures text { result ≢ Status.WriteFailed → Appends (W.contents writer.old) (W.contents writer.new) self.text }
         ensures front { (k : ℕ) × Appends (W.contents writer.old) (W.contents writer.new) (take k self.text) }
     {
-        if deliver(writer, self.text.as_bytes()) {
+        if deliver(writer, self.text.as_slice()) {
             self.status
         } else {
             Status::WriteFailed

@@ -1,22 +1,25 @@
 //! Reports, from the bytes that are read to the bytes that are written.
-ghost use Rattle.std.specs.Prelude.{◌≡◌, ◌≤◌, ◌<◌, ◌⊎◌, ℕ, List, take, vec_len, IfOk, IfErr, IfSome};
+ghost use Rattle.std.specs.Prelude.{◌≡◌, ◌≢◌, ◌≤◌, ◌<◌, ℕ, List, take, length, Ok, Err, IfOk, IfErr};
 ghost use Rattle.std.specs.Io.KnownBytes.{Appends, Keeps};
 ghost use Rattle.sm_plan_text.specs.Documents.{IsDocument};
 ghost use Rattle.sm_plan_text.specs.Reading.{rows_of};
 ghost use Rattle.sm_report.specs.declared.command.Command.{Command};
 ghost use Rattle.sm_report.specs.Status.{code_of};
+ghost use Rattle.sm_report.specs.Early.{IfEnded, IfMade, IfReadEnded, IfReadMade};
 ghost use Rattle.sm_report.specs.Report.{Output};
-ghost use Rattle.sm_report.specs.Output.{IsDocumentReport, IsReport};
+ghost use Rattle.sm_report.specs.Stages.{read_stage};
+ghost use Rattle.sm_report.specs.Output.{IsReadAs, IsDocumentReport, IsReport, IsReportOf};
 
 use crate::calls::report_calls;
 use crate::checks::report_check;
 use crate::command::Command;
+use crate::early::Early;
 use crate::input::{InputFault, take_input};
 use crate::made::Made;
 use crate::status::Status;
 use sm_plan_text::{Document, TextFault, read_document};
-use sm_verifier::{one_fault, one_holding};
-use std::alloc::{AllocError, Global};
+use sm_verifier::{finds_fault, finds_holding, one_fault, one_holding};
+use std::alloc::Global;
 use std::io::{Read, Write};
 
 /// How many reads may be made of an input.
@@ -25,46 +28,55 @@ const READ_TURNS: u32 = 134_217_728;
 /// How many bytes an input may have.
 pub const MOST_BYTES: u32 = 67_108_864;
 
+/// The document that the bytes of an input are.
+fn read_bytes(alloc: Global, bytes: &[u8]) -> Result<Document, Early>
+    requires { length bytes.now ≤ MOST_BYTES }
+    ensures ok { IfOk result (λ document. read_stage MOST_BYTES bytes.now ≡ Ok (rows_of document)) }
+    ensures known { IfOk result (λ document. IsDocument (rows_of document)) }
+    ensures ends { IfErr result (λ early. IfEnded early (λ made. read_stage MOST_BYTES bytes.now ≡ Err made)) }
+{
+    match read_document(alloc, bytes) {
+        Ok(document) => Ok(document),
+        Err(TextFault::NoMemory) => Err(Early::NoMemory),
+        Err(fault) => Err(Early::Report(Made::bad_input(alloc, fault)?)),
+    }
+}
+
+/// The document that a reader gives.
+fn read_input<R: Read>(alloc: Global, reader: &mut R) -> Result<Document, Early>
+    ensures ok { IfOk result (λ document. IsReadAs (R.remaining reader.old) MOST_BYTES (Ok (rows_of document))) }
+    ensures known { IfOk result (λ document. IsDocument (rows_of document)) }
+    ensures ends { IfErr result (λ early. IfReadEnded early (λ made. IsReadAs (R.remaining reader.old) MOST_BYTES (Err made))) }
+{
+    match take_input(alloc, reader, READ_TURNS, MOST_BYTES) {
+        Ok(input) => read_bytes(alloc, input.as_slice()),
+        Err(InputFault::TooLong) => Err(Early::Report(Made::too_long(alloc)?)),
+        Err(InputFault::NoMemory) => Err(Early::NoMemory),
+        Err(InputFault::Read) => Err(Early::ReadFailed),
+    }
+}
+
 /// What a command reports of a document.
-fn report_document(alloc: Global, command: Command, document: Document) -> Result<Made, AllocError>
+fn report_document(alloc: Global, command: Command, mut document: Document) -> Result<Made, Early>
     requires { IsDocument (rows_of document) }
-    ensures { IfOk result (λ made. IsDocumentReport command (rows_of document) made) }
+    ensures { IfMade result (IsDocumentReport command (rows_of document)) }
 {
     match command {
-        Command::Calls => report_calls(alloc, &document),
-        Command::Check => report_check(alloc, document),
+        Command::Calls => report_calls(alloc, &mut document),
+        Command::Check => report_check(alloc, &mut document),
     }
 }
 
-/// What a command reports of an input.
-fn report_input(alloc: Global, command: Command, input: Vec<u8>) -> Result<Made, AllocError>
-    requires { vec_len input ≤ MOST_BYTES }
-    ensures { IfOk result (λ made. IsReport command MOST_BYTES input.items made) }
+/// What a command reports of all that a reader gives.
+fn report_reader<R: Read>(alloc: Global, command: Command, reader: &mut R) -> Result<Made, Early>
+    ensures { IfReadMade result (IsReportOf command MOST_BYTES (R.remaining reader.old)) }
 {
-    let document = read_document(alloc, input.as_slice());
-    drop(input);
-    match document {
-        Ok(document) => report_document(alloc, command, document),
-        Err(TextFault::NoMemory) => Err(AllocError),
-        Err(fault) => Made::bad_input(alloc, fault),
-    }
+    let document = read_input(alloc, reader)?;
+    report_document(alloc, command, document)
 }
 
-/// What a command reports of all that a reader gives, or how the report ends without a text.
-fn report_reader<R: Read>(alloc: Global, command: Command, reader: &mut R) -> Result<Made, Status>
-    ensures ok { IfOk result (λ made. IfSome (R.remaining reader.old) (λ input. IsReport command MOST_BYTES input made)) }
-    ensures err { IfErr result (λ status. (status ≡ Status.NoMemory) ⊎ (status ≡ Status.ReadFailed)) }
-{
-    let made = match take_input(alloc, reader, READ_TURNS, MOST_BYTES) {
-        Ok(input) => report_input(alloc, command, input),
-        Err(InputFault::TooLong) => Made::too_long(alloc),
-        Err(InputFault::NoMemory) => Err(AllocError),
-        Err(InputFault::Read) => return Err(Status::ReadFailed),
-    };
-    made.map_err(|_| Status::NoMemory)
-}
-
-/// Reads all input, makes the whole report, and then writes it.
+/// Reads all input, makes the whole report, and then writes it. Where nothing is known of what a reader gives, what is
+/// written is the report on some bytes.
 pub fn report<R: Read, W: Write>(
     alloc: Global,
     command: Command,
@@ -72,20 +84,26 @@ pub fn report<R: Read, W: Write>(
     writer: &mut W,
 ) -> Status
     // What is written and the status are those of the report on the bytes that came.
-    ensures reported { code_of result < 3 → IfSome (R.remaining reader.old) (λ input.
-        (output : Output) × IsReport command MOST_BYTES input output × (result ≡ output.status)
-        × Appends (W.contents writer.old) (W.contents writer.new) output.text) }
+    ensures reported { code_of result < 3 → (output : Output)
+        × IsReportOf command MOST_BYTES (R.remaining reader.old) output × (result ≡ output.status)
+        × Appends (W.contents writer.old) (W.contents writer.new) output.text }
     // Without memory, and after a read that fails, nothing is written.
     ensures memory { result ≡ Status.NoMemory → Keeps (W.contents writer.old) (W.contents writer.new) }
     ensures read_fault { result ≡ Status.ReadFailed → Keeps (W.contents writer.old) (W.contents writer.new) }
     // After a write that fails, a front of the report's text is written.
-    ensures write_fault { result ≡ Status.WriteFailed → IfSome (R.remaining reader.old) (λ input.
-        (output : Output) × IsReport command MOST_BYTES input output
-        × (k : ℕ) × Appends (W.contents writer.old) (W.contents writer.new) (take k output.text)) }
+    ensures write_fault { result ≡ Status.WriteFailed → (output : Output)
+        × IsReportOf command MOST_BYTES (R.remaining reader.old) output
+        × (k : ℕ) × Appends (W.contents writer.old) (W.contents writer.new) (take k output.text) }
+    // No thread is asked for.
+    ensures threads { result ≢ Status.NoThread }
 {
     match report_reader(alloc, command, reader) {
         Ok(made) => made.write(writer),
-        Err(status) => status,
+        Err(early) => match early {
+            Early::Report(made) => made.write(writer),
+            Early::NoMemory => Status::NoMemory,
+            Early::ReadFailed => Status::ReadFailed,
+        },
     }
 }
 
@@ -95,4 +113,12 @@ pub fn one_report()
 {
     one_fault();
     one_holding();
+}
+
+/// Each input has a report, since each plan has a verdict.
+pub fn some_report()
+    ensures { (command : Command) (most : ℕ) (bytes : List ℕ) → (output : Output) × IsReport command most bytes output }
+{
+    finds_fault();
+    finds_holding();
 }

@@ -13,6 +13,9 @@ pub enum Status {
     BadInput,
     /// Memory ran out. Nothing was written.
     NoMemory,
+    /// A thread could not be started, and the report says so. No report of a document's calls or of its plan's check ends
+    /// so.
+    NoThread,
     /// A read failed, or the document did not come to an end. Nothing was written.
     ReadFailed,
     /// A write failed. What was written is a front of the report.
@@ -28,7 +31,7 @@ impl Status {
             Status::Done => 0,
             Status::Refused => 1,
             Status::BadInput => 2,
-            Status::NoMemory => 3,
+            Status::NoMemory | Status::NoThread => 3,
             Status::ReadFailed | Status::WriteFailed => 4,
         }
     }

@@ -3,7 +3,8 @@ ghost use Rattle.std.specs.Prelude.{◌≡◌, ◌++◌, ◌≤◌, All, OnOk, s
 ghost use Rattle.std.specs.List.{flat_map};
 ghost use Rattle.sm_plan_code.specs.Instr.{is_call};
 ghost use Rattle.sm_plan_code.specs.Plan.{IsSmallStream};
-ghost use Rattle.sm_report.specs.Checking.{call_count, accepted_line, why_name, budget_line, signal_line, stream_line, position_text, stuck_line, fault_line, key_text, key_line, short_line, down_line, holding_line};
+ghost use Rattle.sm_report.specs.Checking.{call_count, accepted_line, why_name, budget_line, misused_signal_line, stream_line, position_text, stuck_line, fault_line, key_text, key_line, short_line, down_line, holding_line};
+ghost use Rattle.sm_plan_code.specs.declared.limits.TheConstants.{MOST_STREAMS};
 
 use crate::names::{server_name, shard_name};
 use sm_placement::Config;
@@ -23,7 +24,7 @@ fn calls_in(code: &[Instr]) -> usize
 /// How many calls stand in the codes of streams.
 fn calls_of(streams: &[Stream]) -> usize
     requires small { All IsSmallStream streams.now }
-    requires few { length streams.now ≤ 64 }
+    requires few { length streams.now ≤ MOST_STREAMS }
     ensures { result ≡ sum_by (λ stream. count_by is_call stream.code) streams.now }
 {
     let mut count = 0;
@@ -75,7 +76,7 @@ fn push_budget(out: &mut String, streams: u64, plan: u32) -> Result<(), AllocErr
 }
 
 fn push_signal(out: &mut String, signal: u32, posts: u32, waits: u32) -> Result<(), AllocError>
-    ensures { OnOk result (string_bytes out.new ≡ string_bytes out.old ++ signal_line signal posts waits) }
+    ensures { OnOk result (string_bytes out.new ≡ string_bytes out.old ++ misused_signal_line signal posts waits) }
 {
     writeln!(
         out,

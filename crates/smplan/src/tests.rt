@@ -3,5 +3,4 @@ mod documents;
 mod ends;
 mod input;
 mod line;
-mod plans;
 mod rows;

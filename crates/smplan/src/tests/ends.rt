@@ -1,6 +1,5 @@
 //! Readers and writers that go wrong.
-use super::documents::{REFUSED_CALLS, Row};
-use super::plans::TWO_STREAMS;
+use super::documents::{REFUSED_CALLS, Row, TWO_STREAMS};
 use sm_report::{Command, Status, report};
 use std::alloc::Global;
 use std::io::{self, ErrorKind, Read, Write};

@@ -3,7 +3,7 @@ use Rattle.serde_json.specs.Data.{Data}
 use Rattle.serde_json.specs.View.{view}
 use Rattle.sm_placement.specs.Setup.{Setup}
 use Rattle.sm_placement.specs.Config.{setup_of, config_fault}
-use Rattle.sm_plan_text.specs.Documents.{DocumentRows, document_faults, IsDocument}
+use Rattle.sm_plan_text.specs.Documents.{DocumentModel, document_faults, IsDocument}
 use Rattle.sm_plan_text.specs.Reading.{rows_of_parts}
 use Rattle.sm_plan_text.proofs.Faultless.{none_noted}
 use Rattle.sm_plan_text.proofs.Known.{setup_is_good, document_is_known}
@@ -15,7 +15,7 @@ configuration-requires c =
     let faultless : document_faults d ≡ [] = none_noted (document_faults d) (sym c.in_ok-parts.ensures.faults ∙ c.in_default.is) in
     ap (λ servers. config_fault (setup_of servers c.deref-2.result.now)) c.deref.ensures.value ∙
     ap (λ shards. config_fault (setup_of c.in_ok-parts.parts.servers.items shards)) c.deref-2.ensures.value ∙
-    ap (λ (rows : DocumentRows). config_fault rows.setup) (c.in_ok-parts.ensures.rows c.in_default.is) ∙
+    ap (λ (rows : DocumentModel). config_fault rows.setup) (c.in_ok-parts.ensures.rows c.in_default.is) ∙
     setup_is_good d faultless
 
 pub returns-clause-known : goal.returns-clause-known
@@ -24,5 +24,5 @@ returns-clause-known c =
     let faultless : document_faults d ≡ [] = none_noted (document_faults d) (sym c.in_ok-parts.ensures.faults ∙ c.in_default.is) in
     let setup : c.in_ok-config.config ≡ setup_of c.in_ok-parts.parts.servers.items c.in_ok-parts.parts.shards.items =
     c.in_ok-config.ensures ∙ ap (λ servers. setup_of servers c.deref-2.result.now) c.deref.ensures.value ∙ ap (λ shards. setup_of c.in_ok-parts.parts.servers.items shards) c.deref-2.ensures.value in
-    let with_setup : Setup → DocumentRows = λ s. record (rows_of_parts c.in_ok-parts.parts) { setup = s } in
+    let with_setup : Setup → DocumentModel = λ s. record (rows_of_parts c.in_ok-parts.parts) { setup = s } in
     subst IsDocument (sym (ap with_setup setup ∙ c.in_ok-parts.ensures.rows c.in_default.is)) (document_is_known d faultless)

@@ -14,7 +14,7 @@ use Rattle.sm_plan_text.specs.Parcels.{HaveIds}
 use Rattle.sm_plan_text.specs.Plans.{faults_within, plan_faults, plan_in}
 use Rattle.sm_plan_text.specs.Events.{event_faults, event_in}
 use Rattle.sm_plan_text.specs.Moves.{move_faults, move_in}
-use Rattle.sm_plan_text.specs.Documents.{document_table, document_faults, servers_in, shards_in, server_names, shard_names}
+use Rattle.sm_plan_text.specs.Documents.{document_table, document_faults, servers_in, shards_in, server_names_in, shard_names_in}
 use Rattle.sm_plan_text.proofs.DocumentLemmas.{two_noted}
 use Rattle.sm_plan_text.proofs.PlanLemmas.{none_before, none_at_all}
 use Rattle.sm_plan_text.proofs.Known.{names_are_few}
@@ -25,10 +25,10 @@ returns-clause-faults c =
     let d : Data = view c.args.value.now in
     let server_items : map view c.list-server_items.result.now ≡ servers_in d = c.list-server_items.ensures.entries in
     let shard_items : map view c.list-shard_items.result.now ≡ shards_in d = c.list-shard_items.ensures.entries in
-    let servers : c.in_ok-servers.servers.names ≡ server_names d = c.in_ok-servers.ensures.names ∙ ap names_in server_items in
-    let shards : c.in_ok-shards.shards.names ≡ shard_names d = c.in_ok-shards.ensures.names ∙ ap names_in shard_items in
-    let S : List (List ℕ) = server_names d in
-    let N : List (List ℕ) = shard_names d in
+    let servers : c.in_ok-servers.servers.names ≡ server_names_in d = c.in_ok-servers.ensures.names ∙ ap names_in server_items in
+    let shards : c.in_ok-shards.shards.names ≡ shard_names_in d = c.in_ok-shards.ensures.names ∙ ap names_in shard_items in
+    let S : List (List ℕ) = server_names_in d in
+    let N : List (List ℕ) = shard_names_in d in
     let object : List TextFault = object_faults members.Document (map (λ row. text_of row.member) (document_table N S)) d in
     let limit : List TextFault = row_faults d (one members.Limit (whole 1024)) in
     let server_list : List TextFault = row_faults d (one members.Servers (list 1024)) in
@@ -83,15 +83,15 @@ returns-clause-rows c =
     let d : Data = view c.args.value.now in
     let server_items : map view c.list-server_items.result.now ≡ servers_in d = c.list-server_items.ensures.entries in
     let shard_items : map view c.list-shard_items.result.now ≡ shards_in d = c.list-shard_items.ensures.entries in
-    let servers : c.in_ok-servers.servers.names ≡ server_names d = c.in_ok-servers.ensures.names ∙ ap names_in server_items in
-    let shards : c.in_ok-shards.shards.names ≡ shard_names d = c.in_ok-shards.ensures.names ∙ ap names_in shard_items in
+    let servers : c.in_ok-servers.servers.names ≡ server_names_in d = c.in_ok-servers.ensures.names ∙ ap names_in server_items in
+    let shards : c.in_ok-shards.shards.names ≡ shard_names_in d = c.in_ok-shards.ensures.names ∙ ap names_in shard_items in
     let of_moves : List TextFault = walked (move_faults c.in_ok-shards.shards.names c.in_ok-servers.servers.names) [] (unwrap_or (option_map (λ list. map view list.now) c.list_or_none-move_items.result) []) in
     let of_events : List TextFault = walked (event_faults c.in_ok-shards.shards.names c.in_ok-servers.servers.names) [] (unwrap_or (option_map (λ list. map view list.now) c.list_or_none-event_items.result) []) in
     let of_plans : List TextFault = walked (plan_faults members.Plans c.in_ok-shards.shards.names c.in_ok-servers.servers.names) [] (unwrap_or (option_map (λ list. map view list.now) c.list_or_none-plan_items.result) []) in
     λ none.
     let known_few = names_are_few d (none_at_all _ _ (document_faults d) (returns-clause-faults c) none) in
     let few : HaveIds c.in_ok-shards.shards.names c.in_ok-servers.servers.names =
-    subst (λ names. HaveIds names c.in_ok-servers.servers.names) (sym shards) (subst (HaveIds (shard_names d)) (sym servers) known_few) in
+    subst (λ names. HaveIds names c.in_ok-servers.servers.names) (sym shards) (subst (HaveIds (shard_names_in d)) (sym servers) known_few) in
     let to_events = none_before _ _ of_moves c.in_ok-moves.ensures.faults none in
     let to_plans = none_before _ _ of_events c.in_ok-events.ensures.faults to_events in
     let to_plan = none_before _ _ of_plans c.in_ok-plans.ensures.faults to_plans in

@@ -19,7 +19,7 @@ returns-clause-faults c =
     let crowns : List TextFault = walked (crown_faults N S) [] (entries_in members.Crowns d) in
     let room : List TextFault = walked (room_faults S) [] (entries_in members.Room d) in
     let spare : List TextFault = walked (spare_faults N) [] (entries_in members.Spare d) in
-    let own : List TextFault = own_faults c.args.place parcel_table d in
+    let own : List TextFault = own_faults c.args.parent parcel_table d in
     let at_cells = two_noted _ _ _ own cells c.in_ok-entries.ensures.faults
     (c.in_ok-cells.ensures.faults ∙ ap (λ ds. noted c.read_entries.new.faults.lowest (walked (right_faults N S) [] ds)) c.in_ok-entries.ensures.cells) in
     let at_crowns = two_noted _ _ _ (own ++ cells) crowns at_cells

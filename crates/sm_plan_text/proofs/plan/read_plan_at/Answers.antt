@@ -12,6 +12,6 @@ returns-clause-plan c = λ few none.
     let d : Data = view c.args.object.now in
     let shards : List (List ℕ) = c.args.shards.now in
     let servers : List (List ℕ) = c.args.servers.now in
-    let faultless : plan_faults c.args.place shards servers [] d ≡ [] = none_at_all _ _ (plan_faults c.args.place shards servers [] d) c.in_ok-parts.ensures.faults none in
+    let faultless : plan_faults c.args.parent shards servers [] d ≡ [] = none_at_all _ _ (plan_faults c.args.parent shards servers [] d) c.in_ok-parts.ensures.faults none in
     let parts = c.in_ok-parts.ensures.parts few none in
-    c.make_plan.ensures (subst IsPlan (sym parts) (plan_good c.args.place shards servers d few faultless).plan) ∙ ap Some parts
+    c.make_plan.ensures (subst IsPlan (sym parts) (plan_good c.args.parent shards servers d few faultless).plan) ∙ ap Some parts

@@ -3,7 +3,7 @@ use Rattle.std.proofs.lemmas.List.{length-map}
 use Rattle.serde_json.specs.Data.{Data}
 use Rattle.serde_json.specs.View.{view}
 use Rattle.sm_placement.specs.Setup.{Setup, IsSetup, ServerRow, ShardRow}
-use Rattle.sm_plan_code.specs.Plan.{FitsPlan}
+use Rattle.sm_plan_code.specs.Plan.{IsKnownPlan}
 use Rattle.sm_plan_text.specs.declared.member.Member.TheVariants as members
 use Rattle.sm_plan_text.specs.Parcels.{HaveIds}
 use Rattle.sm_plan_text.specs.Plans.{plan_faults, plan_in}
@@ -24,9 +24,9 @@ returns-clause-fits c =
     let most_servers : length setup.servers ≤ 1024 = is_setup.servers in
     let few : HaveIds shards servers = record { shards = omega arith; servers = omega arith } in
     let faultless : plan_faults members.Document shards servers [] d ≡ [] = none_noted (plan_faults members.Document shards servers [] d) (sym c.in_ok-plan.ensures.faults ∙ c.in_default.is) in
-    let good : FitsPlan (length setup.shards) (length setup.servers) (plan_in shards servers d) =
-    subst (λ n. FitsPlan n (length setup.servers) (plan_in shards servers d)) shard_count
-    (subst (λ n. FitsPlan (length shards) n (plan_in shards servers d)) server_count (plan_good members.Document shards servers d few faultless).fits) in
-    subst (λ o. IfSome o (FitsPlan (length setup.shards) (length setup.servers)))
+    let good : IsKnownPlan (length setup.shards) (length setup.servers) (plan_in shards servers d) =
+    subst (λ n. IsKnownPlan n (length setup.servers) (plan_in shards servers d)) shard_count
+    (subst (λ n. IsKnownPlan (length shards) n (plan_in shards servers d)) server_count (plan_good members.Document shards servers d few faultless).fits) in
+    subst (λ o. IfSome o (IsKnownPlan (length setup.shards) (length setup.servers)))
     (sym (c.in_ok-plan.ensures.plan few c.in_default.is) ∙ c.in-Some-plan.is)
     good

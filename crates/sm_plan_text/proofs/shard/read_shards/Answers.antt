@@ -8,7 +8,7 @@ use Rattle.sm_placement.specs.Config.{shard_row}
 use Rattle.sm_plan_text.specs.declared.member.Member.TheVariants as members
 use Rattle.sm_plan_text.specs.Faults.{noted}
 use Rattle.sm_plan_text.specs.Values.{text_in, names_in}
-use Rattle.sm_plan_text.specs.Shards.{faults_of_shard, shard_faults, shard_in, listed_in, cells_of, cells_in}
+use Rattle.sm_plan_text.specs.Shards.{faults_of_shard, shard_faults, shard_in, listed_in, cells_of_shard, cells_in}
 use Rattle.sm_plan_text.proofs.WalkLemmas.{step_on, mapped_step, walked_step}
 use Rattle.sm_plan_text.proofs.ServerLemmas.{names_in_push}
 use Rattle.sm_plan_text.proofs.ShardLemmas.{cells_in_push, cell_count_is}
@@ -30,8 +30,8 @@ loop-item-preserved c =
       listed = mapped_step (listed_in servers) items i item [] _ _ c.loop-item-test.true c.item-item.is c.in_ok-add_shard.ensures.listed c.loop-item.invariant.listed;
       cells = step_on (cells_in servers) items i item _ c.loop-item-test.true c.item-item.is
           (c.in_ok-add_shard.ensures.cells
-          ∙ ap (λ n. c.loop-item.shards.cells.items ++ cells_of servers (n, view item)) count
-          ∙ ap (λ cells. cells ++ cells_of servers (length front, view item)) c.loop-item.invariant.cells
+          ∙ ap (λ n. c.loop-item.shards.cells.items ++ cells_of_shard servers (n, view item)) count
+          ∙ ap (λ cells. cells ++ cells_of_shard servers (length front, view item)) c.loop-item.invariant.cells
           ∙ sym (cells_in_push servers front (view item)));
       faults = walked_step (shard_faults servers) items i item _ _ c.loop-item-test.true c.item-item.is
           (c.in_ok-add_shard.ensures.faults

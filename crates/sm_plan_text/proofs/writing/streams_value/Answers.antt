@@ -1,14 +1,14 @@
 use Rattle.std.proofs.Common.{length, sym, subst}
 use Rattle.std.proofs.lemmas.List.Elements.{All-get_or}
 use Rattle.sm_placement.specs.Setup.{names_of_servers, names_of_shards}
-use Rattle.sm_plan_code.specs.Plan.{FitsStream}
+use Rattle.sm_plan_code.specs.Plan.{IsKnownStream}
 use Rattle.sm_plan_text.specs.PlanTexts.{stream_data}
 use Rattle.sm_plan_text.proofs.Written.{built_step, built_all}
 use Rattle.sm_plan_text.proofs.writing.streams_value.Goals as goal
 
 pub stream_value-requires : goal.stream_value-requires
 stream_value-requires c =
-    let fits = FitsStream (length c.args.config.now.shards) (length c.args.config.now.servers) in
+    let fits = IsKnownStream (length c.args.config.now.shards) (length c.args.config.now.servers) in
     subst fits (sym c.stream-item.is) (All-get_or fits c.args.streams.now c.loop-stream.stream-index c.stream-item.result c.loop-stream-test.true c.requires)
 
 pub loop-stream-preserved : goal.loop-stream-preserved

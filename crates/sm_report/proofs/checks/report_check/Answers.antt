@@ -1,21 +1,50 @@
-use Rattle.std.proofs.Common.{◌≡◌, ◌∙◌, None, ap, subst}
-use Rattle.sm_placement.specs.Setup.{sizes_of}
+use Rattle.std.proofs.Common.{◌≡◌, ◌∙◌, Ok, Err, length, ap, sym, subst, rules}
 use Rattle.sm_placement.specs.Layout.{place_of}
-use Rattle.sm_placement.specs.Opening.{Opening, opened, open_fault}
+use Rattle.sm_plan_code.specs.Plan.{IsKnownPlan}
+use Rattle.sm_plan_text.specs.declared.member.Member.TheVariants as members
 use Rattle.sm_plan_text.specs.Reading.{rows_of}
-use Rattle.sm_report.specs.Checking.{IsPlanReport}
-use Rattle.sm_report.specs.Output.{opening_of, IsCheckReport}
-use Rattle.sm_report.proofs.Reported.{ok_weaker, plan_reported}
+use Rattle.sm_report.specs.Early.{IfEnded}
+use Rattle.sm_report.specs.Stages.{member_stage, placement_stage}
+use Rattle.sm_report.specs.Output.{IsPlanReport, IsOpenedForCheck}
+use Rattle.sm_report.proofs.Onward.{stage_ended, stage_went_on, member_there, made_weaker}
 use Rattle.sm_report.proofs.checks.report_check.Goals as goal
 
-pub returns-in-Ok : goal.returns-in-Ok
-returns-in-Ok c =
-    let given : Opening = record { cells = c.as_slice.result.now; listed = c.as_slice-2.result.now; down = c.as_slice-3.result.now; limit = c.args.document.limit } in
-    let same : given ≡ opening_of (rows_of c.args.document) =
-    λ j. record { cells = c.as_slice.ensures.value j; listed = c.as_slice-2.ensures.value j; down = c.as_slice-3.ensures.value j; limit = c.args.document.limit } in
-    ok_weaker (λ made. IsPlanReport c.in-Ok.placement.setup (place_of c.in-Ok.placement) c.in-Some.plan made)
-    (λ made. IsCheckReport (rows_of c.args.document) c.args.document.plan made) c.report_plan.result
-    (λ made reported. plan_reported (rows_of c.args.document) c.args.document.plan c.in-Some.plan c.in-Ok.placement.setup (place_of c.in-Ok.placement) made c.in-Some.is
-    (subst (λ o. open_fault (sizes_of c.args.document.config) o ≡ None) same c.in-Ok.ensures.valid)
-    c.in-Ok.ensures.setup (c.in-Ok.ensures.ok ∙ ap opened same) reported)
-    c.report_plan.ensures
+pub returns-in_err-plan : goal.returns-in_err-plan
+returns-in_err-plan c =
+    let rows = rows_of c.args.document.now in
+    let early = c.in_err-plan.field-0.0 in
+    let result = c.from_residual.result in
+    let is : result ≡ Err early = search rules in
+    stage_ended (member_stage members.Plan rows.plan) (IsOpenedForCheck rows) early result is
+    (subst (λ o. IfEnded early (λ made. member_stage members.Plan o ≡ Err made)) c.take.ensures.value c.in_err-plan.ensures.ends)
+
+pub returns-in_err-placement : goal.returns-in_err-placement
+returns-in_err-placement c =
+    let rows = rows_of c.args.document.now in
+    let plan = c.in_ok-plan.plan in
+    let there : member_stage members.Plan rows.plan ≡ Ok plan = ap (member_stage members.Plan) (sym c.take.ensures.value) ∙ c.in_ok-plan.ensures.ok in
+    let early = c.in_err-placement.field-0.0 in
+    let result = c.from_residual-in_err-placement.result in
+    let is : result ≡ Err early = search rules in
+    stage_went_on (member_stage members.Plan rows.plan) (IsOpenedForCheck rows) plan result there
+    (stage_ended (placement_stage rows) (IsPlanReport rows.setup plan) early result is c.in_err-placement.ensures.ends)
+
+pub report_plan-requires-clause-fits : goal.report_plan-requires-clause-fits
+report_plan-requires-clause-fits c =
+    let rows = rows_of c.args.document.now in
+    let plan = c.in_ok-plan.plan in
+    let there : member_stage members.Plan rows.plan ≡ Ok plan = ap (member_stage members.Plan) (sym c.take.ensures.value) ∙ c.in_ok-plan.ensures.ok in
+    subst (λ s. IsKnownPlan (length s.shards) (length s.servers) plan) (sym c.in_ok-placement.ensures.setup)
+    (member_there (IsKnownPlan (length rows.setup.shards) (length rows.setup.servers)) members.Plan rows.plan plan there c.requires.plan)
+
+pub returns : goal.returns
+returns c =
+    let rows = rows_of c.args.document.now in
+    let plan = c.in_ok-plan.plan in
+    let there : member_stage members.Plan rows.plan ≡ Ok plan = ap (member_stage members.Plan) (sym c.take.ensures.value) ∙ c.in_ok-plan.ensures.ok in
+    let place = place_of c.in_ok-placement.placement in
+    let result = c.report_plan.result in
+    stage_went_on (member_stage members.Plan rows.plan) (IsOpenedForCheck rows) plan result there
+    (stage_went_on (placement_stage rows) (IsPlanReport rows.setup plan) place result c.in_ok-placement.ensures.ok
+    (made_weaker result (IsPlanReport c.in_ok-placement.placement.setup plan place) (IsPlanReport rows.setup plan place)
+    (λ made h. subst (λ s. IsPlanReport s plan place made) c.in_ok-placement.ensures.setup h) c.report_plan.ensures))

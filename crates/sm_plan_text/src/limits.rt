@@ -1,0 +1,27 @@
+//! The limits of a document's own lists and numbers. Those of configurations, placements and plans stand in their crates.
+use sm_placement::{MOST_LOAD, MOST_REPLICAS, MOST_SERVERS};
+use sm_plan_code::MOST_AMOUNT;
+
+/// How many calls, and how many events, a document has at most.
+pub const MOST_EVENTS: usize = 1_048_576;
+
+/// How many moves a document has at most.
+pub const MOST_MOVES: usize = 4_096;
+
+/// How many shards a document asks for at most.
+pub const MOST_ASKS: usize = 16;
+
+/// How many places the log has where the document does not say.
+pub const LOG_PLACES: u32 = 65_536;
+
+/// The greatest load and room, as they are read.
+pub const LOAD_LIMIT: u32 = MOST_LOAD as u32;
+
+/// The greatest amount of a right, as it is read.
+pub const AMOUNT_LIMIT: u32 = MOST_AMOUNT as u32;
+
+/// The greatest limit of servers down, as it is read.
+pub const DOWN_LIMIT: u32 = MOST_SERVERS as u32;
+
+/// The greatest want of a shard, as a number of a document is.
+pub const WANT_LIMIT: u64 = MOST_REPLICAS as u64;

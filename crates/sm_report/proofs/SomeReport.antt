@@ -1,0 +1,87 @@
+-- The bytes that are read have a report: each stage ends or goes on, since a plan of a document is sound or has a fault, and
+-- may start or is held up.
+use Rattle.std.proofs.Common.{◌≡◌, ℕ, Option, Some, None, Result, Ok, Err, List, length, nat_lt, refl, inl, inr}
+use Rattle.std.proofs.lemmas.Bool.{cases_Bool}
+use Rattle.sm_placement.specs.Setup.{Setup, sizes_of}
+use Rattle.sm_placement.specs.Place.{Place}
+use Rattle.sm_reservation.specs.Pool.{true_rights}
+use Rattle.sm_plan_code.specs.Plan.{PlanModel}
+use Rattle.sm_verifier.specs.declared.admission.Holding.{Holding}
+use Rattle.sm_verifier.specs.FirstHolding.{first_holding, DecidesHolding, FindsHolding}
+use Rattle.sm_verifier.specs.Verdict.{FindsFault}
+use Rattle.sm_plan_text.specs.declared.fault.TextFault.{TextFault}
+use Rattle.sm_plan_text.specs.declared.member.Member.TheVariants as member
+use Rattle.sm_plan_text.specs.Documents.{DocumentModel}
+use Rattle.sm_plan_text.specs.Reading.{read}
+use Rattle.sm_plan_text.proofs.ReadPlans.{IsPlanOf, HasItsPlan, read_has_plan}
+use Rattle.sm_report.specs.declared.command.Command.{Command}
+use Rattle.sm_report.specs.declared.command.Command.TheVariants.{Calls, Check}
+use Rattle.sm_report.specs.Report.{Output, refused, done}
+use Rattle.sm_report.specs.Checking.{fault_line, holding_line, accepted_line}
+use Rattle.sm_report.specs.Stages.{Then, read_or_bad, read_stage, member_stage, placement_stage, AtCheck, AtStart}
+use Rattle.sm_report.specs.Output.{calls_output, IsCalled, IsOpenedForCalls, IsAcceptedReport, IsPlanReport, IsOpenedForCheck, IsDocumentReport, IsReport}
+use Rattle.sm_report.proofs.Onward.{member_there}
+
+-- each plan has its verdict
+pub record HasVerdicts : Type 0 where
+  pub fault : FindsFault
+  pub holding : FindsHolding
+
+-- there is an output of which this holds
+abbrev pub IsMade : (Output → Type 0) → Type 0
+IsMade Is = (output : Output) × Is output
+
+-- ---- each stage
+
+then_some : {A : Type 0} (stage : Result A Output) (Next : A → Output → Type 0) → ((found : A) → stage ≡ Ok found → IsMade (Next found)) → IsMade (Then stage Next)
+then_some (Ok found) Next next = next found refl
+then_some (Err ending) Next next = (ending, refl)
+
+check_some : FindsFault → (setup : Setup) (plan : PlanModel) (Next : Output → Type 0) → IsPlanOf setup plan → IsMade Next → IsMade (AtCheck (sizes_of setup) plan Next)
+check_some finds setup plan Next it next = elim (finds (sizes_of setup) plan it.is it.fits) [
+  | inl sound ↦ (next.0, inr (sound, next.1))
+  | inr fault ↦ (refused (fault_line fault.0), inl (fault.0, fault.1, fault.2, refl))
+]
+
+start_some : FindsHolding → (setup : Setup) (p : Place) (plan : PlanModel) (Next : Output → Type 0) → IsPlanOf setup plan → IsMade Next → IsMade (AtStart setup p plan Next)
+start_some finds setup p plan Next it next = go (first_holding (sizes_of setup) p (true_rights (sizes_of setup) p) plan) refl
+  where
+    decides : DecidesHolding (sizes_of setup) p (true_rights (sizes_of setup) p) plan
+    decides = finds (sizes_of setup) p (true_rights (sizes_of setup) p) plan it.is.parcels it.fits
+
+    go : (found : Option Holding) → first_holding (sizes_of setup) p (true_rights (sizes_of setup) p) plan ≡ found → IsMade (AtStart setup p plan Next)
+    go None is = (next.0, inr (decides.none.0 is, next.1))
+    go (Some h) is = (refused (holding_line setup h), inl (h, (decides.some h).0 is, refl))
+
+-- ---- the commands
+
+plan_some : HasVerdicts → (setup : Setup) (plan : PlanModel) (p : Place) → IsPlanOf setup plan → IsMade (IsPlanReport setup plan p)
+plan_some verdicts setup plan p it =
+    check_some verdicts.fault setup plan (AtStart setup p plan (IsAcceptedReport plan)) it
+    (start_some verdicts.holding setup p plan (IsAcceptedReport plan) it (done (accepted_line plan), refl))
+
+document_some : HasVerdicts → (command : Command) (d : DocumentModel) → HasItsPlan d → IsMade (IsDocumentReport command d)
+document_some verdicts Calls d has =
+    then_some (member_stage member.Calls d.calls) (IsOpenedForCalls d) (λ calls there.
+    then_some (placement_stage d) (IsCalled d calls) (λ p opened. (calls_output d.setup p calls, refl)))
+document_some verdicts Check d has =
+    then_some (member_stage member.Plan d.plan) (IsOpenedForCheck d) (λ plan there.
+    then_some (placement_stage d) (IsPlanReport d.setup plan) (λ p opened.
+    plan_some verdicts d.setup plan p (member_there (IsPlanOf d.setup) member.Plan d.plan plan there has)))
+
+-- ---- what is read
+
+read_or_bad_ok : (found : Result DocumentModel TextFault) (d : DocumentModel) → read_or_bad found ≡ Ok d → found ≡ Ok d
+read_or_bad_ok (Ok rows) d e = cc
+read_or_bad_ok (Err fault) d e = absurd (cc)
+
+stage_has_plan : (most : ℕ) (bytes : List ℕ) (d : DocumentModel) → read_stage most bytes ≡ Ok d → HasItsPlan d
+stage_has_plan most bytes d e = elim (cases_Bool (nat_lt most (length bytes))) [
+  | inl long ↦ absurd (let ended = rw long at e in cc)
+  | inr short ↦ read_has_plan bytes d (read_or_bad_ok (read bytes) d (rw short at e))
+]
+
+-- what a command reports of bytes is some output
+pub some_report : HasVerdicts → (command : Command) (most : ℕ) (bytes : List ℕ) → (output : Output) × IsReport command most bytes output
+some_report verdicts command most bytes =
+    then_some (read_stage most bytes) (IsDocumentReport command) (λ d read. document_some verdicts command d (stage_has_plan most bytes d read))

@@ -1,0 +1,27 @@
+-- Reports that end before the command's own text.
+use Rattle.std.specs.Prelude.{Result, Ok, Err}
+use Rattle.sm_report.specs.declared.early.Early.{Early}
+use Rattle.sm_report.specs.declared.early.Early.TheVariants.{NoMemory, ReadFailed, Report}
+use Rattle.sm_report.specs.Report.{Output}
+
+-- The report with which a stage behind the reading ended is one of these; where memory was short, there is none. Such a stage
+-- reads nothing.
+abbrev pub IfEnded : Early → (Output → Type 0) → Type 0
+IfEnded NoMemory Is = Unit {0}
+IfEnded ReadFailed Is = ⊥
+IfEnded (Report made) Is = Is made
+
+-- the report that was made of what was read, to its end or to the end of an earlier stage, is one of these
+abbrev pub IfMade : Result Output Early → (Output → Type 0) → Type 0
+IfMade (Ok made) Is = Is made
+IfMade (Err early) Is = IfEnded early Is
+
+-- the same of a stage that reads: where a read failed, there is no report either
+abbrev pub IfReadEnded : Early → (Output → Type 0) → Type 0
+IfReadEnded NoMemory Is = Unit {0}
+IfReadEnded ReadFailed Is = Unit {0}
+IfReadEnded (Report made) Is = Is made
+
+abbrev pub IfReadMade : Result Output Early → (Output → Type 0) → Type 0
+IfReadMade (Ok made) Is = Is made
+IfReadMade (Err early) Is = IfReadEnded early Is

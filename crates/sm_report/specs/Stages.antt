@@ -1,0 +1,73 @@
+-- The stages of a report. Every command takes them in this order, and leaves out those that it has no use for: the bytes
+-- are read, the command's member is there, the placement is opened, the plan passes the check, the plan may start; then
+-- comes the command's own text. A stage finds what the next ones need, or ends the report with its line.
+use Rattle.std.specs.Prelude.{◌≡◌, ◌≢◌, ◌⊎◌, ℕ, List, length, Option, Some, None, Result, Ok, Err, nat_lt, if◌then◌else◌}
+use Rattle.sm_placement.specs.declared.opening.OpenFault.{OpenFault}
+use Rattle.sm_placement.specs.Setup.{Setup, Sizes, sizes_of}
+use Rattle.sm_placement.specs.Place.{Place}
+use Rattle.sm_placement.specs.Opening.{opened_place, open_fault}
+use Rattle.sm_reservation.specs.Pool.{true_rights}
+use Rattle.sm_plan_code.specs.Plan.{PlanModel}
+use Rattle.sm_verifier.specs.declared.checking.Fault.{Fault}
+use Rattle.sm_verifier.specs.declared.checking.Fault.TheVariants as fault
+use Rattle.sm_verifier.specs.declared.admission.Holding.{Holding}
+use Rattle.sm_verifier.specs.Plan.{IsSound, IsFault}
+use Rattle.sm_verifier.specs.Admission.{IsAdmitted, IsHolding}
+use Rattle.sm_plan_text.specs.declared.fault.TextFault.{TextFault}
+use Rattle.sm_plan_text.specs.declared.fault.TextFault.TheVariants.{Shape}
+use Rattle.sm_plan_text.specs.declared.member.Member.{Member}
+use Rattle.sm_plan_text.specs.Documents.{DocumentModel}
+use Rattle.sm_plan_text.specs.Opened.{opening_of}
+use Rattle.sm_plan_text.specs.Reading.{read}
+use Rattle.sm_report.specs.Report.{Output, bad_input, refused}
+use Rattle.sm_report.specs.BadInput.{text_fault_line, too_long_line}
+use Rattle.sm_report.specs.Opening.{open_fault_line}
+use Rattle.sm_report.specs.Checking.{fault_line, holding_line}
+
+-- What is reported where a stage comes before the others: what the next ones say of what it found, or its own ending.
+abbrev pub Then : {A : Type 0} → Result A Output → (A → Output → Type 0) → Output → Type 0
+Then (Ok found) Next output = Next found output
+Then (Err ending) Next output = output ≡ ending
+
+-- ---- stages that are functions of what came before
+
+abbrev pub read_or_bad : Result DocumentModel TextFault → Result DocumentModel Output
+read_or_bad (Ok d) = Ok d
+read_or_bad (Err fault) = Err (bad_input (text_fault_line fault))
+
+-- the bytes are read, where there are no more than may be
+abbrev pub read_stage : ℕ → List ℕ → Result DocumentModel Output
+read_stage most bytes = if nat_lt most (length bytes) then Err (bad_input too_long_line) else read_or_bad (read bytes)
+
+-- the member that the command needs is there
+abbrev pub member_stage : {A : Type 0} → Member → Option A → Result A Output
+member_stage m (Some value) = Ok value
+member_stage m None = Err (bad_input (text_fault_line (Shape m)))
+
+abbrev pub opened_or_refused : DocumentModel → Option OpenFault → Result Place Output
+opened_or_refused d None = Ok (opened_place (opening_of d))
+opened_or_refused d (Some fault) = Err (refused (open_fault_line d.setup fault))
+
+-- the placement is opened
+abbrev pub placement_stage : DocumentModel → Result Place Output
+placement_stage d = opened_or_refused d (open_fault (sizes_of d.setup) (opening_of d))
+
+-- ---- stages that are told by what is true of the plan
+
+-- the report ends with the plan's first fault
+abbrev pub IsFaultReport : Sizes → PlanModel → Output → Type 0
+IsFaultReport c plan output = (f : Fault) × IsFault c plan f × (f ≢ fault.NoMemory) × (output ≡ refused (fault_line f))
+
+-- the plan passes the check
+abbrev pub AtCheck : Sizes → PlanModel → (Output → Type 0) → Output → Type 0
+AtCheck c plan Next output = IsFaultReport c plan output ⊎ (IsSound c plan × Next output)
+
+-- the report ends with the first thing that holds the plan up at a placement whose pool has all rights
+abbrev pub IsHoldingReport : Setup → Place → PlanModel → Output → Type 0
+IsHoldingReport setup p plan output =
+    (h : Holding) × IsHolding (sizes_of setup) p (true_rights (sizes_of setup) p) plan h × (output ≡ refused (holding_line setup h))
+
+-- the plan may start at a placement whose pool has all rights
+abbrev pub AtStart : Setup → Place → PlanModel → (Output → Type 0) → Output → Type 0
+AtStart setup p plan Next output =
+    IsHoldingReport setup p plan output ⊎ (IsAdmitted (sizes_of setup) p (true_rights (sizes_of setup) p) plan × Next output)

@@ -1,0 +1,99 @@
+//! The stages of a report, from a document that is read to a plan that may start. Each gives what it found, or how the
+//! report ends there.
+ghost use Rattle.std.specs.Prelude.{◌≡◌, ◌≢◌, Ok, Err, IfOk, IfErr, OnOk, length};
+ghost use Rattle.sm_placement.specs.Setup.{sizes_of};
+ghost use Rattle.sm_placement.specs.Layout.{place_of};
+ghost use Rattle.sm_placement.specs.Lead.{IsSettled};
+ghost use Rattle.sm_reservation.specs.Pool.{HasSize, pool_hold, true_rights};
+ghost use Rattle.sm_plan_code.specs.Plan.{IsKnownPlan};
+ghost use Rattle.sm_verifier.specs.Plan.{IsSound};
+ghost use Rattle.sm_verifier.specs.Admission.{IsAdmitted};
+ghost use Rattle.sm_plan_text.specs.Reading.{rows_of};
+ghost use Rattle.sm_report.specs.Checking.{fault_line};
+ghost use Rattle.sm_report.specs.Early.{IfEnded};
+ghost use Rattle.sm_report.specs.Report.{refused};
+ghost use Rattle.sm_report.specs.Stages.{member_stage, placement_stage, IsFaultReport, IsHoldingReport};
+
+use crate::early::Early;
+use crate::made::Made;
+use sm_placement::{OpenFault, Placement};
+use sm_plan_code::Plan;
+use sm_plan_text::{Document, Member, TextFault};
+use sm_reservation::Pool;
+use sm_verifier::{Checked, Fault, admit, check};
+use std::alloc::Global;
+
+/// The member that a command needs.
+pub fn member<T: Drop>(alloc: Global, member: Member, value: Option<T>) -> Result<T, Early>
+    ensures ok { IfOk result (λ found. member_stage member value ≡ Ok found) }
+    ensures ends { IfErr result (λ early. IfEnded early (λ made. member_stage member value ≡ Err made)) }
+{
+    match value {
+        Some(value) => Ok(value),
+        None => Err(Early::Report(Made::bad_input(alloc, TextFault::Shape { member })?)),
+    }
+}
+
+/// The placement that the document names.
+pub fn placement(alloc: Global, document: &Document) -> Result<Placement, Early>
+    ensures ok { IfOk result (λ placement. placement_stage (rows_of document.now) ≡ Ok (place_of placement)) }
+    ensures setup { IfOk result (λ placement. placement.setup ≡ (rows_of document.now).setup) }
+    ensures settled { IfOk result (λ placement. IsSettled (sizes_of placement.setup) (place_of placement)) }
+    ensures ends { IfErr result (λ early. IfEnded early (λ made. placement_stage (rows_of document.now) ≡ Err made)) }
+{
+    match document.open(alloc) {
+        Ok(placement) => Ok(placement),
+        Err(OpenFault::NoMemory) => Err(Early::NoMemory),
+        Err(fault) => Err(Early::Report(Made::unopened(alloc, &document.config, fault)?)),
+    }
+}
+
+/// How the report of a plan ends that did not pass the check.
+fn fault_ending(alloc: Global, fault: &Fault) -> Early
+    ensures { IfEnded result (λ made. (fault.now ≢ Fault.NoMemory) × (made ≡ refused (fault_line fault.now))) }
+{
+    match fault {
+        Fault::NoMemory => Early::NoMemory,
+        Fault::Budget { .. }
+        | Fault::SignalNotOnce { .. }
+        | Fault::Stream { .. }
+        | Fault::Stuck { .. } => match Made::unsound(alloc, fault) {
+            Ok(made) => Early::Report(made),
+            Err(_) => Early::NoMemory,
+        },
+    }
+}
+
+/// The plan, once it has passed the check.
+pub fn checked(alloc: Global, placement: &Placement, plan: Plan) -> Result<Checked, Early>
+    requires { IsKnownPlan (length placement.now.setup.shards) (length placement.now.setup.servers) plan }
+    ensures setup { IfOk result (λ checked. checked.setup ≡ placement.now.setup) }
+    ensures plan { IfOk result (λ checked. checked.plan ≡ plan) }
+    ensures sound { OnOk result (IsSound (sizes_of placement.now.setup) plan) }
+    ensures ends { IfErr result (λ early. IfEnded early (IsFaultReport (sizes_of placement.now.setup) plan)) }
+{
+    match check(alloc, placement.config(), plan) {
+        Ok(checked) => Ok(checked),
+        Err((_, fault)) => Err(fault_ending(alloc, &fault)),
+    }
+}
+
+/// Tests that a plan that passed the check may start at a placement whose pool has all rights.
+pub fn may_start(
+    alloc: Global,
+    checked: &Checked,
+    pool: &Pool,
+    placement: &Placement,
+) -> Result<(), Early>
+    requires setup { checked.now.setup ≡ placement.now.setup }
+    requires size { HasSize (sizes_of placement.now.setup) pool.now }
+    requires rights { pool_hold pool.now ≡ true_rights (sizes_of placement.now.setup) (place_of placement.now) }
+    ensures admitted { OnOk result (IsAdmitted (sizes_of placement.now.setup) (place_of placement.now)
+        (true_rights (sizes_of placement.now.setup) (place_of placement.now)) checked.now.plan) }
+    ensures ends { IfErr result (λ early. IfEnded early (IsHoldingReport placement.now.setup (place_of placement.now) checked.now.plan)) }
+{
+    match admit(checked, pool, placement) {
+        Ok(()) => Ok(()),
+        Err(holding) => Err(Early::Report(Made::held(alloc, placement.config(), holding)?)),
+    }
+}
