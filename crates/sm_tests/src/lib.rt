@@ -1,13 +1,9 @@
-//! Tests of the crates' public calls, in a crate of their own: nothing here is part of the product.
+//! Tests of the public calls of sm_plan_code, sm_task_controller and sm_verifier, in a crate of their own: nothing here is part of the product.
 #![tactic(auto)]
 
 #[cfg(test)]
-mod placement;
-#[cfg(test)]
 mod plan_code;
 #[cfg(test)]
-mod plan_text;
-#[cfg(test)]
-mod server_calls;
+mod task_controller;
 #[cfg(test)]
 mod verifier;

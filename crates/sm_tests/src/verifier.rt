@@ -6,6 +6,7 @@ mod check;
 mod dropping;
 mod ends;
 mod handover;
+mod holdings;
 mod listing;
 mod order;
 mod plans;

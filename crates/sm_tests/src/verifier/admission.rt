@@ -18,7 +18,7 @@ use std::process::Abort;
 use std::test::Fail;
 
 /// The worked placement, of which two servers may be down.
-fn worked_placement(
+pub(super) fn worked_placement(
     alloc: Global,
     config: &Config,
     down: &[ServerId],
@@ -44,7 +44,7 @@ const fn room(amount: u64) -> Room {
 }
 
 /// A spare replica of shard 0.
-const fn spare() -> Spare {
+pub(super) const fn spare() -> Spare {
     Spare {
         shard: ShardId::new(0),
         amount: 1,
@@ -52,7 +52,7 @@ const fn spare() -> Spare {
 }
 
 /// The right to the cell of shard 0 at a server, as if the server had nothing of the shard.
-const fn absent(server: u32) -> CellRight {
+pub(super) const fn absent(server: u32) -> CellRight {
     CellRight {
         shard: ShardId::new(0),
         server: ServerId::new(server),
@@ -61,7 +61,7 @@ const fn absent(server: u32) -> CellRight {
 }
 
 /// The crown of shard 0.
-const fn crown() -> Crown {
+pub(super) const fn crown() -> Crown {
     Crown {
         shard: ShardId::new(0),
         lead: Lead::At(ServerId::new(0)),
@@ -71,14 +71,14 @@ const fn crown() -> Crown {
 
 /// What a parcel has.
 #[derive(Clone, Copy)]
-struct Rights {
-    cells: [Option<CellRight>; 2],
-    crown: Option<Crown>,
-    room: Option<Room>,
-    spare: Option<Spare>,
+pub(super) struct Rights {
+    pub(super) cells: [Option<CellRight>; 2],
+    pub(super) crown: Option<Crown>,
+    pub(super) room: Option<Room>,
+    pub(super) spare: Option<Spare>,
 }
 
-const NOTHING: Rights = Rights {
+pub(super) const NOTHING: Rights = Rights {
     cells: [None, None],
     crown: None,
     room: None,
@@ -104,7 +104,7 @@ const fn only_absent(server: u32) -> Rights {
 }
 
 /// Room of server 1.
-const fn only_room(amount: u64) -> Rights {
+pub(super) const fn only_room(amount: u64) -> Rights {
     Rights {
         room: Some(room(amount)),
         ..NOTHING
@@ -122,7 +122,7 @@ fn listed<T: Copy + Drop>(alloc: Global, items: &[Option<T>]) -> Result<Vec<T>, 
     Ok(list)
 }
 
-fn parcel(alloc: Global, rights: &Rights) -> Result<Parcel, AllocError> {
+pub(super) fn parcel(alloc: Global, rights: &Rights) -> Result<Parcel, AllocError> {
     let lists = Lists {
         cells: listed(alloc, &rights.cells)?,
         crowns: listed(alloc, &[rights.crown])?,
@@ -142,7 +142,7 @@ fn stream(alloc: Global, rights: &Rights, code: &[Instr]) -> Result<Stream, Allo
 }
 
 /// A plan of two streams with these rights, of which the second has a code.
-fn plan(
+pub(super) fn plan(
     alloc: Global,
     first: &Rights,
     second: &Rights,
@@ -177,7 +177,7 @@ fn judged_after(
 }
 
 /// The pool of a placement.
-fn pool_of(alloc: Global, placement: &Placement) -> Result<Pool, AllocError>
+pub(super) fn pool_of(alloc: Global, placement: &Placement) -> Result<Pool, AllocError>
     requires { IsSettled (sizes_of placement.now.setup) (place_of placement.now) }
     ensures { IfOk result (HasSize (sizes_of placement.now.setup)) }
 {
@@ -199,7 +199,7 @@ fn judged_at(
 }
 
 /// The plan with its check, which it passes.
-fn checked_of(alloc: Global, plan: Plan) -> Result<Checked, AllocError> {
+pub(super) fn checked_of(alloc: Global, plan: Plan) -> Result<Checked, AllocError> {
     let config = config_of(alloc, 4, &[4, 6])?;
     if !plan.fits(&config) {
         return Err(AllocError);
@@ -208,7 +208,7 @@ fn checked_of(alloc: Global, plan: Plan) -> Result<Checked, AllocError> {
 }
 
 /// What holds a plan up at the worked placement with servers down, once a parcel was taken from its pool.
-fn judged(
+pub(super) fn judged(
     alloc: Global,
     plan: Plan,
     down: &[ServerId],
@@ -250,7 +250,7 @@ const fn cell_key(server: u32) -> Key {
 }
 
 /// Asserts what holds a plan of two streams with these rights up, once others were taken.
-fn assert_held_up(
+pub(super) fn assert_held_up(
     rt: &impl Abort,
     alloc: Global,
     first: Rights,
@@ -399,7 +399,7 @@ fn assert_down(
 }
 
 /// A secondary of shard 0 more.
-const fn add(server: u32) -> Instr {
+pub(super) const fn add(server: u32) -> Instr {
     Instr::Add {
         shard: ShardId::new(0),
         server: ServerId::new(server),
@@ -408,7 +408,7 @@ const fn add(server: u32) -> Instr {
 }
 
 /// One replica of shard 0 less.
-const fn drop_from(server: u32) -> Instr {
+pub(super) const fn drop_from(server: u32) -> Instr {
     Instr::Drop {
         shard: ShardId::new(0),
         server: ServerId::new(server),

@@ -2,8 +2,11 @@
 use super::handover::{ENOUGH, Numbers, assert_end, handover, handover_plan};
 use super::plans::{check_of, checked_of, fault_of, plan};
 use sm_plan_code::{Instr, Plan, Stream, Why};
-use sm_verifier::{Checked, Fault, one_fault, one_holding};
-use std::alloc::Global;
+use sm_verifier::{
+    Checked, Fault, admitted_is_within, finds_holding, good_streams_go_on, instrs_are_reachable,
+    one_fault, one_holding, signals_stand_once, some_goes_on,
+};
+use std::alloc::{AllocError, Global};
 use std::process::Abort;
 use std::test::Fail;
 
@@ -34,7 +37,7 @@ fn room_of(checked: &Checked) -> Option<u32> {
     if checked.plan().streams().is_empty() {
         return None;
     }
-    Some(checked.room(0))
+    Some(checked.peak(0))
 }
 
 /// What the check found out about the handover.
@@ -163,8 +166,54 @@ fn a_plan_is_checked_or_not(rt: HostRuntime) {
     }
 }
 
+/// A stream that posts a signal, and one that waits for it.
+fn signalling_plan(alloc: Global) -> Result<Plan, AllocError> {
+    let post = [Instr::Signal { signal: 0 }];
+    let wait = [Instr::Wait { signal: 0 }];
+    plan(alloc, 1, &[&post, &wait])
+}
+
+/// The plan is the one of the signal.
+fn is_signalling(plan: &Plan) -> bool {
+    plan.signals().len() == 1
+        && match plan.streams() {
+            [first, second] => {
+                first.code.as_slice() == [Instr::Signal { signal: 0 }].as_slice()
+                    && second.code.as_slice() == [Instr::Wait { signal: 0 }].as_slice()
+            }
+            _ => false,
+        }
+}
+
+/// With each allocation refused in turn: a plan of two streams and a signal passes the check, or it comes back as it was.
 #[test]
-fn the_verdict_is_one() {
+fn two_streams_are_checked_or_not(rt: HostRuntime) {
+    let alloc = rt.alloc();
+    let Ok(plan) = signalling_plan(alloc) else {
+        return;
+    };
+    match check_of(alloc, plan) {
+        Ok(checked) => assert!(rt; is_signalling(checked.plan())),
+        Err((plan, fault)) => assert!(rt; fault == Fault::NoMemory && is_signalling(&plan)),
+    }
+}
+
+/// As many streams as a plan may have, none of which does anything.
+#[test]
+fn streams_without_code_pass(rt: HostRuntime) {
+    let alloc = rt.alloc();
+    let codes: [&[Instr]; 64] = [&[]; 64];
+    assert_eq!(rt; fault_of(alloc, plan(alloc, 0, &codes)), None);
+}
+
+#[test]
+fn the_laws_are_called() {
     one_fault();
     one_holding();
+    finds_holding();
+    admitted_is_within();
+    signals_stand_once();
+    some_goes_on();
+    good_streams_go_on();
+    instrs_are_reachable();
 }

@@ -1,5 +1,5 @@
 //! Orders of small plans, and where the streams of plans without one stop.
-use super::plans::{checked_of, fault_of, plan};
+use super::plans::{check_of, checked_of, fault_of, plan};
 use sm_plan_code::Instr;
 use sm_verifier::Fault;
 use std::alloc::{AllocError, Global};
@@ -48,6 +48,24 @@ fn wait_comes_after_its_post(rt: HostRuntime) -> Result<(), Fail> {
     let steps = [(1, 0), (1, 1), (0, 0), (0, 1)];
     assert_order(&rt, alloc, 1, &[&first, &second], &steps)?;
     Ok(())
+}
+
+/// With each allocation refused in turn: the two streams are put in order, or the plan comes back.
+#[test]
+fn streams_with_a_signal_are_checked_or_not(rt: HostRuntime) {
+    let alloc = rt.alloc();
+    let (first, second) = ([wait(0)], [post(0)]);
+    let Ok(plan) = plan(alloc, 1, &[&first, &second]) else {
+        return;
+    };
+    match check_of(alloc, plan) {
+        Ok(checked) => assert_eq!(rt; checked.order().len(), 4),
+        Err((plan, fault)) => {
+            assert!(rt;
+                fault == Fault::NoMemory && plan.streams().len() == 2 && plan.signals().len() == 1
+            );
+        }
+    }
 }
 
 #[test]

@@ -125,9 +125,10 @@ const fn without_room() -> [(Call, Answers); 9] {
 /// Asserts what a server that is up answers to each call at each cell.
 fn assert_answers(rt: &impl Abort, free_room: u64, load: u64, table: &[(Call, Answers)]) {
     for (call, answers) in table {
-        for (cell, answer) in cells().iter().zip(answers) {
+        for (at, cell) in cells().iter().enumerate() {
             let served = serve(*cell, free_room, load, true, *call);
-            assert_eq!(rt; served, *answer, "{call:?} at {cell:?}");
+            assert!(rt; at < answers.len());
+            assert_eq!(rt; served, answers[at], "{call:?} at {cell:?}");
         }
     }
 }
@@ -270,9 +271,8 @@ fn readers_and_texts(rt: HostRuntime) -> Result<(), Fail> {
     assert!(rt; ServerId::new(2) == ServerId::new(2) && ServerId::new(2) < ServerId::new(10));
     assert!(rt; ShardId::new(2) == ShardId::new(2) && ShardId::new(2) < ShardId::new(10));
 
-    let absent = [true, false, false, false, false];
-    for (cell, is_absent) in cells().into_iter().zip(absent) {
-        assert_eq!(rt; cell.is_absent(), is_absent, "{cell:?}");
+    for (at, cell) in cells().iter().enumerate() {
+        assert_eq!(rt; cell.is_absent(), at == 0, "{cell:?}");
     }
 
     let texts = [

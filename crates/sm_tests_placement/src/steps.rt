@@ -1,6 +1,6 @@
 //! What is done to a placement, and what it has to answer, one after the other.
 use super::fixture::*;
-use sm_placement::{OpenFault, Placement, Serving};
+use sm_placement::{Lead, OpenFault, Placement, Serving};
 use sm_server::{Call, Cell, Refusal};
 use std::alloc::Global;
 use std::process::Abort;
@@ -27,8 +27,14 @@ pub(crate) enum Step {
     HasLoad(u32, u64),
     /// A shard has so many live replicas.
     HasLive(u32, u32),
+    /// A server counts as live for a shard, or not.
+    IsLive(u32, u32, bool),
     /// A shard is served by these.
     HasServing(u32, Serving),
+    /// A shard's cells are described by this lead.
+    HasLead(u32, Option<Lead>),
+    /// The last number of a server's cell of a shard.
+    HasLast(u32, u32, u64),
     /// A shard's entry has this server and version.
     HasListed(u32, Option<u32>, u64),
     /// So many servers are down.
@@ -65,7 +71,14 @@ fn ask(rt: &impl Abort, placement: &Placement, step: &Step) {
         }
         Step::HasLoad(server, sum) => assert_eq!(rt; load(rt, placement, *server), *sum),
         Step::HasLive(shard, count) => assert_eq!(rt; live(rt, placement, *shard), *count),
+        Step::IsLive(server, shard, is) => {
+            assert_eq!(rt; is_live(rt, placement, *shard, *server), *is);
+        }
         Step::HasServing(shard, who) => assert_eq!(rt; serving(rt, placement, *shard), *who),
+        Step::HasLead(shard, found) => assert_eq!(rt; lead(rt, placement, *shard), *found),
+        Step::HasLast(server, shard, number) => {
+            assert_eq!(rt; last(rt, placement, *shard, *server), *number);
+        }
         Step::HasListed(shard, server, version) => {
             let (told, at) = listed(rt, placement, *shard);
             assert_eq!(rt; told, *server);

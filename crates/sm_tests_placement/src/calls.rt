@@ -256,9 +256,12 @@ fn numbered_calls_have_one_effect(rt: HostRuntime) -> Result<(), Fail> {
         &rt,
         rt.alloc(),
         &[
+            HasLast(2, 0, 0),
             Numbered(2, 0, Call::Drop, 7, Ok(true)),
             Numbered(2, 0, ADD_SECONDARY, 8, Ok(true)),
             Numbered(2, 0, Call::Drop, 8, Ok(false)),
+            HasLast(2, 0, 8),
+            HasLast(1, 0, 0),
             HasCell(2, 0, Cell::Secondary),
             Numbered(2, 0, ADD_SECONDARY, 9, Err(Refusal::AlreadyHeld)),
             Made(2, 0, Call::Drop, Ok(())),

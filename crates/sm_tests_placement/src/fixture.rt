@@ -1,7 +1,7 @@
 //! Small placements, and the calls of a placement with their conditions tested.
 ghost use Rattle.std.specs.Prelude.{◌<◌, length};
 
-use sm_placement::{Config, ConfigFault, OpenFault, Placement, Server, Serving, Shard};
+use sm_placement::{Config, ConfigFault, Lead, OpenFault, Placement, Server, Serving, Shard};
 use sm_server::{Call, Cell, Refusal, Role, ServerId, ShardId};
 use std::alloc::{AllocError, Global};
 use std::process::Abort;
@@ -211,6 +211,25 @@ pub(crate) fn live(rt: &impl Abort, placement: &Placement, shard: u32) -> u32 {
     placement.live(shard_id(rt, placement, shard))
 }
 
+/// Whether a server counts as live for a shard.
+pub(crate) fn is_live(rt: &impl Abort, placement: &Placement, shard: u32, server: u32) -> bool {
+    let server = server_id(rt, placement, server);
+    let shard = shard_id(rt, placement, shard);
+    placement.is_live(shard, server)
+}
+
+/// The lead that describes a shard's cells.
+pub(crate) fn lead(rt: &impl Abort, placement: &Placement, shard: u32) -> Option<Lead> {
+    placement.lead(shard_id(rt, placement, shard))
+}
+
+/// The number of the last numbered call that had an effect on a cell.
+pub(crate) fn last(rt: &impl Abort, placement: &Placement, shard: u32, server: u32) -> u64 {
+    let server = server_id(rt, placement, server);
+    let shard = shard_id(rt, placement, shard);
+    placement.last(shard, server)
+}
+
 /// Who serves a shard.
 pub(crate) fn serving(rt: &impl Abort, placement: &Placement, shard: u32) -> Serving {
     placement.serving(shard_id(rt, placement, shard))
@@ -219,11 +238,14 @@ pub(crate) fn serving(rt: &impl Abort, placement: &Placement, shard: u32) -> Ser
 /// The published entry of a shard: the listed server's number, and the version.
 pub(crate) fn listed(rt: &impl Abort, placement: &Placement, shard: u32) -> (Option<u32>, u64) {
     let shard = shard_id(rt, placement, shard);
-    let server = match placement.listed(shard) {
+    let entry = placement.entry(shard);
+    assert_eq!(rt; entry.server, placement.listed(shard));
+    assert_eq!(rt; entry.version, placement.version(shard));
+    let server = match entry.server {
         Some(server) => Some(server.number()),
         None => None,
     };
-    (server, placement.version(shard))
+    (server, entry.version)
 }
 
 /// Publishes an entry for a shard.

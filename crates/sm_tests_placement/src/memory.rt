@@ -1,4 +1,4 @@
-//! Calls that take memory. `scripts/check-memory` runs each of these tests with its first allocation refused, then with its
+//! Calls that take memory. `scripts/check-memory-tests` runs each of these tests with its first allocation refused, then with its
 //! second, and so on: the answer has to be want of memory, or the right one.
 use super::fixture::*;
 use sm_placement::{Config, ConfigFault, OpenFault, Placement, Server, Shard};

@@ -1,0 +1,2 @@
+//! Whether a server may be taken down.
+mod decisions;

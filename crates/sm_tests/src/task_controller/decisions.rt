@@ -1,0 +1,222 @@
+//! Restarts that are approved, and what stands against others. Servers 0 to 3 have room for 10 each, and one of them may be
+//! down; each shard wants two replicas and may lose one. Shard 0 has its primary at server 0 and a secondary at server 2, and
+//! so one spare replica; shards 1 and 2 have their primaries at server 1 alone, and none to spare.
+ghost use Rattle.std.specs.Prelude.{◌≡◌, IfOk};
+ghost use Rattle.sm_placement.specs.Setup.{sizes_of};
+ghost use Rattle.sm_placement.specs.Layout.{place_of};
+ghost use Rattle.sm_placement.specs.Lead.{IsSettled};
+
+use sm_placement::{Config, Placement, Server, Shard};
+use sm_reservation::{Pool, StreamId};
+use sm_server::{Cell, ServerId, ShardId};
+use sm_task_controller::{Approved, Denied, decide};
+use std::alloc::{AllocError, Global};
+use std::process::Abort;
+use std::test::Fail;
+
+/// What is asked, and what is to be answered.
+#[derive(Clone, Copy)]
+struct Case {
+    server: u32,
+    /// Server 3 is down.
+    down: bool,
+    /// The stream of plan 0 that engages the server.
+    engaged: Option<u32>,
+    /// The spare replica of shard 0 is reserved.
+    reserved: bool,
+    log_free: u32,
+    want: Result<Approved, Denied>,
+}
+
+/// Server 0, where nothing stands against it.
+const FREE: Case = Case {
+    server: 0,
+    down: false,
+    engaged: None,
+    reserved: false,
+    log_free: 2,
+    want: Ok(Approved),
+};
+
+const fn stream(number: u32) -> StreamId {
+    StreamId {
+        plan: 0,
+        stream: number,
+    }
+}
+
+fn config(alloc: Global) -> Result<Config, AllocError> {
+    let mut servers = Vec::new(alloc);
+    for number in 0..4 {
+        servers.push(Server {
+            name: format!(in alloc; "server-{number}")?,
+            region: String::from_str(alloc, "r1")?,
+            room: 10,
+        })?;
+    }
+    let mut shards = Vec::new(alloc);
+    for number in 0..3 {
+        shards.push(Shard {
+            name: format!(in alloc; "shard-{number}")?,
+            load: 4,
+            want: 2,
+            cap: 1,
+            spread: 1,
+        })?;
+    }
+    Config::new(alloc, &servers, &shards).map_err(|_| AllocError)
+}
+
+/// The worked placement, of which one server may be down.
+fn worked_placement(
+    alloc: Global,
+    config: &Config,
+    down: &[ServerId],
+) -> Result<Placement, AllocError>
+    ensures setup { IfOk result (λ placement. placement.setup ≡ config.now) }
+    ensures settled { IfOk result (λ placement. IsSettled (sizes_of config.now) (place_of placement)) }
+{
+    let cells = [
+        (ShardId::new(0), ServerId::new(0), Cell::Primary),
+        (ShardId::new(0), ServerId::new(2), Cell::Secondary),
+        (ShardId::new(1), ServerId::new(1), Cell::Primary),
+        (ShardId::new(2), ServerId::new(1), Cell::Primary),
+    ];
+    let listed = [Some(ServerId::new(0)), Some(ServerId::new(1)), None];
+    Placement::open(alloc, config, &cells, &listed, down, 1).map_err(|_| AllocError)
+}
+
+/// What is decided of a placement.
+fn decided_at(
+    alloc: Global,
+    placement: &Placement,
+    case: &Case,
+) -> Result<Result<Approved, Denied>, AllocError>
+    requires { IsSettled (sizes_of placement.now.setup) (place_of placement.now) }
+{
+    let mut pool = Pool::open(alloc, placement)?;
+    let shard = ShardId::new(0);
+    if case.reserved && pool.spare(shard) > 0 {
+        pool.less(shard);
+    }
+    if case.server >= placement.config().server_count() {
+        return Err(AllocError);
+    }
+    let server = ServerId::new(case.server);
+    let engaged = case.engaged.map(stream);
+    Ok(decide(placement, &pool, engaged, case.log_free, server))
+}
+
+/// What is decided of the worked placement.
+fn decided(alloc: Global, case: &Case) -> Result<Result<Approved, Denied>, AllocError> {
+    let config = config(alloc)?;
+    let servers = [ServerId::new(3)];
+    let down = if case.down {
+        &servers[..1]
+    } else {
+        &servers[..0]
+    };
+    let placement = worked_placement(alloc, &config, down)?;
+    decided_at(alloc, &placement, case)
+}
+
+fn assert_decided(rt: &impl Abort, alloc: Global, cases: &[Case]) -> Result<(), AllocError> {
+    for case in cases {
+        let answer = decided(alloc, case)?;
+        assert_eq!(rt; answer, case.want);
+    }
+    Ok(())
+}
+
+#[test]
+fn servers_with_spare_replicas_are_approved(rt: HostRuntime) -> Result<(), Fail> {
+    let cases = [FREE, Case { server: 2, ..FREE }, Case { server: 3, ..FREE }];
+    assert_decided(&rt, rt.alloc(), &cases)?;
+    Ok(())
+}
+
+/// Each denial alone.
+const fn alone() -> [Case; 6] {
+    [
+        Case {
+            server: 3,
+            down: true,
+            want: Err(Denied::AlreadyDown),
+            ..FREE
+        },
+        Case {
+            engaged: Some(1),
+            want: Err(Denied::Engaged { stream: stream(1) }),
+            ..FREE
+        },
+        Case {
+            down: true,
+            want: Err(Denied::GlobalCap),
+            ..FREE
+        },
+        Case {
+            server: 1,
+            want: Err(Denied::ShardCap {
+                shard: ShardId::new(1),
+            }),
+            ..FREE
+        },
+        Case {
+            reserved: true,
+            want: Err(Denied::ShardCap {
+                shard: ShardId::new(0),
+            }),
+            ..FREE
+        },
+        Case {
+            log_free: 1,
+            want: Err(Denied::LogFull),
+            ..FREE
+        },
+    ]
+}
+
+#[test]
+fn each_denial_is_given(rt: HostRuntime) -> Result<(), Fail> {
+    assert_decided(&rt, rt.alloc(), &alone())?;
+    Ok(())
+}
+
+/// Two denials that apply: the first in their order is given.
+const fn both() -> [Case; 4] {
+    [
+        Case {
+            server: 3,
+            down: true,
+            engaged: Some(0),
+            want: Err(Denied::AlreadyDown),
+            ..FREE
+        },
+        Case {
+            down: true,
+            engaged: Some(0),
+            want: Err(Denied::Engaged { stream: stream(0) }),
+            ..FREE
+        },
+        Case {
+            server: 1,
+            down: true,
+            want: Err(Denied::GlobalCap),
+            ..FREE
+        },
+        Case {
+            server: 1,
+            log_free: 0,
+            want: Err(Denied::ShardCap {
+                shard: ShardId::new(1),
+            }),
+            ..FREE
+        },
+    ]
+}
+
+#[test]
+fn first_denial_is_given(rt: HostRuntime) -> Result<(), Fail> {
+    assert_decided(&rt, rt.alloc(), &both())?;
+    Ok(())
+}

@@ -1,0 +1,34 @@
+//! Calls that take memory. `scripts/check-memory-tests` runs each of these tests with its first allocation refused, then with its
+//! second, and so on: the answer has to be want of memory, or the right one.
+use super::fixture::*;
+use sm_machine::OpenFault;
+use sm_placement::Placement;
+use sm_server::ServerId;
+use std::alloc::Global;
+use std::process::Abort;
+
+/// Asserts that a machine is opened over the small placement with a server down, or that memory was refused and the
+/// placement comes back.
+fn assert_opened(rt: &impl Abort, alloc: Global, placement: Placement) {
+    match open(rt, alloc, placement, 16) {
+        Ok((machine, permits)) => {
+            assert_untouched(rt, &machine, 1);
+            assert_eq!(rt; permits.len(), 1);
+            let placement = machine.give_up(Vec::new(alloc), permits);
+            assert_small(rt, &placement, 1);
+        }
+        Err((placement, why)) => {
+            assert_eq!(rt; why, OpenFault::NoMemory);
+            assert_small(rt, &placement, 1);
+        }
+    }
+}
+
+/// Where an allocation is refused, `open` says so, and what it was given comes back.
+#[test]
+fn a_machine_is_opened_or_not(rt: HostRuntime) {
+    let alloc = rt.alloc();
+    if let Some(placement) = small_placement(alloc, &[ServerId::new(2)]) {
+        assert_opened(&rt, alloc, placement);
+    }
+}

@@ -1,0 +1,146 @@
+//! Machines that are opened, halted, resumed and given up.
+use super::fixture::*;
+use sm_machine::{Machine, OpenFault, Permit};
+use sm_placement::Placement;
+use sm_reservation::StreamId;
+use sm_server::{Call, Cell, Role, ServerId};
+use std::alloc::Global;
+use std::process::Abort;
+
+/// Gives a machine over the small placement up, with so many servers down.
+fn give_up(rt: &impl Abort, alloc: Global, machine: Machine, permits: Vec<Permit>, down: u32) {
+    let placement = machine.give_up(Vec::new(alloc), permits);
+    assert_small(rt, &placement, down);
+}
+
+/// Asserts that no stream of a machine was begun.
+fn assert_none_begun(rt: &impl Abort, machine: &Machine) {
+    for stream in 0..2 {
+        assert!(rt; !machine.is_begun(StreamId { plan: 0, stream }));
+        assert!(rt; !machine.is_begun(StreamId { plan: 1, stream }));
+    }
+}
+
+/// The small placement, for which there has to be memory.
+fn placement(rt: &impl Abort, alloc: Global, down: &[ServerId]) -> Placement {
+    match small_placement(alloc, down) {
+        Some(placement) => placement,
+        None => panic!(rt; "the small placement is not opened"),
+    }
+}
+
+#[test]
+fn a_machine_opens_with_no_permit_where_no_server_is_down(rt: HostRuntime) {
+    let alloc = rt.alloc();
+    match open(&rt, alloc, placement(&rt, alloc, &[]), 0) {
+        Ok((machine, permits)) => {
+            assert_untouched(&rt, &machine, 0);
+            assert_none_begun(&rt, &machine);
+            assert_eq!(&rt; permits.len(), 0);
+            give_up(&rt, alloc, machine, permits, 0);
+        }
+        Err(_) => panic!(&rt; "a machine over a settled placement is not opened"),
+    }
+}
+
+#[test]
+fn a_machine_opens_with_a_permit_for_each_server_that_is_down(rt: HostRuntime) {
+    let alloc = rt.alloc();
+    match open(&rt, alloc, placement(&rt, alloc, &[ServerId::new(2)]), 1) {
+        Ok((machine, permits)) => {
+            assert_untouched(&rt, &machine, 1);
+            assert_eq!(&rt; permits.len(), 1);
+            assert!(&rt; permits.iter().all(|permit| permit.server() == ServerId::new(2)));
+            give_up(&rt, alloc, machine, permits, 1);
+        }
+        Err(_) => panic!(&rt; "a machine with a place for each restart is not opened"),
+    }
+}
+
+/// Asserts that no machine has a log of so many places, and that the placement comes back.
+fn assert_log_full(rt: &impl Abort, alloc: Global, opened: Placement, room: u32, down: u32) {
+    match open(rt, alloc, opened, room) {
+        Ok((machine, permits)) => {
+            give_up(rt, alloc, machine, permits, down);
+            panic!(rt; "a machine is opened with a log of {room} places")
+        }
+        Err((placement, why)) => {
+            assert_eq!(rt; why, OpenFault::LogFull);
+            assert_small(rt, &placement, down);
+        }
+    }
+}
+
+#[test]
+fn a_log_with_fewer_places_than_servers_are_down_is_refused(rt: HostRuntime) {
+    let alloc = rt.alloc();
+    assert_log_full(&rt, alloc, placement(&rt, alloc, &[ServerId::new(2)]), 0, 1);
+}
+
+#[test]
+fn a_log_with_too_many_places_is_refused(rt: HostRuntime) {
+    let alloc = rt.alloc();
+    assert_log_full(&rt, alloc, placement(&rt, alloc, &[]), 1_048_577, 0);
+    assert_log_full(&rt, alloc, placement(&rt, alloc, &[ServerId::new(2)]), u32::MAX, 1);
+}
+
+#[test]
+fn a_log_with_the_most_places_is_opened(rt: HostRuntime) {
+    let alloc = rt.alloc();
+    match open(&rt, alloc, placement(&rt, alloc, &[]), 1_048_576) {
+        Ok((machine, permits)) => {
+            assert_untouched(&rt, &machine, 0);
+            give_up(&rt, alloc, machine, permits, 0);
+        }
+        Err((_, why)) => panic!(&rt; "a log with the most places is refused: {why}"),
+    }
+}
+
+/// Asserts the number of the last numbered call that had an effect on shard 0 at server 1, which has a secondary.
+fn assert_last(rt: &impl Abort, placement: &Placement, number: u64) {
+    let shard = shard_id(rt, placement, 0);
+    let server = server_id(rt, placement, 1);
+    assert_eq!(rt; placement.last(shard, server), number);
+    assert_eq!(rt; placement.cell(shard, server), Cell::Secondary);
+}
+
+/// The small placement, where a call of number 7 added a secondary of shard 0 at server 1.
+fn numbered_placement(rt: &impl Abort, alloc: Global) -> Placement {
+    let mut placement = placement(rt, alloc, &[]);
+    let shard = shard_id(rt, &placement, 0);
+    let server = server_id(rt, &placement, 1);
+    let answer = placement.call_numbered(server, shard, Call::Add(Role::Secondary), 7);
+    assert_eq!(rt; answer, Ok(true));
+    assert_last(rt, &placement, 7);
+    placement
+}
+
+#[test]
+fn a_machine_forgets_the_numbers_of_calls_before_it(rt: HostRuntime) {
+    let alloc = rt.alloc();
+    match open(&rt, alloc, numbered_placement(&rt, alloc), 8) {
+        Ok((machine, permits)) => {
+            assert_last(&rt, machine.placement(), 0);
+            let placement = machine.give_up(Vec::new(alloc), permits);
+            assert_last(&rt, &placement, 0);
+        }
+        Err(_) => panic!(&rt; "a machine over a settled placement is not opened"),
+    }
+}
+
+#[test]
+fn a_machine_is_halted_and_resumed(rt: HostRuntime) {
+    let alloc = rt.alloc();
+    match open(&rt, alloc, placement(&rt, alloc, &[]), 4) {
+        Ok((mut machine, permits)) => {
+            machine.halt();
+            machine.halt();
+            assert_untouched(&rt, &machine, 0);
+            machine.resume();
+            assert_untouched(&rt, &machine, 0);
+            machine.halt();
+            give_up(&rt, alloc, machine, permits, 0);
+        }
+        Err(_) => panic!(&rt; "a machine over a settled placement is not opened"),
+    }
+}

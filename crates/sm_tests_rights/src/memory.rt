@@ -1,0 +1,119 @@
+//! Calls that take memory. `scripts/check-memory-tests` runs each of these tests with its first allocation refused, then with its
+//! second, and so on: the answer has to be want of memory, or the right one.
+use super::fixture::*;
+use super::pools::assert_refused;
+use sm_reservation::{
+    CellRight, Grant, Key, Lead, Lists, Parcel, ParcelFault, PlainCell, Pool, TakeFault,
+};
+use sm_server::{ServerId, ShardId};
+use std::alloc::Global;
+use std::process::Abort;
+
+/// The cells of `a_parcel_is_made_or_not`.
+fn two_cells() -> [CellRight; 2] {
+    [
+        cell(0, 1, PlainCell::Absent),
+        cell(0, 0, PlainCell::Secondary),
+    ]
+}
+
+/// Asserts that the lists of `a_parcel_is_made_or_not` came back.
+fn assert_came_back(rt: &impl Abort, lists: &Lists) {
+    assert!(rt; lists.cells.as_slice() == two_cells().as_slice());
+    assert!(rt; lists.crowns.as_slice() == [crown(0, Lead::Gone, None)].as_slice());
+    assert!(rt; lists.room.as_slice() == [room(1, 4)].as_slice());
+    assert!(rt; lists.spare.as_slice() == [spare(2, 1)].as_slice());
+}
+
+/// Asserts that lists are made a parcel of two cells, or that memory was refused and they come back as they were.
+fn assert_made(rt: &impl Abort, alloc: Global, given: Lists) {
+    let outcome = Parcel::new(alloc, given);
+    match &outcome {
+        Ok(parcel) => assert_eq!(rt; parcel.cells().len(), 2),
+        Err(refused) => {
+            assert!(rt; refused.1 == ParcelFault::NoMemory);
+            assert_came_back(rt, &refused.0);
+        }
+    }
+}
+
+/// Where an allocation is refused, `new` says so and gives the lists back.
+#[test]
+fn a_parcel_is_made_or_not(rt: HostRuntime) {
+    let alloc = rt.alloc();
+    let crowns = [crown(0, Lead::Gone, None)];
+    let given = lists(alloc, &two_cells(), &crowns, &[room(1, 4)], &[spare(2, 1)]);
+    if let Ok(given) = given {
+        assert_made(&rt, alloc, given);
+    }
+}
+
+/// Raises the room of a grant of a handover's rights, which keeps them.
+fn assert_raised(rt: &impl Abort, grant: &mut Grant) {
+    let outcome = grant.reserve(40);
+    assert_eq!(rt; grant.room(ServerId::new(1)), 4);
+    assert!(rt; grant.crown(ShardId::new(0)).is_some());
+    let capacity = grant.hold().capacity();
+    assert_eq!(rt; capacity, if outcome.is_ok() { 40 } else { 1 });
+}
+
+/// Takes a handover's rights, raises their grant's room, and gives them back.
+fn assert_reserved(rt: &impl Abort, alloc: Global, pool: &mut Pool, asked: &Parcel) {
+    if let Ok(mut grant) = taken(alloc, pool, asked) {
+        assert_raised(rt, &mut grant);
+        give_back(rt, pool, grant);
+    }
+    assert_worked(rt, pool);
+}
+
+/// Where an allocation is refused, a grant keeps its rights and its room.
+#[test]
+fn a_grant_gets_room_or_not(rt: HostRuntime) {
+    let alloc = rt.alloc();
+    if let Ok(asked) = parcel_of(alloc, &handover()) {
+        if let Ok(mut pool) = worked_pool(&rt, alloc) {
+            assert_reserved(&rt, alloc, &mut pool, &asked);
+        }
+    }
+}
+
+#[test]
+fn a_grant_of_nothing_is_made_or_not(rt: HostRuntime) {
+    if let Ok(grant) = Grant::empty(rt.alloc(), 3) {
+        assert_eq!(rt; grant.hold().capacity(), 3);
+        grant.discard();
+    }
+}
+
+/// Asserts that a handover's rights are taken and given back, or that memory was refused.
+fn assert_taken(rt: &impl Abort, alloc: Global, pool: &mut Pool, asked: &Parcel) {
+    match pool.take(alloc, asked) {
+        Ok(grant) => give_back(rt, pool, grant),
+        Err(fault) => assert!(rt; fault == TakeFault::NoMemory),
+    }
+    assert_worked(rt, pool);
+}
+
+/// Where an allocation is refused, a pool is not opened, and a refused `take` leaves it as it was.
+#[test]
+fn a_pool_is_opened_and_taken_from_or_not(rt: HostRuntime) {
+    let alloc = rt.alloc();
+    if let Ok(asked) = parcel_of(alloc, &handover()) {
+        if let Ok(mut pool) = worked_pool(&rt, alloc) {
+            assert_taken(&rt, alloc, &mut pool, &asked);
+        }
+    }
+}
+
+/// Where an allocation is refused, a key that is short is told all the same.
+#[test]
+fn a_key_that_is_short_is_told_or_not(rt: HostRuntime) {
+    let alloc = rt.alloc();
+    let server = ServerId::new(2);
+    if let Ok(asked) = parcel_of(alloc, &only_room(2, 1)) {
+        if let Ok(mut pool) = worked_pool(&rt, alloc) {
+            let short = short(Key::Room { server }, 0, 1);
+            assert_refused(&rt, alloc, &mut pool, &asked, short);
+        }
+    }
+}

@@ -1,0 +1,161 @@
+//! Parcels by example, with each expected value written out by hand.
+use super::fixture::*;
+use sm_reservation::{Key, Lead, Lists, Parcel, ParcelFault, PlainCell, StreamId};
+use sm_server::{ServerId, ShardId};
+use std::alloc::{AllocError, Global};
+use std::process::Abort;
+use std::test::Fail;
+
+/// Asserts that a parcel is that of `a_parcel_is_in_order_without_zeros`.
+fn assert_in_order(rt: &impl Abort, parcel: &Parcel) {
+    let cells = [
+        cell(0, 2, PlainCell::Secondary),
+        cell(1, 0, PlainCell::Absent),
+        cell(1, 1, PlainCell::Absent),
+    ];
+    let crowns = [crown(0, at(1), None), crown(3, Lead::Gone, None)];
+    assert!(rt; parcel.cells() == cells.as_slice());
+    assert!(rt; parcel.crowns() == crowns.as_slice());
+    assert!(rt; parcel.room() == [room(0, 7), room(1, 4)].as_slice());
+    assert!(rt; parcel.spare() == [spare(0, 2), spare(5, 1)].as_slice());
+}
+
+#[test]
+fn a_parcel_is_in_order_without_zeros(rt: HostRuntime) -> Result<(), Fail> {
+    let cells = [
+        cell(1, 1, PlainCell::Absent),
+        cell(0, 2, PlainCell::Secondary),
+        cell(1, 0, PlainCell::Absent),
+    ];
+    let crowns = [crown(3, Lead::Gone, None), crown(0, at(1), None)];
+    let rooms = [room(2, 0), room(1, 4), room(0, 7)];
+    let spares = [spare(5, 1), spare(4, 0), spare(0, 2)];
+    let given = parcel(rt.alloc(), &cells, &crowns, &rooms, &spares)?;
+    assert_in_order(&rt, &given);
+    Ok(())
+}
+
+/// Asks a parcel for what it has and for what it has not.
+fn assert_looked_up(rt: &impl Abort, given: &Parcel) {
+    let (low, high) = (ShardId::new(0), ShardId::new(5));
+    let (first, third) = (ServerId::new(0), ServerId::new(2));
+    assert!(rt; given.cell(low, third) == Some(PlainCell::Secondary));
+    assert!(rt; given.cell(low, first).is_none());
+    assert!(rt; given.crown(ShardId::new(3)) == Some((Lead::Gone, Some(third))));
+    assert!(rt; given.crown(low).is_none());
+    assert_eq!(rt; given.room_of(first), 7);
+    assert_eq!(rt; given.room_of(third), 0);
+    assert_eq!(rt; given.spare_of(high), 1);
+    assert_eq!(rt; given.spare_of(low), 0);
+}
+
+#[test]
+fn a_parcel_is_looked_up_by_its_keys(rt: HostRuntime) -> Result<(), Fail> {
+    let cells = [
+        cell(1, 1, PlainCell::Absent),
+        cell(0, 2, PlainCell::Secondary),
+    ];
+    let crowns = [crown(3, Lead::Gone, Some(ServerId::new(2)))];
+    let rooms = [room(1, 4), room(0, 7)];
+    let given = parcel(rt.alloc(), &cells, &crowns, &rooms, &[spare(5, 1)])?;
+    assert_looked_up(&rt, &given);
+    Ok(())
+}
+
+/// Lists in which the cells of one key have two states, the crowns of one key two leads, and one of two amounts is 0;
+/// from the kind with this number on.
+fn doubled_lists(alloc: Global, from: u32) -> Result<Lists, AllocError> {
+    let mut lists = lists(
+        alloc,
+        &[
+            cell(2, 1, PlainCell::Absent),
+            cell(2, 0, PlainCell::Absent),
+            cell(2, 1, PlainCell::Secondary),
+            cell(1, 9, PlainCell::Absent),
+            cell(1, 9, PlainCell::Absent),
+        ],
+        &[
+            crown(4, Lead::Gone, None),
+            crown(2, at(0), None),
+            crown(2, at(1), None),
+        ],
+        &[room(3, 5), room(1, 2), room(3, 0)],
+        &[spare(0, 0), spare(6, 1), spare(0, 0)],
+    )?;
+    if from > 0 {
+        lists.cells.clear();
+    }
+    if from > 1 {
+        lists.crowns.clear();
+    }
+    if from > 2 {
+        lists.room.clear();
+    }
+    Ok(lists)
+}
+
+/// Asserts that the lists came back.
+fn assert_came_back(rt: &impl Abort, lists: &Lists, want: &Lists) {
+    assert!(rt; lists.cells == want.cells);
+    assert!(rt; lists.crowns == want.crowns);
+    assert!(rt; lists.room == want.room);
+    assert!(rt; lists.spare == want.spare);
+}
+
+/// Asserts that the doubled lists are refused with a key, and that they come back.
+fn test_double(rt: &impl Abort, alloc: Global, from: u32, key: Key) -> Result<(), AllocError> {
+    let want = doubled_lists(alloc, from)?;
+    let outcome = Parcel::new(alloc, doubled_lists(alloc, from)?);
+    match &outcome {
+        Ok(_) => assert!(rt; false, "{key:?}"),
+        Err(refused) => {
+            assert!(rt; refused.1 == ParcelFault::Double { key }, "{key:?}");
+            assert_came_back(rt, &refused.0, &want);
+        }
+    }
+    Ok(())
+}
+
+#[test]
+fn the_lowest_key_that_stands_twice_is_refused(rt: HostRuntime) -> Result<(), Fail> {
+    let (alloc, server) = (rt.alloc(), ServerId::new(9));
+    let shard = ShardId::new(1);
+    test_double(&rt, alloc, 0, Key::CellRight { shard, server })?;
+    let shard = ShardId::new(2);
+    test_double(&rt, alloc, 1, Key::Crown { shard })?;
+    let server = ServerId::new(3);
+    test_double(&rt, alloc, 2, Key::Room { server })?;
+    let shard = ShardId::new(0);
+    test_double(&rt, alloc, 3, Key::Spare { shard })?;
+    Ok(())
+}
+
+#[test]
+fn keys_go_by_kind_then_shard_then_server(rt: HostRuntime) {
+    let (low, high) = (1, 2);
+    let keys = [
+        Key::CellRight {
+            shard: ShardId::new(low),
+            server: ServerId::new(high),
+        },
+        Key::CellRight {
+            shard: ShardId::new(high),
+            server: ServerId::new(low),
+        },
+        Key::Crown {
+            shard: ShardId::new(low),
+        },
+        Key::Room {
+            server: ServerId::new(low),
+        },
+        Key::Spare {
+            shard: ShardId::new(low),
+        },
+    ];
+    for i in 1..keys.len() {
+        assert!(rt; keys[i - 1] < keys[i], "at {i}");
+    }
+    let first = StreamId { plan: 0, stream: 9 };
+    let second = StreamId { plan: 1, stream: 0 };
+    assert!(rt; first < second);
+}
