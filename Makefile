@@ -1,15 +1,15 @@
-# make build: proves and builds build/smplan.    make run: prints the report of a bundled example.
+# make run: runs the program on a bundled example, before any proof.    make build: proves and builds build/smplan.
 # make test: the gate, and what must run beside it.    make bench: seconds and memory of a large run.
-# make more-edits: the wrong versions that the gate has no time for.
+# make edits: tries all crates' wrong versions of tests/edits, over what the gate has built.
 
-.PHONY: build run test bench more-edits
+.PHONY: build run test edits bench
 
 build:
 	mkdir -p build
 	cp "$$(scripts/build-smplan)" build/smplan
 
-run: build
-	build/smplan calls < examples/placement.json
+run:
+	@scripts/try-smplan calls < examples/placement.json
 
 # (the gate leaves the program that it has proved and run beside its crate)
 test:
@@ -17,15 +17,22 @@ test:
 	mkdir -p build
 	cp crates/smplan/out/smplan build/smplan
 	scripts/check-examples
+	scripts/check-readme
 	scripts/check-documents
+	scripts/check-reports
 	scripts/check-faults
 	scripts/check-command-line
 	scripts/check-memory
-	scripts/check-memory-tests sm_tests sm_reservation sm_map
+	scripts/check-memory-tests sm_tests_placement sm_tests_rights sm_tests_text sm_tests sm_tests_machine sm_map
+	scripts/check-words
 	scripts/refused-programs
+	scripts/check-caught-by-tests
+	scripts/try-edits sm_server sm_placement sm_reservation sm_plan_code sm_verifier sm_task_controller sm_protocol sm_machine sm_map
+	scripts/check-try-edits
 
-more-edits:
-	scripts/more-edits
+# (all crates' edits, over what the gate has built)
+edits:
+	scripts/try-edits
 
 bench: build
 	scripts/bench
