@@ -110,5 +110,8 @@ pub(crate) fn assert_untouched(rt: &impl Abort, machine: &Machine, down: u32) {
     assert_small(rt, machine.placement(), down);
     assert!(rt; machine.log().is_empty());
     assert_eq!(rt; machine.pool().room(ServerId::new(0)), 6);
-    assert_eq!(rt; machine.pool().spare(ShardId::new(0)), u64::from(1u32.saturating_sub(down)));
+    assert_eq!(rt;
+        machine.pool().spare(ShardId::new(0)),
+        u64::from(1u32.saturating_sub(down))
+    );
 }

@@ -50,7 +50,11 @@ fn a_machine_opens_with_a_permit_for_each_server_that_is_down(rt: HostRuntime) {
         Ok((machine, permits)) => {
             assert_untouched(&rt, &machine, 1);
             assert_eq!(&rt; permits.len(), 1);
-            assert!(&rt; permits.iter().all(|permit| permit.server() == ServerId::new(2)));
+            assert!(&rt;
+                permits
+                    .iter()
+                    .all(|permit| permit.server() == ServerId::new(2))
+            );
             give_up(&rt, alloc, machine, permits, 1);
         }
         Err(_) => panic!(&rt; "a machine with a place for each restart is not opened"),
@@ -81,7 +85,13 @@ fn a_log_with_fewer_places_than_servers_are_down_is_refused(rt: HostRuntime) {
 fn a_log_with_too_many_places_is_refused(rt: HostRuntime) {
     let alloc = rt.alloc();
     assert_log_full(&rt, alloc, placement(&rt, alloc, &[]), 1_048_577, 0);
-    assert_log_full(&rt, alloc, placement(&rt, alloc, &[ServerId::new(2)]), u32::MAX, 1);
+    assert_log_full(
+        &rt,
+        alloc,
+        placement(&rt, alloc, &[ServerId::new(2)]),
+        u32::MAX,
+        1,
+    );
 }
 
 #[test]

@@ -4,9 +4,9 @@ ghost use Rattle.sm_reservation.specs.Change.{portion_rights};
 
 use super::fixture::*;
 use sm_reservation::{
-    Change, Grant, Hold, Lists, Parcel, PlainCell, Pool, Portion, Room, Spare, joins_in_placement,
-    no_rights_are_no_hold, not_short_is_covered, rights_add_up, rights_keep_one_holder,
-    rights_stay_known, capacity_by_hold,
+    Change, Grant, Hold, Lists, Parcel, PlainCell, Pool, Portion, Room, Spare, capacity_by_hold,
+    joins_in_placement, no_rights_are_no_hold, not_short_is_covered, rights_add_up,
+    rights_keep_one_holder, rights_stay_known,
 };
 use std::alloc::{AllocError, Global};
 use std::process::Abort;
