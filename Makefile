@@ -11,8 +11,10 @@ build:
 run:
 	@scripts/try-smplan calls < examples/placement.json
 
-# (the gate leaves the program that it has proved and run beside its crate)
+# (first what takes seconds; the gate leaves the program that it has proved and run beside its crate)
 test:
+	scripts/check-layout
+	scripts/check-words
 	rt ci
 	mkdir -p build
 	cp crates/smplan/out/smplan build/smplan
@@ -24,7 +26,6 @@ test:
 	scripts/check-command-line
 	scripts/check-memory
 	scripts/check-memory-tests sm_tests_placement sm_tests_rights sm_tests_text sm_tests sm_tests_machine sm_map
-	scripts/check-words
 	scripts/refused-programs
 	scripts/check-caught-by-tests
 	scripts/try-edits sm_server sm_placement sm_reservation sm_plan_code sm_verifier sm_task_controller sm_protocol sm_machine sm_map
