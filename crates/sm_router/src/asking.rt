@@ -1,0 +1,93 @@
+//! A client's way to the server that executes its request.
+ghost use Rattle.std.specs.Prelude.{◌≡◌, ◌<◌};
+ghost use Rattle.sm_router.specs.Asking.{HasAsked, after_answer, end_of};
+
+use crate::desk::Desk;
+use sm_machine::{Answer, Ticket};
+use sm_server::{ServerId, ShardId};
+use std::sync::Wait;
+
+/// How many hops an ask makes at most. Each request that comes to a server is a hop, directly or passed on.
+pub const MOST_HOPS: u32 = 8;
+
+/// What an ask is answered.
+#[derive(Clone, Copy, Debug, PartialEq, Eq)]
+pub enum Asked {
+    /// The server executed it.
+    Executed { server: ServerId },
+    /// No server is listed for the shard.
+    NotListed,
+    /// The server that it came to is down.
+    Unavailable,
+    /// After eight hops nobody had executed it.
+    TooManyHops,
+    /// The log has no free place.
+    LogFull,
+}
+
+/// What an ask does next.
+enum Next {
+    /// It looks at the map, and sends the request to the server that is listed.
+    Look,
+    /// It passes the request on.
+    PassOn(Ticket),
+    /// It ends.
+    End(Asked),
+}
+
+/// What an ask does after an answer. A ticket that comes back is spent.
+fn after_answer(answer: Answer) -> Next
+    ensures { result ≡ after_answer answer }
+{
+    match answer {
+        Answer::Executed { server } => Next::End(Asked::Executed { server }),
+        Answer::Passed(ticket) => Next::PassOn(ticket),
+        Answer::NotOwner => Next::Look,
+        Answer::Unavailable => Next::End(Asked::Unavailable),
+        Answer::LogFull(back) => {
+            if let Some(ticket) = back {
+                ticket.abandon();
+            }
+            Next::End(Asked::LogFull)
+        }
+        Answer::Unknown(ticket) => {
+            ticket.abandon();
+            Next::Look
+        }
+    }
+}
+
+/// What an ask is answered after all hops. A ticket that is left over is spent.
+fn end_of(next: Next) -> Asked
+    ensures { result ≡ end_of next }
+{
+    match next {
+        Next::Look => Asked::TooManyHops,
+        Next::PassOn(ticket) => {
+            ticket.abandon();
+            Asked::TooManyHops
+        }
+        Next::End(asked) => asked,
+    }
+}
+
+/// Asks for a shard: looks at the map, sends the request to the server that is listed, follows it where it is passed on, and
+/// looks again where the server does not own the shard or does not know the pass. Each ticket is spent.
+pub fn ask<R: Wait, D: Desk>(rt: &R, desk: &D, caller: &mut D::Caller, shard: ShardId) -> Asked
+    requires { shard < D.shards desk.now }
+    ensures { HasAsked (D.looked desk.now) (D.arrived desk.now) (D.passed_on desk.now) shard caller.old result caller.new }
+{
+    let mut next = Next::Look;
+    for _ in 0..MOST_HOPS {
+        let answer = match next {
+            Next::Look => match desk.look(caller, shard).server {
+                Some(server) => desk.arrive(rt, caller, shard, server),
+                None => return Asked::NotListed,
+            },
+            Next::PassOn(ticket) => desk.pass_on(rt, caller, ticket),
+            Next::End(asked) => return asked,
+        };
+        next = after_answer(answer);
+    }
+    end_of(next)
+}
