@@ -97,6 +97,7 @@ begun_in : (b : MachineModel) (p : CheckedModel) (courses : List CourseParts) (f
 unfolding whole_of
 begun_in b p courses free f h = record {
   state = state_added b (filled_plan b p courses) free refl (courses_fresh p courses f) (signals_fresh p.plan.signals);
+  setup = refl;
   pool = h;
   grants = λ k i l. ap (λ (m : BegunParts). (course_at m i).grant) (old_begun b (filled_plan b p courses) k (old_here b k l));
   granted = λ i l. subst (λ (m : BegunParts). IsGranted (declares p.plan.streams i) (slice_index p.peaks i) (course_at m i).grant) (sym (new_here b (filled_plan b p courses))) (courses_granted p courses f i l);

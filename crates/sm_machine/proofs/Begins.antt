@@ -204,6 +204,7 @@ module _ (x : Whole) (g : IsWorking x) (p : CheckedModel) (checked : IsCheckedPl
         started_here free running f r = record {
           happens = happens_so ∙ ap (λ z. (Answered (played.Begun (length w.plans)), z)) (sym b.state);
           latest = refl;
+          setup = b.setup;
           working = record {
             setup = g.setup;
             reached = subst (λ z. IsReached g.setup z) (sym b.state) reached_here;

@@ -3,6 +3,7 @@ pub mod Writes
 pub mod ties
 pub mod Ready
 pub mod Working
+pub mod Setups
 pub mod Turns
 pub mod Rows
 pub mod Records

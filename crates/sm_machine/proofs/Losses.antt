@@ -55,6 +55,7 @@ refill_leaves x g id more few none y e =
     let enough : more + 1 ≤ x.free = omega arith in
     record {
       event = ap (refilled w id more) none ∙ ap (λ v. (Answered played.Refilled, v.state)) (sym e);
+      setup = ap (λ v. v.setup) e;
       working = subst IsWorking (sym e) (working_refilled x g id more few none runs enough);
     }
 

@@ -53,7 +53,7 @@ module _ (x : Whole) (g : IsWorking x) (s v : ℕ) (sent : Option Ticket) (e : E
       ne_eqb (free_places x.state) 0 (λ h. f (is ∙ h))
 
   pub asked_full : x.free ≡ 0 → IsAsked x s v sent e played.LogFull x
-  asked_full f = record { outcome = ap by_room (none_free f); reply = tt; working = g }
+  asked_full f = record { outcome = ap by_room (none_free f); reply = tt; setup = refl; working = g }
 
   -- the log has a place
   pub log_has_place : (x.free ≡ 0 → ⊥) → (free : ℕ) (y : Whole) → y ≡ record x { free = free } → length y.state.log < y.state.room
@@ -66,6 +66,7 @@ module _ (x : Whole) (g : IsWorking x) (s v : ℕ) (sent : Option Ticket) (e : E
       subst (IsAsked x s v sent e (reply_of x.state s v sent)) (sym is) (record {
         outcome = outcome;
         reply = is_reply x.state s v sent;
+        setup = refl;
         working = working_recorded x g r.made r.fits e (reply_of x.state s v sent) (ap (λ o. o.1) (r.is ∙ outcome)) some;
       })
 

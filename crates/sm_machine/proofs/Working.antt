@@ -95,9 +95,10 @@ module _ (x : Whole) (id : StreamId) (o : Option Instr) (at : IsAt x id o) where
   stepped : (p : Passage) (a : Played) (y : Whole) → step w id p ≡ (Answered a, y.state) → IsTied y.state y.pool (λ k i. hold_in (y.grants k i)) (λ k q. hold_in (y.parcels k q)) →
       ((j : StreamId) → is_begun y.state j ≡ true → HasRoomOn (stream_at y.state.sizes (plan_at y.state j.plan) j.stream) (y.grants j.plan j.stream)) →
       ((k q : ℕ) → k < length y.state.plans → q < signal_count y.state k → (y.state.marks k q).posted ≡ false → IsUnsent (y.parcels k q) (parcel_at y.state k q)) →
-      HasCounters y.state y.unfinished y.running y.free → IsStepped x id p a y
-  stepped p a y e tied rooms unsent counted = record {
+      HasCounters y.state y.unfinished y.running y.free → y.setup ≡ x.setup → IsStepped x id p a y
+  stepped p a y e tied rooms unsent counted setup = record {
     step = e;
+    setup = setup;
     working = record { setup = g.setup; reached = subst (IsReached g.setup) (ap (λ z. z.1) e) (reached_step p); tied = tied; rooms = rooms; unsent = unsent; counted = counted };
   }
 
@@ -106,7 +107,7 @@ module _ (x : Whole) (id : StreamId) (o : Option Instr) (at : IsAt x id o) where
 
   -- an answer that changes nothing
   pub stepped_idle : (p : Passage) (a : Played) → made w id p o ≡ (Answered a, w) → IsStepped x id p a x
-  stepped_idle p a e = record { step = step_made w id p o at.awake before ∙ e; working = g }
+  stepped_idle p a e = record { step = step_made w id p o at.awake before ∙ e; setup = refl; working = g }
 
   module _ (order : IsGrantInOrder grant) (there : is_some grant ≡ not (progress_of w id).done) where
     rooms_put : (h : Option HoldModel) → HasRoomOn (stream_at w.sizes (plan_at w id.plan) id.stream) h →
@@ -153,7 +154,7 @@ module _ (x : Whole) (id : StreamId) (o : Option Instr) (at : IsAt x id o) where
           (step_made w id p (Some (Publish s)) at.awake b ∙ ap (entry_added w id s) (sym f))
           (tied_put (entry_added w id s server).1 x.pool h (λ k q. hold_in (x.parcels k q)) (hold_behind w id) behind_is
           (subst (λ v. IsTied (entry_added w id s v).1 x.pool (put2 (λ k i. hold_in (x.grants k i)) id.plan id.stream (hold_behind w id)) (λ k q. hold_in (x.parcels k q))) (sym f) tie))
-          (rooms_after h t.capacity) g.unsent (counted_published g.setup w g.reached x.unfinished x.running x.free g.counted id (Publish s) s server b refl)
+          (rooms_after h t.capacity) g.unsent (counted_published g.setup w g.reached x.unfinished x.running x.free g.counted id (Publish s) s server b refl) refl
 
       pub stepped_unlisted : (s : ℕ) → i ≡ Unlist s → (p : Passage) →
           IsStepped x id p played.Moved (record x { state = (entry_added w id s None).1; grants = put2 x.grants id.plan id.stream h })
@@ -163,7 +164,7 @@ module _ (x : Whole) (id : StreamId) (o : Option Instr) (at : IsAt x id o) where
           (step_made w id p (Some (Unlist s)) at.awake b)
           (tied_put (entry_added w id s None).1 x.pool h (λ k q. hold_in (x.parcels k q)) (hold_behind w id) behind_is
           (tied_unlisted g.setup w g.reached x.pool (λ k i. hold_in (x.grants k i)) (λ k q. hold_in (x.parcels k q)) g.tied id s b))
-          (rooms_after h t.capacity) g.unsent (counted_published g.setup w g.reached x.unfinished x.running x.free g.counted id (Unlist s) s None b refl)
+          (rooms_after h t.capacity) g.unsent (counted_published g.setup w g.reached x.unfinished x.running x.free g.counted id (Unlist s) s None b refl) refl
 
     -- ---- calls
 
@@ -177,7 +178,7 @@ module _ (x : Whole) (id : StreamId) (o : Option Instr) (at : IsAt x id o) where
       stepped_lost =
           stepped LostBefore played.Lost (record x { state = call_lost w id }) (step_tried LostBefore)
           (tied_lost g.setup w g.reached x.pool (λ k i. hold_in (x.grants k i)) (λ k q. hold_in (x.parcels k q)) g.tied id i c t) g.rooms g.unsent
-          (counted_lost g.setup w g.reached x.unfinished x.running x.free g.counted id i c t)
+          (counted_lost g.setup w g.reached x.unfinished x.running x.free g.counted id i c t) refl
 
       places_unless : (b : Bool) (h : Option HoldModel) → IsTradedUnless b w.sizes i grant h → capacity_in h ≡ capacity_in grant
       places_unless true h u = ap capacity_in u
@@ -203,7 +204,7 @@ module _ (x : Whole) (id : StreamId) (o : Option Instr) (at : IsAt x id o) where
           (λ a. tied_through g.setup w g.reached x.pool (λ k i. hold_in (x.grants k i)) (λ k q. hold_in (x.parcels k q)) g.tied id i c t a effect e)
           (λ a. tied_again g.setup w g.reached x.pool (λ k i. hold_in (x.grants k i)) (λ k q. hold_in (x.parcels k q)) g.tied id i c t a effect e))
           (rooms_after h (places_unless (progress_of w id).ahead h u)) g.unsent
-          (counted_through g.setup w g.reached x.unfinished x.running x.free g.counted id i c t effect e)
+          (counted_through g.setup w g.reached x.unfinished x.running x.free g.counted id i c t effect e) refl
 
       pub stepped_unanswered : (effect : CallEffect) → answer_to w id c ≡ Ok effect → (h : Option HoldModel) → IsTradedUnless (progress_of w id).ahead w.sizes i grant h →
           IsStepped x id LostAfter played.Lost (record x { state = served_try w id i effect (ahead_of_call w (progress_of w id) effect.fresh) (event.Lose id true) played.Lost; grants = put2 x.grants id.plan id.stream h })
@@ -215,7 +216,7 @@ module _ (x : Whole) (id : StreamId) (o : Option Instr) (at : IsAt x id o) where
           (λ a. tied_unanswered g.setup w g.reached x.pool (λ k i. hold_in (x.grants k i)) (λ k q. hold_in (x.parcels k q)) g.tied id i c t a effect e)
           (λ a. tied_unanswered_again g.setup w g.reached x.pool (λ k i. hold_in (x.grants k i)) (λ k q. hold_in (x.parcels k q)) g.tied id i c t a effect e))
           (rooms_after h (places_unless (progress_of w id).ahead h u)) g.unsent
-          (counted_unanswered g.setup w g.reached x.unfinished x.running x.free g.counted id i c t effect e)
+          (counted_unanswered g.setup w g.reached x.unfinished x.running x.free g.counted id i c t effect e) refl
 
     -- ---- signals
 
@@ -249,7 +250,7 @@ module _ (x : Whole) (id : StreamId) (o : Option Instr) (at : IsAt x id o) where
         (tied_both (posted w id q).1 q h n (hold_behind w id) (hold_of (parcel_at w id.plan q)) e f
         (tied_posted g.setup w g.reached x.pool (λ k i. hold_in (x.grants k i)) (λ k q. hold_in (x.parcels k q)) g.tied id q b))
         (rooms_after h capacity) (unsent_after q (record (w.marks id.plan q) { posted = true }) n refl)
-        (counted_posted g.setup w g.reached x.unfinished x.running x.free g.counted id q b)
+        (counted_posted g.setup w g.reached x.unfinished x.running x.free g.counted id q b) refl
 
     pub stepped_taken : (q : ℕ) → o ≡ Some (Wait q) → (w.marks id.plan q).posted ≡ true → (h : Option HoldModel) → hold_in h ≡ hold_behind w id → capacity_in h ≡ capacity_in grant → (p : Passage) →
         IsStepped x id p played.Moved (record x { state = parcel_taken w id q; grants = put2 x.grants id.plan id.stream h; parcels = put2 x.parcels id.plan q None })
@@ -260,7 +261,7 @@ module _ (x : Whole) (id : StreamId) (o : Option Instr) (at : IsAt x id o) where
         (tied_both (parcel_taken w id q) q h None (hold_behind w id) no_hold e refl
         (tied_taken g.setup w g.reached x.pool (λ k i. hold_in (x.grants k i)) (λ k q. hold_in (x.parcels k q)) g.tied id q b was))
         (rooms_after h capacity) (unsent_after q (record (w.marks id.plan q) { awaited = true }) None was)
-        (counted_taken g.setup w g.reached x.unfinished x.running x.free g.counted id q b)
+        (counted_taken g.setup w g.reached x.unfinished x.running x.free g.counted id q b) refl
 
     -- ---- ends
 
@@ -276,4 +277,4 @@ module _ (x : Whole) (id : StreamId) (o : Option Instr) (at : IsAt x id o) where
         (tied_put (ended w id).1 (plus x.pool (rights_in grant)) None (λ k q. hold_in (x.parcels k q)) no_hold refl
         (tied_ended g.setup w g.reached x.pool (λ k i. hold_in (x.grants k i)) (λ k q. hold_in (x.parcels k q)) g.tied id b (rights_in grant) ordered (same ∙ g.tied.grants id run) no_hold))
         (rooms_put None tt) g.unsent
-        (subst (HasCounters (ended w id).1 (put x.unfinished id.plan (x.unfinished id.plan - 1)) (if x.unfinished id.plan == 1 then x.running - 1 else x.running)) (sym count) (counted_ended g.setup w g.reached x.unfinished x.running x.free g.counted id b).2)
+        (subst (HasCounters (ended w id).1 (put x.unfinished id.plan (x.unfinished id.plan - 1)) (if x.unfinished id.plan == 1 then x.running - 1 else x.running)) (sym count) (counted_ended g.setup w g.reached x.unfinished x.running x.free g.counted id b).2) refl

@@ -60,4 +60,5 @@ refill_answer (Err why) = played.RefillRefused why
 -- The event has happened, with this answer, and what every machine keeps is kept.
 pub record HasHappened (x : Whole) (e : Happening) (answer : Played) (y : Whole) : Type 0 where
   pub event : happens x.state e ≡ (Answered answer, y.state)
+  pub setup : y.setup ≡ x.setup
   pub working : IsWorking y

@@ -39,6 +39,7 @@ IsReply _ = ⊥
 pub record IsAsked (x : Whole) (s v : ℕ) (sent : Option Ticket) (event : Event) (answer : Played) (y : Whole) : Type 0 where
   pub outcome : requested x.state s v sent event ≡ (Answered answer, y.state)
   pub reply : IsReply answer
+  pub setup : y.setup ≡ x.setup
   pub working : IsWorking y
 
 -- a request that was answered is recorded, and takes a place of the log

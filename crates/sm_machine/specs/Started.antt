@@ -21,6 +21,7 @@ AreRoomsOf c p n = (i : ℕ) → i < n → IsPeak (stream_at c p.plan i) (slice_
 pub record IsStarted (x : Whole) (p : CheckedModel) (number : ℕ) (y : Whole) : Type 0 where
   pub happens : happens x.state (Begin p.plan) ≡ (Answered (played.Begun number), y.state)
   pub latest : number ≡ length x.state.plans
+  pub setup : y.setup ≡ x.setup
   pub working : IsWorking y
 
 -- The plan does not start, as the protocol says.

@@ -95,6 +95,7 @@ pub record IsGranted (p : Rights) (n : ℕ) (grant : Option HoldModel) : Type 0 
 -- The plan is begun, its streams have what they declare, and of its signals none was posted. All else is as it was.
 pub record IsBegunIn (x : Whole) (p : CheckedModel) (y : Whole) : Type 0 where
   pub state : y.state ≡ started x.state p.plan
+  pub setup : y.setup ≡ x.setup
   pub pool : y.pool ≡ pool_left x.pool p.plan.streams (length p.plan.streams)
   pub grants : (k i : ℕ) → k < length x.state.plans → y.grants k i ≡ x.grants k i
   pub granted : (i : ℕ) → i < length p.plan.streams → IsGranted (declares p.plan.streams i) (slice_index p.peaks i) (y.grants (length x.state.plans) i)

@@ -16,6 +16,8 @@ use Rattle.sm_machine.specs.Machine.{MachineModel, begun_at}
 -- All of a machine: the state of the protocol, and the rights by who has them.
 pub record Whole : Type 0 where
   pub state : State
+  -- the configuration, with its names
+  pub setup : Setup
   -- the rights that nobody has
   pub pool : Hold
   -- what each stream holds, by the plan's number and its own; none once it has made its end
@@ -47,6 +49,7 @@ state_parts m = record {
 unfoldable pub whole_of : MachineModel → Whole
 whole_of m = record {
   state = state_parts m;
+  setup = m.placement.setup;
   pool = pool_hold m.pool;
   grants = λ k i. (course_at (begun_at m.plans k) i).grant;
   parcels = λ k q. (carried_at (begun_at m.plans k) q).grant;
@@ -87,6 +90,7 @@ with_signal x k q mark grant = record x {
 abbrev pub opened_whole : Setup → Place → ℕ → Whole
 opened_whole setup p room = record {
   state = opened (sizes_of setup) p room;
+  setup = setup;
   pool = true_rights (sizes_of setup) p;
   grants = λ k i. None;
   parcels = λ k q. None;

@@ -47,4 +47,5 @@ pub record IsAt (x : Whole) (id : StreamId) (next : Option Instr) : Type 0 where
 -- The stream has made its step, with this answer.
 pub record IsStepped (x : Whole) (id : StreamId) (passage : Passage) (answer : Played) (y : Whole) : Type 0 where
   pub step : step x.state id passage ≡ (Answered answer, y.state)
+  pub setup : y.setup ≡ x.setup
   pub working : IsWorking y

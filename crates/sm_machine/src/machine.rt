@@ -130,6 +130,7 @@ impl Machine {
         ensures fault { IfErr result (λ e. e.1 ≢ fault.NoMemory → IsNotStarted (state_of self.old) checked.plan e.1) }
         ensures unchanged { OnErr result (self.new ≡ self.old) }
         ensures back { IfErr result (λ e. e.0 ≡ checked) }
+        ensures setup { self.new.placement.setup ≡ self.old.placement.setup }
     {
         let ready = match make_ready(alloc, checked) {
             Ok(ready) => ready,
@@ -148,20 +149,23 @@ impl Machine {
         ensures answer { (happens (state_of self.old) (happening.Step token.old)).0 ≡ Answered (played_of result) }
         ensures state { state_of self.new ≡ (happens (state_of self.old) (happening.Step token.old)).1 }
         ensures token { token.new ≡ token.old }
+        ensures setup { self.new.placement.setup ≡ self.old.placement.setup }
     {
         self.engine.step_by(token.id(), Passage::Through)
     }
 
     /// Halts the machine: steps are answered Halted until it is resumed. This is no event.
     pub fn halt(&mut self)
-        ensures { state_of self.new ≡ record (state_of self.old) { halted = true } }
+        ensures state { state_of self.new ≡ record (state_of self.old) { halted = true } }
+        ensures setup { self.new.placement.setup ≡ self.old.placement.setup }
     {
         self.engine.set_halted(true);
     }
 
     /// Lets a halted machine go on.
     pub fn resume(&mut self)
-        ensures { state_of self.new ≡ record (state_of self.old) { halted = false } }
+        ensures state { state_of self.new ≡ record (state_of self.old) { halted = false } }
+        ensures setup { self.new.placement.setup ≡ self.old.placement.setup }
     {
         self.engine.set_halted(false);
     }
@@ -214,6 +218,7 @@ impl Machine {
         ensures answer { (happens (state_of self.old) (happening.Arrive shard server)).0 ≡ Answered (played_by result) }
         ensures state { state_of self.new ≡ (happens (state_of self.old) (happening.Arrive shard server)).1 }
         ensures tickets { tickets_in result ≡ tickets_of shard server (played_by result) }
+        ensures setup { self.new.placement.setup ≡ self.old.placement.setup }
     {
         let event = Event::Arrive { shard, server };
         let reply = self.engine.ask(shard, server, None, event);
@@ -228,6 +233,7 @@ impl Machine {
         ensures answer { (happens (state_of self.old) (happening.PassOn ticket)).0 ≡ Answered (played_by result) }
         ensures state { state_of self.new ≡ (happens (state_of self.old) (happening.PassOn ticket)).1 }
         ensures tickets { tickets_in result ≡ (if spends (played_by result) then tickets_of ticket.shard ticket.target (played_by result) else ticket ∷ []) }
+        ensures setup { self.new.placement.setup ≡ self.old.placement.setup }
     {
         let parts = ticket.parts();
         if !self.engine.is_open(&parts) {
@@ -260,6 +266,7 @@ impl Machine {
         ensures answer { (happens (state_of self.old) (happening.Done permit)).0 ≡ Answered (restart_of result) }
         ensures state { state_of self.new ≡ (happens (state_of self.old) (happening.Done permit)).1 }
         ensures back { IfErr result (λ p. p ≡ permit) }
+        ensures setup { self.new.placement.setup ≡ self.old.placement.setup }
     {
         if !self.engine.is_down(permit.server()) {
             return Err(permit);
@@ -284,6 +291,7 @@ impl Machine {
         ensures answer { (happens (state_of self.old) (happening.Approve server)).0 ≡ Answered (approval_of result) }
         ensures state { state_of self.new ≡ (happens (state_of self.old) (happening.Approve server)).1 }
         ensures permit { IfOk result (λ permit. permit ≡ server) }
+        ensures setup { self.new.placement.setup ≡ self.old.placement.setup }
     {
         let engaged = self.engine.engaged(server);
         match self.engine.decide(server, engaged) {
@@ -327,6 +335,7 @@ impl Machine {
         ensures answer { (happens (state_of self.old) (happening.Refill token.old more)).0 ≡ Answered (refill_answer result) }
         ensures state { state_of self.new ≡ (happens (state_of self.old) (happening.Refill token.old more)).1 }
         ensures token { token.new ≡ token.old }
+        ensures setup { self.new.placement.setup ≡ self.old.placement.setup }
     {
         self.engine.refill(token.id(), more)
     }
@@ -339,6 +348,7 @@ impl Machine {
         ensures over { IsStepOver L.asked link.old link.new (state_of self.old) token.old (played_of result) (state_of self.new) }
         ensures count { L.losses link.new ≡ L.losses link.old + bit (is_lost_answer (played_of result)) }
         ensures token { token.new ≡ token.old }
+        ensures setup { self.new.placement.setup ≡ self.old.placement.setup }
     {
         let id = token.id();
         if !self.engine.makes_try(id) {

@@ -1,8 +1,9 @@
 -- A restart ends.
-use Rattle.std.proofs.Common.{◌≡◌, ◌<◌, sym, ◌∙◌, subst, true}
-use Rattle.sm_machine.specs.State.{whole_of}
+use Rattle.std.proofs.Common.{◌≡◌, ◌<◌, sym, ◌∙◌, subst, true, ap}
+use Rattle.sm_machine.specs.State.{whole_of, Whole}
 use Rattle.sm_machine.specs.Working.{IsWorking}
 use Rattle.sm_machine.proofs.Restarted.{restarted_working}
+use Rattle.sm_machine.proofs.Setups.{setup_kept}
 use Rattle.sm_machine.proofs.machine.Machine.done.Goals as goal
 
 pub invariant_of-self : goal.invariant_of-self
@@ -14,3 +15,6 @@ invariant_of-self c =
     (restarted_working x c.self.invariant c.into_server-server.result
     (subst (λ v. v < x.state.sizes.servers) same (c.is_down.ensures.known c.if-not-is_down.false))
     (subst (λ v. x.state.place.down v ≡ true) same down))
+
+pub returns-clause-setup : goal.returns-clause-setup
+returns-clause-setup c = setup_kept c.self.inside.engine c.args.self.now c.end_restart.new.self c.self.view_is (ap (λ (x : Whole). x.setup) c.end_restart.ensures)

@@ -4,6 +4,7 @@ use Rattle.sm_machine.specs.State.{whole_of}
 use Rattle.sm_machine.specs.Played.{played_of}
 use Rattle.sm_machine.specs.Losses.{IsStepOver, makes_try}
 use Rattle.sm_machine.proofs.Losses.{over_tried, count_tried}
+use Rattle.sm_machine.proofs.Setups.{setup_kept}
 use Rattle.sm_machine.proofs.machine.Machine.step_over.Goals as goal
 
 pub returns-clause-over : goal.returns-clause-over
@@ -19,3 +20,9 @@ pub returns-clause-count : goal.returns-clause-count
 returns-clause-count g c =
     let is : makes_try (whole_of c.self.inside.engine).state c.id-id.result ≡ true = sym c.makes_try.ensures ∙ c.if-not-makes_try.false in
     count_tried (whole_of c.self.inside.engine).state c.id-id.result g.L.Link.asked (played_of c.step_by-2.result) (whole_of c.step_by-2.new.self).state _ _ c.passage-passage.result is c.passage-passage.ensures.count c.step_by-2.ensures.step
+
+pub returns-then-not-makes_try-clause-setup : goal.returns-then-not-makes_try-clause-setup
+returns-then-not-makes_try-clause-setup g c = setup_kept c.self.inside.engine c.args.self.now c.step_by.new.self c.self.view_is c.step_by.ensures.setup
+
+pub returns-clause-setup : goal.returns-clause-setup
+returns-clause-setup g c = setup_kept c.self.inside.engine c.args.self.now c.step_by-2.new.self c.self.view_is c.step_by-2.ensures.setup
