@@ -13,9 +13,11 @@ pub mod InOrder
 pub mod HoldLemmas
 pub mod EditLemmas
 pub mod MergeLemmas
+pub mod PlacedRows
 pub mod EditedHolds
 pub mod HoldEdits
 pub mod HoldSizes
+pub mod WorkedIn
 pub mod StepLemmas
 pub mod TurnLemmas
 pub mod ShortLemmas

@@ -1,5 +1,5 @@
 -- Rows in order, with the rows of a parcel worked into them.
-use Rattle.std.specs.Prelude.{◌≡◌, ℕ, ◌+◌, ◌-◌, ◌%◌, ◌^◌, ◌==◌, ◌&&◌, is_none, is_some, Option, Some, None, List, [], ◌∷◌, if◌then◌else◌}
+use Rattle.std.specs.Prelude.{◌≡◌, ℕ, ◌+◌, ◌-◌, ◌%◌, ◌^◌, ◌==◌, ◌&&◌, is_none, is_some, insert, remove, slice_set, Option, Some, None, List, [], ◌∷◌, if◌then◌else◌}
 use Rattle.sm_placement.specs.Sums.{bit}
 use Rattle.sm_reservation.specs.declared.right.Room.{Room}
 use Rattle.sm_reservation.specs.declared.right.Spare.{Spare}
@@ -15,6 +15,13 @@ abbrev pub edited : {T : Type 0} → (T → ℕ × ℕ) → (Option T → T → 
 edited key_of edit [] y = in_front (edit None y) []
 edited key_of edit (x ∷ xs) y =
     if before (key_of x) (key_of y) then x ∷ edited key_of edit xs y else (if same (key_of x) (key_of y) then in_front (edit (Some x) y) xs else in_front (edit None y) (x ∷ xs))
+
+-- the rows with what stood at a number, a row or none, replaced by what is left there
+abbrev pub left_at : {T : Type 0} → Option T → Option T → ℕ → List T → List T
+left_at None None n xs = xs
+left_at None (Some z) n xs = insert xs n z
+left_at (Some x) None n xs = remove xs n
+left_at (Some x) (Some z) n xs = slice_set xs n z
 
 -- the rows with those of a list worked in, one after another
 abbrev pub edited_all : {T : Type 0} → (T → ℕ × ℕ) → (Option T → T → Option T) → List T → List T → List T

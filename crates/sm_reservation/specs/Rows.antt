@@ -22,6 +22,11 @@ abbrev pub Rises : {T : Type 0} → (T → ℕ × ℕ) → List T → Type 0
 Rises key_of [] = Unit {0}
 Rises key_of (x ∷ xs) = AllAfter key_of (key_of x) xs × Rises key_of xs
 
+-- rows in memory: in order, and for how many there is room
+pub record RowsModel (T : Type 0) : Type 0 where
+  pub items : List T
+  pub capacity : ℕ
+
 -- how many rows at the front come before a key
 abbrev pub count_before : {T : Type 0} → (T → ℕ × ℕ) → ℕ × ℕ → List T → ℕ
 count_before key_of k [] = 0

@@ -15,11 +15,12 @@ ghost use Rattle.sm_reservation.specs.HoldOf.{hold_of};
 ghost use Rattle.sm_reservation.specs.Change.{portion_rights};
 
 use crate::change::Change;
+use crate::edits::{In, Out};
 use crate::fits::{can_join, has_capacity};
 use crate::moves::{put_rights, take_rights};
 use crate::parcel::Parcel;
 use crate::right::{CellRight, Crown, PlainCell, Room, Short, Spare};
-use crate::rows::{Row, add_amount, copied_rows, put_row, row_at, set_row, sub_amount, take_row};
+use crate::rows::Rows;
 use crate::short::first_short;
 use crate::trades::{join_portion, take_portion};
 use sm_placement::Lead;
@@ -32,10 +33,10 @@ use std::marker::Model;
 /// A hold is a plain value: it says what is held, and nothing is held by having one.
 #[derive(Drop)]
 pub struct Hold {
-    pub(crate) cells: Vec<CellRight>,
-    pub(crate) crowns: Vec<Crown>,
-    pub(crate) room: Vec<Room>,
-    pub(crate) spare: Vec<Spare>,
+    pub(crate) cells: Rows<CellRight>,
+    pub(crate) crowns: Rows<Crown>,
+    pub(crate) room: Rows<Room>,
+    pub(crate) spare: Rows<Spare>,
     capacity: usize,
 }
 
@@ -58,10 +59,10 @@ impl Hold {
     {
         let capacity = capacity as usize;
         Ok(Hold {
-            cells: Vec::with_capacity(alloc, capacity)?,
-            crowns: Vec::with_capacity(alloc, capacity)?,
-            room: Vec::with_capacity(alloc, capacity)?,
-            spare: Vec::with_capacity(alloc, capacity)?,
+            cells: Rows::empty(alloc, capacity)?,
+            crowns: Rows::empty(alloc, capacity)?,
+            room: Rows::empty(alloc, capacity)?,
+            spare: Rows::empty(alloc, capacity)?,
             capacity,
         })
     }
@@ -81,10 +82,10 @@ impl Hold {
             .max(room.len())
             .max(spare.len());
         Ok(Hold {
-            cells: copied_rows(alloc, cells, capacity)?,
-            crowns: copied_rows(alloc, crowns, capacity)?,
-            room: copied_rows(alloc, room, capacity)?,
-            spare: copied_rows(alloc, spare, capacity)?,
+            cells: Rows::copied(alloc, cells, capacity)?,
+            crowns: Rows::copied(alloc, crowns, capacity)?,
+            room: Rows::copied(alloc, room, capacity)?,
+            spare: Rows::copied(alloc, spare, capacity)?,
             capacity,
         })
     }
@@ -99,10 +100,10 @@ impl Hold {
         if capacity <= self.capacity {
             return Ok(());
         }
-        self.cells.reserve(capacity - self.cells.len())?;
-        self.crowns.reserve(capacity - self.crowns.len())?;
-        self.room.reserve(capacity - self.room.len())?;
-        self.spare.reserve(capacity - self.spare.len())?;
+        self.cells.reserve(capacity)?;
+        self.crowns.reserve(capacity)?;
+        self.room.reserve(capacity)?;
+        self.spare.reserve(capacity)?;
         self.capacity = capacity;
         Ok(())
     }
@@ -111,28 +112,36 @@ impl Hold {
     pub fn cell(&self, shard: ShardId, server: ServerId) -> Option<PlainCell>
         ensures { result ≡ (hold_of self.now.rights).cells shard server }
     {
-        row_at(&self.cells, (shard.number(), server.number())).map(|right| right.state)
+        self.cells
+            .at((shard.number(), server.number()))
+            .map(|right| right.state)
     }
 
     /// The lead and the listed server of a shard's crown.
     pub fn crown(&self, shard: ShardId) -> Option<(Lead, Option<ServerId>)>
         ensures { result ≡ (hold_of self.now.rights).crowns shard }
     {
-        row_at(&self.crowns, (shard.number(), 0)).map(|crown| (crown.lead, crown.listed))
+        self.crowns
+            .at((shard.number(), 0))
+            .map(|crown| (crown.lead, crown.listed))
     }
 
     /// The room of a server.
     pub fn room(&self, server: ServerId) -> u64
         ensures { result ≡ (hold_of self.now.rights).room server }
     {
-        row_at(&self.room, (server.number(), 0)).map_or(0, |room| room.amount)
+        self.room
+            .at((server.number(), 0))
+            .map_or(0, |room| room.amount)
     }
 
     /// The spare replicas of a shard.
     pub fn spare(&self, shard: ShardId) -> u64
         ensures { result ≡ (hold_of self.now.rights).spare shard }
     {
-        row_at(&self.spare, (shard.number(), 0)).map_or(0, |spare| spare.amount)
+        self.spare
+            .at((shard.number(), 0))
+            .map_or(0, |spare| spare.amount)
     }
 
     /// Takes the right to a cell out, if there is one.
@@ -141,10 +150,12 @@ impl Hold {
         ensures len { length self.new.rights.cells + bit (is_some ((hold_of self.old.rights).cells shard server)) ≡ length self.old.rights.cells }
         ensures others { self.new ≡ record self.old { rights = record self.old.rights { cells = self.new.rights.cells } } }
     {
-        let key = (shard.number(), server.number());
-        if row_at(&self.cells, key).is_some() {
-            let _ = take_row(&mut self.cells, key);
-        }
+        let right = CellRight {
+            shard,
+            server,
+            state: PlainCell::Absent,
+        };
+        self.cells.edit(&right, &Out);
     }
 
     /// Puts the right to a cell in, in place of one to that cell in another state.
@@ -154,11 +165,7 @@ impl Hold {
         ensures len { length self.new.rights.cells ≡ length self.old.rights.cells + bit (is_none ((hold_of self.old.rights).cells right.shard right.server)) }
         ensures others { self.new ≡ record self.old { rights = record self.old.rights { cells = self.new.rights.cells } } }
     {
-        if row_at(&self.cells, right.key()).is_some() {
-            set_row(&mut self.cells, right);
-        } else {
-            put_row(&mut self.cells, right);
-        }
+        self.cells.edit(&right, &In);
     }
 
     /// Takes a shard's crown out, if there is one.
@@ -167,10 +174,12 @@ impl Hold {
         ensures len { length self.new.rights.crowns + bit (is_some ((hold_of self.old.rights).crowns shard)) ≡ length self.old.rights.crowns }
         ensures others { self.new ≡ record self.old { rights = record self.old.rights { crowns = self.new.rights.crowns } } }
     {
-        let key = (shard.number(), 0);
-        if row_at(&self.crowns, key).is_some() {
-            let _ = take_row(&mut self.crowns, key);
-        }
+        let crown = Crown {
+            shard,
+            lead: Lead::Gone,
+            listed: None,
+        };
+        self.crowns.edit(&crown, &Out);
     }
 
     /// Puts a crown in, in place of one of that shard.
@@ -180,11 +189,7 @@ impl Hold {
         ensures len { length self.new.rights.crowns ≡ length self.old.rights.crowns + bit (is_none ((hold_of self.old.rights).crowns crown.shard)) }
         ensures others { self.new ≡ record self.old { rights = record self.old.rights { crowns = self.new.rights.crowns } } }
     {
-        if row_at(&self.crowns, crown.key()).is_some() {
-            set_row(&mut self.crowns, crown);
-        } else {
-            put_row(&mut self.crowns, crown);
-        }
+        self.crowns.edit(&crown, &In);
     }
 
     /// Takes room of a server out.
@@ -194,9 +199,7 @@ impl Hold {
         ensures len { length self.new.rights.room + bit (nat_lt 0 room.amount && ((hold_of self.old.rights).room room.server == room.amount)) ≡ length self.old.rights.room }
         ensures others { self.new ≡ record self.old { rights = record self.old.rights { room = self.new.rights.room } } }
     {
-        if room.amount > 0 {
-            sub_amount(&mut self.room, room);
-        }
+        self.room.edit(&room, &Out);
     }
 
     /// Puts room of a server in.
@@ -207,9 +210,7 @@ impl Hold {
         ensures len { length self.new.rights.room ≡ length self.old.rights.room + bit (nat_lt 0 room.amount && ((hold_of self.old.rights).room room.server == 0)) }
         ensures others { self.new ≡ record self.old { rights = record self.old.rights { room = self.new.rights.room } } }
     {
-        if room.amount > 0 {
-            add_amount(&mut self.room, room);
-        }
+        self.room.edit(&room, &In);
     }
 
     /// Takes spare replicas of a shard out.
@@ -219,9 +220,7 @@ impl Hold {
         ensures len { length self.new.rights.spare + bit (nat_lt 0 spare.amount && ((hold_of self.old.rights).spare spare.shard == spare.amount)) ≡ length self.old.rights.spare }
         ensures others { self.new ≡ record self.old { rights = record self.old.rights { spare = self.new.rights.spare } } }
     {
-        if spare.amount > 0 {
-            sub_amount(&mut self.spare, spare);
-        }
+        self.spare.edit(&spare, &Out);
     }
 
     /// Puts spare replicas of a shard in.
@@ -232,9 +231,7 @@ impl Hold {
         ensures len { length self.new.rights.spare ≡ length self.old.rights.spare + bit (nat_lt 0 spare.amount && ((hold_of self.old.rights).spare spare.shard == 0)) }
         ensures others { self.new ≡ record self.old { rights = record self.old.rights { spare = self.new.rights.spare } } }
     {
-        if spare.amount > 0 {
-            add_amount(&mut self.spare, spare);
-        }
+        self.spare.edit(&spare, &In);
     }
 
     /// The rights to cells.
@@ -318,7 +315,10 @@ impl Hold {
         ensures bounded { AreU64 self.now.rights }
         ensures within { IsWithin (key_counts self.now.rights) self.now.capacity }
     {
-        let _ = &self.capacity;
+        let _ = self.cells.as_slice();
+        let _ = self.crowns.as_slice();
+        let _ = self.room.as_slice();
+        let _ = self.spare.as_slice();
     }
 
     /// For how many keys each list has room.
@@ -387,6 +387,11 @@ impl Hold {
             spare,
             capacity: _,
         } = self;
-        Parcel::of_ordered(cells, crowns, room, spare)
+        Parcel::of_ordered(
+            cells.into_list(),
+            crowns.into_list(),
+            room.into_list(),
+            spare.into_list(),
+        )
     }
 }

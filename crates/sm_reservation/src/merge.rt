@@ -1,10 +1,10 @@
 //! Rows of a list worked into rows in order, in one pass over both.
-ghost use Rattle.std.specs.Prelude.{◌≡◌, ℕ, ◌+◌, ◌≤◌, ◌<◌, None, IsSome, is_some, length, vec_len, vec_capacity, [], ◌++◌, take, drop};
+ghost use Rattle.std.specs.Prelude.{◌≡◌, ℕ, ◌+◌, ◌≤◌, ◌<◌, ◌&&◌, true, IsSome, is_some, is_none, length, vec_len, vec_capacity, [], ◌∷◌, ◌++◌, take, drop};
 ghost use Rattle.sm_placement.specs.Sums.{bit};
 ghost use Rattle.sm_reservation.specs.Rows.{Rises, count_before};
-ghost use Rattle.sm_reservation.specs.Edits.{in_front, edited_all, StaysAt, head_at, new_rows};
+ghost use Rattle.sm_reservation.specs.Edits.{in_front, edited, edited_all, left_at, StaysAt, head_at, new_rows};
 
-use crate::rows::{Row, is_before, is_same};
+use crate::rows::{Row, count_before, is_before, is_same};
 
 /// What stands at the key of a row once the row is worked in.
 pub trait Edit<T> {
@@ -16,25 +16,52 @@ pub trait Edit<T> {
         ensures { result ≡ edit held row.now };
 }
 
-/// Takes the rows of a list out of rows in order.
-pub fn take_rows<T: Row, E: Edit<T>>(rows: &mut Vec<T>, list: &[T], edit: &E)
+/// Works one row into rows in order, by a search for its key. Takes no memory.
+pub fn edit_row<T: Row, E: Edit<T>>(rows: &mut Vec<T>, row: &T, edit: &E)
     requires order { Rises T.key rows.old.items }
-    requires list { Rises T.key list.now }
     requires stays { StaysAt T.key E.edit }
-    requires out { new_rows T.key E.edit rows.old.items list.now ≡ 0 }
-    ensures items { rows.new.items ≡ edited_all T.key E.edit rows.old.items list.now }
-    ensures capacity { vec_capacity rows.new ≡ vec_capacity rows.old }
+    requires capacity { vec_len rows.old + new_rows T.key E.edit rows.old.items (row.now ∷ []) ≤ vec_capacity rows.old }
+    ensures items { rows.new.items ≡ edited T.key E.edit rows.old.items row.now }
+    ensures order { Rises T.key rows.new.items }
+    ensures capacity { vec_capacity rows.old ≤ vec_capacity rows.new }
 {
-    merge(rows, 0, list, edit);
+    let key = row.key();
+    let number = count_before(rows, key);
+    let held = row_here(rows, number, key);
+    let left = edit.edit(held, row);
+    leave(rows, number, held, left);
 }
 
-/// Puts the rows of a list into rows in order. Takes no memory.
-pub fn put_rows<T: Row, E: Edit<T>>(rows: &mut Vec<T>, list: &[T], edit: &E)
+/// Leaves a row, or none, at a number where one stood, or none did.
+fn leave<T: Row>(rows: &mut Vec<T>, number: usize, held: Option<T>, left: Option<T>)
+    requires number { number ≤ vec_len rows.old }
+    requires here { IsSome held → number < vec_len rows.old }
+    requires capacity { is_none held && is_some left ≡ true → vec_len rows.old < vec_capacity rows.old }
+    ensures items { rows.new.items ≡ left_at held left number rows.old.items }
+    ensures capacity { vec_capacity rows.old ≤ vec_capacity rows.new }
+{
+    match held {
+        None => match left {
+            None => {}
+            Some(row) => rows.insert(number, row).unwrap(),
+        },
+        Some(_) => match left {
+            None => {
+                let _ = rows.remove(number);
+            }
+            Some(row) => rows[number] = row,
+        },
+    }
+}
+
+/// Works the rows of a list into rows in order, in one pass over both. Takes no memory.
+pub fn edit_rows<T: Row, E: Edit<T>>(rows: &mut Vec<T>, list: &[T], edit: &E)
     requires order { Rises T.key rows.old.items }
     requires list { Rises T.key list.now }
     requires stays { StaysAt T.key E.edit }
     requires capacity { vec_len rows.old + new_rows T.key E.edit rows.old.items list.now ≤ vec_capacity rows.old }
     ensures items { rows.new.items ≡ edited_all T.key E.edit rows.old.items list.now }
+    ensures order { Rises T.key rows.new.items }
     ensures capacity { vec_capacity rows.old ≤ vec_capacity rows.new }
 {
     let gap = list.len().min(rows.capacity() - rows.len());

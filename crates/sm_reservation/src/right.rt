@@ -132,13 +132,6 @@ impl Amount for Room {
     fn amount(&self) -> u64 {
         self.amount
     }
-
-    fn with_amount(&self, new: u64) -> Room {
-        Room {
-            server: self.server,
-            amount: new,
-        }
-    }
 }
 
 impl Amount for Spare {
@@ -146,12 +139,5 @@ impl Amount for Spare {
 
     fn amount(&self) -> u64 {
         self.amount
-    }
-
-    fn with_amount(&self, new: u64) -> Spare {
-        Spare {
-            shard: self.shard,
-            amount: new,
-        }
     }
 }

@@ -1,10 +1,11 @@
-//! Ordered rows in a `Vec`: the row at a key, put in and taken out.
-ghost use Rattle.std.specs.Prelude.{◌≡◌, IfOk, ℕ, ◌+◌, ◌<◌, ◌≤◌, ◌-◌, ◌==◌, ◌^◌, Some, None, length, vec_len, vec_capacity, if◌then◌else◌, IsSome, insert, remove, slice_set};
-ghost use Rattle.sm_reservation.specs.Rows.{same, before, row_at, Rises, count_before, amount_at, HasPositive};
-ghost use Rattle.std.specs.List.{AllByRecursion};
-ghost use Rattle.sm_placement.specs.Sums.{bit};
+//! Rows in the order of their keys: the row at a key, and rows worked in.
+ghost use Rattle.std.specs.Prelude.{◌≡◌, ◌↔◌, IsTrue, IfOk, OnOk, ℕ, ◌+◌, ◌≤◌, [], ◌∷◌, length, vec_capacity};
+ghost use Rattle.sm_reservation.specs.Rows.{same, before, row_at, Rises, count_before};
+ghost use Rattle.sm_reservation.specs.Edits.{edited, edited_all, StaysAt, new_rows};
 
+use crate::merge::{Edit, edit_row, edit_rows};
 use std::alloc::{AllocError, Global};
+use std::marker::Model;
 
 /// A row of an ordered list, which its key tells apart from the others.
 pub trait Row: Copy {
@@ -26,13 +27,15 @@ pub fn is_before(a: (u32, u32), b: (u32, u32)) -> bool
     a.0 < b.0 || (a.0 == b.0 && a.1 < b.1)
 }
 
-fn count_before<T: Row>(rows: &[T], key: (u32, u32)) -> usize
+/// How many rows come before a key.
+pub fn count_before<T: Row>(rows: &[T], key: (u32, u32)) -> usize
     requires { Rises T.key rows.now }
     ensures { result ≡ count_before T.key key rows.now }
 {
     rows.partition_point(|row| is_before(row.key(), key))
 }
 
+/// The row at a key.
 pub fn row_at<T: Row>(rows: &[T], key: (u32, u32)) -> Option<T>
     requires { Rises T.key rows.now }
     ensures { result ≡ row_at T.key rows.now key }
@@ -49,112 +52,118 @@ pub fn row_at<T: Row>(rows: &[T], key: (u32, u32)) -> Option<T>
     }
 }
 
-pub fn put_row<T: Row>(rows: &mut Vec<T>, row: T)
-    requires order { Rises T.key rows.old.items }
-    requires capacity { vec_len rows.old < vec_capacity rows.old }
-    requires absent { row_at T.key rows.old.items (T.key row) ≡ None }
-    ensures order { Rises T.key rows.new.items }
-    ensures len { vec_len rows.new ≡ vec_len rows.old + 1 }
-    ensures capacity { vec_capacity rows.old ≤ vec_capacity rows.new }
-    ensures items { rows.new.items ≡ insert rows.old.items (count_before T.key (T.key row) rows.old.items) row }
-    ensures rows { (q : ℕ × ℕ) → row_at T.key rows.new.items q ≡ (if same (T.key row) q then Some row else row_at T.key rows.old.items q) }
-{
-    let i = count_before(rows, row.key());
-    rows.insert(i, row).unwrap();
-}
-
-pub fn take_row<T: Row>(rows: &mut Vec<T>, key: (u32, u32)) -> T
-    requires order { Rises T.key rows.old.items }
-    requires present { IsSome (row_at T.key rows.old.items key) }
-    ensures result { row_at T.key rows.old.items key ≡ Some result }
-    ensures order { Rises T.key rows.new.items }
-    ensures len { vec_len rows.new + 1 ≡ vec_len rows.old }
-    ensures capacity { vec_capacity rows.new ≡ vec_capacity rows.old }
-    ensures items { rows.new.items ≡ remove rows.old.items (count_before T.key key rows.old.items) }
-    ensures rows { (q : ℕ × ℕ) → row_at T.key rows.new.items q ≡ (if same key q then None else row_at T.key rows.old.items q) }
-{
-    let i = count_before(rows, key);
-    rows.remove(i)
-}
-
-pub fn set_row<T: Row>(rows: &mut Vec<T>, row: T)
-    requires order { Rises T.key rows.old.items }
-    requires present { IsSome (row_at T.key rows.old.items (T.key row)) }
-    ensures order { Rises T.key rows.new.items }
-    ensures len { vec_len rows.new ≡ vec_len rows.old }
-    ensures capacity { vec_capacity rows.new ≡ vec_capacity rows.old }
-    ensures items { rows.new.items ≡ slice_set rows.old.items (count_before T.key (T.key row) rows.old.items) row }
-    ensures rows { (q : ℕ × ℕ) → row_at T.key rows.new.items q ≡ (if same (T.key row) q then Some row else row_at T.key rows.old.items q) }
-{
-    let i = count_before(rows, row.key());
-    rows[i] = row;
-}
-
-/// A copy of the rows, with room for a number of rows in all.
-pub fn copied_rows<T: Row>(alloc: Global, rows: &[T], capacity: usize) -> Result<Vec<T>, AllocError>
-    requires { length rows.now ≤ capacity }
-    ensures items { IfOk result (λ copy. copy.items ≡ rows.now) }
-    ensures len { IfOk result (λ copy. vec_len copy ≡ length rows.now) }
-    ensures capacity { IfOk result (λ copy. capacity ≤ vec_capacity copy) }
-{
-    let mut copy = Vec::with_capacity(alloc, capacity)?;
-    copy.extend_from_slice(rows)?;
-    Ok(copy)
-}
-
 /// A row with an amount.
 pub trait Amount: Row {
     ghost amount: { Self → ℕ };
 
     fn amount(&self) -> u64
         ensures { result ≡ amount self.now };
-
-    fn with_amount(&self, new: u64) -> Self
-        ensures key { Self.key result ≡ Self.key self.now }
-        ensures value { amount result ≡ new };
 }
 
-/// Adds an amount to what stands at its key.
-pub fn add_amount<T: Amount>(rows: &mut Vec<T>, row: T)
-    requires order { Rises T.key rows.old.items }
-    requires positive { HasPositive T.amount rows.old.items }
-    requires bounded { AllByRecursion (λ x. T.amount x < 2 ^ 64) rows.old.items }
-    requires some { 0 < T.amount row }
-    requires capacity { amount_at T.key T.amount rows.old.items (T.key row) ≡ 0 → vec_len rows.old < vec_capacity rows.old }
-    requires fits { amount_at T.key T.amount rows.old.items (T.key row) + T.amount row < 2 ^ 64 }
-    ensures order { Rises T.key rows.new.items }
-    ensures positive { HasPositive T.amount rows.new.items }
-    ensures bounded { AllByRecursion (λ x. T.amount x < 2 ^ 64) rows.new.items }
-    ensures capacity { vec_capacity rows.old ≤ vec_capacity rows.new }
-    ensures len { vec_len rows.new ≡ vec_len rows.old + bit (amount_at T.key T.amount rows.old.items (T.key row) == 0) }
-    ensures amounts { (q : ℕ × ℕ) → amount_at T.key T.amount rows.new.items q ≡ (if same (T.key row) q then amount_at T.key T.amount rows.old.items (T.key row) + T.amount row else amount_at T.key T.amount rows.old.items q) }
-{
-    match row_at(rows, row.key()) {
-        None => put_row(rows, row),
-        Some(held) => set_row(rows, row.with_amount(held.amount() + row.amount())),
+/// Rows in the order of their keys, each key once.
+#[derive(Drop)]
+pub struct Rows<T: Row> {
+    list: Vec<T>,
+}
+
+impl<T: Row> Model for Rows<T> {
+    ghost use Rattle.std.specs.Prelude.{vec_capacity};
+    ghost use Rattle.sm_reservation.specs.Rows.{RowsModel, Rises};
+
+    ghost Value = { RowsModel T };
+
+    ghost view = { λ r. record { items = r.list.items; capacity = vec_capacity r.list } };
+
+    ghost invariant = { λ r. Rises T.key r.list.items };
+}
+
+impl<T: Row> Rows<T> {
+    /// No rows, with room for a number of them.
+    pub fn empty(alloc: Global, capacity: usize) -> Result<Rows<T>, AllocError>
+        ensures items { IfOk result (λ rows. rows.items ≡ []) }
+        ensures capacity { IfOk result (λ rows. capacity ≤ rows.capacity) }
+    {
+        Ok(Rows {
+            list: Vec::with_capacity(alloc, capacity)?,
+        })
     }
-}
 
-/// Takes an amount away from what stands at its key.
-pub fn sub_amount<T: Amount>(rows: &mut Vec<T>, row: T)
-    requires order { Rises T.key rows.old.items }
-    requires positive { HasPositive T.amount rows.old.items }
-    requires bounded { AllByRecursion (λ x. T.amount x < 2 ^ 64) rows.old.items }
-    requires some { 0 < T.amount row }
-    requires enough { T.amount row ≤ amount_at T.key T.amount rows.old.items (T.key row) }
-    ensures order { Rises T.key rows.new.items }
-    ensures positive { HasPositive T.amount rows.new.items }
-    ensures bounded { AllByRecursion (λ x. T.amount x < 2 ^ 64) rows.new.items }
-    ensures len { vec_len rows.new + bit (amount_at T.key T.amount rows.old.items (T.key row) == T.amount row) ≡ vec_len rows.old }
-    ensures capacity { vec_capacity rows.new ≡ vec_capacity rows.old }
-    ensures amounts { (q : ℕ × ℕ) → amount_at T.key T.amount rows.new.items q ≡ (if same (T.key row) q then amount_at T.key T.amount rows.old.items (T.key row) - T.amount row else amount_at T.key T.amount rows.old.items q) }
-{
-    if let Some(held) = row_at(rows, row.key()) {
-        let rest = held.amount() - row.amount();
-        if rest == 0 {
-            let _ = take_row(rows, row.key());
-        } else {
-            set_row(rows, row.with_amount(rest));
+    /// A copy of rows, with room for a number of rows in all.
+    pub fn copied(alloc: Global, rows: &[T], capacity: usize) -> Result<Rows<T>, AllocError>
+        requires order { Rises T.key rows.now }
+        requires capacity { length rows.now ≤ capacity }
+        ensures items { IfOk result (λ copy. copy.items ≡ rows.now) }
+        ensures capacity { IfOk result (λ copy. capacity ≤ copy.capacity) }
+    {
+        let mut list = Vec::with_capacity(alloc, capacity)?;
+        list.extend_from_slice(rows)?;
+        Ok(Rows { list })
+    }
+
+    /// Makes room for a number of rows in all.
+    pub fn reserve(&mut self, capacity: usize) -> Result<(), AllocError>
+        requires { length self.old.items ≤ capacity }
+        ensures items { self.new.items ≡ self.old.items }
+        ensures capacity { self.old.capacity ≤ self.new.capacity }
+        ensures ok { OnOk result (capacity ≤ self.new.capacity) }
+    {
+        self.list.reserve(capacity - self.list.len())
+    }
+
+    /// The rows.
+    pub fn as_slice(&self) -> &[T]
+        ensures value { result.now ≡ self.now.items }
+        ensures order { Rises T.key result.now }
+    {
+        self.list.as_slice()
+    }
+
+    /// The rows as a plain list.
+    pub fn into_list(self) -> Vec<T>
+        ensures value { result.items ≡ self.items }
+        ensures order { Rises T.key result.items }
+    {
+        let Rows { list } = self;
+        list
+    }
+
+    /// Whether there are no rows.
+    pub fn is_empty(&self) -> bool
+        ensures { IsTrue result ↔ (self.now.items ≡ []) }
+    {
+        self.list.is_empty()
+    }
+
+    /// The row at a key.
+    pub fn at(&self, key: (u32, u32)) -> Option<T>
+        ensures { result ≡ row_at T.key self.now.items key }
+    {
+        row_at(&self.list, key)
+    }
+
+    /// Works one row in, by a search for its key. Takes no memory.
+    pub fn edit<E: Edit<T>>(&mut self, row: &T, edit: &E)
+        requires stays { StaysAt T.key E.edit }
+        requires capacity { length self.old.items + new_rows T.key E.edit self.old.items (row.now ∷ []) ≤ self.old.capacity }
+        ensures order { Rises T.key self.old.items }
+        ensures items { self.new.items ≡ edited T.key E.edit self.old.items row.now }
+        ensures capacity { self.old.capacity ≤ self.new.capacity }
+    {
+        edit_row(&mut self.list, row, edit);
+    }
+
+    /// Works the rows of a list in: more than one go in one pass over both. Takes no memory.
+    pub fn edit_all<E: Edit<T>>(&mut self, list: &[T], edit: &E)
+        requires list { Rises T.key list.now }
+        requires stays { StaysAt T.key E.edit }
+        requires capacity { length self.old.items + new_rows T.key E.edit self.old.items list.now ≤ self.old.capacity }
+        ensures order { Rises T.key self.old.items }
+        ensures items { self.new.items ≡ edited_all T.key E.edit self.old.items list.now }
+        ensures capacity { self.old.capacity ≤ self.new.capacity }
+    {
+        match list {
+            [row] => edit_row(&mut self.list, row, edit),
+            _ => edit_rows(&mut self.list, list, edit),
         }
     }
 }

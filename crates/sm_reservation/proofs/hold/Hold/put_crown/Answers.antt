@@ -1,0 +1,45 @@
+use Rattle.std.proofs.Common.{◌∷◌, [], arith}
+use Rattle.sm_reservation.specs.HoldOf.{hold_of}
+use Rattle.sm_reservation.specs.HoldView.{lists_of}
+use Rattle.sm_reservation.specs.Turns.{lacks_crown}
+use Rattle.sm_reservation.proofs.EditedHolds.{crowns_put_in, crowns_gained}
+use Rattle.sm_reservation.proofs.HoldEdits.{crowns_come}
+use Rattle.sm_reservation.proofs.WorkedIn.{one_more, none_lacks}
+use Rattle.sm_reservation.proofs.hold.Hold.put_crown.Goals as goal
+
+pub edit-requires-clause-capacity : goal.edit-requires-clause-capacity
+edit-requires-clause-capacity c =
+    let r = lists_of c.self.inside in
+    let y = c.args.crown in
+    let few = crowns_come r (y ∷ []) (tt, tt) in
+    let room = one_more (lacks_crown (hold_of r) y) (c.self.inside.capacity) c.self.invariant.fits.crowns (λ t. (rw (← c.self.view_is) at c.requires.capacity) (none_lacks _ t)) in
+    omega (arith, few, room, c.self.invariant.crowns)
+
+pub invariant_of-self : goal.invariant_of-self
+invariant_of-self c =
+    let r = lists_of c.self.inside in
+    let y = c.args.crown in
+    let gained = crowns_gained r (y ∷ []) c.edit.ensures.order in
+    let room = one_more (lacks_crown (hold_of r) y) (c.self.inside.capacity) c.self.invariant.fits.crowns (λ t. (rw (← c.self.view_is) at c.requires.capacity) (none_lacks _ t)) in
+    record {
+      positive = record { room = c.self.invariant.positive.room; spare = c.self.invariant.positive.spare };
+      bounded = record { room = c.self.invariant.bounded.room; spare = c.self.invariant.bounded.spare };
+      fits = record { cells = c.self.invariant.fits.cells; crowns = rw c.edit.ensures.items (omega (arith, gained, room)); room = c.self.invariant.fits.room; spare = c.self.invariant.fits.spare };
+      cells = c.self.invariant.cells;
+      crowns = omega (arith, c.self.invariant.crowns, c.edit.ensures.capacity);
+      room = c.self.invariant.room;
+      spare = c.self.invariant.spare;
+    }
+
+pub returns-clause-rights : goal.returns-clause-rights
+returns-clause-rights c =
+    let r = lists_of c.self.inside in
+    let y = c.args.crown in
+    rw (← c.self.view_is, c.edit.ensures.items) (crowns_put_in r (y ∷ []) c.edit.ensures.order)
+
+pub returns-clause-len : goal.returns-clause-len
+returns-clause-len c =
+    let r = lists_of c.self.inside in
+    let y = c.args.crown in
+    let gained = crowns_gained r (y ∷ []) c.edit.ensures.order in
+    rw (← c.self.view_is, c.edit.ensures.items) (omega (arith, gained))
