@@ -1,17 +1,8 @@
 -- Accepted plans: those that nothing holds up at the pool.
-use Rattle.std.proofs.Common.{◌≡◌, ℕ, ◌+◌, ◌<◌, ◌≤◌, Bool, true, false, Option, Some, None, refl, sym, ap, ◌∙◌, arith, inl, inr, ◌⊎◌, length}
-use Rattle.std.specs.Prelude.{◌==◌, nat_lt, if◌then◌else◌}
-use Rattle.std.proofs.lemmas.Bool.{cases_lt, lt-ltb, le-ltb, eq-eqb}
-use Rattle.sm_protocol.proofs.Below.{Lead, bit, Setup, load_at, live_at, PlainCell, Hold, leads_of, true_rights, IsKnownHold, Right, OfCell, OfCrown, OfRoom, OfSpare, count, stock, bound, is_cell, is_crown, plain_of, PlanModel, IsScene, Holding, no_stream, declared, first_holding, declared_sum, AreWithin}
-use Rattle.sm_placement.proofs.Sums.{sum_zero, same_sum, bit-le-one}
-use Rattle.sm_reservation.proofs.Truths.{is_cell_true, is_cell_self}
-use Rattle.sm_plan_code.proofs.Known.{parcel_below}
-use Rattle.sm_verifier.proofs.Holdings.{finds_holding}
-use Rattle.sm_verifier.proofs.Judging.{crown_true, crown_self}
-use Rattle.sm_verifier.proofs.WithinPool.{admitted_within, within_admitted}
+use Rattle.sm_protocol.proofs.Below.{◌≡◌, ℕ, ◌+◌, ◌<◌, ◌≤◌, Bool, true, false, Option, Some, None, refl, sym, ap, ◌∙◌, arith, inl, inr, ◌⊎◌, length, ◌==◌, nat_lt, if◌then◌else◌, cases_lt, lt-ltb, le-ltb, eq-eqb, Lead, bit, Setup, load_at, live_at, PlainCell, Hold, leads_of, true_rights, IsKnownHold, Right, OfCell, OfCrown, OfRoom, OfSpare, count, stock, bound, is_cell, is_crown, plain_of, PlanModel, IsScene, Holding, no_stream, declared, first_holding, declared_sum, AreWithin, sum_zero, same_sum, bit-le-one, is_cell_true, is_cell_self, parcel_below, finds_holding, crown_true, crown_self, admitted_within, within_admitted}
+use Rattle.sm_protocol.proofs.Words.{State, held, pool, free_cell, free_crown, places_of, free_places, Outcome, Answered, begun, has_all_plans, Begin, happens, started, IsAccepted, IsReached, IsCheckedPlan, BegunWhereAccepted}
 use Rattle.sm_protocol.specs.declared.event.Played.TheVariants as played
 use Rattle.sm_protocol.specs.declared.event.BeginFault.TheVariants as fault
-use Rattle.sm_protocol.proofs.Words.{State, held, pool, free_cell, free_crown, places_of, free_places, Outcome, Answered, begun, has_all_plans, Begin, happens, started, IsAccepted, IsReached, IsCheckedPlan, BegunWhereAccepted}
 use Rattle.sm_protocol.proofs.Invariant.{IsKept}
 use Rattle.sm_protocol.proofs.Steps.{leads_are, lead_is}
 use Rattle.sm_protocol.proofs.Pools.{no_cell, pool_within, room_conserved, spare_conserved}

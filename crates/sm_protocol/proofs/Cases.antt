@@ -1,10 +1,8 @@
 -- What an event may do to a state, case by case.
-use Rattle.std.proofs.Common.{◌≡◌, ℕ, ◌+◌, Bool, true, false, refl, sym, ap, ◌∙◌, Option, Some, None, Result, Ok, Err}
-use Rattle.std.specs.Prelude.{◌==◌, not, if◌then◌else◌, nat_lt, length}
-use Rattle.sm_protocol.proofs.Below.{Refusal, CallEffect, called_numbered, set_down, put2, leads_of, StreamId, ServerCall, Instr, PrepareAdd, PrepareDrop, Add, Drop, Change, Publish, Unlist, Signal, Wait, to_list, is_call, PlanModel, Holding, first_holding, Denied, denial}
+use Rattle.sm_protocol.proofs.Below.{◌≡◌, ℕ, ◌+◌, Bool, true, false, refl, sym, ap, ◌∙◌, Option, Some, None, Result, Ok, Err, ◌==◌, not, if◌then◌else◌, nat_lt, length, Refusal, CallEffect, called_numbered, set_down, put2, leads_of, StreamId, ServerCall, Instr, PrepareAdd, PrepareDrop, Add, Drop, Change, Publish, Unlist, Signal, Wait, to_list, is_call, PlanModel, Holding, first_holding, Denied, denial}
+use Rattle.sm_protocol.proofs.Words.{RefillFault, Ticket, is_open_ticket, spends, Happening, Step, Lose, Refill, Arrive, PassOn, Approve, Done, Begin, refill_fault, refilled, answer_by, requested, engaged, approved, started, begun, has_all_plans, happens, Passage, Through, LostBefore, LostAfter, Played, State, stream_parts, progress_of, is_begun, is_running, next_instruction, allowance, recorded, logged, pool, free_places, places_of, Outcome, Refused, Answered, unchanged, call_number, call_to_make, behind_call, ahead_of_call, served_try, call_lost, tried, call_tried, entry_added, posted, ended, made, behind, step}
 use Rattle.sm_protocol.specs.declared.event.BeginFault.TheVariants as fault
 use Rattle.sm_protocol.specs.declared.event.RefillFault.TheVariants as refill
-use Rattle.sm_protocol.proofs.Words.{RefillFault, Ticket, is_open_ticket, spends, Happening, Step, Lose, Refill, Arrive, PassOn, Approve, Done, Begin, refill_fault, refilled, answer_by, requested, engaged, approved, started, begun, has_all_plans, happens, Passage, Through, LostBefore, LostAfter, Played, State, stream_parts, progress_of, is_begun, is_running, next_instruction, allowance, recorded, logged, pool, free_places, places_of, Outcome, Refused, Answered, unchanged, call_number, call_to_make, behind_call, ahead_of_call, served_try, call_lost, tried, call_tried, entry_added, posted, ended, made, behind, step}
 use Rattle.sm_protocol.specs.declared.event.Event.TheVariants as event
 use Rattle.sm_protocol.specs.declared.event.Played.TheVariants as played
 

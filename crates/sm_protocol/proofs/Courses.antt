@@ -1,13 +1,6 @@
 -- A plan whose stream goes on: its streams stay on their courses, and its signals are those that the steps made post and
 -- await.
-use Rattle.std.proofs.Common.{◌≡◌, ◌≢◌, ℕ, suc, ◌+◌, ◌<◌, ◌≤◌, true, false, Some, Ok, sym, ap, ◌∙◌, arith, inl, inr, subst, length}
-use Rattle.std.specs.Prelude.{slice_get, nat_lt}
-use Rattle.std.proofs.lemmas.Bool.{cases_eq, cases_lt, cases_Bool, lt-ltb, le-ltb}
-use Rattle.std.proofs.lemmas.Option.{slice_get_within}
-use Rattle.sm_protocol.proofs.Below.{IsReachable, put, bit, Sizes, Place, Instr, Signal, Wait, is_call, IsOwn, PlanModel, after, parcels_of, stream_at, hold_before, calls_before, IsGood, code_at, post_of, wait_of}
-use Rattle.sm_placement.proofs.Sums.{put-here, put-apart}
-use Rattle.sm_verifier.proofs.Turns.{in_turn}
-use Rattle.sm_verifier.proofs.Once.{stand_once, are_of_plan}
+use Rattle.sm_protocol.proofs.Below.{◌≡◌, ◌≢◌, ℕ, suc, ◌+◌, ◌<◌, ◌≤◌, true, false, Some, Ok, sym, ap, ◌∙◌, arith, inl, inr, subst, length, slice_get, nat_lt, cases_eq, cases_lt, cases_Bool, lt-ltb, le-ltb, slice_get_within, IsReachable, put, bit, Sizes, Place, Instr, Signal, Wait, is_call, IsOwn, PlanModel, after, parcels_of, stream_at, hold_before, calls_before, IsGood, code_at, post_of, wait_of, put-here, put-apart, in_turn, stand_once, are_of_plan}
 use Rattle.sm_protocol.proofs.Words.{Progress, Mark}
 use Rattle.sm_protocol.proofs.Invariant.{IsOnCourse, IsRunning}
 

@@ -1,9 +1,5 @@
 -- The numbers of calls that have their effect along a list of events: none is there twice.
-use Rattle.std.proofs.Common.{◌≡◌, ◌≢◌, ◌⊎◌, ℕ, ◌+◌, ◌<◌, ◌≤◌, Bool, true, false, Ok, refl, sym, ap, ◌∙◌, inl, inr, arith, subst, List, [], ◌∷◌, ◌++◌}
-use Rattle.std.specs.Prelude.{◌==◌, nat_lt, if◌then◌else◌, count_by}
-use Rattle.std.proofs.lemmas.Bool.{cases_Bool, cases_eq, eq-eqb, ne_eqb, eqb-true, lt-ltb, le-ltb}
-use Rattle.std.proofs.lemmas.List.Sums.{sum_by-cons}
-use Rattle.sm_protocol.proofs.Below.{bit, sizes_of, CallEffect, StreamId, ServerCall, Instr}
+use Rattle.sm_protocol.proofs.Below.{◌≡◌, ◌≢◌, ◌⊎◌, ℕ, ◌+◌, ◌<◌, ◌≤◌, Bool, true, false, Ok, refl, sym, ap, ◌∙◌, inl, inr, arith, subst, List, [], ◌∷◌, ◌++◌, ◌==◌, nat_lt, if◌then◌else◌, count_by, cases_Bool, cases_eq, eq-eqb, ne_eqb, eqb-true, lt-ltb, le-ltb, sum_by-cons, bit, sizes_of, CallEffect, StreamId, ServerCall, Instr}
 use Rattle.sm_protocol.proofs.Words.{Passage, State, Progress, opened, progress_of, set_progress, call_number, number_after_try, tried_more, behind_call, ahead_of_call, Happening, Step, Lose, happens, AllFit, EffectsOnce, effect_numbers, effect_numbers_at}
 use Rattle.sm_protocol.proofs.Invariant.{IsKept, code_of}
 use Rattle.sm_protocol.proofs.Numbers.{one_stream, goes_on, IsTryNumber, is_try_number}

@@ -1,7 +1,5 @@
 -- What the ended streams' final holds set, stream after stream and plan after plan.
-use Rattle.std.proofs.Common.{◌≡◌, ◌≢◌, ◌⊎◌, ℕ, zero, suc, ◌+◌, ◌<◌, ◌≤◌, Bool, true, false, refl, sym, ap, ◌∙◌, inl, inr, arith, subst, List, [], ◌∷◌, length, get_or}
-use Rattle.std.proofs.lemmas.Bool.{cases_eq, cases_Bool}
-use Rattle.sm_protocol.proofs.Below.{Sizes, Place, Hold, PlanModel, stream_at, final_hold}
+use Rattle.sm_protocol.proofs.Below.{◌≡◌, ◌≢◌, ◌⊎◌, ℕ, zero, suc, ◌+◌, ◌<◌, ◌≤◌, Bool, true, false, refl, sym, ap, ◌∙◌, inl, inr, arith, subst, List, [], ◌∷◌, length, get_or, cases_eq, cases_Bool, Sizes, Place, Hold, PlanModel, stream_at, final_hold}
 use Rattle.sm_protocol.proofs.Words.{Start, no_start, set_by, set_by_streams, publications, end_of, ends_of}
 
 module _ (A : Type 0) (set : Hold → A → A) (reaches : Hold → Type 0) (unset : (h : Hold) (old : A) → (reaches h → ⊥) → set h old ≡ old) where

@@ -1,14 +1,8 @@
 -- What a hold at a stream's end sets: cells, and who is listed.
-use Rattle.std.proofs.Common.{◌≡◌, ◌≢◌, ◌⊎◌, ℕ, ◌+◌, ◌≤◌, Bool, true, false, refl, sym, ap, ◌∙◌, inl, inr, arith, subst, Option, Some, None}
-use Rattle.std.specs.Prelude.{◌&&◌, IfSome}
-use Rattle.std.proofs.lemmas.Bool.{cases_Bool, cases_eq, eq-eqb, ne_eqb, and_parts}
-use Rattle.sm_protocol.proofs.Below.{Cell, Lead, Gone, At, Ready, Handing, Handed, bit, Sizes, Place, Describes, IsPlain, is_at_rest, PlainCell, Hold, Right, OfCell, OfCrown, is_cell, is_crown, same_lead, same_listed, plain_of, count, stock, Instr, IsScene, touched, LeadNames, HoldsLead, IsWithinReach, HasCrownsAtRest}
+use Rattle.sm_protocol.proofs.Below.{◌≡◌, ◌≢◌, ◌⊎◌, ℕ, ◌+◌, ◌≤◌, Bool, true, false, refl, sym, ap, ◌∙◌, inl, inr, arith, subst, Option, Some, None, ◌&&◌, IfSome, cases_Bool, cases_eq, eq-eqb, ne_eqb, and_parts, Cell, Lead, Gone, At, Ready, Handing, Handed, bit, Sizes, Place, Describes, IsPlain, is_at_rest, PlainCell, Hold, Right, OfCell, OfCrown, is_cell, is_crown, same_lead, same_listed, plain_of, count, stock, Instr, IsScene, touched, LeadNames, HoldsLead, IsWithinReach, HasCrownsAtRest, true_cell, true_crown, no_true_cell, is_cell_self, is_cell_true, same_lead_self, same_lead_true, same_server_self, same_server_true, absent_from, secondary_from, Effect, named_is_not_plain}
+use Rattle.sm_protocol.proofs.Words.{cell_by_crown, cell_by_right, listed_by, set_by}
 use Rattle.sm_server.specs.declared.call.Cell.TheVariants as cell
 use Rattle.sm_reservation.specs.declared.right.PlainCell.TheVariants.{Absent, Secondary}
-use Rattle.sm_reservation.proofs.Truths.{true_cell, true_crown, no_true_cell, is_cell_self, is_cell_true, same_lead_self, same_lead_true, same_server_self, same_server_true, absent_from, secondary_from}
-use Rattle.sm_plan_code.specs.Effects.{Effect}
-use Rattle.sm_plan_code.proofs.Exclusive.{named_is_not_plain}
-use Rattle.sm_protocol.proofs.Words.{cell_by_crown, cell_by_right, listed_by, set_by}
 
 -- What is looked at of a placement, what a hold at a stream's end sets it to, which holds reach it, and the one right that
 -- it stands under.

@@ -1,15 +1,6 @@
 -- The ends of streams in a state: what no live hold reaches is as the ended streams' final holds set it, and no ended stream
 -- of a plan reaches what a live hold of that plan or of an earlier one reaches.
-use Rattle.std.proofs.Common.{◌≡◌, ◌≢◌, ◌⊎◌, ℕ, zero, suc, ◌+◌, ◌<◌, ◌≤◌, true, false, None, refl, sym, ap, ◌∙◌, inl, inr, arith, subst, List, length}
-use Rattle.std.specs.Prelude.{slice_get, slice_index_or, unwrap_or}
-use Rattle.std.proofs.Math.Path.{fun_ext}
-use Rattle.std.proofs.lemmas.Bool.{cases_eq, cases_Bool, cases_lt, le-ltb}
-use Rattle.std.proofs.lemmas.Option.{slice_get_cases}
-use Rattle.sm_protocol.proofs.Below.{Cell, Lead, Gone, put, put2, sum_below, Sizes, Place, StreamId, Hold, Right, count, stock, leads_of, Instr, PlanModel, IsScene, stream_at, hold_before, final_hold, HasCrownsAtRest}
-use Rattle.sm_placement.proofs.Sums.{put-here, put-apart, sum_apart, same_sum, part_of_sum}
-use Rattle.sm_placement.proofs.LeadOf.{lead_of_is}
-use Rattle.sm_plan_code.specs.Effects.{Effect}
-use Rattle.sm_verifier.proofs.SumLemmas.{two_of_sum}
+use Rattle.sm_protocol.proofs.Below.{◌≡◌, ◌≢◌, ◌⊎◌, ℕ, zero, suc, ◌+◌, ◌<◌, ◌≤◌, true, false, None, refl, sym, ap, ◌∙◌, inl, inr, arith, subst, List, length, slice_get, slice_index_or, unwrap_or, fun_ext, cases_eq, cases_Bool, cases_lt, le-ltb, slice_get_cases, Cell, Lead, Gone, put, put2, sum_below, Sizes, Place, StreamId, Hold, Right, count, stock, leads_of, Instr, PlanModel, IsScene, stream_at, hold_before, final_hold, HasCrownsAtRest, put-here, put-apart, sum_apart, same_sum, part_of_sum, lead_of_is, Effect, two_of_sum}
 use Rattle.sm_protocol.proofs.Words.{State, Start, Progress, Mark, no_start, plan_at, progress_of, set_progress, reach, hold_of_stream, started}
 use Rattle.sm_protocol.proofs.Invariant.{IsKept, code_of}
 use Rattle.sm_protocol.proofs.Holds.{part, by_plan, by_moves, by_moves_signal, share, load}

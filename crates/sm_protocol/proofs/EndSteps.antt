@@ -1,9 +1,5 @@
 -- Every event keeps what the ended streams' final holds set.
-use Rattle.std.proofs.Common.{◌≡◌, ℕ, ◌+◌, ◌≤◌, Bool, true, false, Option, Some, None, Ok, refl, sym, ap, ◌∙◌, arith, length}
-use Rattle.std.specs.Prelude.{not, if◌then◌else◌}
-use Rattle.std.proofs.lemmas.Bool.{and_parts}
-use Rattle.sm_protocol.proofs.Below.{Lead, sum_below, Setup, Place, CallEffect, publish, set_down, StreamId, Hold, leads_of, Right, count, ServerCall, Instr, Publish, Unlist, is_call, IsOwn, to_list, acts, stream_at, hold_before}
-use Rattle.sm_plan_code.proofs.Effects.{effect}
+use Rattle.sm_protocol.proofs.Below.{◌≡◌, ℕ, ◌+◌, ◌≤◌, Bool, true, false, Option, Some, None, Ok, refl, sym, ap, ◌∙◌, arith, length, not, if◌then◌else◌, and_parts, Lead, sum_below, Setup, Place, CallEffect, publish, set_down, StreamId, Hold, leads_of, Right, count, ServerCall, Instr, Publish, Unlist, is_call, IsOwn, to_list, acts, stream_at, hold_before, effect}
 use Rattle.sm_protocol.proofs.Words.{Passage, Through, LostBefore, LostAfter, State, Progress, plan_at, progress_of, set_progress, is_begun, is_running, reach, call_number, tried_more, behind_call, ahead_of_call, Happening, happens, IsReached}
 use Rattle.sm_protocol.proofs.Invariant.{IsKept}
 use Rattle.sm_protocol.proofs.Holds.{share}

@@ -1,16 +1,5 @@
 -- Where all plans are done, the placement is their end.
-use Rattle.std.proofs.Common.{◌≡◌, ℕ, suc, ◌+◌, ◌<◌, Bool, true, false, refl, sym, ap, ◌∙◌, inl, inr, arith, List, [], ◌∷◌, length, get_or}
-use Rattle.std.specs.Prelude.{slice_get, take, not, ◌==◌, if◌then◌else◌, Option, Some}
-use Rattle.std.specs.List.{count_by}
-use Rattle.std.proofs.lemmas.Bool.{cases_Bool, cases_eq, eq-eqb, ne_eqb, le-ltb, lt-ltb, and_parts}
-use Rattle.std.proofs.lemmas.Option.{slice_get_within, get_or_from_slice_get}
-use Rattle.std.proofs.lemmas.List.Sums.{count_by_more_yes, count_by_more_no}
-use Rattle.std.proofs.Math.Seq.{take-length}
-use Rattle.sm_protocol.proofs.Below.{Cell, Setup, Sizes, bit, put, sum_below, Place, Lead, StreamId, Hold, Right, Instr, Publish, Unlist, Signal, Wait, is_call, StreamModel, PlanModel, no_stream, stream_at, final_hold, code_at, wait_of}
-use Rattle.sm_placement.proofs.Searches.{any_none}
-use Rattle.sm_placement.proofs.Sums.{put-here, put-apart, same_sum, sum_zero}
-use Rattle.sm_verifier.proofs.Once.{stand_once}
-use Rattle.sm_verifier.proofs.SumLemmas.{sum_by-below, sum_below-front}
+use Rattle.sm_protocol.proofs.Below.{◌≡◌, ℕ, suc, ◌+◌, ◌<◌, Bool, true, false, refl, sym, ap, ◌∙◌, inl, inr, arith, List, [], ◌∷◌, length, get_or, slice_get, take, not, ◌==◌, if◌then◌else◌, Option, Some, count_by, cases_Bool, cases_eq, eq-eqb, ne_eqb, le-ltb, lt-ltb, and_parts, slice_get_within, get_or_from_slice_get, count_by_more_yes, count_by_more_no, take-length, Cell, Setup, Sizes, bit, put, sum_below, Place, Lead, StreamId, Hold, Right, Instr, Publish, Unlist, Signal, Wait, is_call, StreamModel, PlanModel, no_stream, stream_at, final_hold, code_at, wait_of, any_none, put-here, put-apart, same_sum, sum_zero, stand_once, sum_by-below, sum_below-front}
 use Rattle.sm_protocol.proofs.Words.{Passage, State, Start, Progress, no_start, plan_at, stream_count, stream_id, progress_of, set_progress, is_begun, is_running, is_under_way, held_by, held, call_number, tried_more, behind_call, ahead_of_call, Happening, started, happens, Through, LostBefore, LostAfter, is_publication, publications, end_of, ends_of, IsReached, AreDone, EndsAreReached}
 use Rattle.sm_protocol.proofs.Invariant.{IsKept}
 use Rattle.sm_protocol.proofs.Holds.{part, carried}

@@ -1,8 +1,5 @@
 -- How much is held and under way, as a stream goes on and its signals are posted and awaited.
-use Rattle.std.proofs.Common.{◌≡◌, ◌≢◌, ℕ, ◌+◌, ◌<◌, ◌≤◌, refl, ap, ◌∙◌, arith, length}
-use Rattle.std.specs.Prelude.{if◌then◌else◌}
-use Rattle.sm_protocol.proofs.Below.{put, put2, sum_below, Sizes, StreamId, hold_of, Right, count, PlanModel, parcels_of, stream_at, hold_before}
-use Rattle.sm_placement.proofs.Sums.{put-here, put-apart, sum_apart, part_of_sum}
+use Rattle.sm_protocol.proofs.Below.{◌≡◌, ◌≢◌, ℕ, ◌+◌, ◌<◌, ◌≤◌, refl, ap, ◌∙◌, arith, length, if◌then◌else◌, put, put2, sum_below, Sizes, StreamId, hold_of, Right, count, PlanModel, parcels_of, stream_at, hold_before, put-here, put-apart, sum_apart, part_of_sum}
 use Rattle.sm_protocol.proofs.Words.{State, Progress, Mark, plan_at, stream_count, progress_of, set_progress, reach, is_under_way, held_by, held}
 
 -- how much of a right a stream that has come so far holds

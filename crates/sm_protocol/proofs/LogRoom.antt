@@ -1,19 +1,8 @@
 -- The log keeps within its room, and tries within their allowance.
-use Rattle.std.proofs.Common.{◌≡◌, ◌≢◌, ℕ, zero, suc, ◌+◌, ◌<◌, ◌≤◌, Bool, true, false, not, refl, sym, ap, ◌∙◌, inl, inr, subst, arith, ◌⊎◌, Some, Result, Ok, Err, List, [], ◌∷◌, length, length-append}
-use Rattle.std.specs.Prelude.{◌==◌, nat_lt, if◌then◌else◌, slice_get, slice_index_or, count_by}
-use Rattle.std.proofs.lemmas.Bool.{and_parts, and_from, and_left, eqb-false, ltb-true, ltb-false, not-true, cases_lt, cases_eq, cases_Bool, lt-ltb, le-ltb}
-use Rattle.std.proofs.lemmas.List.{get_or_append_left}
-use Rattle.std.proofs.Math.Seq.{get_or-append_seam}
-use Rattle.sm_protocol.proofs.Below.{Refusal, put, sum_below, count_below, bit, Setup, Sizes, sizes_of, Place, CallEffect, called_numbered, numbered_answer_at, down_count, set_down, publish, StreamId, ServerCall, Instr, Signal, Wait, is_call, StreamModel, PlanModel, no_stream, Entry}
-use Rattle.sm_server.specs.declared.call.Served.{Served}
-use Rattle.sm_server.specs.declared.call.Call.{Call}
-use Rattle.sm_placement.proofs.Sums.{put-here, put-apart, sum_apart, same_sum, sum_of_both, bit-le-one}
-use Rattle.sm_verifier.specs.Plan.{KeepsBudget, total_budget}
-use Rattle.sm_verifier.proofs.SumLemmas.{sum_by-below}
+use Rattle.sm_protocol.proofs.Below.{◌≡◌, ◌≢◌, ℕ, zero, suc, ◌+◌, ◌<◌, ◌≤◌, Bool, true, false, not, refl, sym, ap, ◌∙◌, inl, inr, subst, arith, ◌⊎◌, Some, Result, Ok, Err, List, [], ◌∷◌, length, length-append, ◌==◌, nat_lt, if◌then◌else◌, slice_get, slice_index_or, count_by, and_parts, and_from, and_left, eqb-false, ltb-true, ltb-false, not-true, cases_lt, cases_eq, cases_Bool, lt-ltb, le-ltb, get_or_append_left, get_or-append_seam, Refusal, put, sum_below, count_below, bit, Setup, Sizes, sizes_of, Place, CallEffect, called_numbered, numbered_answer_at, down_count, set_down, publish, StreamId, ServerCall, Instr, Signal, Wait, is_call, StreamModel, PlanModel, no_stream, Entry, Served, Call, put-here, put-apart, sum_apart, same_sum, sum_of_both, bit-le-one, KeepsBudget, total_budget, sum_by-below, granted}
 use Rattle.sm_protocol.proofs.Words.{Event, Passage, Through, LostBefore, LostAfter, Played, State, Mark, Progress, Start, no_start, fresh, opened, plan_at, stream_count, stream_parts, progress_of, stream_id, is_begun, allowance, set_progress, logged, places_left, places_of, set_aside, free_places, is_no_call, pool, behind_call, ahead_of_call, tried_more, call_number, Happening, engaged, started, happens, IsOpening, IsReached, FitsConfig}
 use Rattle.sm_protocol.specs.declared.event.Event.TheVariants as event
 use Rattle.sm_protocol.specs.declared.event.Played.TheVariants as played
-use Rattle.sm_task_controller.proofs.Denials.{granted}
 use Rattle.sm_protocol.proofs.Cases.{IsTry, OfSteps, of_happens, all_fit, answer_to, refill_granted}
 use Rattle.sm_protocol.proofs.Reached.{by_events}
 use Rattle.sm_protocol.proofs.Places.{each_after, streams_left, left_after, no_calls_from, left_unless_done, past_no_call, past_call}

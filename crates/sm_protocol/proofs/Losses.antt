@@ -1,14 +1,8 @@
 -- A stream of which no call was lost has tried each of its calls once.
-use Rattle.std.proofs.Common.{◌≡◌, ◌≢◌, ℕ, ◌+◌, ◌⊎◌, true, false, Some, refl, sym, ap, ◌∙◌, inl, inr, subst, arith, List, [], ◌∷◌}
-use Rattle.std.specs.Prelude.{Contains, if◌then◌else◌}
-use Rattle.std.proofs.lemmas.Bool.{cases_Bool}
-use Rattle.std.proofs.lemmas.List.Elements.{Contains-append_left, Contains-push}
-use Rattle.sm_protocol.proofs.Below.{bit, Setup, StreamId, Instr, Signal, Wait, is_call, PlanModel, Course, stream_at, calls_before}
-use Rattle.sm_verifier.proofs.Streams.{one_more}
+use Rattle.sm_protocol.proofs.Below.{◌≡◌, ◌≢◌, ℕ, ◌+◌, ◌⊎◌, true, false, Some, refl, sym, ap, ◌∙◌, inl, inr, subst, arith, List, [], ◌∷◌, Contains, if◌then◌else◌, cases_Bool, Contains-append_left, Contains-push, bit, Setup, StreamId, Instr, Signal, Wait, is_call, PlanModel, Course, stream_at, calls_before, one_more, AllByRecursion}
 use Rattle.sm_protocol.proofs.Words.{Event, Played, Passage, Through, LostBefore, LostAfter, State, Progress, fresh, plan_at, progress_of, set_progress, is_begun, logged, Happening, started, happens, run, behind_call, ahead_of_call, tried_more, call_number, IsReached, AllFit, LosesNothing, HasLost, HasNoLost}
 use Rattle.sm_protocol.specs.declared.event.Event.TheVariants as event
 use Rattle.sm_protocol.specs.declared.event.Played.TheVariants as played
-use Rattle.std.specs.List.{AllByRecursion}
 use Rattle.sm_protocol.proofs.Invariant.{IsKept}
 use Rattle.sm_protocol.proofs.Cases.{IsBefore, OfSteps, of_happens}
 use Rattle.sm_protocol.proofs.Reached.{by_events, same_machine}

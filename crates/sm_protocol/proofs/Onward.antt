@@ -1,6 +1,5 @@
 -- No call is refused, the state is safe, and of each plan that isn't done some stream can step.
-use Rattle.std.proofs.Common.{◌≡◌, ◌≢◌, ℕ, ◌+◌, ◌<◌, ◌≤◌, false, refl, length, inl, inr, subst, sym, arith}
-use Rattle.sm_protocol.proofs.Below.{bit, StreamId, is_call, stream_at, calls_before}
+use Rattle.sm_protocol.proofs.Below.{◌≡◌, ◌≢◌, ℕ, ◌+◌, ◌<◌, ◌≤◌, false, refl, length, inl, inr, subst, sym, arith, bit, StreamId, is_call, stream_at, calls_before}
 use Rattle.sm_protocol.proofs.Words.{State, plan_at, stream_id, stream_count, stream_parts, Refused, Happening, happens, run, SomeCanStep, AllFit, FitsConfig, Headline, WithLosses}
 use Rattle.sm_protocol.proofs.Reached.{run_same, reached_run}
 use Rattle.sm_protocol.proofs.Invariant.{IsKept}

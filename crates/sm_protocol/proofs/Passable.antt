@@ -1,7 +1,5 @@
 -- Every event keeps the numbers under which requests may have been passed on, so who executes a request serves its shard.
-use Rattle.std.proofs.Common.{◌≡◌, ℕ, Ok, subst}
-use Rattle.std.specs.Prelude.{if◌then◌else◌}
-use Rattle.sm_protocol.proofs.Below.{CallEffect, StreamId, Instr, ServerCall, numbers_after}
+use Rattle.sm_protocol.proofs.Below.{◌≡◌, ℕ, Ok, subst, if◌then◌else◌, CallEffect, StreamId, Instr, ServerCall, numbers_after}
 use Rattle.sm_protocol.proofs.Words.{Passage, Through, LostBefore, LostAfter, Happening, happens, State, ExecutedServes}
 use Rattle.sm_protocol.proofs.Invariant.{IsKept}
 use Rattle.sm_protocol.proofs.Cases.{IsTry, answer_to, OfSteps, of_happens}

@@ -1,15 +1,11 @@
 -- The passes that the log records, and who executes requests.
-use Rattle.std.proofs.Common.{◌≡◌, ℕ, true, false, refl, sym, ap, ◌∙◌, subst, Option, Some, None, [], ◌∷◌, ◌++◌}
-use Rattle.std.specs.Prelude.{if◌then◌else◌, slice_index_or, option_map}
-use Rattle.std.proofs.lemmas.Option.{same_Some, none-some}
-use Rattle.sm_protocol.proofs.Below.{Setup, sizes_of, Place, StreamId}
+use Rattle.sm_protocol.proofs.Below.{◌≡◌, ℕ, true, false, refl, sym, ap, ◌∙◌, subst, Option, Some, None, [], ◌∷◌, ◌++◌, if◌then◌else◌, slice_index_or, option_map, same_Some, none-some, Setup, sizes_of, Place, StreamId, one_serves}
 use Rattle.sm_protocol.proofs.Words.{Event, Passage, Through, LostBefore, LostAfter, Played, Logged, Ticket, passes, pass_of, pass_of_event, is_open_ticket, State, opened, Answered, Happening, happens, spends, IsServing, IsOpening, asked}
 use Rattle.sm_protocol.specs.declared.event.Event.TheVariants as event
 use Rattle.sm_protocol.specs.declared.event.Played.TheVariants as played
 use Rattle.sm_protocol.proofs.Cases.{OfSteps, IsQuiet, of_happens, reply}
 use Rattle.sm_protocol.proofs.Scripts.{pass_push}
 use Rattle.sm_protocol.proofs.Replays.{open_ticket}
-use Rattle.sm_placement.proofs.Leads.{one_serves}
 use Rattle.sm_protocol.proofs.Requests.{CanBePassed, passed_by_lead, forwarding_passes, IsLed, PassesFit, reply_serves, reply_forwards}
 
 -- a number under which a request may have been passed on stays one

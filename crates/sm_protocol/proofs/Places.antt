@@ -1,12 +1,7 @@
 -- The log's places: those that are set aside as streams go on.
-use Rattle.std.proofs.Common.{◌≡◌, ℕ, ◌+◌, ◌-◌, ◌<◌, true, false, cond, refl, ap, ◌∙◌, arith, Some, length, drop}
-use Rattle.std.specs.Prelude.{slice_get, count_by}
-use Rattle.std.proofs.lemmas.Option.{slice_get_within, get_or_from_slice_get}
-use Rattle.std.proofs.lemmas.List.Sums.{sum_by-drop_more}
-use Rattle.sm_protocol.proofs.Below.{put, put2, sum_below, StreamId, Instr, StreamModel}
-use Rattle.sm_placement.proofs.Sums.{put-here, put-apart, sum_apart}
-use Rattle.sm_protocol.proofs.Numbers.{each_stream, goes_on_in}
+use Rattle.sm_protocol.proofs.Below.{◌≡◌, ℕ, ◌+◌, ◌-◌, ◌<◌, true, false, cond, refl, ap, ◌∙◌, arith, Some, length, drop, slice_get, count_by, slice_get_within, get_or_from_slice_get, sum_by-drop_more, put, put2, sum_below, StreamId, Instr, StreamModel, put-here, put-apart, sum_apart}
 use Rattle.sm_protocol.proofs.Words.{State, Progress, progress_of, stream_parts, stream_id, stream_count, set_progress, places_left, is_no_call}
+use Rattle.sm_protocol.proofs.Numbers.{each_stream, goes_on_in}
 
 -- what holds of each stream's progress holds after one of them stands otherwise
 pub each_after : (f : ℕ → ℕ → Progress) (id : StreamId) (x : Progress) (P : ℕ → ℕ → Progress → Type 0) → ((k i : ℕ) → P k i (f k i)) → P id.plan id.stream x →

@@ -1,8 +1,5 @@
 -- Lists of events that are played with a hand.
-use Rattle.std.proofs.Common.{◌≡◌, ◌≢◌, ℕ, zero, suc, Bool, true, false, refl, sym, ap, subst, Option, Some, None, List, [], ◌∷◌, ◌++◌}
-use Rattle.std.specs.Prelude.{◌==◌, find, option_map, slice_index_or, slice_set, if◌then◌else◌}
-use Rattle.std.specs.List.{AllByRecursion, list_any, filter_map}
-use Rattle.sm_protocol.proofs.Below.{Sizes, sizes_of, PlanModel}
+use Rattle.sm_protocol.proofs.Below.{◌≡◌, ◌≢◌, ℕ, zero, suc, Bool, true, false, refl, sym, ap, subst, Option, Some, None, List, [], ◌∷◌, ◌++◌, ◌==◌, find, option_map, slice_index_or, slice_set, if◌then◌else◌, AllByRecursion, list_any, filter_map, Sizes, sizes_of, PlanModel}
 use Rattle.sm_protocol.proofs.Words.{Event, Played, Ticket, State, Outcome, Refused, Answered, Happening, Step, Lose, Refill, PassOn, Approve, Done, Begin, happens, run, outcomes, Hand, Game, is_token, given, spends, without_first, tickets_of, hand_after, hand_by, turn_by, turn, play, plays, all_given, played_events, or_unknown, SomeCanStep, IsReached, FitsConfig, AllFit, LosesNothing, NamesKnown, AsksNoLoss, AreChecked, PlaysAreRuns, PlaysAreSafe}
 use Rattle.sm_protocol.specs.declared.event.Event.TheVariants as event
 use Rattle.sm_protocol.specs.declared.event.Played.TheVariants as played

@@ -1,11 +1,7 @@
 -- The pool of a state: what is in it, what is held and what nobody may use are together what there is.
-use Rattle.std.proofs.Common.{◌≡◌, ℕ, ◌+◌, ◌-◌, ◌<◌, ◌≤◌, Bool, true, false, Option, Some, None, refl, sym, ap, ◌∙◌, arith, inl, inr}
-use Rattle.std.specs.Prelude.{◌==◌, if◌then◌else◌}
-use Rattle.std.proofs.lemmas.Bool.{cases_Bool, cases_lt, eqb-true, lt-ltb, le-ltb, and_parts}
-use Rattle.sm_protocol.proofs.Below.{Lead, bit, load_at, live_at, PlainCell, Right, OfCell, OfCrown, OfRoom, OfSpare, count, stock, bound, is_cell, is_crown, same_lead, same_listed, plain_of, true_rights}
-use Rattle.sm_reservation.specs.declared.right.PlainCell.TheVariants.{Absent, Secondary}
-use Rattle.sm_reservation.proofs.Truths.{is_cell_true, same_lead_true, same_server_true}
+use Rattle.sm_protocol.proofs.Below.{◌≡◌, ℕ, ◌+◌, ◌-◌, ◌<◌, ◌≤◌, Bool, true, false, Option, Some, None, refl, sym, ap, ◌∙◌, arith, inl, inr, ◌==◌, if◌then◌else◌, cases_Bool, cases_lt, eqb-true, lt-ltb, le-ltb, and_parts, Lead, bit, load_at, live_at, PlainCell, Right, OfCell, OfCrown, OfRoom, OfSpare, count, stock, bound, is_cell, is_crown, same_lead, same_listed, plain_of, true_rights, is_cell_true, same_lead_true, same_server_true}
 use Rattle.sm_protocol.proofs.Words.{State, held, pool, free_cell, free_crown}
+use Rattle.sm_reservation.specs.declared.right.PlainCell.TheVariants.{Absent, Secondary}
 use Rattle.sm_protocol.proofs.Invariant.{IsKept}
 use Rattle.sm_protocol.proofs.Steps.{lead_is}
 

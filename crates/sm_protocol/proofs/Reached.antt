@@ -1,10 +1,7 @@
 -- What holds at every opening and is kept by every event holds of every state that events lead to.
-use Rattle.std.proofs.Common.{◌≡◌, ◌⊎◌, ℕ, Bool, true, false, refl, sym, ap, ◌∙◌, inl, inr, subst, Option, Some, None, List, [], ◌∷◌, ◌++◌, length}
-use Rattle.std.specs.Prelude.{if◌then◌else◌}
-use Rattle.std.proofs.lemmas.Bool.{cases_Bool}
-use Rattle.sm_protocol.proofs.Below.{Setup, Sizes, sizes_of, Place, forget_numbers, set_down, StreamId, PlanModel}
-use Rattle.sm_protocol.specs.declared.event.BeginFault.TheVariants as fault
+use Rattle.sm_protocol.proofs.Below.{◌≡◌, ◌⊎◌, ℕ, Bool, true, false, refl, sym, ap, ◌∙◌, inl, inr, subst, Option, Some, None, List, [], ◌∷◌, ◌++◌, length, if◌then◌else◌, cases_Bool, Setup, Sizes, sizes_of, Place, forget_numbers, set_down, StreamId, PlanModel}
 use Rattle.sm_protocol.proofs.Words.{Event, Passage, Through, LostBefore, LostAfter, Ticket, State, opened, is_begun, progress_of, next_instruction, logged, recorded, Answered, unchanged, made, step, Happening, Step, Lose, refilled, requested, approved, begun, started, has_all_plans, happens, run, unhalted, IsOpening, IsReached, FitsConfig, AllFit}
+use Rattle.sm_protocol.specs.declared.event.BeginFault.TheVariants as fault
 use Rattle.sm_protocol.specs.declared.event.Event.TheVariants as event
 use Rattle.sm_protocol.specs.declared.event.Played.TheVariants as played
 use Rattle.sm_protocol.proofs.Cases.{OfSteps, of_happens, of_any, reply}

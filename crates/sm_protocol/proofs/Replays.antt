@@ -1,10 +1,5 @@
 -- The log replays to the state.
-use Rattle.std.proofs.Common.{◌≡◌, ℕ, ◌+◌, ◌<◌, ◌≤◌, Bool, true, false, cond, refl, sym, ap, ◌∙◌, inl, inr, ◌⊎◌, subst, arith, Option, Some, None, List, [], ◌∷◌, ◌++◌, length-append}
-use Rattle.std.specs.Prelude.{◌==◌, length, count_by, slice_get, slice_index_or, option_map}
-use Rattle.std.proofs.lemmas.Bool.{and_parts, eqb-true, cases_lt, cases_eq, not-true, or_parts}
-use Rattle.std.proofs.lemmas.List.Sums.{sum_by_push, sum_by-cons}
-use Rattle.std.proofs.lemmas.Option.{slice_get_past, same_Some}
-use Rattle.sm_protocol.proofs.Below.{Setup, sizes_of, Place, PlanModel, first_holding}
+use Rattle.sm_protocol.proofs.Below.{◌≡◌, ℕ, ◌+◌, ◌<◌, ◌≤◌, Bool, true, false, cond, refl, sym, ap, ◌∙◌, inl, inr, ◌⊎◌, subst, arith, Option, Some, None, List, [], ◌∷◌, ◌++◌, length-append, ◌==◌, length, count_by, slice_get, slice_index_or, option_map, and_parts, eqb-true, cases_lt, cases_eq, not-true, or_parts, sum_by_push, sum_by-cons, slice_get_past, same_Some, Setup, sizes_of, Place, PlanModel, first_holding}
 use Rattle.sm_protocol.proofs.Words.{Event, Played, Logged, Ticket, passes, pass_of, pass_of_event, same_ticket, is_ticket, is_open_ticket, is_pass_on, is_passed_on, State, Start, opened, pool, Outcome, Answered, Happening, Begin, started, happens, IsAccepted, ScriptLine, happening_of, script, IsAcceptedStart, Replays, IsRequestTo, IsPass, IsLegal, IsOpening, IsReached, IsCheckedPlan, FitsConfig}
 use Rattle.sm_protocol.specs.declared.event.Event.TheVariants as event
 use Rattle.sm_protocol.specs.declared.event.Played.TheVariants as played

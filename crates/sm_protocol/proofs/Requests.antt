@@ -1,11 +1,7 @@
 -- A request is executed by the one server that serves its shard.
-use Rattle.std.proofs.Common.{◌≡◌, ℕ, ◌<◌, ◌≤◌, Bool, true, false, refl, sym, ap, ◌∙◌, inl, inr, subst, arith, Option, Some, None, length}
-use Rattle.std.specs.Prelude.{◌==◌, ◌&&◌, if◌then◌else◌, slice_index_or}
-use Rattle.std.proofs.lemmas.Bool.{cases_eq, and_parts, eqb-true}
-use Rattle.sm_protocol.proofs.Below.{Cell, Absent, Prepared, Secondary, Primary, Forwarding, Lead, Gone, At, Ready, Handing, Handed, serves, Describes, IsPlain, MayHavePassed}
-use Rattle.sm_placement.proofs.Leads.{leader_serves}
-use Rattle.sm_protocol.specs.declared.event.Played.TheVariants as played
+use Rattle.sm_protocol.proofs.Below.{◌≡◌, ℕ, ◌<◌, ◌≤◌, Bool, true, false, refl, sym, ap, ◌∙◌, inl, inr, subst, arith, Option, Some, None, length, ◌==◌, ◌&&◌, if◌then◌else◌, slice_index_or, cases_eq, and_parts, eqb-true, Cell, Absent, Prepared, Secondary, Primary, Forwarding, Lead, Gone, At, Ready, Handing, Handed, serves, Describes, IsPlain, MayHavePassed, leader_serves}
 use Rattle.sm_protocol.proofs.Words.{Ticket, passes, State, answer_by}
+use Rattle.sm_protocol.specs.declared.event.Played.TheVariants as played
 use Rattle.sm_protocol.proofs.Cases.{reply}
 
 -- ---- a row under its lead

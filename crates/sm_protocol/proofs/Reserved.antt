@@ -1,11 +1,7 @@
 -- What the pool keeps, and restarts that keep what is reserved.
-use Rattle.std.proofs.Common.{◌≡◌, ℕ, zero, suc, ◌+◌, ◌<◌, ◌≤◌, Bool, true, false, Option, Some, None, refl, ap, arith, length}
-use Rattle.std.specs.Prelude.{◌==◌, ◌&&◌, not}
-use Rattle.std.proofs.lemmas.Bool.{ne_eqb, and_parts}
-use Rattle.sm_protocol.proofs.Below.{first_from, is_live_at, live_at, StreamId, OfSpare, Denied, denial, first_without_spare}
-use Rattle.sm_task_controller.proofs.Denials.{IsGranted, granted, not_denied}
-use Rattle.sm_protocol.specs.declared.event.Played.TheVariants as played
+use Rattle.sm_protocol.proofs.Below.{◌≡◌, ℕ, zero, suc, ◌+◌, ◌<◌, ◌≤◌, Bool, true, false, Option, Some, None, refl, ap, arith, length, ◌==◌, ◌&&◌, not, ne_eqb, and_parts, first_from, is_live_at, live_at, StreamId, OfSpare, Denied, denial, first_without_spare, IsGranted, granted, not_denied}
 use Rattle.sm_protocol.proofs.Words.{State, stream_id, stream_count, progress_of, is_begun, is_running, held, pool, free_places, Answered, engages, engaged, approved, Approve, happens, IsApproved, RoomIsConserved, ApprovedWhereReserved}
+use Rattle.sm_protocol.specs.declared.event.Played.TheVariants as played
 use Rattle.sm_protocol.proofs.Invariant.{IsKept}
 use Rattle.sm_protocol.proofs.Trials.{IsBegun}
 use Rattle.sm_protocol.proofs.Keeping.{begun, is_begun_true}

@@ -1,15 +1,5 @@
 -- Restarts, requests and refills keep what holds of every state.
-use Rattle.std.proofs.Common.{◌≡◌, ◌≢◌, ℕ, zero, suc, ◌+◌, ◌<◌, ◌≤◌, Bool, true, false, Some, None, refl, sym, ap, ◌∙◌, arith, inl, inr, List, [], ◌∷◌, length}
-use Rattle.std.specs.Prelude.{slice_get, ◌==◌, ◌&&◌, not, if◌then◌else◌}
-use Rattle.std.specs.List.{list_any}
-use Rattle.std.proofs.lemmas.Bool.{cases_eq, cases_Bool, cases_lt, eq-eqb, or_parts, and_parts}
-use Rattle.sm_protocol.proofs.Below.{bit, set_down, is_live_at, live_at, StreamId, Right, OfCell, OfCrown, OfRoom, OfSpare, stock, bound, same_listed, Instr, names_of, Mentions, IsReachable, first_without_spare, Absent}
-use Rattle.sm_placement.proofs.Layouts.{downed_placement}
-use Rattle.sm_placement.proofs.Lives.{live_after_down, live_after_up}
-use Rattle.sm_placement.proofs.Searches.{first_from_none}
-use Rattle.sm_placement.proofs.Sums.{put-here, put-apart, bit-le-one}
-use Rattle.sm_plan_code.proofs.Known.{restarted_reachable}
-use Rattle.sm_task_controller.proofs.Denials.{granted}
+use Rattle.sm_protocol.proofs.Below.{◌≡◌, ◌≢◌, ℕ, zero, suc, ◌+◌, ◌<◌, ◌≤◌, Bool, true, false, Some, None, refl, sym, ap, ◌∙◌, arith, inl, inr, List, [], ◌∷◌, length, slice_get, ◌==◌, ◌&&◌, not, if◌then◌else◌, list_any, cases_eq, cases_Bool, cases_lt, eq-eqb, or_parts, and_parts, bit, set_down, is_live_at, live_at, StreamId, Right, OfCell, OfCrown, OfRoom, OfSpare, stock, bound, same_listed, Instr, names_of, Mentions, IsReachable, first_without_spare, Absent, downed_placement, live_after_down, live_after_up, first_from_none, put-here, put-apart, bit-le-one, restarted_reachable, granted}
 use Rattle.sm_protocol.proofs.Words.{Logged, State, Progress, plan_at, stream_id, stream_count, progress_of, is_begun, is_running, set_progress, held, pool, free_places, is_mentioned, engages, engaged}
 use Rattle.sm_protocol.proofs.Invariant.{IsKept, code_of}
 use Rattle.sm_protocol.proofs.Courses.{same_course, stands, some_same, elsewhere_by}

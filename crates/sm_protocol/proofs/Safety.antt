@@ -1,9 +1,5 @@
 -- The states that events lead to are safe: who serves, loads, floors, the map, and tries.
-use Rattle.std.proofs.Common.{◌≡◌, ◌≤◌, ℕ, ◌⊎◌, true, Some, refl, sym, ap, ◌∙◌, inl, inr, subst, arith}
-use Rattle.std.specs.List.{count_by}
-use Rattle.std.proofs.lemmas.List.Sums.{sum_by-take-le}
-use Rattle.sm_protocol.proofs.Below.{Cell, Forwarding, Lead, Gone, At, Ready, Handing, Handed, serves, Describes, OfSpare, StreamId, is_call, IsListable, Course, stream_at, calls_before, IsGood}
-use Rattle.sm_placement.proofs.Leads.{leader_serves, one_serves}
+use Rattle.sm_protocol.proofs.Below.{◌≡◌, ◌≤◌, ℕ, ◌⊎◌, true, Some, refl, sym, ap, ◌∙◌, inl, inr, subst, arith, count_by, sum_by-take-le, Cell, Forwarding, Lead, Gone, At, Ready, Handing, Handed, serves, Describes, OfSpare, StreamId, is_call, IsListable, Course, stream_at, calls_before, IsGood, leader_serves, one_serves}
 use Rattle.sm_protocol.proofs.Words.{State, plan_at, stream_parts, progress_of, is_begun, reach, IsSafePlace, IsSafe}
 use Rattle.sm_protocol.proofs.Invariant.{IsRunning, IsKept}
 use Rattle.sm_protocol.proofs.Courses.{good}

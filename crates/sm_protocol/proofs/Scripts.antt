@@ -1,10 +1,5 @@
 -- The script of a log that grows by a line, and of one more start.
-use Rattle.std.proofs.Common.{◌≡◌, ℕ, zero, suc, ◌+◌, ◌<◌, ◌≤◌, Bool, false, refl, sym, ap, ◌∙◌, inl, inr, subst, arith, Option, Some, None, List, [], ◌∷◌, ◌++◌, append_assoc, length-append}
-use Rattle.std.specs.Prelude.{◌==◌, length, if◌then◌else◌, slice_get, slice_index_or}
-use Rattle.std.specs.List.{AllByRecursion}
-use Rattle.std.proofs.lemmas.Bool.{ne_eqb, eq-eqb, cases_lt}
-use Rattle.std.proofs.lemmas.List.{append-nil, get_or_append_left, get_or_past}
-use Rattle.std.proofs.Math.Seq.{get_or-append_seam}
+use Rattle.sm_protocol.proofs.Below.{◌≡◌, ℕ, zero, suc, ◌+◌, ◌<◌, ◌≤◌, Bool, false, refl, sym, ap, ◌∙◌, inl, inr, subst, arith, Option, Some, None, List, [], ◌∷◌, ◌++◌, append_assoc, length-append, ◌==◌, length, if◌then◌else◌, slice_get, slice_index_or, AllByRecursion, ne_eqb, eq-eqb, cases_lt, append-nil, get_or_append_left, get_or_past, get_or-append_seam}
 use Rattle.sm_protocol.proofs.Words.{Event, Logged, Ticket, pass_of, passes_from, passes, State, Start, Begin, ScriptLine, happening_of, starts_at, lines_at, script_to, script}
 use Rattle.sm_protocol.specs.declared.event.Event.TheVariants as event
 use Rattle.sm_protocol.specs.declared.event.Played.TheVariants as played

@@ -1,9 +1,5 @@
 -- Versions and numbers rise with recorded events alone, so they stay small.
-use Rattle.std.proofs.Common.{◌≡◌, ℕ, suc, ◌+◌, ◌^◌, ◌<◌, ◌≤◌, Bool, true, false, ap, inl, inr, arith, Ok, [], ◌∷◌, length, length-append}
-use Rattle.std.specs.Prelude.{◌==◌, if◌then◌else◌}
-use Rattle.std.proofs.lemmas.Bool.{cases_eq}
-use Rattle.sm_protocol.proofs.Below.{put, Setup, sizes_of, Place, CallEffect, StreamId, ServerCall, Instr, PrepareAdd, numbers_after}
-use Rattle.sm_placement.proofs.Sums.{put-here, put-apart}
+use Rattle.sm_protocol.proofs.Below.{◌≡◌, ℕ, suc, ◌+◌, ◌^◌, ◌<◌, ◌≤◌, Bool, true, false, ap, inl, inr, arith, Ok, [], ◌∷◌, length, length-append, ◌==◌, if◌then◌else◌, cases_eq, put, Setup, sizes_of, Place, CallEffect, StreamId, ServerCall, Instr, PrepareAdd, numbers_after, put-here, put-apart}
 use Rattle.sm_protocol.proofs.Words.{Event, Passage, Through, LostBefore, LostAfter, Played, State, Progress, opened, progress_of, logged, call_number, number_after_try, Happening, happens, IsOpening, NumbersStaySmall}
 use Rattle.sm_protocol.specs.declared.event.Event.TheVariants as event
 use Rattle.sm_protocol.specs.declared.event.Played.TheVariants as played

@@ -1,19 +1,5 @@
 -- A start of a plan, and the opening.
-use Rattle.std.proofs.Common.{◌≡◌, ℕ, suc, ◌+◌, ◌<◌, true, Option, Some, None, refl, sym, ap, ◌∙◌, arith, inl, inr, subst, List, [], ◌∷◌, length, length-append, get_or, ◌++◌}
-use Rattle.std.proofs.lemmas.List.{get_or_append_left}
-use Rattle.std.proofs.Math.Seq.{get_or-append_seam}
-use Rattle.std.specs.Prelude.{slice_get, nat_lt, take, unwrap_or}
-use Rattle.std.specs.List.{count_by}
-use Rattle.std.proofs.lemmas.Bool.{cases_Bool, cases_eq, cases_lt, le-ltb}
-use Rattle.sm_protocol.proofs.Below.{Primary, Lead, Gone, At, Ready, Handing, Handed, Setup, Sizes, sizes_of, Place, Describes, IsPlain, is_at_rest, leads_of, IsListable, sum_below, Right, count, Instr, is_call, PlanModel, code_at, declared, IsAdmitted, first_holding, declared_sum, post_of, wait_of}
-use Rattle.sm_placement.proofs.LeadOf.{lead_of_is}
-use Rattle.sm_placement.proofs.Calls.{placement_with_lasts}
-use Rattle.sm_reservation.proofs.TrueRights.{true_rights_hold}
-use Rattle.sm_plan_code.proofs.Lasts.{lasts_are_unseen}
-use Rattle.sm_placement.proofs.Sums.{same_sum, sum_zero}
-use Rattle.sm_verifier.proofs.Holdings.{finds_holding}
-use Rattle.sm_verifier.proofs.WithinPool.{admitted_within}
-use Rattle.sm_verifier.proofs.Turns.{reachable}
+use Rattle.sm_protocol.proofs.Below.{◌≡◌, ℕ, suc, ◌+◌, ◌<◌, true, Option, Some, None, refl, sym, ap, ◌∙◌, arith, inl, inr, subst, List, [], ◌∷◌, length, length-append, get_or, ◌++◌, get_or_append_left, get_or-append_seam, slice_get, nat_lt, take, unwrap_or, count_by, cases_Bool, cases_eq, cases_lt, le-ltb, Primary, Lead, Gone, At, Ready, Handing, Handed, Setup, Sizes, sizes_of, Place, Describes, IsPlain, is_at_rest, leads_of, IsListable, sum_below, Right, count, Instr, is_call, PlanModel, code_at, declared, IsAdmitted, first_holding, declared_sum, post_of, wait_of, lead_of_is, placement_with_lasts, true_rights_hold, lasts_are_unseen, same_sum, sum_zero, finds_holding, admitted_within, reachable}
 use Rattle.sm_protocol.proofs.Words.{State, fresh, opened, plan_at, is_begun, progress_of, held_by, held, pool, started, IsCheckedPlan, IsOpening}
 use Rattle.sm_protocol.proofs.Invariant.{IsOnCourse, IsRunning, IsKept}
 use Rattle.sm_protocol.proofs.Holds.{part, carried, by_plan}

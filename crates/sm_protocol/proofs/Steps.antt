@@ -1,15 +1,5 @@
 -- A step of any stream keeps what holds of every state, and is never refused.
-use Rattle.std.proofs.Common.{◌≡◌, ℕ, ◌+◌, ◌<◌, ◌≤◌, true, false, Option, Some, None, refl, sym, ap, ◌∙◌, arith, inl, inr, subst, List, length}
-use Rattle.std.specs.Prelude.{unwrap_or}
-use Rattle.std.proofs.lemmas.Option.{slice_get_cases}
-use Rattle.sm_protocol.proofs.Below.{Gone, put, put2, bit, Place, publish, Describes, lead_of, IsPlacement, StreamId, leads_of, Hold, hold_of, Right, count, stock, bound, Instr, Publish, Unlist, Signal, Wait, is_call, IsOwn, to_list, acts, publishes, IsListable, parcels_of, stream_at, hold_before, calls_before, Entry}
-use Rattle.sm_placement.proofs.LeadOf.{lead_of_is}
-use Rattle.sm_placement.proofs.Sums.{put-here, put-apart}
-use Rattle.sm_reservation.specs.Key.{IsOrdered}
-use Rattle.sm_plan_code.specs.Effects.{Effect}
-use Rattle.sm_plan_code.proofs.Effects.{effect}
-use Rattle.sm_plan_code.proofs.Parcels.{signal_counts, wait_counts}
-use Rattle.sm_plan_code.proofs.Known.{signals_known}
+use Rattle.sm_protocol.proofs.Below.{◌≡◌, ℕ, ◌+◌, ◌<◌, ◌≤◌, true, false, Option, Some, None, refl, sym, ap, ◌∙◌, arith, inl, inr, subst, List, length, unwrap_or, slice_get_cases, Gone, put, put2, bit, Place, publish, Describes, lead_of, IsPlacement, StreamId, leads_of, Hold, hold_of, Right, count, stock, bound, Instr, Publish, Unlist, Signal, Wait, is_call, IsOwn, to_list, acts, publishes, IsListable, parcels_of, stream_at, hold_before, calls_before, Entry, lead_of_is, put-here, put-apart, IsOrdered, Effect, effect, signal_counts, wait_counts, signals_known}
 use Rattle.sm_protocol.proofs.Words.{Logged, Passage, State, Progress, Mark, plan_at, progress_of, set_progress, reach, behind, ended, step}
 use Rattle.sm_protocol.proofs.Invariant.{IsOnCourse, IsRunning, AreNumbered, IsKept, code_of}
 use Rattle.sm_protocol.proofs.Holds.{share, load, held_moves, held_moves_signal}

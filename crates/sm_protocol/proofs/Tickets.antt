@@ -1,11 +1,7 @@
 -- Each ticket is spent by one answer at most: that answer is recorded, and a ticket whose passing on is recorded is not open.
-use Rattle.std.proofs.Common.{◌≡◌, ℕ, true, false, refl, sym, ap, ◌∙◌, inl, inr, subst, arith, Some, List, [], ◌∷◌, ◌++◌}
-use Rattle.std.specs.Prelude.{◌==◌}
-use Rattle.std.proofs.lemmas.Bool.{and_parts, eqb-true, eq-eqb, cases_Bool}
-use Rattle.std.proofs.lemmas.List.Folds.{list_any-append}
-use Rattle.sm_protocol.proofs.Below.{bit}
-use Rattle.sm_protocol.specs.declared.event.Event.TheVariants as event
+use Rattle.sm_protocol.proofs.Below.{◌≡◌, ℕ, true, false, refl, sym, ap, ◌∙◌, inl, inr, subst, arith, Some, List, [], ◌∷◌, ◌++◌, ◌==◌, and_parts, eqb-true, eq-eqb, cases_Bool, list_any-append, bit}
 use Rattle.sm_protocol.proofs.Words.{Played, Logged, is_pass_on, is_passed_on, State, Answered, Happening, PassOn, happens, spends, spends_at, times_spent, TicketsOnce}
+use Rattle.sm_protocol.specs.declared.event.Event.TheVariants as event
 use Rattle.sm_protocol.specs.declared.event.Played.TheVariants as played
 use Rattle.sm_protocol.proofs.Cases.{IsQuiet, of_happens, of_any, reply}
 use Rattle.sm_protocol.proofs.Turns.{turns}

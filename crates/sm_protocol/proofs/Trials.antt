@@ -1,13 +1,6 @@
 -- A stream before its next instruction: what it holds is true, its call reaches a cell that no other call under way has
 -- reached, and what its server answers.
-use Rattle.std.proofs.Common.{◌≡◌, ◌≢◌, ℕ, ◌+◌, ◌<◌, ◌≤◌, true, false, Some, refl, sym, ap, arith, inl, inr, subst, length}
-use Rattle.std.specs.Prelude.{slice_get}
-use Rattle.std.proofs.lemmas.Bool.{cases_eq}
-use Rattle.sm_placement.proofs.Sums.{part_of_sum}
-use Rattle.sm_protocol.proofs.Below.{StreamId, Right, count, Instr, Publish, Unlist, Signal, Wait, ServerCall, is_call, names_of, next_call, IsScene, touched, IsWithinReach, parcels_of, stream_at, hold_before}
-use Rattle.sm_plan_code.proofs.Exclusive.{exclusive}
-use Rattle.sm_plan_code.proofs.Reaches.{within_reach}
-use Rattle.sm_verifier.proofs.SumLemmas.{two_of_sum}
+use Rattle.sm_protocol.proofs.Below.{◌≡◌, ◌≢◌, ℕ, ◌+◌, ◌<◌, ◌≤◌, true, false, Some, refl, sym, ap, arith, inl, inr, subst, length, slice_get, cases_eq, part_of_sum, StreamId, Right, count, Instr, Publish, Unlist, Signal, Wait, ServerCall, is_call, names_of, next_call, IsScene, touched, IsWithinReach, parcels_of, stream_at, hold_before, exclusive, within_reach, two_of_sum}
 use Rattle.sm_protocol.proofs.Words.{State, plan_at, stream_count, progress_of, reach, hold_of_stream, held_by, held}
 use Rattle.sm_protocol.proofs.Invariant.{IsRunning, IsKept, code_of}
 use Rattle.sm_protocol.proofs.Holds.{part, share, share_held}

@@ -1,14 +1,7 @@
 -- What a stream stands before, and its tries of calls: they keep what holds of every state, and none is refused.
-use Rattle.std.proofs.Common.{◌≡◌, ◌≢◌, ◌⊎◌, ℕ, ◌+◌, Bool, true, false, List, Some, Result, Ok, Err, refl, sym, ap, ◌∙◌, arith, inl, inr, subst}
-use Rattle.std.specs.Prelude.{slice_get}
-use Rattle.std.proofs.lemmas.Bool.{cases_Bool}
-use Rattle.sm_protocol.proofs.Below.{called_numbered, Refusal, put, put2, bit, CallEffect, set_last, with_lasts, Describes, StreamId, Hold, Right, count, Instr, Publish, Unlist, Signal, Wait, ServerCall, is_call, IsOwn, shard_of, names_of, next_call, IsReachable, IsScene, NumberedEffect, SameRights, touched, IsWithinReach, parcels_of, stream_at, hold_before, calls_before}
-use Rattle.sm_placement.proofs.Calls.{numbered_again}
-use Rattle.sm_plan_code.proofs.Lasts.{lasts_are_unseen}
-use Rattle.sm_plan_code.proofs.Numbered.{numbered_effect}
-use Rattle.sm_plan_code.proofs.Reaches.{within_reach}
+use Rattle.sm_protocol.proofs.Below.{◌≡◌, ◌≢◌, ◌⊎◌, ℕ, ◌+◌, Bool, true, false, List, Some, Result, Ok, Err, refl, sym, ap, ◌∙◌, arith, inl, inr, subst, slice_get, cases_Bool, called_numbered, Refusal, put, put2, bit, CallEffect, set_last, with_lasts, Describes, StreamId, Hold, Right, count, Instr, Publish, Unlist, Signal, Wait, ServerCall, is_call, IsOwn, shard_of, names_of, next_call, IsReachable, IsScene, NumberedEffect, SameRights, touched, IsWithinReach, parcels_of, stream_at, hold_before, calls_before, numbered_again, lasts_are_unseen, numbered_effect, within_reach}
 use Rattle.sm_protocol.proofs.Words.{Event, Played, Logged, State, Progress, plan_at, progress_of, set_progress, reach, hold_of_stream, call_number, number_after_try, call_again, tried_more, behind_call, ahead_of_call, served_try, call_lost}
-use Rattle.sm_protocol.specs.declared.event.Event.TheVariants.{Step, Lose}
+use Rattle.sm_protocol.specs.declared.event.Event.TheVariants as event
 use Rattle.sm_protocol.specs.declared.event.Played.TheVariants.{Moved, Lost}
 use Rattle.sm_protocol.proofs.Cases.{IsBefore, IsTry, answer_to}
 use Rattle.sm_protocol.proofs.Invariant.{IsOnCourse, IsRunning, AreNumbered, IsKept, code_of}
@@ -251,22 +244,22 @@ module _ (w : State) (v : IsKept w) (id : StreamId) (x : Instr) (call : ServerCa
 
   -- ---- all tries
 
-  pub through_keeps : (effect : CallEffect) → answer_to w id call ≡ Ok effect → IsKept (served_try w id x effect (behind_call at_try effect.fresh) (Step id) Moved)
-  through_keeps effect e = by_answer effect e (λ f. IsKept (served_try w id x f (behind_call at_try f.fresh) (Step id) Moved))
+  pub through_keeps : (effect : CallEffect) → answer_to w id call ≡ Ok effect → IsKept (served_try w id x effect (behind_call at_try effect.fresh) (event.Step id) Moved)
+  through_keeps effect e = by_answer effect e (λ f. IsKept (served_try w id x f (behind_call at_try f.fresh) (event.Step id) Moved))
       (λ a.
       let y = behind_call at_try true in
-      kept_after a y (Step id) Moved (plan_further y refl (course_behind true (counts true (inl (refl, a))))) t.before.running refl
+      kept_after a y (event.Step id) Moved (plan_further y refl (course_behind true (counts true (inl (refl, a))))) t.before.running refl
       (had_answered w.place.last w.next_number (code_of w) (progress_of w) v.numbered id y _ (goes_on w id y) call.shard call.server a (no_other a) refl refl))
       (λ a.
       let y = behind_call at_try false in
       kept_here y (number_after_try w at_try) _ (plan_further y refl (course_behind false (counts false (inr (refl, a))))) t.before.running (ap (λ q. reach at_try.at q) (sym a))
       (same_next a y (answered_again w.place.last w.next_number (code_of w) (progress_of w) v.numbered id y _ (goes_on w id y) refl refl)))
 
-  pub unanswered_keeps : (effect : CallEffect) → answer_to w id call ≡ Ok effect → IsKept (served_try w id x effect (ahead_of_call w at_try effect.fresh) (Lose id true) Lost)
-  unanswered_keeps effect e = by_answer effect e (λ f. IsKept (served_try w id x f (ahead_of_call w at_try f.fresh) (Lose id true) Lost))
+  pub unanswered_keeps : (effect : CallEffect) → answer_to w id call ≡ Ok effect → IsKept (served_try w id x effect (ahead_of_call w at_try effect.fresh) (event.Lose id true) Lost)
+  unanswered_keeps effect e = by_answer effect e (λ f. IsKept (served_try w id x f (ahead_of_call w at_try f.fresh) (event.Lose id true) Lost))
       (λ a.
       let y = ahead_of_call w at_try true in
-      kept_after a y (Lose id true) Lost (plan_stands y refl (course_ahead true (counts true (inl (refl, a))))) t.before.running refl
+      kept_after a y (event.Lose id true) Lost (plan_stands y refl (course_ahead true (counts true (inl (refl, a))))) t.before.running refl
       (had_lost w.place.last w.next_number (code_of w) (progress_of w) v.numbered id y _ (goes_on w id y) call.shard call.server a (no_other a) x t.before.next_is goes_to.0 refl refl refl))
       (λ a.
       let y = ahead_of_call w at_try false in

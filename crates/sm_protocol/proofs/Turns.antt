@@ -1,7 +1,5 @@
 -- An event changes nothing, or is recorded, or starts a plan.
-use Rattle.std.proofs.Common.{◌≡◌, ℕ, Bool, true, false, refl, sym, ap, ◌∙◌, inl, inr, ◌⊎◌, arith, Option, Some, None, List, [], ◌∷◌, length-append}
-use Rattle.std.specs.Prelude.{length, if◌then◌else◌}
-use Rattle.sm_protocol.proofs.Below.{StreamId, Signal, Wait, PlanModel, first_holding}
+use Rattle.sm_protocol.proofs.Below.{◌≡◌, ℕ, Bool, true, false, refl, sym, ap, ◌∙◌, inl, inr, ◌⊎◌, arith, Option, Some, None, List, [], ◌∷◌, length-append, length, if◌then◌else◌, StreamId, Signal, Wait, PlanModel, first_holding}
 use Rattle.sm_protocol.proofs.Words.{Event, Passage, Through, LostBefore, LostAfter, Played, Ticket, is_open_ticket, State, logged, pool, Outcome, Answered, step, Happening, Step, Lose, Refill, Arrive, PassOn, Approve, Done, Begin, started, happens, happening_of, IsAcceptedStart, UnrecordedChangesNothing}
 use Rattle.sm_protocol.specs.declared.event.Event.TheVariants as event
 use Rattle.sm_protocol.specs.declared.event.Played.TheVariants as played

@@ -1,7 +1,5 @@
 -- Every event keeps what holds of every state, so it holds of all that events lead to; no call is refused.
-use Rattle.std.proofs.Common.{◌≡◌}
-use Rattle.std.specs.Prelude.{if◌then◌else◌}
-use Rattle.sm_protocol.proofs.Below.{Setup, sizes_of}
+use Rattle.sm_protocol.proofs.Below.{◌≡◌, if◌then◌else◌, Setup, sizes_of}
 use Rattle.sm_protocol.proofs.Words.{Through, LostBefore, LostAfter, State, Happening, happens, unhalted, IsReached, FitsConfig}
 use Rattle.sm_protocol.proofs.Invariant.{IsKept}
 use Rattle.sm_protocol.proofs.Cases.{of_known_happens, refill_granted}
