@@ -78,3 +78,6 @@ pub use Rattle.sm_verifier.specs.Step.{parcels_of}
 pub use Rattle.sm_verifier.specs.Stream.{Course, HasCrownsAtRest, IsGood, calls_before, final_hold, hold_before, no_stream, stream_at}
 pub use Rattle.sm_verifier.specs.Within.{AreWithin, declared_sum}
 pub use Rattle.sm_verifier.specs.declared.admission.Holding.{Holding}
+pub use Rattle.sm_verifier.specs.PlanEnd.{cell_by_crown, cell_by_right, listed_by, set_by, set_by_streams, is_publication, publications, end_of}
+pub use Rattle.sm_verifier.proofs.EndKinds.{IsKind, cell_kind, cell_now, cell_reaches, cell_rule, cell_set, listed_kind, listed_now, listed_reaches, listed_rule, listed_set}
+pub use Rattle.sm_verifier.proofs.EndFolds.{end_sets, plans_here, plans_same, set_plans, set_streams, streams_past}

@@ -1,6 +1,6 @@
 -- The ends of streams in a state: what no live hold reaches is as the ended streams' final holds set it, and no ended stream
 -- of a plan reaches what a live hold of that plan or of an earlier one reaches.
-use Rattle.sm_protocol.proofs.Below.{◌≡◌, ◌≢◌, ◌⊎◌, ℕ, zero, suc, ◌+◌, ◌<◌, ◌≤◌, true, false, None, refl, sym, ap, ◌∙◌, inl, inr, arith, subst, List, length, slice_get, slice_index_or, unwrap_or, fun_ext, cases_eq, cases_Bool, cases_lt, le-ltb, slice_get_cases, Cell, Lead, Gone, put, put2, sum_below, Sizes, Place, StreamId, Hold, Right, count, stock, leads_of, Instr, PlanModel, IsScene, stream_at, hold_before, final_hold, HasCrownsAtRest, put-here, put-apart, sum_apart, same_sum, part_of_sum, lead_of_is, Effect, two_of_sum}
+use Rattle.sm_protocol.proofs.Below.{◌≡◌, ◌≢◌, ◌⊎◌, ℕ, zero, suc, ◌+◌, ◌<◌, ◌≤◌, true, false, None, refl, sym, ap, ◌∙◌, inl, inr, arith, subst, List, length, slice_get, slice_index_or, unwrap_or, fun_ext, cases_eq, cases_Bool, cases_lt, le-ltb, slice_get_cases, Cell, Lead, Gone, put, put2, sum_below, Sizes, Place, StreamId, Hold, Right, count, stock, leads_of, Instr, PlanModel, IsScene, stream_at, hold_before, final_hold, HasCrownsAtRest, put-here, put-apart, sum_apart, same_sum, part_of_sum, lead_of_is, Effect, two_of_sum, IsKind, set_streams, set_plans, plans_same, streams_past, plans_here}
 use Rattle.sm_protocol.proofs.Words.{State, Start, Progress, Mark, no_start, plan_at, progress_of, set_progress, reach, hold_of_stream, started}
 use Rattle.sm_protocol.proofs.Invariant.{IsKept, code_of}
 use Rattle.sm_protocol.proofs.Holds.{part, by_plan, by_moves, by_moves_signal, share, load}
@@ -10,8 +10,6 @@ use Rattle.sm_protocol.proofs.Keeping.{share_now, share_none}
 use Rattle.sm_protocol.proofs.Steps.{leads_are}
 use Rattle.sm_protocol.proofs.Places.{each_after}
 use Rattle.sm_protocol.proofs.LogRoom.{plan_before, count_started}
-use Rattle.sm_protocol.proofs.EndKinds.{IsKind}
-use Rattle.sm_protocol.proofs.EndFolds.{set_streams, set_plans, plans_same, streams_past, plans_here}
 
 -- a scene's leads are found in its placement
 leads_scene : (c : Sizes) (p : Place) (leads : ℕ → Lead) (numbers : ℕ → ℕ) (h : Hold) → IsScene c p leads numbers h → leads_of c p ≡ leads

@@ -1,5 +1,5 @@
 -- Every event keeps what the ended streams' final holds set.
-use Rattle.sm_protocol.proofs.Below.{◌≡◌, ℕ, ◌+◌, ◌≤◌, Bool, true, false, Option, Some, None, Ok, refl, sym, ap, ◌∙◌, arith, length, not, if◌then◌else◌, and_parts, Lead, sum_below, Setup, Place, CallEffect, publish, set_down, StreamId, Hold, leads_of, Right, count, ServerCall, Instr, Publish, Unlist, is_call, IsOwn, to_list, acts, stream_at, hold_before, effect}
+use Rattle.sm_protocol.proofs.Below.{◌≡◌, ℕ, ◌+◌, ◌≤◌, Bool, true, false, Option, Some, None, Ok, refl, sym, ap, ◌∙◌, arith, length, not, if◌then◌else◌, and_parts, Lead, sum_below, Setup, Place, CallEffect, publish, set_down, StreamId, Hold, leads_of, Right, count, ServerCall, Instr, Publish, Unlist, is_call, IsOwn, to_list, acts, stream_at, hold_before, effect, IsKind}
 use Rattle.sm_protocol.proofs.Words.{Passage, Through, LostBefore, LostAfter, State, Progress, plan_at, progress_of, set_progress, is_begun, is_running, reach, call_number, tried_more, behind_call, ahead_of_call, Happening, happens, IsReached}
 use Rattle.sm_protocol.proofs.Invariant.{IsKept}
 use Rattle.sm_protocol.proofs.Holds.{share}
@@ -11,7 +11,6 @@ use Rattle.sm_protocol.proofs.Tries.{here, share_at, scene_now, first_effect, by
 use Rattle.sm_protocol.proofs.Cases.{IsBefore, IsTry, answer_to, of_known_happens, refill_granted, OfKnownSteps}
 use Rattle.sm_protocol.proofs.Whole.{happens_keeps, reached_keeps}
 use Rattle.sm_protocol.proofs.Reached.{by_events}
-use Rattle.sm_protocol.proofs.EndKinds.{IsKind}
 use Rattle.sm_protocol.proofs.EndStates.{IsSetAt, rule_of, at_most_one, same_set, still_set, signal_set, own_set, end_set, start_set}
 use Rattle.sm_protocol.proofs.EndStates as ends
 

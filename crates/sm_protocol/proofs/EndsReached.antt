@@ -1,6 +1,6 @@
 -- Where all plans are done, the placement is their end.
-use Rattle.sm_protocol.proofs.Below.{◌≡◌, ℕ, suc, ◌+◌, ◌<◌, Bool, true, false, refl, sym, ap, ◌∙◌, inl, inr, arith, List, [], ◌∷◌, length, get_or, slice_get, take, not, ◌==◌, if◌then◌else◌, Option, Some, count_by, cases_Bool, cases_eq, eq-eqb, ne_eqb, le-ltb, lt-ltb, and_parts, slice_get_within, get_or_from_slice_get, count_by_more_yes, count_by_more_no, take-length, Cell, Setup, Sizes, bit, put, sum_below, Place, Lead, StreamId, Hold, Right, Instr, Publish, Unlist, Signal, Wait, is_call, StreamModel, PlanModel, no_stream, stream_at, final_hold, code_at, wait_of, any_none, put-here, put-apart, same_sum, sum_zero, stand_once, sum_by-below, sum_below-front}
-use Rattle.sm_protocol.proofs.Words.{Passage, State, Start, Progress, no_start, plan_at, stream_count, stream_id, progress_of, set_progress, is_begun, is_running, is_under_way, held_by, held, call_number, tried_more, behind_call, ahead_of_call, Happening, started, happens, Through, LostBefore, LostAfter, is_publication, publications, end_of, ends_of, IsReached, AreDone, EndsAreReached}
+use Rattle.sm_protocol.proofs.Below.{◌≡◌, ℕ, suc, ◌+◌, ◌<◌, Bool, true, false, refl, sym, ap, ◌∙◌, inl, inr, arith, List, [], ◌∷◌, length, get_or, slice_get, take, not, ◌==◌, if◌then◌else◌, Option, Some, count_by, cases_Bool, cases_eq, eq-eqb, ne_eqb, le-ltb, lt-ltb, and_parts, slice_get_within, get_or_from_slice_get, count_by_more_yes, count_by_more_no, take-length, Cell, Setup, Sizes, bit, put, sum_below, Place, Lead, StreamId, Hold, Right, Instr, Publish, Unlist, Signal, Wait, is_call, StreamModel, PlanModel, no_stream, stream_at, final_hold, code_at, wait_of, any_none, put-here, put-apart, same_sum, sum_zero, stand_once, sum_by-below, sum_below-front, is_publication, publications, end_of, IsKind, listed_now, listed_set, listed_reaches, listed_rule, listed_kind, cell_now, cell_set, cell_reaches, cell_rule, cell_kind, set_plans, plans_same, end_sets, set_by, set_streams, subst}
+use Rattle.sm_protocol.proofs.Words.{Passage, State, Start, Progress, no_start, plan_at, stream_count, stream_id, progress_of, set_progress, is_begun, is_running, is_under_way, held_by, held, call_number, tried_more, behind_call, ahead_of_call, Happening, started, happens, Through, LostBefore, LostAfter, ends_of, IsReached, AreDone, EndsAreReached}
 use Rattle.sm_protocol.proofs.Invariant.{IsKept}
 use Rattle.sm_protocol.proofs.Holds.{part, carried}
 use Rattle.sm_protocol.proofs.Keeping.{begun}
@@ -10,8 +10,6 @@ use Rattle.sm_protocol.proofs.Cases.{IsBefore, of_known_happens, refill_granted,
 use Rattle.sm_protocol.proofs.Whole.{reached_keeps}
 use Rattle.sm_protocol.proofs.Reached.{by_events}
 use Rattle.sm_protocol.proofs.LogEnds.{is_logged, in_log}
-use Rattle.sm_protocol.proofs.EndKinds.{IsKind, listed_now, listed_set, listed_reaches, listed_rule, listed_kind, cell_now, cell_set, cell_reaches, cell_rule, cell_kind}
-use Rattle.sm_protocol.proofs.EndFolds.{set_plans, plans_same, ends_set}
 use Rattle.sm_protocol.proofs.EndStates.{IsSetAt, rule_of}
 use Rattle.sm_protocol.proofs.EndSteps.{is_set}
 
@@ -159,6 +157,27 @@ ends_version c (x ∷ xs) p s =
     omega arith
 
 -- ---- where all plans are done
+
+-- what the ends of plans set, the first of which has this number
+module _ (A : Type 0) (set : Hold → A → A) (reaches : Hold → Type 0) (unset : (h : Hold) (old : A) → (reaches h → ⊥) → set h old ≡ old) (now : Place → A)
+    (by_set : (h : Hold) (p : Place) → now (set_by h p) ≡ set h (now p)) (no_version : (p : Place) (f : ℕ → ℕ) → now (record p { version = f }) ≡ now p) (c : Sizes) where
+  abbrev ended : PlanModel → A → A
+  ended plan old = set_streams A set reaches unset (λ i. true) (λ i. final_hold (stream_at c plan i)) (length plan.streams) old
+
+  ends_set : (plans : List Start) (at : ℕ) (value : ℕ → A) (plan : ℕ → PlanModel) (p : Place) → ((j : ℕ) → j < length plans → plan (at + j) ≡ (get_or plans j no_start).plan) →
+      ((j : ℕ) → j < length plans → value (suc (at + j)) ≡ ended (plan (at + j)) (value (at + j))) → now p ≡ value at → now (ends_of c plans p) ≡ value (at + length plans)
+  ends_set [] at value plan p is each e = e ∙ ap value (omega arith)
+  ends_set (x ∷ xs) at value plan p is each e =
+      let zero_is : at + 0 ≡ at = omega arith in
+      let first : plan at ≡ x.plan = ap plan (sym zero_is) ∙ is 0 (omega arith) in
+      let step : value (suc at) ≡ ended (plan at) (value at) = subst (λ n. value (suc n) ≡ ended (plan n) (value n)) zero_is (each 0 (omega arith)) in
+      let here : now (end_of c x.plan p) ≡ value (suc at) = end_sets A set reaches unset now by_set no_version c x.plan p ∙ ap (ended x.plan) e ∙ ap (λ q. ended q (value at)) (sym first) ∙ sym step in
+      let more : (j : ℕ) → suc at + j ≡ at + suc j = (λ j. omega arith) in
+      ends_set xs (suc at) value plan (end_of c x.plan p)
+      (λ j l. ap plan (more j) ∙ is (suc j) (omega arith))
+      (λ j l. subst (λ n. value (suc n) ≡ ended (plan n) (value n)) (sym (more j)) (each (suc j) (omega arith)))
+      here
+      ∙ ap value (omega arith)
 
 module _ (w : State) (v : IsKept w) (done : AreDone w) where
   all_done : (k i : ℕ) → k < length w.plans → i < stream_count w k → (w.progress k i).done ≡ true

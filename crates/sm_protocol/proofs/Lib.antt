@@ -34,8 +34,6 @@ pub mod Losses
 pub mod Passable
 pub mod EffectNumbers
 pub mod LogEnds
-pub mod EndKinds
-pub mod EndFolds
 pub mod EndStates
 pub mod EndSteps
 pub mod EndsReached

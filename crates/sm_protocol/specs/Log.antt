@@ -14,7 +14,7 @@ use Rattle.sm_reservation.specs.Hold.{Hold}
 use Rattle.sm_plan_code.specs.declared.instruction.Instr.{Instr}
 use Rattle.sm_plan_code.specs.declared.instruction.Instr.TheVariants.{Publish, Unlist}
 use Rattle.sm_plan_code.specs.Plan.{PlanModel}
-use Rattle.sm_verifier.specs.Stream.{stream_at, final_hold}
+use Rattle.sm_verifier.specs.PlanEnd.{end_of}
 use Rattle.sm_protocol.specs.declared.event.Event.{Event}
 use Rattle.sm_protocol.specs.declared.event.Played.{Played}
 use Rattle.sm_protocol.specs.declared.event.Played.TheVariants as played
@@ -28,50 +28,7 @@ use Rattle.sm_protocol.specs.Steps.{Answered}
 use Rattle.sm_protocol.specs.Safe.{IsAccepted, unhalted}
 use Rattle.sm_protocol.specs.Happens.{Happening, Step, Lose, Refill, Arrive, PassOn, Approve, Done, Begin, happens}
 
--- ---- what a hold at a stream's end sets
-
--- a crown with the lead At(u) sets its shard's cell at u
-abbrev pub cell_by_crown : Option (Lead × Option ℕ) → ℕ → Cell → Cell
-cell_by_crown (Some (At u, listed)) v old = if u == v then cell.Primary else old
-cell_by_crown _ v old = old
-
--- a right to a cell sets the cell
-abbrev pub cell_by_right : Option PlainCell → Cell → Cell
-cell_by_right (Some Absent) old = cell.Absent
-cell_by_right (Some Secondary) old = cell.Secondary
-cell_by_right None old = old
-
--- a crown sets its shard's listed server
-abbrev pub listed_by : Option (Lead × Option ℕ) → Option ℕ → Option ℕ
-listed_by None old = old
-listed_by (Some crown) old = crown.1
-
--- the placement with what a hold sets, all else as it was
-abbrev pub set_by : Hold → Place → Place
-set_by h p = record p {
-  cells = λ s v. cell_by_right (h.cells s v) (cell_by_crown (h.crowns s) v (p.cells s v));
-  listed = λ s. listed_by (h.crowns s) (p.listed s);
-}
-
--- the placement with what the first n streams of a plan hold at their ends
-abbrev pub set_by_streams : Sizes → PlanModel → ℕ → Place → Place
-set_by_streams c plan zero p = p
-set_by_streams c plan (suc n) p = set_by (final_hold (stream_at c plan n)) (set_by_streams c plan n p)
-
--- the instruction changes the shard's entry in the published map
-abbrev pub is_publication : ℕ → Instr → Bool
-is_publication s (Publish t) = t == s
-is_publication s (Unlist t) = t == s
-is_publication s _ = false
-
--- how often a plan changes the shard's entry
-abbrev pub publications : PlanModel → ℕ → ℕ
-publications plan s = sum_by (λ stream. count_by (is_publication s) stream.code) plan.streams
-
--- The end of a plan: the cells, leads and listed servers are those of what its streams hold at their ends, and each version
--- has risen by one with each change of its entry.
-abbrev pub end_of : Sizes → PlanModel → Place → Place
-end_of c plan p = record (set_by_streams c plan (length plan.streams) p) { version = λ s. p.version s + publications plan s }
+-- ---- the ends of plans
 
 -- the ends of plans in the order of their starts
 abbrev pub ends_of : Sizes → List Start → Place → Place

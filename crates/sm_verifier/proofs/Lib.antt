@@ -20,3 +20,5 @@ pub mod SumLemmas
 pub mod WithinPool
 pub mod Turns
 pub mod Deciding
+pub mod EndKinds
+pub mod EndFolds

@@ -18,3 +18,4 @@ pub mod Downs
 pub mod FirstHolding
 pub mod Within
 pub mod Verdict
+pub mod PlanEnd

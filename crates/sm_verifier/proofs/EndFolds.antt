@@ -1,6 +1,12 @@
--- What the ended streams' final holds set, stream after stream and plan after plan.
-use Rattle.sm_protocol.proofs.Below.{◌≡◌, ◌≢◌, ◌⊎◌, ℕ, zero, suc, ◌+◌, ◌<◌, ◌≤◌, Bool, true, false, refl, sym, ap, ◌∙◌, inl, inr, arith, subst, List, [], ◌∷◌, length, get_or, cases_eq, cases_Bool, Sizes, Place, Hold, PlanModel, stream_at, final_hold}
-use Rattle.sm_protocol.proofs.Words.{Start, no_start, set_by, set_by_streams, publications, end_of, ends_of}
+-- What the final holds of streams that have made their ends set, stream after stream and plan after plan.
+use Rattle.std.proofs.Common.{◌≡◌, ◌≢◌, ◌⊎◌, ℕ, zero, suc, ◌+◌, ◌<◌, ◌≤◌, Bool, true, false, refl, sym, ap, ◌∙◌, inl, inr, arith, subst, List, [], ◌∷◌, length, get_or}
+use Rattle.std.proofs.lemmas.Bool.{cases_eq, cases_Bool}
+use Rattle.sm_placement.specs.Place.{Place}
+use Rattle.sm_placement.specs.Setup.{Sizes}
+use Rattle.sm_plan_code.specs.Plan.{PlanModel}
+use Rattle.sm_reservation.specs.Hold.{Hold}
+use Rattle.sm_verifier.specs.PlanEnd.{set_by, set_by_streams, publications, end_of}
+use Rattle.sm_verifier.specs.Stream.{stream_at, final_hold}
 
 module _ (A : Type 0) (set : Hold → A → A) (reaches : Hold → Type 0) (unset : (h : Hold) (old : A) → (reaches h → ⊥) → set h old ≡ old) where
   -- the stream has made its end, or nothing is set
@@ -83,24 +89,5 @@ module _ (A : Type 0) (set : Hold → A → A) (reaches : Hold → Type 0) (unse
     plan_sets plan zero p = refl
     plan_sets plan (suc n) p = by_set (finals plan n) (set_by_streams c plan n p) ∙ ap (set (finals plan n)) (plan_sets plan n p)
 
-    end_sets : (plan : PlanModel) (p : Place) → now (end_of c plan p) ≡ set_streams (λ i. true) (finals plan) (length plan.streams) (now p)
+    pub end_sets : (plan : PlanModel) (p : Place) → now (end_of c plan p) ≡ set_streams (λ i. true) (finals plan) (length plan.streams) (now p)
     end_sets plan p = no_version (set_by_streams c plan (length plan.streams) p) (λ s. p.version s + publications plan s) ∙ plan_sets plan (length plan.streams) p
-
-    -- the ends of plans, the first of which has this number
-    pub ends_set : (plans : List Start) (at : ℕ) (value : ℕ → A) (plan : ℕ → PlanModel) (p : Place) → ((j : ℕ) → j < length plans → plan (at + j) ≡ (get_or plans j no_start).plan) →
-        ((j : ℕ) → j < length plans → value (suc (at + j)) ≡ set_streams (λ i. true) (finals (plan (at + j))) (length (plan (at + j)).streams) (value (at + j))) →
-        now p ≡ value at → now (ends_of c plans p) ≡ value (at + length plans)
-    ends_set [] at value plan p is each e = e ∙ ap value (omega arith)
-    ends_set (x ∷ xs) at value plan p is each e =
-        let zero_is : at + 0 ≡ at = omega arith in
-        let first : plan at ≡ x.plan = ap plan (sym zero_is) ∙ is 0 (omega arith) in
-        let step : value (suc at) ≡ set_streams (λ i. true) (finals (plan at)) (length (plan at).streams) (value at) =
-        subst (λ n. value (suc n) ≡ set_streams (λ i. true) (finals (plan n)) (length (plan n).streams) (value n)) zero_is (each 0 (omega arith)) in
-        let here : now (end_of c x.plan p) ≡ value (suc at) =
-        end_sets x.plan p ∙ ap (set_streams (λ i. true) (finals x.plan) (length x.plan.streams)) e ∙ ap (λ q. set_streams (λ i. true) (finals q) (length q.streams) (value at)) (sym first) ∙ sym step in
-        let more : (j : ℕ) → suc at + j ≡ at + suc j = (λ j. omega arith) in
-        ends_set xs (suc at) value plan (end_of c x.plan p)
-        (λ j l. ap plan (more j) ∙ is (suc j) (omega arith))
-        (λ j l. subst (λ n. value (suc n) ≡ set_streams (λ i. true) (finals (plan n)) (length (plan n).streams) (value n)) (sym (more j)) (each (suc j) (omega arith)))
-        here
-        ∙ ap value (omega arith)

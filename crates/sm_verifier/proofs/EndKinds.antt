@@ -1,6 +1,24 @@
 -- What a hold at a stream's end sets: cells, and who is listed.
-use Rattle.sm_protocol.proofs.Below.{◌≡◌, ◌≢◌, ◌⊎◌, ℕ, ◌+◌, ◌≤◌, Bool, true, false, refl, sym, ap, ◌∙◌, inl, inr, arith, subst, Option, Some, None, ◌&&◌, IfSome, cases_Bool, cases_eq, eq-eqb, ne_eqb, and_parts, Cell, Lead, Gone, At, Ready, Handing, Handed, bit, Sizes, Place, Describes, IsPlain, is_at_rest, PlainCell, Hold, Right, OfCell, OfCrown, is_cell, is_crown, same_lead, same_listed, plain_of, count, stock, Instr, IsScene, touched, LeadNames, HoldsLead, IsWithinReach, HasCrownsAtRest, true_cell, true_crown, no_true_cell, is_cell_self, is_cell_true, same_lead_self, same_lead_true, same_server_self, same_server_true, absent_from, secondary_from, Effect, named_is_not_plain}
-use Rattle.sm_protocol.proofs.Words.{cell_by_crown, cell_by_right, listed_by, set_by}
+use Rattle.std.proofs.Common.{◌≡◌, ◌≢◌, ◌⊎◌, ℕ, ◌+◌, ◌≤◌, Bool, true, false, refl, sym, ap, ◌∙◌, inl, inr, arith, subst, Option, Some, None}
+use Rattle.std.proofs.lemmas.Bool.{cases_Bool, cases_eq, eq-eqb, ne_eqb, and_parts}
+use Rattle.std.specs.Prelude.{◌&&◌, IfSome}
+use Rattle.sm_placement.specs.Lead.{Describes, IsPlain, is_at_rest}
+use Rattle.sm_placement.specs.Place.{Place}
+use Rattle.sm_placement.specs.Setup.{Sizes}
+use Rattle.sm_placement.specs.Sums.{bit}
+use Rattle.sm_placement.specs.declared.lead.Lead.{Lead}
+use Rattle.sm_placement.specs.declared.lead.Lead.TheVariants.{Gone, At, Ready, Handing, Handed}
+use Rattle.sm_plan_code.proofs.Exclusive.{named_is_not_plain}
+use Rattle.sm_plan_code.specs.Effects.{IsScene, touched, Effect}
+use Rattle.sm_plan_code.specs.Reach.{LeadNames, HoldsLead, IsWithinReach}
+use Rattle.sm_plan_code.specs.declared.instruction.Instr.{Instr}
+use Rattle.sm_reservation.proofs.Truths.{true_cell, true_crown, no_true_cell, is_cell_self, is_cell_true, same_lead_self, same_lead_true, same_server_self, same_server_true, absent_from, secondary_from}
+use Rattle.sm_reservation.specs.Amounts.{Right, OfCell, OfCrown, is_cell, is_crown, same_lead, same_listed, plain_of, count, stock}
+use Rattle.sm_reservation.specs.Hold.{Hold}
+use Rattle.sm_reservation.specs.declared.right.PlainCell.{PlainCell}
+use Rattle.sm_server.specs.declared.call.Cell.{Cell}
+use Rattle.sm_verifier.specs.PlanEnd.{cell_by_crown, cell_by_right, listed_by, set_by}
+use Rattle.sm_verifier.specs.Stream.{HasCrownsAtRest}
 use Rattle.sm_server.specs.declared.call.Cell.TheVariants as cell
 use Rattle.sm_reservation.specs.declared.right.PlainCell.TheVariants.{Absent, Secondary}
 
