@@ -12,7 +12,6 @@ pub mod Restarts
 pub mod Pools
 pub mod Starts
 pub mod Whole
-mod Worked
 pub mod Cases
 pub mod Reached
 pub mod Turns
