@@ -1,6 +1,6 @@
 #![tactic(auto, unfolding(crate::specs::State::whole_of))]
 //! The fields of a machine, read and written one at a time.
-ghost use Rattle.std.specs.Prelude.{◌≡◌, ◌<◌, ◌≤◌, ◌+◌, ◌-◌, ◌^◌, ◌∷◌, ◌==◌, if◌then◌else◌, ℕ, suc, not, is_some, Some, None, Ok, IsOk, OnOk, IfOk, OnErr, IfErr, IfSome, [], replicate, vec_capacity, true, false, length};
+ghost use Rattle.std.specs.Prelude.{◌≡◌, ◌<◌, ◌≤◌, ◌+◌, ◌-◌, ◌^◌, ◌∷◌, ◌==◌, if◌then◌else◌, ℕ, suc, not, is_some, Some, None, Ok, IsOk, OnOk, IfOk, OnErr, IfErr, IfSome, [], replicate, reverse, vec_capacity, true, false, length};
 ghost use Rattle.std.specs.Option.{ForSome};
 ghost use Rattle.sm_placement.specs.Sums.{put, put2};
 ghost use Rattle.sm_placement.specs.Rows.{IsKnownCall};
@@ -152,6 +152,13 @@ impl Engine {
         ensures { result.now ≡ (state_of self.now).log }
     {
         self.journal.log()
+    }
+
+    /// The entries that publications have added, with their shards, the oldest first.
+    pub fn entries(&self) -> &[(ShardId, Entry)]
+        ensures { reverse result.now ≡ (state_of self.now).entries }
+    {
+        self.entries.as_slice()
     }
 
     /// The stream was begun.

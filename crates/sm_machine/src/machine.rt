@@ -1,5 +1,5 @@
 //! Machines.
-ghost use Rattle.std.specs.Prelude.{◌≡◌, ◌≢◌, ◌≤◌, ◌<◌, ◌⊎◌, IfOk, OnOk, IfErr, OnErr, length, true, false, ◌∷◌, [], if◌then◌else◌, ◌+◌};
+ghost use Rattle.std.specs.Prelude.{◌≡◌, ◌≢◌, ◌≤◌, ◌<◌, ◌⊎◌, IfOk, OnOk, IfErr, OnErr, length, true, false, ◌∷◌, [], if◌then◌else◌, ◌+◌, reverse};
 ghost use Rattle.sm_placement.specs.Place.{down_count};
 ghost use Rattle.sm_placement.specs.Lead.{IsSettled};
 ghost use Rattle.sm_protocol.specs.State.{opened, is_begun, progress_of};
@@ -37,7 +37,7 @@ use crate::rooms::Rooms;
 use crate::step::Step;
 use crate::ticket::Ticket;
 use crate::token::{StreamToken, close_tokens};
-use sm_placement::{Config, Placement};
+use sm_placement::{Config, Entry, Placement};
 use sm_protocol::{BeginFault, Event, Logged, Passage, RefillFault};
 use sm_reservation::{Pool, StreamId};
 use sm_server::{ServerId, ShardId};
@@ -192,6 +192,13 @@ impl Machine {
         ensures { result.now ≡ (state_of self.now).log }
     {
         self.engine.log()
+    }
+
+    /// The entries that publications have added to the published map, with their shards, the oldest first.
+    pub fn entries(&self) -> &[(ShardId, Entry)]
+        ensures { reverse result.now ≡ (state_of self.now).entries }
+    {
+        self.engine.entries()
     }
 
     /// The stream was begun by this machine.
