@@ -1,0 +1,69 @@
+-- A stream's step.
+use Rattle.std.proofs.Common.{◌≡◌, ◌≤◌, ◌+◌, ◌-◌, ap, sym, subst, ◌∙◌, length, arith}
+use Rattle.sm_protocol.specs.declared.event.Passage.TheVariants.{Through}
+use Rattle.sm_protocol.specs.Steps.{Answered, step}
+use Rattle.sm_machine.specs.State.{state_of}
+use Rattle.sm_machine.specs.Played.{played_of}
+use Rattle.sm_executor.specs.Counting.{IsCounted, Counts}
+use Rattle.sm_executor.specs.Views.{Running}
+use Rattle.sm_executor.proofs.Effects.{Made, step_made}
+use Rattle.sm_executor.proofs.Ranges.{in_range, known_shard}
+use Rattle.sm_executor.proofs.Keeps.{stepped, more_of}
+use Rattle.sm_executor.proofs.held.Held.step.Goals as goal
+
+pub overflow_sub-more : goal.overflow_sub-more
+overflow_sub-more g c =
+    let i = c.self.invariant in
+    let w = state_of c.self.inside.machine in
+    let v = state_of c.step-step.new.self in
+    let id = c.runner.inside.token in
+    let r = c.is_reached.ensures in
+    let made : Made w (Answered (played_of c.step-step.result)) v = subst (λ x. Made w x v) c.step-step.ensures.answer
+    (subst (λ x. Made w (step w id Through).0 x) (sym c.step-step.ensures.state) (step_made w id Through (known_shard r.0 w r.1 id))) in
+    let s = stepped g.N.Naming.words g.N.Naming.opened w v c.self.inside.publisher c.self.inside.steps.total c.self.inside.executed.total c.self.inside.refused.total _ made i.0 i.1 in
+    subst (λ n. length c.log-recorded.result.now ≤ n) (sym (ap length c.log.ensures)) (subst (λ n. n ≤ length v.log) (sym (ap length c.log-recorded.ensures)) s.longer)
+
+pub store_added-requires-clause-behind : goal.store_added-requires-clause-behind
+store_added-requires-clause-behind g c =
+    let i = c.self.invariant in
+    let w = state_of c.self.inside.machine in
+    let v = state_of c.step-step.new.self in
+    let id = c.runner.inside.token in
+    let r = c.is_reached.ensures in
+    let q = c.is_reached-2.ensures in
+    let made : Made w (Answered (played_of c.step-step.result)) v = subst (λ x. Made w x v) c.step-step.ensures.answer
+    (subst (λ x. Made w (step w id Through).0 x) (sym c.step-step.ensures.state) (step_made w id Through (known_shard r.0 w r.1 id))) in
+    let s = stepped g.N.Naming.words g.N.Naming.opened w v c.self.inside.publisher c.self.inside.steps.total c.self.inside.executed.total c.self.inside.refused.total _ made i.0 i.1 in
+    s.behind (in_range q.0 v q.1)
+
+pub invariant_of-self : goal.invariant_of-self
+invariant_of-self g c =
+    let i = c.self.invariant in
+    let w = state_of c.self.inside.machine in
+    let v = state_of c.step-step.new.self in
+    let id = c.runner.inside.token in
+    let r = c.is_reached.ensures in
+    let made : Made w (Answered (played_of c.step-step.result)) v = subst (λ x. Made w x v) c.step-step.ensures.answer
+    (subst (λ x. Made w (step w id Through).0 x) (sym c.step-step.ensures.state) (step_made w id Through (known_shard r.0 w r.1 id))) in
+    let s = stepped g.N.Naming.words g.N.Naming.opened w v c.self.inside.publisher c.self.inside.steps.total c.self.inside.executed.total c.self.inside.refused.total _ made i.0 i.1 in
+    let a = ap length c.log-recorded.ensures in
+    let b = ap length c.log.ensures in
+    let t = c.add.ensures.total in
+    let e : c.add.new.self.total ≡ c.self.inside.steps.total + more_of w v = t ∙ (λ j. c.self.inside.steps.total + (b j - a j)) in
+    (c.store_added.ensures, subst (λ n. IsCounted g.N.Naming.opened v n c.self.inside.executed.total c.self.inside.refused.total) (sym e) s.counted, i.2, i.3, i.4, i.5, i.6, i.7, i.8, i.9, i.10, i.11)
+
+pub returns-clause-counts : goal.returns-clause-counts
+returns-clause-counts g c =
+    let i = c.self.invariant in
+    let w = state_of c.self.inside.machine in
+    let v = state_of c.step-step.new.self in
+    let id = c.runner.inside.token in
+    let r = c.is_reached.ensures in
+    let made : Made w (Answered (played_of c.step-step.result)) v = subst (λ x. Made w x v) c.step-step.ensures.answer
+    (subst (λ x. Made w (step w id Through).0 x) (sym c.step-step.ensures.state) (step_made w id Through (known_shard r.0 w r.1 id))) in
+    let s = stepped g.N.Naming.words g.N.Naming.opened w v c.self.inside.publisher c.self.inside.steps.total c.self.inside.executed.total c.self.inside.refused.total _ made i.0 i.1 in
+    let a = ap length c.log-recorded.ensures in
+    let b = ap length c.log.ensures in
+    let same : c.runner.inside.share.amount ≡ c.args.runner.now.steps = ap (λ (x : Running). x.steps) c.runner.view_is in
+    let e : c.add.new.share.amount ≡ c.args.runner.now.steps + more_of w v = c.add.ensures.amount ∙ (λ j. same j + (b j - a j)) in
+    subst (Counts (played_of c.step-step.result) c.args.runner.now.steps) (sym e) (s.counts c.args.runner.now.steps)

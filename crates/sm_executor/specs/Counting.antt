@@ -1,0 +1,63 @@
+-- What the books of a board count: recorded steps, requests that were executed, and requests that were refused.
+use Rattle.std.specs.Prelude.{◌≡◌, ◌⊎◌, ◌+◌, ◌++◌, ℕ, Bool, true, false, List, count_by}
+use Rattle.sm_protocol.specs.declared.event.Event.{Event}
+use Rattle.sm_protocol.specs.declared.event.Event.TheVariants as event
+use Rattle.sm_protocol.specs.declared.event.Played.{Played}
+use Rattle.sm_protocol.specs.declared.event.Played.TheVariants as played
+use Rattle.sm_protocol.specs.declared.event.Logged.{Logged}
+use Rattle.sm_protocol.specs.State.{State}
+use Rattle.sm_machine.specs.declared.answer.Answer.{Answer}
+use Rattle.sm_machine.specs.declared.answer.Answer.TheVariants.{Executed, NotOwner, Unavailable}
+
+-- a step of a stream, whether its call was lost or not
+abbrev pub is_step : Event → Bool
+is_step (event.Step id) = true
+is_step (event.Lose id after) = true
+is_step _ = false
+
+-- the request was executed
+abbrev pub is_executed : Played → Bool
+is_executed (played.Executed server) = true
+is_executed _ = false
+
+-- the server did not own the shard, or was down
+abbrev pub is_refused : Played → Bool
+is_refused played.NotOwner = true
+is_refused played.Unavailable = true
+is_refused _ = false
+
+abbrev pub steps_in : List Logged → ℕ
+steps_in log = count_by (λ x. is_step x.event) log
+
+abbrev pub executed_in : List Logged → ℕ
+executed_in log = count_by (λ x. is_executed x.answer) log
+
+abbrev pub refused_in : List Logged → ℕ
+refused_in log = count_by (λ x. is_refused x.answer) log
+
+-- The books have what was recorded since the board was opened: steps, requests that were executed, and requests that were
+-- refused.
+pub record IsCounted (opened now : State) (steps executed refused : ℕ) : Type 0 where
+  pub since : List Logged
+  pub log : now.log ≡ opened.log ++ since
+  pub steps_are : steps ≡ steps_in since
+  pub executed_are : executed ≡ executed_in since
+  pub refused_are : refused ≡ refused_in since
+
+-- what the answer to a step does to the count of its runner: it rises by one with Moved and with Lost, by one at most with
+-- Done, and else it stays
+abbrev pub Counts : Played → ℕ → ℕ → Type 0
+Counts played.Moved old new = new ≡ old + 1
+Counts played.Lost old new = new ≡ old + 1
+Counts played.Done old new = (new ≡ old) ⊎ (new ≡ old + 1)
+Counts _ old new = new ≡ old
+
+-- what the answer to a request adds to the counts of its caller
+abbrev pub executes : Answer → ℕ
+executes (Executed server) = 1
+executes _ = 0
+
+abbrev pub refuses : Answer → ℕ
+refuses NotOwner = 1
+refuses Unavailable = 1
+refuses _ = 0

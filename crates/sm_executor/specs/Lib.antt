@@ -1,0 +1,4 @@
+pub mod Names
+pub mod Counting
+pub mod Tied
+pub mod Views

@@ -1,0 +1,20 @@
+-- The name of a board: what it was opened with. And a name of none.
+use Rattle.std.specs.Prelude.{ℕ, [], false, None}
+use Rattle.atomic_table.specs.Seated.{TableId}
+use Rattle.sm_server.specs.declared.call.Cell.TheVariants.{Absent}
+use Rattle.sm_placement.specs.Setup.{Setup, sizes_of}
+use Rattle.sm_placement.specs.Place.{Place}
+use Rattle.sm_map.specs.Models.{WordsModel, words_model}
+use Rattle.sm_protocol.specs.State.{State, opened}
+
+abbrev pub no_words : WordsModel
+no_words = words_model (record { words = 0; slots = 0; views_name = 0; atom = 0; block = 0; offset = 0; slot_names = [] }) 0 []
+
+abbrev pub no_setup : Setup
+no_setup = record { servers = []; shards = [] }
+
+abbrev pub no_place : Place
+no_place = record { cells = λ s v. Absent; last = λ s v. 0; down = λ v. false; listed = λ s. None; version = λ s. 0; limit = 0 }
+
+abbrev pub no_state : State
+no_state = opened (sizes_of no_setup) no_place 0

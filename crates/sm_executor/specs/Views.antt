@@ -1,0 +1,41 @@
+-- What contracts see of what lies behind the lock, of a runner, of an end and of a caller.
+use Rattle.std.specs.Prelude.{ℕ, ◌+◌, ◌-◌, List, length}
+use Rattle.sm_placement.specs.declared.entry.Entry.{Entry}
+use Rattle.sm_reservation.specs.declared.stream_id.StreamId.{StreamId}
+use Rattle.sm_protocol.specs.State.{State}
+use Rattle.sm_machine.specs.Machine.{MachineModel}
+use Rattle.sm_machine.specs.State.{state_of}
+
+-- the machine, and how many runners and callers the board has given out
+pub record Holding : Type 0 where
+  pub machine : MachineModel
+  pub runners : ℕ
+  pub callers : ℕ
+
+abbrev pub holding : MachineModel → ℕ → ℕ → Holding
+holding machine runners callers = record { machine = machine; runners = runners; callers = callers }
+
+-- the state of the protocol that the machine is in
+abbrev pub state_in : Holding → State
+state_in h = state_of h.machine
+
+-- a runner's stream, and how many of its steps were recorded
+pub record Running : Type 0 where
+  pub stream : StreamId
+  pub steps : ℕ
+
+abbrev pub running : StreamId → ℕ → Running
+running stream steps = record { stream = stream; steps = steps }
+
+-- how many events the one state has recorded more than the other
+abbrev pub recorded_more : State → State → ℕ
+recorded_more old new = length new.log - length old.log
+
+-- what a caller has seen, and how many of its requests were executed and refused
+pub record Calling : Type 0 where
+  pub seen : List (ℕ × Entry)
+  pub executed : ℕ
+  pub refused : ℕ
+
+abbrev pub calling : List (ℕ × Entry) → ℕ → ℕ → Calling
+calling seen executed refused = record { seen = seen; executed = executed; refused = refused }

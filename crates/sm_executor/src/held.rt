@@ -1,0 +1,201 @@
+//! What lies behind the board's lock: the machine, the publisher's seat, and the books.
+//!
+//! Each method is one event at most, and changes the machine just as the machine's own call does. The books rise with the log,
+//! and what a step publishes is stored in the words before the method returns.
+ghost use Rattle.std.specs.Prelude.{◌≡◌, ◌<◌, ◌≤◌, ◌+◌, ◌^◌, ◌++◌, ◌∷◌, [], length, IfOk, IfErr, IfSome, IfNone};
+ghost use Rattle.sm_placement.specs.Place.{entry_at};
+ghost use Rattle.sm_map.specs.Entry.{IsInRange};
+ghost use Rattle.sm_map.specs.History.{AllStand, NoneNewer};
+ghost use Rattle.sm_protocol.specs.Steps.{Answered};
+ghost use Rattle.sm_protocol.specs.Happens as happening;
+ghost use Rattle.sm_protocol.specs.Happens.{happens};
+ghost use Rattle.sm_machine.specs.State.{state_of};
+ghost use Rattle.sm_machine.specs.Played.{played_of};
+ghost use Rattle.sm_machine.specs.Requested.{played_by};
+ghost use Rattle.sm_executor.specs.Counting.{Counts, executes, refuses};
+ghost use Rattle.sm_executor.specs.Tied.{IsTied, IsBehind};
+ghost use Rattle.sm_executor.specs.Views.{holding, state_in, running, recorded_more, calling};
+
+use crate::caller::Caller;
+use crate::names::{Naming, Side};
+use crate::runner::Runner;
+use sm_machine::{Answer, Machine, Permit, Step, Ticket};
+use sm_map::{Entry, Publisher, Words};
+use sm_server::{ServerId, ShardId};
+use sm_task_controller::Denied;
+use std::marker::{Model, PhantomData};
+use std::sync::ledger::{Blank, Book, Share};
+
+/// How many callers a board gives out at most.
+const MOST_CALLERS: u64 = 4_096;
+
+/// The machine, the publisher's seat, the books with the shares that nobody has, and how many runners and callers were given out.
+///
+/// What the publisher has stored is what the machine has published since the board was opened, and the books are the counts of its
+/// log since then.
+pub(crate) struct Held<A: Side, B: Side, C: Side, N: Naming> {
+    machine: Machine,
+    publisher: Publisher,
+    steps: Book<A>,
+    executed: Book<B>,
+    refused: Book<C>,
+    free_steps: Share<A>,
+    free_executed: Share<B>,
+    free_refused: Share<C>,
+    runners: u64,
+    callers: u64,
+    of: PhantomData<N>,
+}
+
+impl<A: Side, B: Side, C: Side, N: Naming> Model for Held<A, B, C, N> {
+    ghost use Rattle.std.specs.Prelude.{◌≡◌, ◌≤◌, ◌+◌, ◌^◌};
+    ghost use Rattle.sm_machine.specs.State.{state_of};
+    ghost use Rattle.sm_executor.specs.Views.{Holding, holding};
+    ghost use Rattle.sm_executor.specs.Tied.{IsTied};
+    ghost use Rattle.sm_executor.specs.Counting.{IsCounted};
+
+    ghost Value = { Holding };
+
+    ghost view = { λ h. holding h.machine h.runners h.callers };
+
+    ghost invariant = { λ h.
+        IsTied N.words N.opened (state_of h.machine) h.publisher
+        × IsCounted N.opened (state_of h.machine) h.steps.total h.executed.total h.refused.total
+        × (h.free_steps.parts + h.runners ≡ A.all) × (h.free_steps.amount ≡ 0) × (A.all ≡ 2 ^ 62)
+        × (h.free_executed.parts + h.callers ≡ B.all) × (h.free_executed.amount ≡ 0) × (B.all ≡ 2 ^ 62)
+        × (h.free_refused.parts + h.callers ≡ C.all) × (h.free_refused.amount ≡ 0) × (C.all ≡ 2 ^ 62)
+        × (h.callers ≤ 4096) };
+}
+
+/// Stores the entry that was added behind the first so many, if one was.
+fn store_added<N: Naming>(
+    words: &Words,
+    publisher: &mut Publisher,
+    machine: &Machine,
+    before: usize,
+)
+    requires words { words.now ≡ N.words }
+    requires before { before ≡ length (publisher.old.stores ++ N.opened.entries) }
+    requires behind { IsBehind N.words N.opened (state_of machine.now) publisher.old }
+    ensures { IsTied N.words N.opened (state_of machine.now) publisher.new }
+{
+    let added = machine.entries();
+    if before < added.len() {
+        let (shard, entry) = added[before];
+        words.store(publisher, shard, entry);
+    }
+}
+
+/// Counts the answer to a request of a caller.
+fn count_answer<B: Side, C: Side, N: Naming>(
+    executed: &mut Book<B>,
+    refused: &mut Book<C>,
+    caller: &mut Caller<B, C, N>,
+    answer: &Answer,
+)
+    ensures executed { executed.new.total ≡ executed.old.total + executes answer.now }
+    ensures refused { refused.new.total ≡ refused.old.total + refuses answer.now }
+    ensures caller { caller.new ≡ calling caller.old.seen (caller.old.executed + executes answer.now) (caller.old.refused + refuses answer.now) }
+{
+    match answer {
+        Answer::Executed { .. } => executed.add(&mut caller.executed, 1),
+        Answer::NotOwner => refused.add(&mut caller.refused, 1),
+        Answer::Unavailable => refused.add(&mut caller.refused, 1),
+        Answer::Passed(_) => {}
+        Answer::LogFull(_) => {}
+        Answer::Unknown(_) => {}
+    }
+}
+
+impl<A: Side, B: Side, C: Side, N: Naming> Held<A, B, C, N> {
+    /// What lies behind the lock of a new board.
+    pub fn open(
+        machine: Machine,
+        publisher: Publisher,
+        steps: Blank,
+        executed: Blank,
+        refused: Blank,
+    ) -> Held<A, B, C, N>
+        requires opened { state_of machine ≡ N.opened }
+        requires tied { IsTied N.words N.opened N.opened publisher }
+        requires steps { (steps.name ≡ A.name) × (steps.parts ≡ A.parts) × (A.parts ≡ 2 ^ 62) × (A.all ≡ 2 ^ 62) }
+        requires executed { (executed.name ≡ B.name) × (executed.parts ≡ B.parts) × (B.parts ≡ 2 ^ 62) × (B.all ≡ 2 ^ 62) }
+        requires refused { (refused.name ≡ C.name) × (refused.parts ≡ C.parts) × (C.parts ≡ 2 ^ 62) × (C.all ≡ 2 ^ 62) }
+        ensures { result ≡ holding machine 0 0 }
+    {
+        let (steps, free_steps) = steps.open::<A>();
+        let (executed, free_executed) = executed.open::<B>();
+        let (refused, free_refused) = refused.open::<C>();
+        Held {
+            machine,
+            publisher,
+            steps,
+            executed,
+            refused,
+            free_steps,
+            free_executed,
+            free_refused,
+            runners: 0,
+            callers: 0,
+            of: PhantomData,
+        }
+    }
+
+    /// The machine.
+    pub fn machine(&self) -> &Machine
+        ensures { result.now ≡ self.now.machine }
+    {
+        &self.machine
+    }
+
+    /// A stream makes its next step. What it publishes is stored in the words.
+    pub fn step(&mut self, words: &Words, runner: &mut Runner<A>) -> Step
+        requires { words.now ≡ N.words }
+        ensures answer { (happens (state_in self.old) (happening.Step runner.old.stream)).0 ≡ Answered (played_of result) }
+        ensures state { state_in self.new ≡ (happens (state_in self.old) (happening.Step runner.old.stream)).1 }
+        ensures others { self.new ≡ holding self.new.machine self.old.runners self.old.callers }
+        ensures runner { runner.new ≡ running runner.old.stream (runner.old.steps + recorded_more (state_in self.old) (state_in self.new)) }
+        ensures counts { Counts (played_of result) runner.old.steps runner.new.steps }
+    {
+        self.machine.is_reached();
+        let recorded = self.machine.log().len();
+        let added = self.machine.entries().len();
+        let step = self.machine.step(&mut runner.token);
+        self.machine.is_reached();
+        let more = self.machine.log().len() - recorded;
+        self.steps.add(&mut runner.share, more as u64);
+        store_added::<N>(words, &mut self.publisher, &self.machine, added);
+        step
+    }
+
+    /// A request for a shard comes to a server.
+    pub fn arrive(
+        &mut self,
+        caller: &mut Caller<B, C, N>,
+        shard: ShardId,
+        server: ServerId,
+    ) -> Answer
+        requires shard { shard < length N.words.opening }
+        requires server { server < N.words.servers }
+        ensures answer { (happens (state_in self.old) (happening.Arrive shard server)).0 ≡ Answered (played_by result) }
+        ensures state { state_in self.new ≡ (happens (state_in self.old) (happening.Arrive shard server)).1 }
+        ensures others { self.new ≡ holding self.new.machine self.old.runners self.old.callers }
+        ensures caller { caller.new ≡ calling caller.old.seen (caller.old.executed + executes result) (caller.old.refused + refuses result) }
+    {
+        let answer = self.machine.arrive(shard, server);
+        count_answer(&mut self.executed, &mut self.refused, caller, &answer);
+        answer
+    }
+
+    /// A request that was passed on comes to the server that it was passed to.
+    pub fn pass_on(&mut self, caller: &mut Caller<B, C, N>, ticket: Ticket) -> Answer
+        ensures answer { (happens (state_in self.old) (happening.PassOn ticket)).0 ≡ Answered (played_by result) }
+        ensures state { state_in self.new ≡ (happens (state_in self.old) (happening.PassOn ticket)).1 }
+        ensures others { self.new ≡ holding self.new.machine self.old.runners self.old.callers }
+        ensures caller { caller.new ≡ calling caller.old.seen (caller.old.executed + executes result) (caller.old.refused + refuses result) }
+    {
+        let answer = self.machine.pass_on(ticket);
+        count_answer(&mut self.executed, &mut self.refused, caller, &answer);
+        answer
+    }
+}

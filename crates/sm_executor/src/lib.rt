@@ -1,0 +1,11 @@
+//! The board: a machine that threads share, beside the published map that is read without its lock.
+#![tactic(auto)]
+
+mod caller;
+mod held;
+mod names;
+mod runner;
+
+pub use caller::Caller;
+pub use names::{Naming, Side};
+pub use runner::Runner;
