@@ -1,5 +1,5 @@
 -- Rights of known shards and servers, as parcels go in and out.
-use Rattle.std.proofs.Common.{◌≡◌, ℕ, ◌+◌, ◌-◌, ◌≤◌, refl, sym, subst, arith, Option, Some, None}
+use Rattle.std.proofs.Common.{◌≡◌, ℕ, refl, sym, subst, arith, Option, Some, None}
 use Rattle.std.specs.Option.{option_or}
 use Rattle.sm_reservation.specs.Rights.{Rights}
 use Rattle.sm_reservation.specs.Key.{IsOrdered}

@@ -1,8 +1,8 @@
 -- How many keys the lists of a hold have, from the hold itself: whatever lists in order say that hold have as many.
-use Rattle.std.proofs.Common.{◌≡◌, ℕ, ◌+◌, ◌≤◌, ◌<◌, None, max, length, refl, sym, ◌∙◌, ap, subst, arith}
+use Rattle.std.proofs.Common.{◌≡◌, ℕ, ◌+◌, ◌≤◌, None, max, length, sym, ◌∙◌, ap, subst, arith}
 use Rattle.sm_reservation.specs.Rights.{Rights}
 use Rattle.sm_reservation.specs.Key.{key_of_cell, key_of_crown, key_of_room, key_of_spare, IsOrdered, IsPositive}
-use Rattle.sm_reservation.specs.Hold.{Hold, minus, plus, minus_cells, minus_crowns, minus_room, minus_spare, plus_cells, plus_crowns, plus_room, plus_spare}
+use Rattle.sm_reservation.specs.Hold.{Hold, minus, plus, minus_crowns, minus_room, minus_spare, plus_crowns, plus_room, plus_spare}
 use Rattle.sm_reservation.specs.HoldOf.{hold_of}
 use Rattle.sm_reservation.specs.Steps.{count_steps, AllSteps}
 use Rattle.sm_reservation.specs.Turns.{out_cell, out_crown, out_room, out_spare, in_cell, in_crown, in_room, in_spare, lacks_cell, lacks_crown, lacks_room, lacks_spare, loses_cell, loses_crown, loses_room, loses_spare, HasRoom, HasSpare}

@@ -3,7 +3,6 @@ use Rattle.std.proofs.Common.{◌≡◌, ℕ, zero, suc, ◌+◌, ◌≤◌, ◌
 use Rattle.std.proofs.Math.Seq.{take-suc, take-suc-set}
 use Rattle.std.proofs.lemmas.List.{drop-set-lt}
 use Rattle.std.proofs.lemmas.Bool.{cases_Bool}
-use Rattle.std.proofs.lemmas.Bool.Decides.{nat_tests}
 use Rattle.sm_placement.specs.Sums.{bit}
 use Rattle.sm_reservation.specs.Rows.{same, before, row_at, AllAfter, Rises, count_before}
 use Rattle.sm_reservation.specs.Edits.{in_front, edited, edited_all, StaysAt, head_at, new_rows}
@@ -31,9 +30,6 @@ edited_past key_of edit x xs (y ∷ ys) a = rw a.0 (edited_past key_of edit x (e
 front_past : {T : Type 0} (key_of : T → ℕ × ℕ) (edit : Option T → T → Option T) (k : ℕ × ℕ) (o : Option T) (xs ys : List T) → ((z : T) → o ≡ Some z → key_of z ≡ k) → AllAfter key_of k ys → edited_all key_of edit (in_front o xs) ys ≡ in_front o (edited_all key_of edit xs ys)
 front_past key_of edit k None xs ys stays a = refl
 front_past key_of edit k (Some z) xs ys stays a = edited_past key_of edit z xs ys (rw (stays z refl) a)
-
-not_before_same : (p q : ℕ × ℕ) → same p q ≡ true → before p q ≡ false
-not_before_same p q s = grind (arith, nat_tests)
 
 before_then_after : {T : Type 0} (key_of : T → ℕ × ℕ) (x y : T) (ys : List T) → before (key_of x) (key_of y) ≡ true → Rises key_of (y ∷ ys) → AllAfter key_of (key_of x) (y ∷ ys)
 before_then_after key_of x y ys b r = (b, AllAfter-trans key_of (key_of x) (key_of y) ys b r.0)

@@ -1,14 +1,14 @@
 -- A whole parcel taken out of a hold and put into one.
-use Rattle.std.proofs.Common.{◌≡◌, ℕ, ◌≤◌, ◌<◌, ◌+◌, ◌^◌, ◌==◌, ◌&&◌, nat_lt, is_some, is_none, refl, sym, ◌∙◌, ap, subst}
+use Rattle.std.proofs.Common.{◌≡◌, ℕ, ◌≤◌, ◌==◌, ◌&&◌, nat_lt, is_some, is_none, refl, sym, ◌∙◌, ap, subst}
 use Rattle.std.specs.List.{count_by, AllByRecursion}
 use Rattle.sm_reservation.specs.Rights.{Rights}
 use Rattle.sm_reservation.specs.Key.{IsOrdered}
 use Rattle.sm_reservation.specs.Hold.{Hold, minus_cells, minus_crowns, minus_room, plus_cells, plus_crowns, plus_room}
 use Rattle.sm_reservation.specs.Steps.{count_steps, AllSteps}
-use Rattle.sm_reservation.specs.Turns.{out_cell, out_crown, out_room, out_spare, in_cell, in_crown, in_room, in_spare, lacks_cell, lacks_crown, lacks_room, lacks_spare, loses_cell, loses_crown, loses_room, loses_spare, HasRoom, HasSpare, RoomFits, SpareFits}
-use Rattle.sm_reservation.specs.Capacity.{KeyCounts, new_keys, lost_keys, SumsFit}
+use Rattle.sm_reservation.specs.Turns.{out_cell, out_crown, out_room, out_spare, in_cell, in_crown, in_room, in_spare, lacks_cell, lacks_crown, lacks_room, lacks_spare, loses_cell, loses_crown, loses_room, loses_spare, HasRoom, HasSpare}
+use Rattle.sm_reservation.specs.Capacity.{KeyCounts, new_keys, lost_keys}
 use Rattle.sm_reservation.proofs.ShortLemmas.{HasAll}
-use Rattle.sm_reservation.proofs.TurnLemmas.{loses-cells, loses-crowns, loses-room, loses-spare, lacks-cells, lacks-crowns, lacks-room, lacks-spare, HasRoom-steps, HasSpare-steps, RoomFits-steps, SpareFits-steps}
+use Rattle.sm_reservation.proofs.TurnLemmas.{loses-cells, loses-crowns, loses-room, loses-spare, lacks-cells, lacks-crowns, lacks-room, lacks-spare, HasRoom-steps, HasSpare-steps}
 use Rattle.sm_reservation.proofs.ParcelSums.{cells_alone, crowns_alone, room_alone, more_cells_alone, more_crowns_alone, more_room_alone}
 
 pub same_sizes : {a b c d a' b' c' d' : ℕ} → a ≡ a' → b ≡ b' → c ≡ c' → d ≡ d' → (let s : KeyCounts = record { cells = a; crowns = b; room = c; spare = d } in s) ≡ record { cells = a'; crowns = b'; room = c'; spare = d' }
@@ -97,15 +97,3 @@ take_spares h p o all =
     let P : (ℕ → ℕ) → Type 0 = λ f. AllByRecursion (λ x. x.amount ≤ f x.shard) p.spare in
     let at : AllByRecursion (HasSpare (take-3 h p)) p.spare = subst P (sym (take-spare h p)) all.spare in
     HasSpare-steps (take-3 h p) p.spare o.spare at
-
-pub put_rooms : (h : Hold) (p : Rights) → IsOrdered p → SumsFit h p → AllSteps in_room RoomFits (put-2 h p) p.room
-put_rooms h p o all =
-    let P : (ℕ → ℕ) → Type 0 = λ f. AllByRecursion (λ x. f x.server + x.amount < 2 ^ 64) p.room in
-    let at : AllByRecursion (RoomFits (put-2 h p)) p.room = subst P (sym (put-room h p)) all.room in
-    RoomFits-steps (put-2 h p) p.room o.room at
-
-pub put_spares : (h : Hold) (p : Rights) → IsOrdered p → SumsFit h p → AllSteps in_spare SpareFits (put-3 h p) p.spare
-put_spares h p o all =
-    let P : (ℕ → ℕ) → Type 0 = λ f. AllByRecursion (λ x. f x.shard + x.amount < 2 ^ 64) p.spare in
-    let at : AllByRecursion (SpareFits (put-3 h p)) p.spare = subst P (sym (put-spare h p)) all.spare in
-    SpareFits-steps (put-3 h p) p.spare o.spare at

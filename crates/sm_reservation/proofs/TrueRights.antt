@@ -1,8 +1,8 @@
 -- All rights true of a settled placement are true of it together.
-use Rattle.std.proofs.Common.{◌≡◌, ℕ, ◌+◌, ◌-◌, ◌≤◌, ◌<◌, ltb, ◌&&◌, cond, Bool, true, false, sym, ap, ◌∙◌, arith, inl, inr, Option, Some, None, length}
+use Rattle.std.proofs.Common.{◌≡◌, ℕ, ◌+◌, ◌-◌, ◌≤◌, ltb, ◌&&◌, cond, Bool, true, false, ap, arith, inl, inr, Option, Some, None, length}
 use Rattle.std.specs.Prelude.{unwrap_or}
 use Rattle.std.specs.Option.{option_map}
-use Rattle.std.proofs.lemmas.Bool.{cases_Bool, cases_lt, lt-ltb, le-ltb}
+use Rattle.std.proofs.lemmas.Bool.{cases_lt, lt-ltb, le-ltb}
 use Rattle.std.proofs.lemmas.List.{get_or_past}
 use Rattle.sm_server.specs.declared.call.Cell.{Cell}
 use Rattle.sm_server.specs.declared.call.Cell.TheVariants.{Absent}
@@ -10,7 +10,7 @@ use Rattle.sm_placement.specs.declared.lead.Lead.{Lead}
 use Rattle.sm_placement.specs.declared.lead.Lead.TheVariants.{Gone}
 use Rattle.sm_placement.specs.Sums.{bit}
 use Rattle.sm_placement.specs.Setup.{Setup, ShardRow, Sizes, sizes_of, no_shard}
-use Rattle.sm_placement.specs.Place.{Place, load_at, live_at, weight}
+use Rattle.sm_placement.specs.Place.{Place, load_at, weight}
 use Rattle.sm_placement.specs.Lead.{IsSettled, lead_of}
 use Rattle.sm_placement.proofs.Sums.{sum_zero}
 use Rattle.sm_placement.proofs.LeadOf.{lead_of_is}
