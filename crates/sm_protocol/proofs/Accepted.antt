@@ -1,5 +1,5 @@
 -- Accepted plans: those that nothing holds up at the pool.
-use Rattle.sm_protocol.proofs.Below.{◌≡◌, ℕ, ◌+◌, ◌<◌, ◌≤◌, Bool, true, false, Option, Some, None, refl, sym, ap, ◌∙◌, arith, inl, inr, ◌⊎◌, length, ◌==◌, nat_lt, if◌then◌else◌, cases_lt, lt-ltb, le-ltb, eq-eqb, Lead, bit, Setup, load_at, live_at, PlainCell, Hold, leads_of, true_rights, IsKnownHold, Right, OfCell, OfCrown, OfRoom, OfSpare, count, stock, bound, is_cell, is_crown, plain_of, PlanModel, IsScene, Holding, no_stream, declared, first_holding, declared_sum, AreWithin, sum_zero, same_sum, bit-le-one, is_cell_true, is_cell_self, parcel_below, finds_holding, crown_true, crown_self, admitted_within, within_admitted}
+use Rattle.sm_protocol.proofs.Below.{◌≡◌, ℕ, ◌+◌, ◌<◌, ◌≤◌, Bool, true, false, Option, Some, None, refl, sym, ap, ◌∙◌, arith, inl, inr, ◌⊎◌, length, ◌==◌, nat_lt, if◌then◌else◌, cases_lt, lt-ltb, le-ltb, eq-eqb, Lead, bit, Setup, load_at, live_at, PlainCell, Hold, leads_of, true_rights, IsKnownHold, Right, OfCell, OfCrown, OfRoom, OfSpare, count, stock, bound, is_cell, is_crown, plain_of, PlanModel, IsScene, Holding, no_stream, declared, first_holding, declared_sum, AreWithin, sum_zero, same_sum, bit-le-one, is_cell_true, is_cell_self, parcel_below, finds_holding, crown_true, crown_self, admitted_within, within_admitted, eqb-false}
 use Rattle.sm_protocol.proofs.Words.{State, held, pool, free_cell, free_crown, places_of, free_places, Outcome, Answered, begun, has_all_plans, Begin, happens, started, IsAccepted, IsReached, IsCheckedPlan, BegunWhereAccepted}
 use Rattle.sm_protocol.specs.declared.event.Played.TheVariants as played
 use Rattle.sm_protocol.specs.declared.event.BeginFault.TheVariants as fault
@@ -14,9 +14,6 @@ cases_cell : (a b : Bool) → (a ≡ false) ⊎ ((b ≡ false) ⊎ ((a ≡ true)
 cases_cell false b = inl refl
 cases_cell true false = inr (inl refl)
 cases_cell true true = inr (inr (refl, refl))
-
-nonzero : (n : ℕ) → (n == 0) ≡ false → 0 < n
-nonzero n e = elim (cases_lt 0 n) [ inl l ↦ l | inr l ↦ absurd (let t = eq-eqb n 0 (omega arith) in cc) ]
 
 module _ (w : State) (v : IsKept w) where
   -- what there is of a right under the leads that are read off the placement
@@ -66,7 +63,7 @@ module _ (w : State) (v : IsKept w) where
           let one = bit-le-one (is_cell state (plain_of (w.place.cells s u))) in
           elim (cases_cell (is_cell state (plain_of (w.place.cells s u))) (held w (OfCell s u state) == 0)) [
             | inl none ↦ let z : bit (is_cell state (plain_of (w.place.cells s u))) ≡ 0 = ap bit none in omega arith
-            | inr (inl taken) ↦ let n = nonzero (held w (OfCell s u state)) taken in omega arith
+            | inr (inl taken) ↦ let n = eqb-false (held w (OfCell s u state)) 0 taken in omega arith
             | inr (inr both) ↦
                 let is : plain_of (w.place.cells s u) ≡ Some state = is_cell_true state (plain_of (w.place.cells s u)) both.0 in
                 let there : (true_rights w.sizes w.place).cells s u ≡ Some state = rw (lt-ltb s w.sizes.shards ls, lt-ltb u w.sizes.servers lu) is in
@@ -82,7 +79,7 @@ module _ (w : State) (v : IsKept w) where
           let one = bit-le-one there in
           elim (cases_cell there (held w (OfCrown s lead listed) == 0)) [
             | inl none ↦ let z : bit there ≡ 0 = ap bit none in omega arith
-            | inr (inl taken) ↦ let n = nonzero (held w (OfCrown s lead listed)) taken in omega arith
+            | inr (inl taken) ↦ let n = eqb-false (held w (OfCrown s lead listed)) 0 taken in omega arith
             | inr (inr both) ↦
                 let is : ◌≡◌ {A = Option (Lead × Option ℕ)} (Some (leads_of w.sizes w.place s, w.place.listed s)) (Some (lead, listed)) = crown_true lead listed _ both.0 in
                 let true_crown : (true_rights w.sizes w.place).crowns s ≡ Some (lead, listed) = rw (lt-ltb s w.sizes.shards ls, lead_is w v s) (ap (λ l. Some (l, w.place.listed s)) (sym (leads_are w v s)) ∙ is) in

@@ -81,3 +81,5 @@ pub use Rattle.sm_verifier.specs.declared.admission.Holding.{Holding}
 pub use Rattle.sm_verifier.specs.PlanEnd.{cell_by_crown, cell_by_right, listed_by, set_by, set_by_streams, is_publication, publications, end_of}
 pub use Rattle.sm_verifier.proofs.EndKinds.{IsKind, cell_kind, cell_now, cell_reaches, cell_rule, cell_set, listed_kind, listed_now, listed_reaches, listed_rule, listed_set}
 pub use Rattle.sm_verifier.proofs.EndFolds.{end_sets, plans_here, plans_same, set_plans, set_streams, streams_past}
+pub use Rattle.sm_plan_code.proofs.Passings.{CanBePassed, passed_by_lead, passed_of_lead, forwarding_passes, prepared_serves}
+pub use Rattle.sm_verifier.proofs.OnePlace.{put2_cases, put_each, count_put, count_put_down, sum_below_le, some_below}

@@ -1,6 +1,6 @@
 -- A plan whose stream goes on: its streams stay on their courses, and its signals are those that the steps made post and
 -- await.
-use Rattle.sm_protocol.proofs.Below.{◌≡◌, ◌≢◌, ℕ, suc, ◌+◌, ◌<◌, ◌≤◌, true, false, Some, Ok, sym, ap, ◌∙◌, arith, inl, inr, subst, length, slice_get, nat_lt, cases_eq, cases_lt, cases_Bool, lt-ltb, le-ltb, slice_get_within, IsReachable, put, bit, Sizes, Place, Instr, Signal, Wait, is_call, IsOwn, PlanModel, after, parcels_of, stream_at, hold_before, calls_before, IsGood, code_at, post_of, wait_of, put-here, put-apart, in_turn, stand_once, are_of_plan}
+use Rattle.sm_protocol.proofs.Below.{◌≡◌, ◌≢◌, ℕ, suc, ◌+◌, ◌<◌, ◌≤◌, true, false, Some, Ok, sym, ap, ◌∙◌, arith, inl, inr, subst, length, slice_get, nat_lt, cases_eq, cases_lt, cases_Bool, lt-ltb, le-ltb, slice_get_within, IsReachable, put, bit, Sizes, Place, Instr, Signal, Wait, is_call, IsOwn, PlanModel, after, parcels_of, stream_at, hold_before, calls_before, IsGood, code_at, post_of, wait_of, put-here, put-apart, in_turn, stand_once, are_of_plan, put_each}
 use Rattle.sm_protocol.proofs.Words.{Progress, Mark}
 use Rattle.sm_protocol.proofs.Invariant.{IsOnCourse, IsRunning}
 
@@ -24,13 +24,6 @@ next_turn c plan i at x good here =
       calls = subst (λ n. calls_before (stream_at c plan i) n ≡ calls_before (stream_at c plan i) at + bit (is_call x)) one t.calls;
       budget = subst (λ n. calls_before (stream_at c plan i) n ≤ (stream_at c plan i).budget) one t.within;
     }
-
--- what holds of the new value at a number, and of the old one at each other number
-put_each : {A : Type 0} (f : ℕ → A) (q : ℕ) (z : A) (P : ℕ → A → Type 0) → P q z → ((k : ℕ) → k ≢ q → P k (f k)) → (k : ℕ) → P k (put f q z k)
-put_each f q z P here apart k = elim (cases_eq k q) [
-  | inl e ↦ subst (P k) (sym (put-here f q z k e)) (subst (λ n. P n z) (sym e) here)
-  | inr e ↦ subst (P k) (sym (put-apart f q z k e)) (apart k e)
-]
 
 -- ---- what was made stays made, and nothing else is but the step that is made now
 

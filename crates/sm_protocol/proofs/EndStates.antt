@@ -1,15 +1,20 @@
 -- The ends of streams in a state: what no live hold reaches is as the ended streams' final holds set it, and no ended stream
 -- of a plan reaches what a live hold of that plan or of an earlier one reaches.
-use Rattle.sm_protocol.proofs.Below.{◌≡◌, ◌≢◌, ◌⊎◌, ℕ, zero, suc, ◌+◌, ◌<◌, ◌≤◌, true, false, None, refl, sym, ap, ◌∙◌, inl, inr, arith, subst, List, length, slice_get, slice_index_or, unwrap_or, fun_ext, cases_eq, cases_Bool, cases_lt, le-ltb, slice_get_cases, Cell, Lead, Gone, put, put2, sum_below, Sizes, Place, StreamId, Hold, Right, count, stock, leads_of, Instr, PlanModel, IsScene, stream_at, hold_before, final_hold, HasCrownsAtRest, put-here, put-apart, sum_apart, same_sum, part_of_sum, lead_of_is, Effect, two_of_sum, IsKind, set_streams, set_plans, plans_same, streams_past, plans_here}
-use Rattle.sm_protocol.proofs.Words.{State, Start, Progress, Mark, no_start, plan_at, progress_of, set_progress, reach, hold_of_stream, started}
+use Rattle.sm_protocol.proofs.Below.{◌≡◌, ◌≢◌, ◌⊎◌, ℕ, zero, suc, ◌+◌, ◌<◌, ◌≤◌, true, false, None, refl, sym, ap, ◌∙◌, inl, inr, arith, subst, List, length, slice_get, slice_index_or, unwrap_or, fun_ext, cases_eq, cases_Bool, cases_lt, le-ltb, slice_get_cases, Cell, Lead, Gone, put, put2, sum_below, Sizes, Place, StreamId, Hold, Right, count, stock, leads_of, Instr, PlanModel, IsScene, stream_at, hold_before, final_hold, HasCrownsAtRest, put-here, put-apart, sum_apart, same_sum, part_of_sum, lead_of_is, Effect, two_of_sum, IsKind, set_streams, set_plans, plans_same, streams_past, plans_here, put2_cases, Bool, Option, Some, Ok, not, if◌then◌else◌, and_parts, Setup, CallEffect, publish, set_down, ServerCall, Publish, Unlist, is_call, IsOwn, to_list, acts, effect}
+use Rattle.sm_protocol.proofs.Words.{State, Start, Progress, Mark, no_start, plan_at, progress_of, set_progress, reach, hold_of_stream, started, Passage, Through, LostBefore, LostAfter, is_begun, is_running, call_number, tried_more, behind_call, ahead_of_call, Happening, happens, IsReached}
 use Rattle.sm_protocol.proofs.Invariant.{IsKept, code_of}
 use Rattle.sm_protocol.proofs.Holds.{part, by_plan, by_moves, by_moves_signal, share, load}
-use Rattle.sm_protocol.proofs.Numbers.{put2_cases, goes_on}
+use Rattle.sm_protocol.proofs.Numbers.{goes_on}
 use Rattle.sm_protocol.proofs.Trials.{IsBegun, running, scene}
-use Rattle.sm_protocol.proofs.Keeping.{share_now, share_none}
-use Rattle.sm_protocol.proofs.Steps.{leads_are}
+use Rattle.sm_protocol.proofs.Keeping.{share_now, share_none, begun}
+use Rattle.sm_protocol.proofs.Steps.{leads_are, publish_acts, one_on, unmade, was, is, own_effect, signal_once, wait_once, signal_shares, wait_shares}
 use Rattle.sm_protocol.proofs.Places.{each_after}
 use Rattle.sm_protocol.proofs.LogRoom.{plan_before, count_started}
+use Rattle.sm_protocol.proofs.Courses.{some_same}
+use Rattle.sm_protocol.proofs.Tries.{here, share_at, scene_now, first_effect, by_answer}
+use Rattle.sm_protocol.proofs.Cases.{IsBefore, IsTry, answer_to, of_known_happens, refill_granted, OfKnownSteps}
+use Rattle.sm_protocol.proofs.Whole.{happens_keeps, reached_keeps}
+use Rattle.sm_protocol.proofs.Reached.{by_events}
 
 -- a scene's leads are found in its placement
 leads_scene : (c : Sizes) (p : Place) (leads : ℕ → Lead) (numbers : ℕ → ℕ) (h : Hold) → IsScene c p leads numbers h → leads_of c p ≡ leads
@@ -196,8 +201,8 @@ module _ (A : Type 0) (now : Place → A) (set : Hold → A → A) (reaches : Ho
       scene_is : IsScene w.sizes w.place v.leads w.numbers final
       scene_is = subst (IsScene w.sizes w.place v.leads w.numbers) hold_is (scene w v id b running_is)
 
-      was : (t : Right) → share w id t (progress_of w id) ≡ count final t
-      was t = share_now w id t (progress_of w id) running_is ∙ ap (λ g. count g t) hold_is
+      held_before_it : (t : Right) → share w id t (progress_of w id) ≡ count final t
+      held_before_it t = share_now w id t (progress_of w id) running_is ∙ ap (λ g. count g t) hold_is
 
       abbrev f : ℕ → ℕ → Progress
       f = set_progress w id y
@@ -229,7 +234,7 @@ module _ (A : Type 0) (now : Place → A) (set : Hold → A → A) (reaches : Ho
             let c = counts it in
             let most = at_most_one w v in
             let own = by_own id b y r in
-            let before = was r in
+            let before = held_before_it r in
             let after = share_none w id r y refl in
             absurd (elim (cases_eq k id.plan) [
               | inl g ↦
@@ -247,7 +252,7 @@ module _ (A : Type 0) (now : Place → A) (set : Hold → A → A) (reaches : Ho
       totals =
           let a = sum_apart (length w.plans) (by w.sizes w.plans f w.marks r) (by w.sizes w.plans w.progress w.marks r) id.plan (count final r) 0 b.plan
           (λ k n. by_other id b y w.marks r k n refl)
-          (let own = by_own id b y r in let before = was r in let after = share_none w id r y refl in omega arith) in
+          (let own = by_own id b y r in let before = held_before_it r in let after = share_none w id r y refl in omega arith) in
           omega arith
 
       value_after : HasCrownsAtRest final → sum_below (length w.plans) (by w.sizes w.plans f w.marks r) ≡ 0 → now w.place ≡ sets_to w.sizes (plan_at w) f (length w.plans) (now w.opening)
@@ -266,7 +271,7 @@ module _ (A : Type 0) (now : Place → A) (set : Hold → A → A) (reaches : Ho
             b.plan b.stream here_done (λ o. kind.sets w.sizes w.place v.leads w.numbers final scene_is rest it o)
             (λ j m le other d. elim (ended_now j m d) [
               | inl here ↦ absurd (other here)
-              | inr old ↦ h.apart id.plan b.plan (let own = by_own id b y r in let before = was r in let after = share_none w id r y refl in omega arith) j m le old
+              | inr old ↦ h.apart id.plan b.plan (let own = by_own id b y r in let before = held_before_it r in let after = share_none w id r y refl in omega arith) j m le old
             ]))
       ]
 
@@ -310,3 +315,89 @@ module _ (A : Type 0) (now : Place → A) (set : Hold → A → A) (reaches : Ho
         plans_alike (suc n) each =
             ap (λ p. set_streams A set reaches kind.unset (λ i. (w.progress n i).done) (λ i. final_hold (stream_at w.sizes p i)) (length p.streams) (sets_to w.sizes (plan_at next) w.progress n (now w.opening))) (each n (omega arith))
             ∙ ap (set_streams A set reaches kind.unset (λ i. (w.progress n i).done) (λ i. final_hold (stream_at w.sizes (plan_at w n) i)) (length (plan_at w n).streams)) (plans_alike n (λ k l. each k (omega arith)))
+
+-- ---- every event keeps it
+
+module _ (A : Type 0) (now : Place → A) (set : Hold → A → A) (reaches : Hold → Type 0) (rule : (ℕ → Lead) → Place → Right) (kind : IsKind A now set reaches rule) where
+  abbrev IsEnded : State → Type 0
+  IsEnded w = IsSetAt A now set reaches rule kind w
+
+  module _ (w : State) (v : IsKept w) (h : IsEnded w) (id : StreamId) where
+    abbrev x0 : Progress
+    x0 = progress_of w id
+
+    -- a stream goes on and holds what it held
+    stays : (b : IsBegun w id) (y : Progress) → x0.done ≡ false → y.done ≡ false → reach y.at y.ahead ≡ reach x0.at x0.ahead → (t : Right) → share w id t y ≡ share w id t x0
+    stays b y d e at t = share_now w id t y e ∙ ap (λ q. count (hold_before (stream_at w.sizes (plan_at w id.plan) id.stream) q) t) at ∙ sym (share_now w id t x0 d)
+
+    publishes_by : (i : Instr) (before : IsBefore w id (Some i)) (s : ℕ) (server : Option ℕ) (c : is_call i ≡ false) → IsOwn i →
+        acts w.sizes w.place w.numbers i ≡ Some (publish w.place s server, w.numbers) →
+        sum_below (length w.plans) (by A now set reaches rule kind w.sizes w.plans (set_progress w id (one_on x0)) w.marks (rule_of A now set reaches rule kind w.sizes (publish w.place s server))) ≤ 1 →
+        IsSet A now set reaches rule kind w.sizes w.plans w.opening (publish w.place s server) (set_progress w id (one_on x0)) w.marks
+    publishes_by i before s server c own made most =
+        let e = own_effect w v id i before c own in
+        let pair : ◌≡◌ {A = Place × (ℕ → ℕ)} (e.next_place, e.next_numbers) (publish w.place s server, w.numbers) = some_same {T = Place × (ℕ → ℕ)} (e.next_place, e.next_numbers) (publish w.place s server, w.numbers) (sym e.made ∙ made) in
+        let place : e.next_place ≡ publish w.place s server = ap (λ (z : Place × (ℕ → ℕ)). z.0) pair in
+        own_set A now set reaches rule kind w v h id (here w v id i before) (one_on x0) (publish w.place s server) _ _ i
+        (scene_now w v id i before (unmade w v id i before c)) e (ap (λ (q : Place). q.cells) (sym place)) (ap (λ (q : Place). q.listed) (sym place)) (was w v id i before c) (is w v id i before c) refl most
+
+    -- a call was served
+    served_by : (i : Instr) (x : ServerCall) (effect : CallEffect) → IsTry w id i x → answer_to w id x ≡ Ok effect → (y : Progress) → y.done ≡ x0.done → reach y.at y.ahead ≡ x0.at + 1 →
+        sum_below (length w.plans) (by A now set reaches rule kind w.sizes w.plans (set_progress w id y) w.marks (rule_of A now set reaches rule kind w.sizes effect.place)) ≤ 1 →
+        IsSet A now set reaches rule kind w.sizes w.plans w.opening effect.place (set_progress w id y) w.marks
+    served_by i x effect t answer y done at = by_answer w v id i x t effect answer
+        (λ f. sum_below (length w.plans) (by A now set reaches rule kind w.sizes w.plans (set_progress w id y) w.marks (rule_of A now set reaches rule kind w.sizes f.place)) ≤ 1 →
+        IsSet A now set reaches rule kind w.sizes w.plans w.opening f.place (set_progress w id y) w.marks)
+        (λ a most. own_set A now set reaches rule kind w v h id (here w v id i t.before) y _ _ _ i (scene_now w v id i t.before a) (first_effect w v id i x t a).effect refl refl
+        (share_at w v id i t.before x0 x0.at t.before.running (ap (λ q. reach x0.at q) a)) (share_at w v id i t.before y (x0.at + 1) (done ∙ t.before.running) at) done most)
+        (λ a most. still_set A now set reaches rule kind w v h id (here w v id i t.before) y w.place refl refl
+        (stays (here w v id i t.before) y t.before.running (done ∙ t.before.running) (at ∙ ap (λ q. reach x0.at q) (sym a))) done)
+
+    by_steps : (passage : Passage) → OfKnownSteps w id passage (λ o. IsKept o.1 → IsEnded o.1)
+    by_steps passage = record {
+      idle = λ answer k. h;
+      refused = λ i x why t e k. h;
+      at_end = λ b k. let g = begun w id b.begun in end_set A now set reaches rule kind w v h id g b.running b.next_is ((running w v id g).checked.sound.streams id.stream g.stream).settled;
+      publishes = λ s b k. publishes_by (Publish s) b s (to_list (leads_of w.sizes w.place s)) refl tt (publish_acts w v s) (at_most_one A now set reaches rule kind _ k);
+      unlists = λ s b k. publishes_by (Unlist s) b s None refl tt refl (at_most_one A now set reaches rule kind _ k);
+      posts = λ q b k. signal_set A now set reaches rule kind w v h id (begun w id b.begun) (one_on x0) q _ (signal_once w v id q b).0 (signal_shares w v id q b) refl;
+      awaits = λ q b e k. signal_set A now set reaches rule kind w v h id (begun w id b.begun) (one_on x0) q _ (wait_once w v id q b).0 (wait_shares w v id q b e) refl;
+      lost = λ i x t p k. let y : Progress = record (tried_more x0 false) { pending = call_number w x0 } in
+          still_set A now set reaches rule kind w v h id (begun w id t.before.begun) y w.place refl refl (stays (begun w id t.before.begun) y t.before.running t.before.running refl) refl;
+      through = λ i x effect t a p k. served_by i x effect t a (behind_call x0 effect.fresh) refl refl (at_most_one A now set reaches rule kind _ k);
+      unanswered = λ i x effect t a p k. served_by i x effect t a (ahead_of_call w x0 effect.fresh) refl refl (at_most_one A now set reaches rule kind _ k);
+    }
+
+  -- ---- all events
+
+  module _ (w : State) (v : IsKept w) (h : IsEnded w) where
+    down_set : (u : ℕ) (down : Bool) → IsSet A now set reaches rule kind w.sizes w.plans w.opening (set_down w.place u down) w.progress w.marks
+    down_set u down =
+        let s = kind.same (leads_of w.sizes w.place) w.place (set_down w.place u down) refl refl in
+        same_set A now set reaches rule kind w h (set_down w.place u down) w.progress w.marks s.1 s.0 (λ k l. refl) (λ k i. refl)
+
+    refill_set : (id : StreamId) (n : ℕ) → is_running w id ≡ true → IsSet A now set reaches rule kind w.sizes w.plans w.opening w.place (set_progress w id (record (progress_of w id) { refills = (progress_of w id).refills + n })) w.marks
+    refill_set id n e =
+        let parts = and_parts (is_begun w id) (not (progress_of w id).done) e in
+        let y : Progress = record (progress_of w id) { refills = (progress_of w id).refills + n } in
+        still_set A now set reaches rule kind w v h id (begun w id parts.0) y w.place refl refl (λ t. refl) refl
+
+    pub set_kept : (e : Happening) → IsKept (happens w e).1 → IsEnded (happens w e).1
+    set_kept = of_known_happens w (λ e o. IsKept o.1 → IsEnded o.1) (record {
+      idle = λ e answer n k. h;
+      steps = λ id. by_steps w v h id Through;
+      loses = λ id after. by_steps w v h id (if after then LostAfter else LostBefore);
+      refills = λ id n f k. refill_set id n (refill_granted w id n f).0;
+      arrives = λ s u f k. h;
+      passes_on = λ t o f k. h;
+      approves = λ u f k. down_set u true;
+      restarts = λ u f k. down_set u false;
+      starts = λ plan a b c k. start_set A now set reaches rule kind w v h plan;
+    })
+
+  -- it holds of every state that events lead to
+  pub is_set : (setup : Setup) (w : State) → IsReached setup w → IsEnded w
+  is_set setup w r =
+      let u = by_events setup IsEnded (λ p room o. record { value = λ z. refl; apart = λ k l. absurd (omega arith) })
+      (λ x e at f h. let v = (reached_keeps setup x at).0 in set_kept x v h e (happens_keeps x v e f).1) w r in
+      record { value = u.value; apart = u.apart }

@@ -10,8 +10,7 @@ use Rattle.sm_protocol.proofs.Cases.{IsBefore, of_known_happens, refill_granted,
 use Rattle.sm_protocol.proofs.Whole.{reached_keeps}
 use Rattle.sm_protocol.proofs.Reached.{by_events}
 use Rattle.sm_protocol.proofs.LogEnds.{is_logged, in_log}
-use Rattle.sm_protocol.proofs.EndStates.{IsSetAt, rule_of}
-use Rattle.sm_protocol.proofs.EndSteps.{is_set}
+use Rattle.sm_protocol.proofs.EndStates.{IsSetAt, rule_of, is_set}
 
 -- ---- versions
 

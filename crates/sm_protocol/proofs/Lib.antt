@@ -22,7 +22,6 @@ pub mod LogRoom
 pub mod SmallNumbers
 pub mod Requests
 pub mod Passes
-pub mod Tickets
 pub mod Accepted
 pub mod Reserved
 pub mod Safety
@@ -34,5 +33,4 @@ pub mod Passable
 pub mod EffectNumbers
 pub mod LogEnds
 pub mod EndStates
-pub mod EndSteps
 pub mod EndsReached

@@ -1,5 +1,5 @@
 -- The log keeps within its room, and tries within their allowance.
-use Rattle.sm_protocol.proofs.Below.{◌≡◌, ◌≢◌, ℕ, zero, suc, ◌+◌, ◌<◌, ◌≤◌, Bool, true, false, not, refl, sym, ap, ◌∙◌, inl, inr, subst, arith, ◌⊎◌, Some, Result, Ok, Err, List, [], ◌∷◌, length, length-append, ◌==◌, nat_lt, if◌then◌else◌, slice_get, slice_index_or, count_by, and_parts, and_from, and_left, eqb-false, ltb-true, ltb-false, not-true, cases_lt, cases_eq, cases_Bool, lt-ltb, le-ltb, get_or_append_left, get_or-append_seam, Refusal, put, sum_below, count_below, bit, Setup, Sizes, sizes_of, Place, CallEffect, called_numbered, numbered_answer_at, down_count, set_down, publish, StreamId, ServerCall, Instr, Signal, Wait, is_call, StreamModel, PlanModel, no_stream, Entry, Served, Call, put-here, put-apart, sum_apart, same_sum, sum_of_both, bit-le-one, KeepsBudget, total_budget, sum_by-below, granted}
+use Rattle.sm_protocol.proofs.Below.{◌≡◌, ◌≢◌, ℕ, zero, suc, ◌+◌, ◌<◌, ◌≤◌, Bool, true, false, not, refl, sym, ap, ◌∙◌, inl, inr, subst, arith, ◌⊎◌, Some, Result, Ok, Err, List, [], ◌∷◌, length, length-append, ◌==◌, nat_lt, if◌then◌else◌, slice_get, slice_index_or, count_by, and_parts, and_from, and_left, eqb-false, ltb-true, ltb-false, not-true, cases_lt, cases_eq, cases_Bool, lt-ltb, le-ltb, get_or_append_left, get_or-append_seam, Refusal, put, sum_below, count_below, bit, Setup, Sizes, sizes_of, Place, CallEffect, called_numbered, numbered_answer_at, down_count, set_down, publish, StreamId, ServerCall, Instr, Signal, Wait, is_call, StreamModel, PlanModel, no_stream, Entry, Served, Call, put-here, put-apart, sum_apart, same_sum, sum_of_both, bit-le-one, KeepsBudget, total_budget, sum_by-below, granted, count_put, count_put_down, sum_below_le}
 use Rattle.sm_protocol.proofs.Words.{Event, Passage, Through, LostBefore, LostAfter, Played, State, Mark, Progress, Start, no_start, fresh, opened, plan_at, stream_count, stream_parts, progress_of, stream_id, is_begun, allowance, set_progress, logged, places_left, places_of, set_aside, free_places, is_no_call, pool, behind_call, ahead_of_call, tried_more, call_number, Happening, engaged, started, happens, IsOpening, IsReached, FitsConfig}
 use Rattle.sm_protocol.specs.declared.event.Event.TheVariants as event
 use Rattle.sm_protocol.specs.declared.event.Played.TheVariants as played
@@ -155,42 +155,20 @@ refill_keeps w id more event answer h b d l =
       budgets = h.budgets;
     }
 
--- a server goes down, or comes up
-down_after : (n : ℕ) (down : ℕ → Bool) (v : ℕ) (b : Bool) → count_below n (put down v b) ≤ count_below n down + 1
-down_after zero down v b = omega arith
-down_after (suc n) down v b = elim (cases_eq n v) [
-  | inl e ↦
-      let same : count_below n (put down v b) ≡ count_below n down = same_sum n _ _ (λ k l. ap bit (put-apart down v b k (λ q. omega arith))) in
-      let a = bit-le-one (put down v b n) in
-      omega arith
-  | inr e ↦ let f : bit (put down v b n) ≡ bit (down n) = ap bit (put-apart down v b n e) in let a = down_after n down v b in omega arith
-]
-
-up_after : (n : ℕ) (down : ℕ → Bool) (v : ℕ) → v < n → down v ≡ true → count_below n (put down v false) + 1 ≡ count_below n down
-up_after n down v l e =
-    let a : bit (put down v false v) ≡ 0 = ap bit (put-here down v false v refl) in
-    let b : bit (down v) ≡ 1 = ap bit e in
-    let c = sum_apart n (λ k. bit (put down v false k)) (λ k. bit (down k)) v 1 0 l (λ k q. ap bit (put-apart down v false k q)) (omega arith) in
-    omega arith
-
 approve_keeps : (w : State) (v : ℕ) (event : Event) (answer : Played) → HasRoom w → 2 ≤ free_places w → HasRoom (record w { place = set_down w.place v true; log = logged w event answer })
 approve_keeps w v event answer h l =
     let a = free_is w 2 h l in
     let b = length_logged w event answer in
-    let d = down_after w.sizes.servers w.place.down v true in
+    let d = count_put w.sizes.servers w.place.down v true in
     record { room = omega arith; tries = h.tries; unbegun = h.unbegun; budgets = h.budgets }
 
 restart_keeps : (w : State) (v : ℕ) (event : Event) (answer : Played) → HasRoom w → v < w.sizes.servers → w.place.down v ≡ true →
     HasRoom (record w { place = set_down w.place v false; log = logged w event answer })
 restart_keeps w v event answer h l e =
     let b = length_logged w event answer in
-    let d = up_after w.sizes.servers w.place.down v l e in
+    let d = count_put_down w.sizes.servers w.place.down v l e in
     let r = h.room in
     record { room = omega arith; tries = h.tries; unbegun = h.unbegun; budgets = h.budgets }
-
-sum_below_le : (n : ℕ) (f g : ℕ → ℕ) → ((k : ℕ) → f k ≤ g k) → sum_below n f ≤ sum_below n g
-sum_below_le zero f g l = omega arith
-sum_below_le (suc n) f g l = let a = sum_below_le n f g l in let b = l n in omega arith
 
 -- ---- a start
 

@@ -1,21 +1,8 @@
 -- The numbers of calls, as calls are tried.
-use Rattle.sm_protocol.proofs.Below.{◌≡◌, ◌≢◌, ◌⊎◌, ℕ, ◌+◌, ◌<◌, ◌≤◌, true, false, Option, Some, refl, sym, ap, ◌∙◌, arith, inl, inr, subst, List, slice_get, ◌==◌, if◌then◌else◌, cases_eq, eq-eqb, ne_eqb, put2, StreamId, Instr, touched, put2-here, put2-row, put2-apart}
+use Rattle.sm_protocol.proofs.Below.{◌≡◌, ◌≢◌, ◌⊎◌, ℕ, ◌+◌, ◌<◌, ◌≤◌, true, false, Option, Some, refl, sym, ap, ◌∙◌, arith, inl, inr, subst, List, slice_get, ◌==◌, if◌then◌else◌, cases_eq, eq-eqb, ne_eqb, put2, StreamId, Instr, touched, put2-here, put2-row, put2-apart, put2_cases}
 use Rattle.sm_protocol.proofs.Words.{State, Progress, progress_of, set_progress}
 use Rattle.sm_protocol.proofs.Invariant.{AreNumbered}
 use Rattle.sm_protocol.proofs.Courses.{some_same}
-
--- ---- one place of a function of two numbers
-
--- it is the place, with the new value there, or another one, with the old value
-pub put2_cases : {A : Type 0} (f : ℕ → ℕ → A) (s v : ℕ) (x : A) (r u : ℕ) →
-    ((r ≡ s) × (u ≡ v) × (put2 f s v x r u ≡ x)) ⊎ (((r ≡ s) × (u ≡ v) → ⊥) × (put2 f s v x r u ≡ f r u))
-put2_cases f s v x r u = elim (cases_eq r s) [
-  | inr e ↦ inr ((λ h. e h.0), put2-apart f s v x r u e)
-  | inl e ↦ elim (cases_eq u v) [
-    | inr d ↦ inr ((λ h. d h.1), subst (λ q. put2 f s v x q u ≡ f q u) (sym e) (put2-row f s v x u d))
-    | inl d ↦ inl (e, d, subst (λ q. put2 f s v x q u ≡ x) (sym e) (subst (λ q. put2 f s v x s q ≡ x) (sym d) (put2-here f s v x)))
-  ]
-]
 
 pub same_stream : (a b : StreamId) → a.plan ≡ b.plan → a.stream ≡ b.stream → a ≡ b
 same_stream a b e d = λ i. record { plan = e i; stream = d i }

@@ -1,11 +1,11 @@
 -- Every event keeps the numbers under which requests may have been passed on, so who executes a request serves its shard.
-use Rattle.sm_protocol.proofs.Below.{◌≡◌, ℕ, Ok, subst, if◌then◌else◌, CallEffect, StreamId, Instr, ServerCall, numbers_after}
+use Rattle.sm_protocol.proofs.Below.{◌≡◌, ℕ, Ok, subst, if◌then◌else◌, CallEffect, StreamId, Instr, ServerCall, numbers_after, CanBePassed, passed_by_lead, passed_of_lead}
 use Rattle.sm_protocol.proofs.Words.{Passage, Through, LostBefore, LostAfter, Happening, happens, State, ExecutedServes}
 use Rattle.sm_protocol.proofs.Invariant.{IsKept}
 use Rattle.sm_protocol.proofs.Cases.{IsTry, answer_to, OfSteps, of_happens}
 use Rattle.sm_protocol.proofs.Tries.{by_answer, first_effect}
 use Rattle.sm_protocol.proofs.Whole.{reached_keeps}
-use Rattle.sm_protocol.proofs.Requests.{CanBePassed, passed_by_lead, passed_of_lead, IsLed, PassesFit}
+use Rattle.sm_protocol.proofs.Requests.{IsLed, PassesFit}
 use Rattle.sm_protocol.proofs.Passes.{KeepsPassable, passes_kept, passes_at_opening, serves_by_passes}
 use Rattle.sm_protocol.proofs.Reached.{by_events}
 

@@ -1,5 +1,5 @@
 -- Of each plan that isn't done some stream can step, or one stands before a call and has spent its allowance.
-use Rattle.sm_protocol.proofs.Below.{◌≡◌, ◌≢◌, ℕ, zero, suc, ◌+◌, ◌<◌, ◌≤◌, ◌⊎◌, Bool, true, false, not, Option, Some, None, Result, Ok, Err, refl, sym, ap, ◌∙◌, inl, inr, subst, arith, length, ◌==◌, slice_get, if◌then◌else◌, cases_Bool, eqb-true, lt-ltb, not-true, slice_get_within, Refusal, any_below, bit, CallEffect, StreamId, Instr, PrepareAdd, PrepareDrop, Add, Drop, Change, Publish, Unlist, Signal, Wait, ServerCall, is_call, shard_of, PlanModel, code_at, post_of, CanMakeNext, some_goes_on, stand_once, are_of_plan}
+use Rattle.sm_protocol.proofs.Below.{◌≡◌, ◌≢◌, ℕ, zero, suc, ◌+◌, ◌<◌, ◌≤◌, ◌⊎◌, Bool, true, false, not, Option, Some, None, Result, Ok, Err, refl, sym, ap, ◌∙◌, inl, inr, subst, arith, length, ◌==◌, slice_get, if◌then◌else◌, cases_Bool, eqb-true, lt-ltb, not-true, slice_get_within, Refusal, any_below, bit, CallEffect, StreamId, Instr, PrepareAdd, PrepareDrop, Add, Drop, Change, Publish, Unlist, Signal, Wait, ServerCall, is_call, shard_of, PlanModel, code_at, post_of, CanMakeNext, some_goes_on, stand_once, are_of_plan, some_below}
 use Rattle.sm_protocol.proofs.Words.{Through, State, Progress, plan_at, stream_count, stream_id, progress_of, allowance, next_instruction, is_unfinished, Outcome, Refused, Answered, made, tried, call_tried, call_again, call_to_make, step, IsStep, CanStep, HasSpent, SomeCanStepOrSpent, unhalted}
 use Rattle.sm_protocol.specs.declared.event.Played.TheVariants as played
 use Rattle.sm_protocol.proofs.Invariant.{IsRunning, IsKept, code_of}
@@ -10,14 +10,6 @@ use Rattle.sm_protocol.proofs.Steps.{step_keeps}
 use Rattle.sm_protocol.proofs.Whole.{unhalted_keeps}
 
 -- ---- a stream that can make its next step
-
--- some below n doesn't pass, or all do
-some_below : (n : ℕ) (t : ℕ → Bool) → any_below n t ≡ true → (i : ℕ) × (i < n) × (t i ≡ true)
-some_below zero t e = absurd (cc)
-some_below (suc n) t e = elim (cases_Bool (t n)) [
-  | inl h ↦ (n, omega arith, h)
-  | inr h ↦ let b : any_below n t ≡ true = rw h at e in let r = some_below n t b in (r.0, (let l = r.1 in omega arith), r.2)
-]
 
 -- a stream that hasn't made its end, and whose next instruction, where it waits, waits for a posted signal
 record CanGoOn (w : State) (k i : ℕ) : Type 0 where

@@ -22,3 +22,4 @@ pub mod Turns
 pub mod Deciding
 pub mod EndKinds
 pub mod EndFolds
+pub mod OnePlace
