@@ -47,6 +47,10 @@ some_same e = cc
 not_less : (m n : ℕ) → nat_lt m n ≡ false → n ≤ m
 not_less m n e = ltb-false m n e
 
+second : (a b : Bool) → (a || b) ≡ false → b ≡ false
+second true b e = absurd (cc)
+second false b e = e
+
 -- the tests in the order of the faults
 record Passes (x : Whole) (plan : PlanModel) (o : Option Holding) : Type 0 where
   held : o ≡ None
@@ -80,6 +84,10 @@ refused w plan None free running f r why x xs xf xr e = go (nat_lt (free_places 
         (subst (λ t. (if t then Some fault.TooManyPlans else None) ≡ Some why) b (subst (λ s. (if s then Some fault.LogFull else if has_all_plans w then Some fault.TooManyPlans else None) ≡ Some why) a e))))
     go false a false b e = absurd (some_not_none (sym
         (subst (λ t. (if t then Some fault.TooManyPlans else None) ≡ Some why) b (subst (λ s. (if s then Some fault.LogFull else if has_all_plans w then Some fault.TooManyPlans else None) ≡ Some why) a e))))
+
+-- where nothing holds a plan up, another number is left
+pub few_by : (x : Whole) (plan : PlanModel) → begin_fault x plan ≡ None → length x.state.plans ≤ 4294967295
+few_by x plan e = not_less 4294967295 (length x.state.plans) (second (nat_le 16 x.running) _ (passes x plan (first_holding x.state.sizes x.state.place x.pool plan) e).plans)
 
 module _ (x : Whole) (g : IsWorking x) (p : CheckedModel) (checked : IsCheckedPlan x.state.sizes p.plan) where
   abbrev w : State

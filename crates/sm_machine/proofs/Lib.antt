@@ -1,3 +1,4 @@
+pub mod InTurn
 pub mod Tables
 pub mod Writes
 pub mod ties

@@ -9,10 +9,10 @@ use Rattle.sm_reservation.specs.Pool.{true_rights}
 use Rattle.sm_machine.specs.Opening.{OpeningRows, place_of_rows}
 use Rattle.sm_machine.specs.Journal.{JournalParts}
 use Rattle.sm_machine.specs.State.{opened_whole}
-use Rattle.std.proofs.Common.{zero, suc, subst, ◌≡◌, ℕ, ◌<◌, [], Bool, true, false, List, length, set, get_or, map, refl, sym, ap, ◌∙◌, arith, Option, Some, None, ◌-◌}
+use Rattle.std.proofs.Common.{◌∷◌, zero, suc, subst, ◌≡◌, ℕ, ◌<◌, [], Bool, true, false, List, length, set, get_or, map, refl, sym, ap, ◌∙◌, arith, Option, Some, None, ◌-◌}
 use Rattle.std.specs.Prelude.{◌==◌, if◌then◌else◌}
 use Rattle.std.proofs.lemmas.Bool.{and_parts, ltb-true}
-use Rattle.std.proofs.lemmas.List.{get_or_read, length-map}
+use Rattle.std.proofs.lemmas.List.{get_or_read, length-map, set-set}
 use Rattle.std.proofs.Math.ListN.{get_or-map}
 use Rattle.sm_placement.specs.Sums.{put, put2}
 use Rattle.sm_placement.specs.Setup.{Sizes, sizes_of}
@@ -31,6 +31,15 @@ use Rattle.sm_machine.specs.Begun.{BegunParts, CarriedParts, no_begun, no_carrie
 use Rattle.sm_machine.specs.Machine.{MachineModel, begun_at}
 use Rattle.sm_machine.specs.State.{Whole, whole_of, state_of, with_state, with_stream, with_signal}
 use Rattle.sm_machine.proofs.Tables.{inner, inner-set, inner-kept, map-kept, put2-same, outer, outer-kept, outer-set}
+
+-- a plan is read where it lies, and written back there
+pub read_here : {X : Type 0} (xs : List X) (k : ℕ) (n o : X) → n ≡ get_or xs k o → n ≡ get_or xs k n
+read_here [] k n o e = refl
+read_here (x ∷ xs) zero n o e = e
+read_here (x ∷ xs) (suc k) n o e = read_here xs k n o e
+
+pub laid_back : {X : Type 0} (xs ys zs : List X) (k : ℕ) (d v : X) → zs ≡ set ys k v → ys ≡ set xs k d → zs ≡ set xs k v
+laid_back xs ys zs k d v e f = e ∙ ap (λ ws. set ws k v) f ∙ set-set xs k d v
 
 -- a write to the plans, field by field
 with_plans : (b : MachineModel) (ns : List BegunParts) (progress : ℕ → ℕ → Progress) (marks : ℕ → ℕ → Mark) (grants parcels : ℕ → ℕ → Option HoldModel) →

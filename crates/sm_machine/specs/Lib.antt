@@ -1,5 +1,7 @@
 pub mod Course
 pub mod Begun
+pub mod Plans
+pub mod PlansFall
 pub mod Journal
 pub mod Opening
 pub mod Servers

@@ -23,8 +23,9 @@ ghost use Rattle.sm_machine.specs.Begun.{course_at, carried_at, with_course, wit
 use crate::progress::Progress;
 use crate::stream::Course;
 use sm_placement::Config;
-use sm_plan_code::{Instr, Plan};
+use sm_plan_code::{Instr, Parts, Plan};
 use sm_reservation::{Change, ClosedPool, Grant, Parcel, Pool};
+use std::alloc::Global;
 use std::marker::Model;
 
 /// A signal of a plan that was begun.
@@ -151,18 +152,6 @@ fn close_signals(signals: Vec<Carried>, pool: &ClosedPool) {
         }
     }
     signals.destroy_empty();
-}
-
-/// Plans end with the pool.
-pub(crate) fn close_plans(plans: Vec<Begun>, pool: &ClosedPool) {
-    let mut plans = plans;
-    for _ in 0..plans.len() {
-        match plans.pop() {
-            Some(plan) => plan.close(pool),
-            None => {}
-        }
-    }
-    plans.destroy_empty();
 }
 
 /// A plan that was begun, as it stands.
@@ -339,6 +328,25 @@ impl Begun {
         self.courses[stream].end()
     }
 
+    /// A plan of nothing. Takes no memory.
+    pub fn blank(alloc: Global) -> Begun {
+        let parts = Parts {
+            budget: 0,
+            streams: Vec::new(alloc),
+            signals: Vec::new(alloc),
+        };
+        match Plan::new(parts) {
+            Ok(plan) => Begun {
+                plan,
+                since: 0,
+                courses: Vec::new(alloc),
+                signals: Vec::new(alloc),
+                unfinished: 0,
+            },
+            Err(_) => unreachable!(),
+        }
+    }
+
     /// A plan that is begun now, with its streams and its signals.
     pub fn new(plan: Plan, since: u32, courses: Vec<Course>, signals: Vec<Carried>) -> Begun
         requires courses { length courses.items ≡ length plan.streams }
@@ -372,7 +380,7 @@ impl Begun {
     }
 
     /// It ends with the pool, with what its streams hold and its signals carry. Takes no memory.
-    fn close(self, pool: &ClosedPool) {
+    pub fn close(self, pool: &ClosedPool) {
         let Begun {
             plan: _,
             since: _,

@@ -33,9 +33,10 @@ ghost use Rattle.sm_machine.specs.Restarts.{live_there, CanPayLive, CanGetLive};
 ghost use Rattle.sm_machine.specs.Restarted.{down_whole, up_whole};
 ghost use Rattle.sm_protocol.specs.Ticket.{is_open_ticket};
 
-use crate::begun::{Begun, close_plans};
+use crate::begun::Begun;
 use crate::journal::{Journal, TicketParts};
 use crate::opening::Opening;
+use crate::plans::Plans;
 use crate::progress::Progress;
 use crate::ready_plan::ReadyPlan;
 use crate::requests::reply;
@@ -60,7 +61,9 @@ pub(crate) struct Engine {
     entries: Vec<(ShardId, Entry)>,
     numbers: Vec<u64>,
     next_number: u64,
-    plans: Vec<Begun>,
+    plans: Plans,
+    /// A plan lies here while a stream of it makes a step. It is a plan of nothing else.
+    desk: Begun,
     journal: Journal,
     free: u64,
     running: u32,
@@ -73,7 +76,7 @@ impl Model for Engine {
 
     ghost Value = { MachineModel };
 
-    ghost view = { λ m. record { opening = m.opening; placement = m.placement; pool = m.pool; entries = m.entries.items; numbers = m.numbers.items; next_number = m.next_number; plans = m.plans.items; journal = m.journal; free = m.free; running = m.running; halted = m.halted } };
+    ghost view = { λ m. record { opening = m.opening; placement = m.placement; pool = m.pool; entries = m.entries.items; numbers = m.numbers.items; next_number = m.next_number; plans = m.plans; journal = m.journal; free = m.free; running = m.running; halted = m.halted } };
 
     ghost invariant = { λ m. (length m.entries.items ≤ length m.journal.log) × (length m.journal.log ≤ m.journal.room) × (m.journal.room ≤ vec_capacity m.entries) × (length m.numbers.items ≡ length m.placement.setup.shards) × (m.pool.shards ≡ length m.placement.setup.shards) × (m.pool.servers ≡ length m.placement.setup.servers) };
 }
@@ -108,7 +111,8 @@ impl Engine {
             entries,
             numbers,
             next_number: 1,
-            plans: Vec::new(alloc),
+            plans: Plans::new(),
+            desk: Begun::blank(alloc),
             journal,
             free: u64::from(room).saturating_sub(down),
             running: 0,
@@ -169,7 +173,7 @@ impl Engine {
         if plan >= self.plans.len() {
             return false;
         }
-        (id.stream as usize) < self.plans[plan].stream_count()
+        (id.stream as usize) < self.plans.at(plan).stream_count()
     }
 
     /// How far a stream has come.
@@ -177,7 +181,7 @@ impl Engine {
         requires { is_begun (state_of self.now) id ≡ true }
         ensures { result ≡ progress_of (state_of self.now) id }
     {
-        self.plans[id.plan as usize].progress(id.stream as usize)
+        self.plans.at(id.plan as usize).progress(id.stream as usize)
     }
 
     /// The instruction that a stream makes next.
@@ -185,7 +189,9 @@ impl Engine {
         requires { is_begun (state_of self.now) id ≡ true }
         ensures { result ≡ next_instruction (state_of self.now) id }
     {
-        self.plans[id.plan as usize].next_instruction(id.stream as usize)
+        self.plans
+            .at(id.plan as usize)
+            .next_instruction(id.stream as usize)
     }
 
     /// How many tries of calls a stream may make.
@@ -193,7 +199,9 @@ impl Engine {
         requires { is_begun (state_of self.now) id ≡ true }
         ensures { result ≡ allowance (state_of self.now) id }
     {
-        self.plans[id.plan as usize].allowance(id.stream as usize)
+        self.plans
+            .at(id.plan as usize)
+            .allowance(id.stream as usize)
     }
 
     /// A stream comes to another place.
@@ -202,7 +210,10 @@ impl Engine {
         requires done { progress.done ≡ (progress_of (state_of self.old) id).done }
         ensures { whole_of self.new ≡ with_state (whole_of self.old) (record (state_of self.old) { progress = set_progress (state_of self.old) id progress }) }
     {
-        self.plans[id.plan as usize].set_progress(id.stream as usize, progress);
+        let plan = id.plan as usize;
+        self.plans.swap(plan, &mut self.desk);
+        self.desk.set_progress(id.stream as usize, progress);
+        self.plans.swap(plan, &mut self.desk);
     }
 
     /// A law: no more entries were added than events are recorded.
@@ -235,7 +246,11 @@ impl Engine {
         ensures change { result ≡ exchange_of (state_of self.old).sizes instr.now (hold_in (grant_of self.old id)) }
     {
         let config = self.placement.config();
-        self.plans[id.plan as usize].trade(id.stream as usize, config, instr)
+        let plan = id.plan as usize;
+        self.plans.swap(plan, &mut self.desk);
+        let change = self.desk.trade(id.stream as usize, config, instr);
+        self.plans.swap(plan, &mut self.desk);
+        change
     }
 
     /// A signal was posted.
@@ -244,7 +259,7 @@ impl Engine {
         requires signal { signal < signal_count (state_of self.now) id.plan }
         ensures { result ≡ ((state_of self.now).marks id.plan signal).posted }
     {
-        self.plans[id.plan as usize].is_posted(signal as usize)
+        self.plans.at(id.plan as usize).is_posted(signal as usize)
     }
 
     /// A shard's highest handover number.
@@ -319,7 +334,9 @@ impl Engine {
         ensures order { IsGrantInOrder (grant_of self.now id) }
         ensures there { is_some (grant_of self.now id) ≡ not (progress_of (state_of self.now) id).done }
     {
-        self.plans[id.plan as usize].held_in_order(id.stream as usize);
+        self.plans
+            .at(id.plan as usize)
+            .held_in_order(id.stream as usize);
     }
 
     /// A law: what a signal carries is in order.
@@ -329,7 +346,9 @@ impl Engine {
         ensures order { IsGrantInOrder ((whole_of self.now).parcels id.plan signal) }
         ensures there { is_some ((whole_of self.now).parcels id.plan signal) ≡ not ((state_of self.now).marks id.plan signal).awaited }
     {
-        self.plans[id.plan as usize].carried_in_order(signal as usize);
+        self.plans
+            .at(id.plan as usize)
+            .carried_in_order(signal as usize);
     }
 
     /// A stream posts a signal, and gives its parcel up.
@@ -346,7 +365,10 @@ impl Engine {
         ensures left { hold_in (grant_of self.new id) ≡ minus (hold_in (grant_of self.old id)) (parcel_at (state_of self.old) id.plan signal) }
         ensures capacity { capacity_in (grant_of self.new id) ≡ capacity_in (grant_of self.old id) }
     {
-        self.plans[id.plan as usize].post(id.stream as usize, signal as usize);
+        let plan = id.plan as usize;
+        self.plans.swap(plan, &mut self.desk);
+        self.desk.post(id.stream as usize, signal as usize);
+        self.plans.swap(plan, &mut self.desk);
     }
 
     /// A stream takes the parcel of a signal that was posted.
@@ -361,7 +383,10 @@ impl Engine {
         ensures hold { hold_in (grant_of self.new id) ≡ plus (hold_in (grant_of self.old id)) (rights_in ((whole_of self.old).parcels id.plan signal)) }
         ensures capacity { capacity_in (grant_of self.new id) ≡ capacity_in (grant_of self.old id) }
     {
-        self.plans[id.plan as usize].wait(id.stream as usize, signal as usize);
+        let plan = id.plan as usize;
+        self.plans.swap(plan, &mut self.desk);
+        self.desk.wait(id.stream as usize, signal as usize);
+        self.plans.swap(plan, &mut self.desk);
     }
 
     /// A stream makes its end, and gives what it holds back.
@@ -372,7 +397,10 @@ impl Engine {
         requires fits { CanJoin (whole_of self.old).pool (hold_in (grant_of self.old id)) }
         ensures { whole_of self.new ≡ record (with_stream (whole_of self.old) id (record (progress_of (state_of self.old) id) { done = true }) None) { pool = plus (whole_of self.old).pool (rights_in (grant_of self.old id)) } }
     {
-        let grant = self.plans[id.plan as usize].end(id.stream as usize);
+        let plan = id.plan as usize;
+        self.plans.swap(plan, &mut self.desk);
+        let grant = self.desk.end(id.stream as usize);
+        self.plans.swap(plan, &mut self.desk);
         self.pool.give_back(grant);
     }
 
@@ -381,7 +409,11 @@ impl Engine {
         requires begun { is_begun (state_of self.old) id ≡ true }
         ensures { whole_of self.new ≡ record (whole_of self.old) { unfinished = put (whole_of self.old).unfinished id.plan ((whole_of self.old).unfinished id.plan - 1); running = if (whole_of self.old).unfinished id.plan == 1 then (whole_of self.old).running - 1 else (whole_of self.old).running } }
     {
-        if self.plans[id.plan as usize].finish_one() {
+        let plan = id.plan as usize;
+        self.plans.swap(plan, &mut self.desk);
+        let last = self.desk.finish_one();
+        self.plans.swap(plan, &mut self.desk);
+        if last {
             self.running = self.running.saturating_sub(1);
         }
     }
@@ -426,27 +458,20 @@ impl Engine {
         }
     }
 
-    /// A plan is begun, and its streams take what they declare. Where memory is short the plan comes back.
-    pub fn add_plan(&mut self, ready: ReadyPlan) -> Result<Vec<StreamToken>, ReadyPlan>
-        requires { CanFillAll (begun_of ready 0) (whole_of self.old).pool }
-        ensures ok { OnOk result (IsBegunIn (whole_of self.old) ready (whole_of self.new)) }
-        ensures none { IfOk result (λ tokens. tokens.items ≡ []) }
-        ensures room { IfOk result (λ tokens. length ready.plan.streams ≤ vec_capacity tokens) }
-        ensures err { OnErr result (self.new ≡ self.old) }
-        ensures back { IfErr result (λ back. back ≡ ready) }
+    /// A plan is begun, and its streams take what they declare. Takes no memory.
+    pub fn add_plan(&mut self, ready: ReadyPlan) -> Vec<StreamToken>
+        requires fill { CanFillAll (begun_of ready 0) (whole_of self.old).pool }
+        requires few { length (state_of self.old).plans ≤ 4294967295 }
+        ensures begun { IsBegunIn (whole_of self.old) ready (whole_of self.new) }
+        ensures none { result.items ≡ [] }
+        ensures room { length ready.plan.streams ≤ vec_capacity result }
     {
-        match self.plans.reserve(1) {
-            Ok(()) => {}
-            Err(_) => return Err(ready),
-        }
         let _room = self.journal.room();
         let since = self.journal.len() as u32;
-        let (mut begun, tokens) = ready.into_begun(since);
+        let (mut begun, room, tokens) = ready.into_begun(since);
         begun.fill(&mut self.pool);
-        match self.plans.push(begun) {
-            Ok(()) => Ok(tokens),
-            Err(_) => unreachable!(),
-        }
+        self.plans.push(begun, room);
+        tokens
     }
 
     /// What a server answers to a request, which came directly or with the ticket of its pass.
@@ -480,13 +505,15 @@ impl Engine {
             numbers: _,
             next_number: _,
             plans,
+            desk,
             journal: _,
             free: _,
             running: _,
             halted: _,
         } = self;
         let closed = pool.close();
-        close_plans(plans, &closed);
+        plans.close(&closed);
+        desk.close(&closed);
         placement
     }
 
@@ -531,7 +558,7 @@ impl Engine {
         requires { plan < length (state_of self.now).plans }
         ensures { result ≡ engaged_by (state_of self.now) server plan }
     {
-        self.plans[plan as usize].engaged(plan, server)
+        self.plans.at(plan as usize).engaged(plan, server)
     }
 
     /// Whether a server may be restarted now, as its lowest engaging stream is this one.

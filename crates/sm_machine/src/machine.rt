@@ -32,7 +32,7 @@ use crate::engine::Engine;
 use crate::link::Link;
 use crate::opened::{MOST_PLACES, OpenFault, permits_of};
 use crate::permit::{Permit, close_permits};
-use crate::ready_plan::make_ready;
+use crate::ready_plan::{ReadyPlan, make_ready};
 use crate::rooms::Rooms;
 use crate::step::Step;
 use crate::ticket::Ticket;
@@ -136,9 +136,30 @@ impl Machine {
             Ok(ready) => ready,
             Err((checked, _)) => return Err((checked, BeginFault::NoMemory)),
         };
+        match self.start(ready) {
+            Ok(tokens) => Ok(tokens),
+            Err((ready, why)) => Err((ready.back(), why)),
+        }
+    }
+
+    /// A plan starts that is ready and was checked for the machine's configuration: its streams have what they declare, and
+    /// each has a token. Where it does not start, it comes back ready, and nothing changes.
+    ///
+    /// Takes no memory.
+    pub fn start(&mut self, ready: ReadyPlan) -> Result<Vec<StreamToken>, (ReadyPlan, BeginFault)>
+        requires { ready.setup ≡ self.old.placement.setup }
+        ensures answer { OnOk result ((happens (state_of self.old) (happening.Begin ready.plan)).0 ≡ Answered (played.Begun (length (state_of self.old).plans))) }
+        ensures state { OnOk result (state_of self.new ≡ (happens (state_of self.old) (happening.Begin ready.plan)).1) }
+        ensures tokens { IfOk result (λ tokens. AreTokens (length (state_of self.old).plans) (length ready.plan.streams) tokens.items) }
+        ensures fault { IfErr result (λ e. IsNotStarted (state_of self.old) ready.plan e.1) }
+        ensures memory { IfErr result (λ e. e.1 ≢ fault.NoMemory) }
+        ensures unchanged { OnErr result (self.new ≡ self.old) }
+        ensures back { IfErr result (λ e. e.0 ≡ ready) }
+        ensures setup { self.new.placement.setup ≡ self.old.placement.setup }
+    {
         match self.engine.start_by(ready) {
             Ok((_, tokens)) => Ok(tokens),
-            Err((ready, why)) => Err((ready.back(), why)),
+            Err((ready, why)) => Err((ready, why)),
         }
     }
 

@@ -7,6 +7,7 @@ ghost use Rattle.sm_machine.specs.Started.{AreRoomsOf};
 ghost use Rattle.sm_machine.specs.Starts.{IsEmptyCourse, IsEmptyCarried, ready_course, ready_signal, ready_courses, ready_signals, begun_of};
 
 use crate::begun::{Begun, Carried};
+use crate::plan_room::PlanRoom;
 use crate::stream::Course;
 use crate::token::StreamToken;
 use sm_reservation::{Grant, Parcel};
@@ -16,11 +17,12 @@ use std::marker::Model;
 
 /// A checked plan with all the room that its start needs. It can be neither copied nor dropped: a start spends it, or
 /// `back` gives the checked plan back.
-pub(crate) struct ReadyPlan {
+pub struct ReadyPlan {
     checked: Checked,
     courses: Vec<Course>,
     signals: Vec<Carried>,
     tokens: Vec<StreamToken>,
+    room: PlanRoom,
 }
 
 impl Model for ReadyPlan {
@@ -145,40 +147,61 @@ fn make_signals(alloc: Global, checked: &Checked) -> Result<Vec<Carried>, AllocE
     Ok(signals)
 }
 
+/// The streams and the signals of a checked plan, each with room for what it will have.
+fn make_parts(alloc: Global, checked: &Checked) -> Result<(Vec<Course>, Vec<Carried>), AllocError>
+    ensures courses { IfOk result (λ r. r.0.items ≡ ready_courses checked.now) }
+    ensures signals { IfOk result (λ r. r.1.items ≡ ready_signals checked.now) }
+    ensures rooms { OnOk result (AreRoomsOf (sizes_of checked.now.setup) checked.now (length checked.now.plan.streams)) }
+{
+    let courses = make_courses(alloc, checked)?;
+    match make_signals(alloc, checked) {
+        Ok(signals) => Ok((courses, signals)),
+        Err(error) => {
+            discard_courses(courses);
+            Err(error)
+        }
+    }
+}
+
+/// Room for a plan, and for the tokens of so many streams.
+fn make_room(alloc: Global, count: usize) -> Result<(PlanRoom, Vec<StreamToken>), AllocError>
+    ensures none { IfOk result (λ r. r.1.items ≡ []) }
+    ensures room { IfOk result (λ r. count ≤ vec_capacity r.1) }
+{
+    let room = PlanRoom::new(alloc)?;
+    match Vec::with_capacity(alloc, count) {
+        Ok(tokens) => Ok((room, tokens)),
+        Err(error) => {
+            room.discard();
+            Err(error)
+        }
+    }
+}
+
 /// Takes all memory that the start of a checked plan needs. Where memory is short the checked plan comes back.
-pub(crate) fn make_ready(
-    alloc: Global,
-    checked: Checked,
-) -> Result<ReadyPlan, (Checked, AllocError)>
+pub fn make_ready(alloc: Global, checked: Checked) -> Result<ReadyPlan, (Checked, AllocError)>
     ensures ready { IfOk result (λ ready. ready ≡ checked) }
     ensures back { IfErr result (λ e. e.0 ≡ checked) }
 {
     let count = checked.plan().streams().len();
-    let tokens = match Vec::with_capacity(alloc, count) {
-        Ok(tokens) => tokens,
+    let (room, tokens) = match make_room(alloc, count) {
+        Ok(made) => made,
         Err(error) => return Err((checked, error)),
     };
-    let courses = match make_courses(alloc, &checked) {
-        Ok(courses) => courses,
+    match make_parts(alloc, &checked) {
+        Ok((courses, signals)) => Ok(ReadyPlan {
+            checked,
+            courses,
+            signals,
+            tokens,
+            room,
+        }),
         Err(error) => {
             tokens.destroy_empty();
-            return Err((checked, error));
+            room.discard();
+            Err((checked, error))
         }
-    };
-    let signals = match make_signals(alloc, &checked) {
-        Ok(signals) => signals,
-        Err(error) => {
-            tokens.destroy_empty();
-            discard_courses(courses);
-            return Err((checked, error));
-        }
-    };
-    Ok(ReadyPlan {
-        checked,
-        courses,
-        signals,
-        tokens,
-    })
+    }
 }
 
 impl ReadyPlan {
@@ -190,7 +213,7 @@ impl ReadyPlan {
         &self.checked
     }
 
-    /// The checked plan, whose room is given up.
+    /// The checked plan, whose room is given up. Takes no memory.
     pub fn back(self) -> Checked
         ensures { result ≡ self }
     {
@@ -199,26 +222,31 @@ impl ReadyPlan {
             courses,
             signals,
             tokens,
+            room,
         } = self;
         discard_courses(courses);
         discard_signals(signals);
         tokens.destroy_empty();
+        room.discard();
         checked
     }
 
-    /// The plan as it is begun, before its streams have what they declare, and room for their tokens. Takes no memory.
-    pub fn into_begun(self, since: u32) -> (Begun, Vec<StreamToken>)
+    /// The plan as it is begun, before its streams have what they declare, with its room and with room for their tokens. Takes
+    /// no memory.
+    pub(crate) fn into_begun(self, since: u32) -> (Begun, PlanRoom, Vec<StreamToken>)
         ensures begun { result.0 ≡ begun_of self since }
-        ensures none { result.1.items ≡ [] }
-        ensures room { length self.plan.streams ≤ vec_capacity result.1 }
+        ensures none { result.2.items ≡ [] }
+        ensures room { length self.plan.streams ≤ vec_capacity result.2 }
     {
         let ReadyPlan {
             checked,
             courses,
             signals,
             tokens,
+            room,
         } = self;
         let plan = checked.into_plan();
-        (Begun::new(plan, since, courses, signals), tokens)
+        let begun = Begun::new(plan, since, courses, signals);
+        (begun, room, tokens)
     }
 }

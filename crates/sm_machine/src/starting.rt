@@ -69,7 +69,7 @@ impl Engine {
         }
     }
 
-    /// A plan starts that was checked for the machine's configuration. Where it does not, it comes back.
+    /// A plan starts that was checked for the machine's configuration. Where it does not, it comes back. Takes no memory.
     pub fn start_by(
         &mut self,
         ready: ReadyPlan,
@@ -80,7 +80,8 @@ impl Engine {
         ensures tokens { IfOk result (λ r. AreTokens r.0 (length ready.plan.streams) r.1.items) }
         ensures unchanged { OnErr result (self.new ≡ self.old) }
         ensures back { IfErr result (λ e. e.0 ≡ ready) }
-        ensures fault { IfErr result (λ e. e.1 ≢ fault.NoMemory → IsNotStarted (state_of self.old) ready.plan e.1) }
+        ensures fault { IfErr result (λ e. IsNotStarted (state_of self.old) ready.plan e.1) }
+        ensures memory { IfErr result (λ e. e.1 ≢ fault.NoMemory) }
     {
         let checked = ready.checked();
         let places = places_of(checked.plan());
@@ -90,14 +91,9 @@ impl Engine {
         }
         let plan = self.plan_count() as u32;
         let free = self.free() - places;
-        match self.add_plan(ready) {
-            Ok(list) => {
-                let mut tokens = list;
-                fill_tokens(&mut tokens, plan, streams);
-                self.count_start(free, streams);
-                Ok((plan, tokens))
-            }
-            Err(ready) => Err((ready, BeginFault::NoMemory)),
-        }
+        let mut tokens = self.add_plan(ready);
+        fill_tokens(&mut tokens, plan, streams);
+        self.count_start(free, streams);
+        Ok((plan, tokens))
     }
 }

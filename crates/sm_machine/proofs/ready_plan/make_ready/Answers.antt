@@ -1,6 +1,0 @@
-use Rattle.std.proofs.Common.{slice_index, length}
-use Rattle.sm_machine.proofs.Readied.{courses_empty}
-use Rattle.sm_machine.proofs.ready_plan.make_ready.Goals as goal
-
-pub discard_courses-requires : goal.discard_courses-requires
-discard_courses-requires c = courses_empty _ (λ i. slice_index c.args.checked.peaks i) (length c.args.checked.plan.streams) c.in-Ok-make_courses.ensures.courses

@@ -1,0 +1,16 @@
+-- Each tree below a plan has fewer plans than all have.
+use Rattle.std.specs.Prelude.{◌≡◌, ◌≤◌, ◌+◌, max, List, [], ◌∷◌, length}
+use Rattle.std.proofs.Common.{arith}
+use Rattle.sm_machine.specs.declared.plan_tree.Node.{Node}
+use Rattle.sm_machine.specs.declared.plan_tree.Node.TheVariants.{Empty, Fork}
+use Rattle.sm_machine.specs.declared.plan_tree.PlanTree.TheDeep.{deep-Node}
+use Rattle.sm_machine.specs.Plans.{in_turn, plans_in}
+
+pub length-in_turn : {X : Type 0} → (xs ys : List X) → length (in_turn xs ys) ≡ length xs + length ys
+length-in_turn [] ys = omega arith
+length-in_turn (x ∷ xs) [] = omega arith
+length-in_turn (x ∷ xs) (y ∷ ys) = omega (arith, length-in_turn xs ys)
+
+pub depth_le-length-plans : (n : Node) → max (deep-Node n) 0 ≤ length (plans_in n)
+depth_le-length-plans Empty = omega arith
+depth_le-length-plans (Fork plan odd even) = omega (arith, length-in_turn odd.value even.value)
