@@ -1,19 +1,19 @@
 -- What each event records and publishes.
-use Rattle.std.proofs.Common.{◌≡◌, ◌⊎◌, ◌<◌, ℕ, suc, ◌+◌, Bool, true, false, refl, sym, ap, ◌∙◌, inl, inr, subst, arith, Option, Some, None, Result, Ok, Err, List, [], ◌∷◌, ◌++◌, length}
+use Rattle.std.proofs.Common.{◌≡◌, ◌⊎◌, ◌<◌, ℕ, suc, ◌+◌, Bool, true, false, refl, sym, ap, inl, inr, Option, Some, None, Result, Ok, Err, [], ◌∷◌, ◌++◌, length}
 use Rattle.std.specs.Prelude.{◌==◌, if◌then◌else◌}
 use Rattle.sm_server.specs.declared.call.Refusal.{Refusal}
 use Rattle.sm_server.specs.declared.call.Served.{Served}
 use Rattle.sm_server.specs.declared.call.Call.{Call}
 use Rattle.sm_placement.specs.Sums.{put, bit}
-use Rattle.sm_placement.specs.Setup.{Sizes, Setup, sizes_of}
-use Rattle.sm_placement.specs.Place.{Place, CallEffect, called_numbered, numbered_answer_at, entry_at}
+use Rattle.sm_placement.specs.Setup.{Sizes}
+use Rattle.sm_placement.specs.Place.{Place, CallEffect, called_numbered, numbered_answer_at, set_down}
 use Rattle.sm_placement.proofs.Sums.{put-here}
 use Rattle.sm_reservation.specs.Pool.{leads_of}
 use Rattle.sm_reservation.specs.declared.stream_id.StreamId.{StreamId}
 use Rattle.sm_plan_code.specs.declared.call.ServerCall.{ServerCall}
 use Rattle.sm_plan_code.specs.declared.instruction.Instr.{Instr}
 use Rattle.sm_plan_code.specs.declared.instruction.Instr.TheVariants.{PrepareAdd, PrepareDrop, Add, Drop, Change, Publish, Unlist, Signal, Wait}
-use Rattle.sm_plan_code.specs.Instr.{is_call, shard_of}
+use Rattle.sm_plan_code.specs.Instr.{shard_of}
 use Rattle.sm_plan_code.specs.After.{to_list}
 use Rattle.sm_protocol.specs.declared.event.Event.{Event}
 use Rattle.sm_protocol.specs.declared.event.Event.TheVariants as event
@@ -22,14 +22,17 @@ use Rattle.sm_protocol.specs.declared.event.Passage.TheVariants.{Through, LostBe
 use Rattle.sm_protocol.specs.declared.event.Played.{Played}
 use Rattle.sm_protocol.specs.declared.event.Played.TheVariants as played
 use Rattle.sm_protocol.specs.declared.event.Logged.{Logged}
-use Rattle.sm_protocol.specs.State.{State, progress_of, is_begun, next_instruction, allowance, logged, recorded, free_places}
-use Rattle.sm_protocol.specs.Steps.{Outcome, Refused, Answered, unchanged, call_to_make, call_number, behind_call, ahead_of_call, served_try, call_lost, tried, call_tried, entry_added, posted, ended, made, step}
+use Rattle.sm_protocol.specs.State.{State, progress_of, is_begun, next_instruction, allowance, logged, recorded, free_places, pool}
+use Rattle.sm_protocol.specs.Steps.{Outcome, Refused, Answered, unchanged, call_number, tried, call_tried, entry_added, posted, made, step}
 use Rattle.sm_protocol.specs.Ticket.{Ticket, is_open_ticket}
-use Rattle.sm_protocol.specs.Happens.{Arrive, PassOn, happens, requested, answer_by}
+use Rattle.sm_protocol.specs.Happens.{Arrive, PassOn, Approve, Done, Refill, happens, requested, answer_by, approved, engaged, refilled, refill_fault}
+use Rattle.sm_task_controller.specs.declared.decision.Denied.{Denied}
+use Rattle.sm_task_controller.specs.Decision.{denial}
+use Rattle.sm_protocol.specs.declared.event.RefillFault.{RefillFault}
 use Rattle.sm_machine.specs.declared.answer.Answer.{Answer}
 use Rattle.sm_machine.specs.declared.answer.Answer.TheVariants as said
 use Rattle.sm_machine.specs.Requested.{played_by}
-use Rattle.sm_protocol.proofs.Cases.{IsBefore, IsTry, answer_to, parcel_taken}
+use Rattle.sm_protocol.proofs.Cases.{IsBefore, answer_to, parcel_taken}
 use Rattle.sm_executor.specs.Counting.{is_step, is_executed, is_refused, executes, refuses, Counts}
 use Rattle.sm_executor.specs.Tied.{IsQuiet, Publishes}
 
@@ -213,3 +216,39 @@ refuses_is said.NotOwner = refl
 refuses_is said.Unavailable = refl
 refuses_is (said.LogFull back) = refl
 refuses_is (said.Unknown back) = refl
+
+-- ---- restarts and refills
+
+-- what was recorded is neither a step nor a request
+pub record IsPlain (old new : State) : Type 0 where
+  pub line : Logged
+  pub log : new.log ≡ old.log ++ line ∷ []
+  pub step : is_step line.event ≡ false
+  pub executed : is_executed line.answer ≡ false
+  pub refused : is_refused line.answer ≡ false
+  pub quiet : IsQuiet old new
+
+-- nothing has changed, or what was recorded is not counted
+abbrev pub Uncounted : State → State → Type 0
+Uncounted old new = (new ≡ old) ⊎ IsPlain old new
+
+pub approved_made : (w : State) (v : ℕ) → Uncounted w (happens w (Approve v)).1
+approved_made w v = go (denial w.sizes w.place (pool w) (engaged w v) (free_places w) v)
+  where
+    go : (o : Option Denied) → Uncounted w (approved w v o).1
+    go (Some why) = inl refl
+    go None = inr (record { line = record { event = event.Approve v; answer = played.Approved }; log = refl; step = refl; executed = refl; refused = refl; quiet = record { sizes = refl; entries = refl; listed = refl; version = refl } })
+
+pub restarted_made : (w : State) (v : ℕ) → Uncounted w (happens w (Done v)).1
+restarted_made w v = go (w.place.down v)
+  where
+    go : (b : Bool) → Uncounted w (if b then (Answered played.Up, record w { place = set_down w.place v false; log = logged w (event.Done v) played.Up }) else unchanged w played.Unknown).1
+    go false = inl refl
+    go true = inr (record { line = record { event = event.Done v; answer = played.Up }; log = refl; step = refl; executed = refl; refused = refl; quiet = record { sizes = refl; entries = refl; listed = refl; version = refl } })
+
+pub refilled_made : (w : State) (id : StreamId) (more : ℕ) → Uncounted w (happens w (Refill id more)).1
+refilled_made w id more = go (refill_fault w id more)
+  where
+    go : (o : Option RefillFault) → Uncounted w (refilled w id more o).1
+    go (Some why) = inl refl
+    go None = inr (record { line = record { event = event.Refill id more; answer = played.Refilled }; log = refl; step = refl; executed = refl; refused = refl; quiet = record { sizes = refl; entries = refl; listed = refl; version = refl } })

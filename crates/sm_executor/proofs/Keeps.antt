@@ -1,25 +1,24 @@
 -- The words stay tied to the machine, and the books are its counts.
-use Rattle.std.proofs.Common.{◌≡◌, ◌≢◌, ◌⊎◌, ◌<◌, ℕ, zero, suc, ◌+◌, ◌-◌, ◌≤◌, Bool, true, false, refl, sym, ap, ◌∙◌, inl, inr, subst, arith, cond, List, [], ◌∷◌, ◌++◌, length, Some, get_or, length-append}
+use Rattle.std.proofs.Common.{◌≡◌, ◌≢◌, ◌<◌, ℕ, suc, ◌+◌, ◌-◌, ◌≤◌, Bool, true, false, refl, sym, ap, ◌∙◌, inl, inr, subst, arith, cond, List, [], ◌∷◌, ◌++◌, length, Option, Some, get_or, length-append}
 use Rattle.std.specs.Prelude.{count_by, reverse, IsSomeAnd}
 use Rattle.std.proofs.lemmas.List.{append_assoc, append-nil, length-reverse, reverse-reverse, reverse-append}
 use Rattle.std.proofs.Math.Seq.{get_or-append_seam}
 use Rattle.std.proofs.lemmas.List.Sums.{sum_by-append}
 use Rattle.sm_placement.specs.declared.entry.Entry.{Entry}
-use Rattle.sm_placement.specs.Sums.{put, bit}
+use Rattle.sm_placement.specs.Sums.{bit}
 use Rattle.sm_placement.specs.Place.{entry_at}
 use Rattle.sm_placement.proofs.Sums.{put-here, put-apart}
 use Rattle.sm_map.specs.Entry.{IsInRange}
-use Rattle.sm_map.specs.History.{newest, entries_of_shard, Follows}
+use Rattle.sm_map.specs.History.{newest, Follows}
 use Rattle.sm_map.specs.Models.{WordsModel, PublisherModel, history}
 use Rattle.sm_map.proofs.Histories.{after_store}
-use Rattle.sm_protocol.specs.declared.event.Event.{Event}
 use Rattle.sm_protocol.specs.declared.event.Played.{Played}
 use Rattle.sm_protocol.specs.declared.event.Logged.{Logged}
 use Rattle.sm_protocol.specs.State.{State}
-use Rattle.sm_protocol.specs.Steps.{Outcome, Refused, Answered}
+use Rattle.sm_protocol.specs.Steps.{Answered}
 use Rattle.sm_executor.specs.Counting.{is_step, is_executed, is_refused, IsCounted, Counts}
 use Rattle.sm_executor.specs.Tied.{IsTied, IsQuiet, Publishes, IsBehind}
-use Rattle.sm_executor.proofs.Effects.{Asked, IsUnnoted, IsNoted, Made, IsIdle, IsRecorded}
+use Rattle.sm_executor.proofs.Effects.{Asked, Made, Uncounted}
 
 -- ---- the books
 
@@ -167,3 +166,29 @@ stepped words opened old new p a b c answer (inr x) t k =
       counts = λ n. let z : n + 1 ≡ n + more_of old new = omega arith in subst (Counts answer n) z (x.counts n);
       behind = λ r. record { before = old; tied = t; in_range = r; event = x.map };
     }
+
+-- what is not counted leaves the words tied and the books as they are
+pub plain_kept : (words : WordsModel) (opened old new : State) (p : PublisherModel) (a b c : ℕ) → Uncounted old new → IsTied words opened old p → IsCounted opened old a b c → IsKept words opened new p a b c
+plain_kept words opened old new p a b c (inl e) t k = record {
+  tied = subst (λ w. IsTied words opened w p) (sym e) t;
+  counted = counted_same opened old new a b c (ap (λ (w : State). w.log) e) k;
+}
+plain_kept words opened old new p a b c (inr x) t k = record {
+  tied = tied_quiet words opened old new p x.quiet t;
+  counted =
+      let y = counted_more opened old new x.line a b c x.log k in
+      let e : a + bit (is_step x.line.event) ≡ a = ap (λ z. a + bit z) x.step ∙ (omega arith) in
+      let f : b + bit (is_executed x.line.answer) ≡ b = ap (λ z. b + bit z) x.executed ∙ (omega arith) in
+      let g : c + bit (is_refused x.line.answer) ≡ c = ap (λ z. c + bit z) x.refused ∙ (omega arith) in
+      subst (λ n. IsCounted opened new n b c) e (subst (λ n. IsCounted opened new (a + bit (is_step x.line.event)) n c) f (subst (IsCounted opened new (a + bit (is_step x.line.event)) (b + bit (is_executed x.line.answer))) g y));
+}
+
+-- and so does the halt flag
+pub flag_kept : (words : WordsModel) (opened old new : State) (p : PublisherModel) (a b c : ℕ) (flag : Bool) → new ≡ record old { halted = flag } → IsTied words opened old p → IsCounted opened old a b c → IsKept words opened new p a b c
+flag_kept words opened old new p a b c flag e t k = record {
+  tied = tied_quiet words opened old new p (record { sizes = ap (λ (w : State). w.sizes) e; entries = ap (λ (w : State). w.entries) e; listed = ap (λ (w : State). w.place.listed) e; version = ap (λ (w : State). w.place.version) e }) t;
+  counted = counted_same opened old new a b c (ap (λ (w : State). w.log) e) k;
+}
+
+pub some_is : {X : Type 0} (x y : X) (o : Option X) → o ≡ Some x → o ≡ Some y → x ≡ y
+some_is x y o e f = let g : Some x ≡ Some y = sym e ∙ f in cc

@@ -1,6 +1,5 @@
 -- The name of a board: what it was opened with. And a name of none.
-use Rattle.std.specs.Prelude.{ℕ, [], false, None}
-use Rattle.atomic_table.specs.Seated.{TableId}
+use Rattle.std.specs.Prelude.{[], false, None}
 use Rattle.sm_server.specs.declared.call.Cell.TheVariants.{Absent}
 use Rattle.sm_placement.specs.Setup.{Setup, sizes_of}
 use Rattle.sm_placement.specs.Place.{Place}

@@ -1,9 +1,10 @@
 -- How the words of the published map stand to the machine behind the lock.
-use Rattle.std.specs.Prelude.{◌≡◌, ◌⊎◌, ◌++◌, ◌∷◌, ◌<◌, ℕ, suc, Some, length}
+use Rattle.std.specs.Prelude.{List, ◌≡◌, ◌⊎◌, ◌++◌, ◌∷◌, ◌<◌, ℕ, suc, Some, length}
 use Rattle.sm_placement.specs.Sums.{put}
 use Rattle.sm_placement.specs.Place.{entry_at}
 use Rattle.sm_map.specs.Entry.{IsInRange}
-use Rattle.sm_map.specs.History.{newest}
+use Rattle.sm_placement.specs.declared.entry.Entry.{Entry}
+use Rattle.sm_map.specs.History.{AllStand, newest}
 use Rattle.sm_map.specs.Models.{WordsModel, PublisherModel, history}
 use Rattle.sm_protocol.specs.State.{State}
 
@@ -37,3 +38,9 @@ pub record IsBehind (words : WordsModel) (opened now : State) (publisher : Publi
   pub tied : IsTied words opened before publisher
   pub in_range : (s : ℕ) → s < now.sizes.shards → IsInRange now.sizes.servers (entry_at now.place s)
   pub event : IsQuiet before now ⊎ ((shard : ℕ) × Publishes before now shard)
+
+-- Each entry that was seen is one with which the words were opened, or one that the machine has published since.
+pub record HasStood (words : WordsModel) (opened now : State) (seen : List (ℕ × Entry)) : Type 0 where
+  pub since : List (ℕ × Entry)
+  pub published : now.entries ≡ since ++ opened.entries
+  pub stand : AllStand words.opening since seen

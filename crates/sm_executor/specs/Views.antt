@@ -1,5 +1,5 @@
 -- What contracts see of what lies behind the lock, of a runner, of an end and of a caller.
-use Rattle.std.specs.Prelude.{ℕ, ◌+◌, ◌-◌, List, length}
+use Rattle.std.specs.Prelude.{ℕ, ◌-◌, List, length}
 use Rattle.sm_placement.specs.declared.entry.Entry.{Entry}
 use Rattle.sm_reservation.specs.declared.stream_id.StreamId.{StreamId}
 use Rattle.sm_protocol.specs.State.{State}

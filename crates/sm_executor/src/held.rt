@@ -2,18 +2,19 @@
 //!
 //! Each method is one event at most, and changes the machine just as the machine's own call does. The books rise with the log,
 //! and what a step publishes is stored in the words before the method returns.
-ghost use Rattle.std.specs.Prelude.{◌≡◌, ◌<◌, ◌≤◌, ◌+◌, ◌^◌, ◌++◌, ◌∷◌, [], length, IfOk, IfErr, IfSome, IfNone};
+ghost use Rattle.std.specs.Prelude.{◌≡◌, ◌<◌, ◌≤◌, ◌+◌, ◌^◌, ◌++◌, ◌∷◌, [], length, IfOk, IfErr, IfSome, IfNone, true, false};
 ghost use Rattle.sm_placement.specs.Place.{entry_at};
-ghost use Rattle.sm_map.specs.Entry.{IsInRange};
-ghost use Rattle.sm_map.specs.History.{AllStand, NoneNewer};
+ghost use Rattle.sm_map.specs.History.{NoneNewer};
 ghost use Rattle.sm_protocol.specs.Steps.{Answered};
 ghost use Rattle.sm_protocol.specs.Happens as happening;
 ghost use Rattle.sm_protocol.specs.Happens.{happens};
 ghost use Rattle.sm_machine.specs.State.{state_of};
 ghost use Rattle.sm_machine.specs.Played.{played_of};
 ghost use Rattle.sm_machine.specs.Requested.{played_by};
+ghost use Rattle.sm_machine.specs.Restarted.{approval_of, restart_of};
+ghost use Rattle.sm_machine.specs.Losses.{refill_answer};
 ghost use Rattle.sm_executor.specs.Counting.{Counts, executes, refuses};
-ghost use Rattle.sm_executor.specs.Tied.{IsTied, IsBehind};
+ghost use Rattle.sm_executor.specs.Tied.{IsTied, IsBehind, HasStood};
 ghost use Rattle.sm_executor.specs.Views.{holding, state_in, running, recorded_more, calling};
 
 use crate::caller::Caller;
@@ -21,6 +22,7 @@ use crate::names::{Naming, Side};
 use crate::runner::Runner;
 use sm_machine::{Answer, Machine, Permit, Step, Ticket};
 use sm_map::{Entry, Publisher, Words};
+use sm_protocol::RefillFault;
 use sm_server::{ServerId, ShardId};
 use sm_task_controller::Denied;
 use std::marker::{Model, PhantomData};
@@ -197,5 +199,115 @@ impl<A: Side, B: Side, C: Side, N: Naming> Held<A, B, C, N> {
         let answer = self.machine.pass_on(ticket);
         count_answer(&mut self.executed, &mut self.refused, caller, &answer);
         answer
+    }
+
+    /// A new caller, which has seen nothing. None where the board has given out 4,096.
+    ///
+    /// Takes no memory.
+    pub fn caller(&mut self, words: &Words) -> Option<Caller<B, C, N>>
+        requires { words.now ≡ N.words }
+        ensures some { IfSome result (λ caller. (caller ≡ calling [] 0 0) × (self.new ≡ holding self.old.machine self.old.runners (self.old.callers + 1))) }
+        ensures none { IfNone result ((self.new ≡ self.old) × (self.old.callers ≡ 4096)) }
+    {
+        if self.callers >= MOST_CALLERS {
+            return None;
+        }
+        let pass = words.pass(&mut self.publisher);
+        let executed = self.free_executed.split_off(1, 0);
+        let refused = self.free_refused.split_off(1, 0);
+        self.callers += 1;
+        Some(Caller {
+            pass,
+            executed,
+            refused,
+            of: PhantomData,
+        })
+    }
+
+    /// The machine's entry of a shard, which the caller has then seen. Each entry that the caller had seen is one of those with which
+    /// the board was opened, or one that the machine has published since.
+    pub fn look_held(
+        &mut self,
+        words: &Words,
+        caller: &mut Caller<B, C, N>,
+        shard: ShardId,
+    ) -> Entry
+        requires words { words.now ≡ N.words }
+        requires shard { shard < length N.words.opening }
+        ensures entry { result ≡ entry_at (state_in self.old).place shard }
+        ensures same { self.new ≡ self.old }
+        ensures stood { HasStood N.words N.opened (state_in self.old) caller.old.seen }
+        ensures seen { caller.new ≡ calling ((shard, result) ∷ caller.old.seen) caller.old.executed caller.old.refused }
+        ensures not_older { NoneNewer caller.old.seen shard result }
+    {
+        words.meet_in(&mut self.publisher, &mut caller.pass, shard)
+    }
+
+    /// The cluster manager asks whether a server may be restarted, as it asks the machine.
+    pub fn approve(&mut self, server: ServerId) -> Result<Permit, Denied>
+        requires { server < N.words.servers }
+        ensures answer { (happens (state_in self.old) (happening.Approve server)).0 ≡ Answered (approval_of result) }
+        ensures state { state_in self.new ≡ (happens (state_in self.old) (happening.Approve server)).1 }
+        ensures others { self.new ≡ holding self.new.machine self.old.runners self.old.callers }
+        ensures permit { IfOk result (λ permit. permit ≡ server) }
+    {
+        self.machine.approve(server)
+    }
+
+    /// A restart has ended, as the machine has it. Where the permit's server was not down, the permit comes back.
+    pub fn done(&mut self, permit: Permit) -> Result<(), Permit>
+        ensures answer { (happens (state_in self.old) (happening.Done permit)).0 ≡ Answered (restart_of result) }
+        ensures state { state_in self.new ≡ (happens (state_in self.old) (happening.Done permit)).1 }
+        ensures others { self.new ≡ holding self.new.machine self.old.runners self.old.callers }
+        ensures back { IfErr result (λ p. p ≡ permit) }
+    {
+        self.machine.done(permit)
+    }
+
+    /// The allowance of a runner's stream is raised, as the machine raises it.
+    pub fn refill(&mut self, runner: &mut Runner<A>, more: u32) -> Result<(), RefillFault>
+        requires { more ≤ 262144 }
+        ensures answer { (happens (state_in self.old) (happening.Refill runner.old.stream more)).0 ≡ Answered (refill_answer result) }
+        ensures state { state_in self.new ≡ (happens (state_in self.old) (happening.Refill runner.old.stream more)).1 }
+        ensures others { self.new ≡ holding self.new.machine self.old.runners self.old.callers }
+        ensures runner { runner.new ≡ runner.old }
+    {
+        self.machine.refill(&mut runner.token, more)
+    }
+
+    /// Streams stop: their steps are answered Halted.
+    pub fn halt(&mut self)
+        ensures state { state_in self.new ≡ record (state_in self.old) { halted = true } }
+        ensures others { self.new ≡ holding self.new.machine self.old.runners self.old.callers }
+    {
+        self.machine.halt();
+    }
+
+    /// Streams go on.
+    pub fn resume(&mut self)
+        ensures state { state_in self.new ≡ record (state_in self.old) { halted = false } }
+        ensures others { self.new ≡ holding self.new.machine self.old.runners self.old.callers }
+    {
+        self.machine.resume();
+    }
+
+    /// Ends with its board.
+    pub fn give_up(self) -> Machine
+        ensures { result ≡ self.machine }
+    {
+        let Held {
+            machine,
+            publisher: _,
+            steps: _,
+            executed: _,
+            refused: _,
+            free_steps: _,
+            free_executed: _,
+            free_refused: _,
+            runners: _,
+            callers: _,
+            of: _,
+        } = self;
+        machine
     }
 }

@@ -1,5 +1,5 @@
 -- A request.
-use Rattle.std.proofs.Common.{◌≡◌, ◌+◌, ap, sym, subst, ◌∙◌}
+use Rattle.std.proofs.Common.{◌+◌, ap, sym, subst, ◌∙◌}
 use Rattle.sm_machine.specs.State.{state_of}
 use Rattle.sm_protocol.specs.Steps.{Answered}
 use Rattle.sm_protocol.specs.Happens.{Arrive, happens}

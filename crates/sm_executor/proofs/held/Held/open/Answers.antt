@@ -1,5 +1,5 @@
 -- A new board.
-use Rattle.std.proofs.Common.{◌≡◌, ◌+◌, sym, subst, ◌∙◌, arith}
+use Rattle.std.proofs.Common.{sym, subst, arith}
 use Rattle.sm_protocol.specs.State.{State}
 use Rattle.sm_executor.specs.Counting.{IsCounted}
 use Rattle.sm_executor.specs.Tied.{IsTied}

@@ -1,5 +1,5 @@
 -- A stream's step.
-use Rattle.std.proofs.Common.{◌≡◌, ◌≤◌, ◌+◌, ◌-◌, ap, sym, subst, ◌∙◌, length, arith}
+use Rattle.std.proofs.Common.{◌≡◌, ◌≤◌, ◌+◌, ◌-◌, ap, sym, subst, ◌∙◌, length}
 use Rattle.sm_protocol.specs.declared.event.Passage.TheVariants.{Through}
 use Rattle.sm_protocol.specs.Steps.{Answered, step}
 use Rattle.sm_machine.specs.State.{state_of}
