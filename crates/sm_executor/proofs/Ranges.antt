@@ -24,3 +24,8 @@ in_range setup w r s l = (known (w.place.listed s) refl, (numbers_stay_small set
 -- an instruction that a stream makes is of a known shard
 pub known_shard : (setup : Setup) (w : State) → IsReached setup w → (id : StreamId) (i : Instr) (s : ℕ) → IsBefore w id (Some i) → shard_of i ≡ Some s → s < w.sizes.shards
 known_shard setup w r id i s b e = subst (λ o. IfSome o (λ s. s < w.sizes.shards)) e (can_reach w (kept setup w r) id i b).shard
+
+-- an entry in range lists a known server
+pub known_server : (count : ℕ) (o : Option ℕ) → IsKnownServer count o → IfSome o (λ s. s < count)
+known_server count None k = tt
+known_server count (Some s) k = k

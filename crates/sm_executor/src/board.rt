@@ -1,0 +1,190 @@
+//! The board: a machine behind a lock, beside the map that is read without it.
+//!
+//! Each method takes the lock, makes one call of what lies behind it, and lets go. A contract can't name what lies behind a lock, so it
+//! tells what the call does to the runner or the caller; what it does to the machine stands on the call that it makes.
+ghost use Rattle.std.specs.Prelude.{◌≡◌, ◌<◌, ◌≤◌, ◌+◌, ◌∷◌, [], length, IfOk, IfErr, IfSome, true, false};
+ghost use Rattle.sm_placement.specs.Place.{entry_at};
+ghost use Rattle.sm_map.specs.Entry.{IsInRange};
+ghost use Rattle.sm_map.specs.History.{NoneNewer};
+ghost use Rattle.sm_protocol.specs.Steps.{Answered};
+ghost use Rattle.sm_protocol.specs.Happens as happening;
+ghost use Rattle.sm_protocol.specs.Happens.{happens};
+ghost use Rattle.sm_machine.specs.Played.{played_of};
+ghost use Rattle.sm_machine.specs.Restarted.{approval_of, restart_of};
+ghost use Rattle.sm_machine.specs.Losses.{refill_answer};
+ghost use Rattle.sm_executor.specs.Counting.{Counts, executes, refuses};
+ghost use Rattle.sm_executor.specs.Tied.{HasStood};
+ghost use Rattle.sm_executor.specs.Views.{holding, state_in, calling};
+
+use crate::caller::Caller;
+use crate::held::Held;
+use crate::names::{Naming, Side};
+use crate::runner::Runner;
+use sm_machine::{Answer, Machine, Permit, Step, Ticket};
+use sm_map::{Entry, Words};
+use sm_protocol::RefillFault;
+use sm_server::{ServerId, ShardId};
+use sm_task_controller::Denied;
+use std::marker::Model;
+use std::sync::{Condvar, Mutex, MutexGuard, Wait};
+
+/// A machine that threads share.
+pub struct Board<A: Side, B: Side, C: Side, N: Naming> {
+    held: Mutex<Held<A, B, C, N>>,
+    moved: Condvar,
+    words: Words,
+    ghost named: { words ≡ N.words },
+}
+
+/// The locked machine. A contract sees what lies behind the lock.
+#[derive(Drop)]
+pub struct Guard<'b, A: Side, B: Side, C: Side, N: Naming> {
+    held: MutexGuard<'b, Held<A, B, C, N>>,
+}
+
+impl<'b, A: Side, B: Side, C: Side, N: Naming> Model for Guard<'b, A, B, C, N> {
+    ghost use Rattle.std.specs.Sync.Mutex.{mutex_guard_value};
+    ghost use Rattle.sm_executor.specs.Views.{Holding};
+
+    ghost Value = { Holding };
+
+    ghost view = { λ g. mutex_guard_value g.held };
+}
+
+impl<A: Side, B: Side, C: Side, N: Naming> Board<A, B, C, N> {
+    /// A board over what is to lie behind its lock, beside the words.
+    pub(crate) fn of(held: Held<A, B, C, N>, words: Words) -> Board<A, B, C, N>
+        requires { words ≡ N.words }
+    {
+        Board {
+            held: Mutex::new(held),
+            moved: Condvar::new(),
+            words,
+        }
+    }
+
+    /// A new caller, which has seen nothing. None where the board has given out 4,096.
+    pub fn caller<R: Wait>(&self, rt: &R) -> Option<Caller<B, C, N>>
+        ensures { IfSome result (λ caller. caller ≡ calling [] 0 0) }
+    {
+        self.held.lock(rt).caller(&self.words)
+    }
+
+    /// The runner's next step.
+    pub fn step<R: Wait>(&self, rt: &R, runner: &mut Runner<A>) -> Step
+        ensures stream { runner.new.stream ≡ runner.old.stream }
+        ensures counts { Counts (played_of result) runner.old.steps runner.new.steps }
+    {
+        let step = self.held.lock(rt).step(&self.words, runner);
+        self.moved.notify_all();
+        step
+    }
+
+    /// Streams stop, and those that wait are woken: their steps are answered Halted.
+    pub fn halt<R: Wait>(&self, rt: &R) {
+        self.held.lock(rt).halt();
+        self.moved.notify_all();
+    }
+
+    /// Streams go on.
+    pub fn resume<R: Wait>(&self, rt: &R) {
+        self.held.lock(rt).resume();
+        self.moved.notify_all();
+    }
+
+    /// The map's entry of a shard, by one load of its word and without the lock.
+    pub fn look(&self, caller: &mut Caller<B, C, N>, shard: ShardId) -> Entry
+        requires { shard < length N.words.opening }
+        ensures seen { caller.new ≡ calling ((shard, result) ∷ caller.old.seen) caller.old.executed caller.old.refused }
+        ensures not_older { NoneNewer caller.old.seen shard result }
+        ensures in_range { IsInRange N.words.servers result }
+    {
+        caller.look(&self.words, shard)
+    }
+
+    /// A request for a shard comes to a server.
+    pub fn arrive<R: Wait>(
+        &self,
+        rt: &R,
+        caller: &mut Caller<B, C, N>,
+        shard: ShardId,
+        server: ServerId,
+    ) -> Answer
+        requires shard { shard < length N.words.opening }
+        requires server { server < N.words.servers }
+        ensures { caller.new ≡ calling caller.old.seen (caller.old.executed + executes result) (caller.old.refused + refuses result) }
+    {
+        self.held.lock(rt).arrive(caller, shard, server)
+    }
+
+    /// A request that was passed on comes to the server that it was passed to.
+    pub fn pass_on<R: Wait>(&self, rt: &R, caller: &mut Caller<B, C, N>, ticket: Ticket) -> Answer
+        ensures { caller.new ≡ calling caller.old.seen (caller.old.executed + executes result) (caller.old.refused + refuses result) }
+    {
+        self.held.lock(rt).pass_on(caller, ticket)
+    }
+
+    /// The machine's entry of a shard, which the caller has then seen. Each entry that the caller had seen is one of the machine's.
+    pub fn look_held(
+        &self,
+        guard: &mut Guard<'_, A, B, C, N>,
+        caller: &mut Caller<B, C, N>,
+        shard: ShardId,
+    ) -> Entry
+        requires { shard < length N.words.opening }
+        ensures entry { result ≡ entry_at (state_in guard.old).place shard }
+        ensures same { guard.new ≡ guard.old }
+        ensures stood { HasStood N.words N.opened (state_in guard.old) caller.old.seen }
+        ensures seen { caller.new ≡ calling ((shard, result) ∷ caller.old.seen) caller.old.executed caller.old.refused }
+    {
+        guard.held.look_held(&self.words, caller, shard)
+    }
+
+    /// The locked machine.
+    pub fn hold<R: Wait>(&self, rt: &R) -> Guard<'_, A, B, C, N> {
+        Guard {
+            held: self.held.lock(rt),
+        }
+    }
+}
+
+impl<'b, A: Side, B: Side, C: Side, N: Naming> Guard<'b, A, B, C, N> {
+    /// The machine's call of the same name, on the locked machine.
+    pub fn approve(&mut self, server: ServerId) -> Result<Permit, Denied>
+        requires { server < N.words.servers }
+        ensures answer { (happens (state_in self.old) (happening.Approve server)).0 ≡ Answered (approval_of result) }
+        ensures state { state_in self.new ≡ (happens (state_in self.old) (happening.Approve server)).1 }
+        ensures others { self.new ≡ holding self.new.machine self.old.runners self.old.callers }
+        ensures permit { IfOk result (λ permit. permit ≡ server) }
+    {
+        self.held.approve(server)
+    }
+
+    /// The machine's call of the same name, on the locked machine.
+    pub fn done(&mut self, permit: Permit) -> Result<(), Permit>
+        ensures answer { (happens (state_in self.old) (happening.Done permit)).0 ≡ Answered (restart_of result) }
+        ensures state { state_in self.new ≡ (happens (state_in self.old) (happening.Done permit)).1 }
+        ensures others { self.new ≡ holding self.new.machine self.old.runners self.old.callers }
+        ensures back { IfErr result (λ p. p ≡ permit) }
+    {
+        self.held.done(permit)
+    }
+
+    /// The machine's call of the same name, on the locked machine.
+    pub fn refill(&mut self, runner: &mut Runner<A>, more: u32) -> Result<(), RefillFault>
+        requires { more ≤ 262144 }
+        ensures answer { (happens (state_in self.old) (happening.Refill runner.old.stream more)).0 ≡ Answered (refill_answer result) }
+        ensures state { state_in self.new ≡ (happens (state_in self.old) (happening.Refill runner.old.stream more)).1 }
+        ensures others { self.new ≡ holding self.new.machine self.old.runners self.old.callers }
+        ensures runner { runner.new ≡ runner.old }
+    {
+        self.held.refill(runner, more)
+    }
+
+    /// The locked machine.
+    pub fn machine(&self) -> &Machine
+        ensures { result.now ≡ self.now.machine }
+    {
+        self.held.machine()
+    }
+}
