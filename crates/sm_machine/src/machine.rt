@@ -2,7 +2,7 @@
 ghost use Rattle.std.specs.Prelude.{◌≡◌, ◌≢◌, ◌≤◌, ◌<◌, ◌⊎◌, IfOk, OnOk, IfErr, OnErr, length, true, false, ◌∷◌, [], if◌then◌else◌, ◌+◌, reverse};
 ghost use Rattle.sm_placement.specs.Place.{down_count};
 ghost use Rattle.sm_placement.specs.Lead.{IsSettled};
-ghost use Rattle.sm_protocol.specs.State.{opened, is_begun, progress_of};
+ghost use Rattle.sm_protocol.specs.State.{opened, is_begun, progress_of, allowance};
 ghost use Rattle.sm_machine.specs.declared.opened.OpenFault.TheVariants.{LogFull};
 ghost use Rattle.sm_placement.specs.Sums.{bit};
 ghost use Rattle.sm_placement.specs.Setup.{Setup, sizes_of};
@@ -35,7 +35,7 @@ use crate::permit::{Permit, close_permits};
 use crate::ready_plan::{ReadyPlan, make_ready};
 use crate::rooms::Rooms;
 use crate::step::Step;
-use crate::ticket::Ticket;
+use crate::ticket::{Ticket, close_tickets};
 use crate::token::{StreamToken, close_tokens};
 use sm_placement::{Config, Entry, Placement};
 use sm_protocol::{BeginFault, Event, Logged, Passage, RefillFault};
@@ -276,13 +276,19 @@ impl Machine {
 
     /// Ends the machine, with the rights to go on, and answers its placement as it stands. All that streams hold and
     /// signals carry ends with the machine's pool. Takes no memory.
-    pub fn give_up(self, tokens: Vec<StreamToken>, permits: Vec<Permit>) -> Placement
+    pub fn give_up(
+        self,
+        tokens: Vec<StreamToken>,
+        permits: Vec<Permit>,
+        tickets: Vec<Ticket>,
+    ) -> Placement
         ensures place { place_of result ≡ (state_of self).place }
         ensures sizes { sizes_of result.setup ≡ (state_of self).sizes }
         ensures setup { result.setup ≡ self.placement.setup }
     {
         close_tokens(tokens);
         close_permits(permits);
+        close_tickets(tickets);
         let Machine { engine } = self;
         engine.into_placement()
     }
@@ -353,6 +359,14 @@ impl Machine {
         ensures { result ≡ (progress_of (state_of self.now) id).tries }
     {
         self.engine.progress(id).tries
+    }
+
+    /// How many tries of calls a stream may make: its budget, its retries and its refills.
+    pub fn allowance(&self, id: StreamId) -> u64
+        requires { is_begun (state_of self.now) id ≡ true }
+        ensures { result ≡ allowance (state_of self.now) id }
+    {
+        self.engine.allowance(id)
     }
 
     /// Raises a stream's allowance of tries, by 262,144 at most at once.

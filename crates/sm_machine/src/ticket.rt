@@ -47,6 +47,20 @@ impl Ticket {
         self.parts.shard
     }
 
+    /// The server that passed the request on.
+    pub fn sender(&self) -> ServerId
+        ensures { result ≡ self.now.sender }
+    {
+        self.parts.sender
+    }
+
+    /// The handover number under which the request was passed on.
+    pub fn number(&self) -> u64
+        ensures { result ≡ self.now.number }
+    {
+        self.parts.number
+    }
+
     /// The server that the request was passed to.
     pub fn target(&self) -> ServerId
         ensures { result ≡ self.now.target }
@@ -58,4 +72,16 @@ impl Ticket {
     pub fn abandon(self) {
         let Ticket { parts: _ } = self;
     }
+}
+
+/// Tickets end with their machine. Takes no memory.
+pub(crate) fn close_tickets(tickets: Vec<Ticket>) {
+    let mut tickets = tickets;
+    for _ in 0..tickets.len() {
+        match tickets.pop() {
+            Some(ticket) => ticket.abandon(),
+            None => {}
+        }
+    }
+    tickets.destroy_empty();
 }

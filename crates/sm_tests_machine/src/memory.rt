@@ -14,7 +14,7 @@ fn assert_opened(rt: &impl Abort, alloc: Global, placement: Placement) {
         Ok((machine, permits)) => {
             assert_untouched(rt, &machine, 1);
             assert_eq!(rt; permits.len(), 1);
-            let placement = machine.give_up(Vec::new(alloc), permits);
+            let placement = machine.give_up(Vec::new(alloc), permits, Vec::new(alloc));
             assert_small(rt, &placement, 1);
         }
         Err((placement, why)) => {

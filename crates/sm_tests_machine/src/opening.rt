@@ -9,7 +9,7 @@ use std::process::Abort;
 
 /// Gives a machine over the small placement up, with so many servers down.
 fn give_up(rt: &impl Abort, alloc: Global, machine: Machine, permits: Vec<Permit>, down: u32) {
-    let placement = machine.give_up(Vec::new(alloc), permits);
+    let placement = machine.give_up(Vec::new(alloc), permits, Vec::new(alloc));
     assert_small(rt, &placement, down);
 }
 
@@ -131,7 +131,7 @@ fn a_machine_forgets_the_numbers_of_calls_before_it(rt: HostRuntime) {
     match open(&rt, alloc, numbered_placement(&rt, alloc), 8) {
         Ok((machine, permits)) => {
             assert_last(&rt, machine.placement(), 0);
-            let placement = machine.give_up(Vec::new(alloc), permits);
+            let placement = machine.give_up(Vec::new(alloc), permits, Vec::new(alloc));
             assert_last(&rt, &placement, 0);
         }
         Err(_) => panic!(&rt; "a machine over a settled placement is not opened"),
