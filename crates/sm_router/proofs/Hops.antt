@@ -8,7 +8,7 @@ use Rattle.sm_router.specs.declared.asking.Asked.{Asked}
 use Rattle.sm_router.specs.declared.asking.Asked.TheVariants as asked
 use Rattle.sm_router.specs.declared.asking.Next.{Next}
 use Rattle.sm_router.specs.declared.asking.Next.TheVariants.{Look, PassOn, End}
-use Rattle.sm_router.specs.Asking.{after_answer, end_of, Hop, IsHop, IsEnd, LeadsTo, HasAsked}
+use Rattle.sm_router.specs.Asking.{after_answer, asked_after, Hop, IsHop, IsEnd, LeadsTo, HasAsked}
 
 -- no answer is TooManyHops
 abbrev pub IsProper : Next → Type 0
@@ -50,7 +50,7 @@ module _ {C : Type 0} (looked : C → ℕ → Entry → C → Type 0) (arrived :
       record { hops = r.0; few = omega (arith, r.1); made = r.2; all = λ e. let m = enough e in omega (arith, r.1, m) }
 
   -- after the last hop
-  pub at_end : (next : Next) (now : C) → IsEnd looked shard next now (end_of next) now
+  pub at_end : (next : Next) (now : C) → IsEnd looked shard next now (asked_after next) now
   at_end Look now = inr (refl, refl)
   at_end (PassOn ticket) now = (refl, refl)
   at_end (End said) now = (refl, refl)

@@ -20,10 +20,10 @@ after_answer (answer.LogFull back) = End asked.LogFull
 after_answer (answer.Unknown back) = Look
 
 -- what it is answered where it makes no further hop
-abbrev pub end_of : Next → Asked
-end_of Look = asked.TooManyHops
-end_of (PassOn ticket) = asked.TooManyHops
-end_of (End said) = said
+abbrev pub asked_after : Next → Asked
+asked_after Look = asked.TooManyHops
+asked_after (PassOn ticket) = asked.TooManyHops
+asked_after (End said) = said
 
 -- A look at the map saw this entry.
 pub record HasLooked {C : Type 0} (looked : C → ℕ → Entry → C → Type 0) (shard : ℕ) (old : C) (server : Option ℕ) (new : C) : Type 0 where

@@ -1,6 +1,6 @@
 //! A client's way to the server that executes its request.
 ghost use Rattle.std.specs.Prelude.{◌≡◌, ◌<◌};
-ghost use Rattle.sm_router.specs.Asking.{HasAsked, after_answer, end_of};
+ghost use Rattle.sm_router.specs.Asking.{HasAsked, after_answer, asked_after};
 
 use crate::desk::Desk;
 use sm_machine::{Answer, Ticket};
@@ -58,8 +58,8 @@ fn after_answer(answer: Answer) -> Next
 }
 
 /// What an ask is answered after all hops. A ticket that is left over is spent.
-fn end_of(next: Next) -> Asked
-    ensures { result ≡ end_of next }
+fn asked_after(next: Next) -> Asked
+    ensures { result ≡ asked_after next }
 {
     match next {
         Next::Look => Asked::TooManyHops,
@@ -89,5 +89,5 @@ pub fn ask<R: Wait, D: Desk>(rt: &R, desk: &D, caller: &mut D::Caller, shard: Sh
         };
         next = after_answer(answer);
     }
-    end_of(next)
+    asked_after(next)
 }

@@ -1,7 +1,7 @@
 -- An ask.
 use Rattle.std.proofs.Common.{◌≡◌, ◌≤◌, ◌+◌, refl, sym, subst, arith, inl}
 use Rattle.sm_router.specs.declared.asking.Next.TheVariants.{Look, PassOn}
-use Rattle.sm_router.specs.Asking.{IsEnd, IsHop, end_of, HasAsked}
+use Rattle.sm_router.specs.Asking.{IsEnd, IsHop, asked_after, HasAsked}
 use Rattle.sm_router.proofs.Hops.{HasCome, IsProper, one_made, all_made, at_end, end_proper}
 use Rattle.sm_router.proofs.asking.ask.Goals as goal
 use Rattle.sm_router.proofs.asking.ask.Goals.{in-Look+in-Some, in-PassOn}
@@ -50,7 +50,7 @@ returns g c =
     let most = c.loop.invariant.0 in
     let test = c.loop-test.false in
     let eight : c.loop.counter ≡ 8 = omega arith in
-    subst (λ x. HasAsked looked (g.D.Desk.arrived c.args.desk.now) (g.D.Desk.passed_on c.args.desk.now) c.args.shard c.args.caller.now x c.loop.caller) (sym c.end_of.ensures)
+    subst (λ x. HasAsked looked (g.D.Desk.arrived c.args.desk.now) (g.D.Desk.passed_on c.args.desk.now) c.args.shard c.args.caller.now x c.loop.caller) (sym c.asked_after.ensures)
     (all_made looked (g.D.Desk.arrived c.args.desk.now) (g.D.Desk.passed_on c.args.desk.now) c.args.shard c.args.caller.now
-    c.loop.counter c.loop.next c.loop.caller (end_of c.loop.next) c.loop.caller c.loop.invariant.1 c.loop.invariant.0 (λ e. eight)
+    c.loop.counter c.loop.next c.loop.caller (asked_after c.loop.next) c.loop.caller c.loop.invariant.1 c.loop.invariant.0 (λ e. eight)
     (at_end looked (g.D.Desk.arrived c.args.desk.now) (g.D.Desk.passed_on c.args.desk.now) c.args.shard c.args.caller.now c.loop.next c.loop.caller))
