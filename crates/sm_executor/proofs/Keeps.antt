@@ -16,8 +16,8 @@ use Rattle.sm_protocol.specs.declared.event.Played.{Played}
 use Rattle.sm_protocol.specs.declared.event.Logged.{Logged}
 use Rattle.sm_protocol.specs.State.{State}
 use Rattle.sm_protocol.specs.Steps.{Answered}
-use Rattle.sm_executor.specs.Counting.{is_step, is_executed, is_refused, IsCounted, Counts}
-use Rattle.sm_executor.specs.Tied.{IsTied, IsQuiet, Publishes, IsBehind}
+use Rattle.sm_executor.specs.Counting.{is_step, is_executed, is_refused, IsBooked, Counts}
+use Rattle.sm_executor.specs.Tied.{IsPublished, IsQuiet, Publishes, IsBehind}
 use Rattle.sm_executor.proofs.Effects.{Asked, Made, Uncounted}
 
 -- ---- the books
@@ -30,12 +30,12 @@ count_push p xs x = sum_by-append (λ y. cond (p y) 1 0) xs (x ∷ []) ∙ ap (�
     one false = refl
 
 -- nothing was recorded
-pub counted_same : (opened old new : State) (a b c : ℕ) → new.log ≡ old.log → IsCounted opened old a b c → IsCounted opened new a b c
+pub counted_same : (opened old new : State) (a b c : ℕ) → new.log ≡ old.log → IsBooked opened old a b c → IsBooked opened new a b c
 counted_same opened old new a b c e k = record { since = k.since; log = e ∙ k.log; steps_are = k.steps_are; executed_are = k.executed_are; refused_are = k.refused_are }
 
 -- the books rise with what was recorded
-pub counted_more : (opened old new : State) (x : Logged) (a b c : ℕ) → new.log ≡ old.log ++ x ∷ [] → IsCounted opened old a b c →
-    IsCounted opened new (a + bit (is_step x.event)) (b + bit (is_executed x.answer)) (c + bit (is_refused x.answer))
+pub counted_more : (opened old new : State) (x : Logged) (a b c : ℕ) → new.log ≡ old.log ++ x ∷ [] → IsBooked opened old a b c →
+    IsBooked opened new (a + bit (is_step x.event)) (b + bit (is_executed x.answer)) (c + bit (is_refused x.answer))
 counted_more opened old new x a b c e k = record {
   since = k.since ++ x ∷ [];
   log = e ∙ ap (λ l. l ++ x ∷ []) k.log ∙ append_assoc opened.log k.since (x ∷ []);
@@ -45,13 +45,13 @@ counted_more opened old new x a b c e k = record {
 }
 
 -- when a board is opened
-pub counted_opened : (opened : State) → IsCounted opened opened 0 0 0
+pub counted_opened : (opened : State) → IsBooked opened opened 0 0 0
 counted_opened opened = record { since = []; log = sym (append-nil opened.log); steps_are = refl; executed_are = refl; refused_are = refl }
 
 -- ---- the words
 
 -- what publishes nothing leaves them tied
-pub tied_quiet : (words : WordsModel) (opened old new : State) (p : PublisherModel) → IsQuiet old new → IsTied words opened old p → IsTied words opened new p
+pub tied_quiet : (words : WordsModel) (opened old new : State) (p : PublisherModel) → IsQuiet old new → IsPublished words opened old p → IsPublished words opened new p
 tied_quiet words opened old new p q k = record {
   words_are = k.words_are;
   shards = k.shards ∙ sym (ap (λ c. c.shards) q.sizes);
@@ -66,8 +66,8 @@ abbrev pub with_store : PublisherModel → ℕ → Entry → PublisherModel
 with_store p s e = record p { stores = (s, e) ∷ p.stores }
 
 -- what is published and stored leaves them tied
-pub tied_stored : (words : WordsModel) (opened old new : State) (p : PublisherModel) (s : ℕ) → Publishes old new s → IsTied words opened old p →
-    IsTied words opened new (with_store p s (entry_at new.place s))
+pub tied_stored : (words : WordsModel) (opened old new : State) (p : PublisherModel) (s : ℕ) → Publishes old new s → IsPublished words opened old p →
+    IsPublished words opened new (with_store p s (entry_at new.place s))
 tied_stored words opened old new p s q k = record {
   words_are = k.words_are;
   shards = k.shards ∙ sym (ap (λ c. c.shards) q.sizes);
@@ -86,7 +86,7 @@ tied_stored words opened old new p s q k = record {
     other_version t n = ap (λ f. f t) q.version ∙ put-apart old.place.version s (suc (old.place.version s)) t (λ e. n (sym e))
 
 -- what a store asks of the entry
-pub follows : (words : WordsModel) (opened old new : State) (p : PublisherModel) (s : ℕ) → Publishes old new s → IsTied words opened old p → Follows (history p s) (entry_at new.place s)
+pub follows : (words : WordsModel) (opened old new : State) (p : PublisherModel) (s : ℕ) → Publishes old new s → IsPublished words opened old p → Follows (history p s) (entry_at new.place s)
 follows words opened old new p s q k =
     subst (λ o. IsSomeAnd o (λ last. new.place.version s ≡ last.version + 1)) (sym (k.newest_is s q.known))
     (let e : new.place.version s ≡ suc (old.place.version s) = ap (λ f. f s) q.version ∙ put-here old.place.version s (suc (old.place.version s)) s refl in omega arith)
@@ -108,26 +108,26 @@ longer_by_one xs x rest e = let n : length xs ≡ suc (length rest) = sym (lengt
 
 -- the words are tied and the books count, behind an event
 pub record IsKept (words : WordsModel) (opened now : State) (p : PublisherModel) (steps executed refused : ℕ) : Type 0 where
-  pub tied : IsTied words opened now p
-  pub counted : IsCounted opened now steps executed refused
+  pub tied : IsPublished words opened now p
+  pub counted : IsBooked opened now steps executed refused
 
 -- a request leaves them so, and the books rise by what its answer counts
-pub asked_kept : (words : WordsModel) (opened old new : State) (p : PublisherModel) (a b c : ℕ) (answer : Played) → Asked old (Answered answer) new → IsTied words opened old p → IsCounted opened old a b c →
+pub asked_kept : (words : WordsModel) (opened old new : State) (p : PublisherModel) (a b c : ℕ) (answer : Played) → Asked old (Answered answer) new → IsPublished words opened old p → IsBooked opened old a b c →
     IsKept words opened new p a (b + bit (is_executed answer)) (c + bit (is_refused answer))
 asked_kept words opened old new p a b c answer (inl u) t k = record {
-  tied = subst (λ w. IsTied words opened w p) (sym u.same) t;
+  tied = subst (λ w. IsPublished words opened w p) (sym u.same) t;
   counted =
       let m = counted_same opened old new a b c (ap (λ (w : State). w.log) u.same) k in
       let x : b + bit (is_executed answer) ≡ b = ap (λ z. b + bit z) u.executed ∙ (omega arith) in
       let y : c + bit (is_refused answer) ≡ c = ap (λ z. c + bit z) u.refused ∙ (omega arith) in
-      subst (IsCounted opened new a (b + bit (is_executed answer))) (sym y) (subst (λ n. IsCounted opened new a n c) (sym x) m);
+      subst (IsBooked opened new a (b + bit (is_executed answer))) (sym y) (subst (λ n. IsBooked opened new a n c) (sym x) m);
 }
 asked_kept words opened old new p a b c answer (inr n) t k = record {
   tied = tied_quiet words opened old new p n.quiet t;
   counted =
       let m = counted_more opened old new n.line a b c n.log k in
       let z : a + bit (is_step n.line.event) ≡ a = ap (λ z. a + bit z) n.step ∙ (omega arith) in
-      subst (λ x. IsCounted opened new a (b + bit (is_executed x)) (c + bit (is_refused x))) n.answer_is (subst (λ x. IsCounted opened new x (b + bit (is_executed n.line.answer)) (c + bit (is_refused n.line.answer))) z m);
+      subst (λ x. IsBooked opened new a (b + bit (is_executed x)) (c + bit (is_refused x))) n.answer_is (subst (λ x. IsBooked opened new x (b + bit (is_executed n.line.answer)) (c + bit (is_refused n.line.answer))) z m);
 }
 
 -- how many events the one state has recorded more
@@ -137,18 +137,18 @@ more_of old new = length new.log - length old.log
 -- the log is no shorter after a step, the book of steps rises with it, and so does the runner's count
 pub record IsStepped (words : WordsModel) (opened old new : State) (p : PublisherModel) (a b c : ℕ) (answer : Played) : Type 0 where
   pub longer : length old.log ≤ length new.log
-  pub counted : IsCounted opened new (a + more_of old new) b c
+  pub counted : IsBooked opened new (a + more_of old new) b c
   pub counts : (n : ℕ) → Counts answer n (n + more_of old new)
   pub behind : ((s : ℕ) → s < new.sizes.shards → IsInRange new.sizes.servers (entry_at new.place s)) → IsBehind words opened new p
 
-pub stepped : (words : WordsModel) (opened old new : State) (p : PublisherModel) (a b c : ℕ) (answer : Played) → Made old (Answered answer) new → IsTied words opened old p → IsCounted opened old a b c →
+pub stepped : (words : WordsModel) (opened old new : State) (p : PublisherModel) (a b c : ℕ) (answer : Played) → Made old (Answered answer) new → IsPublished words opened old p → IsBooked opened old a b c →
     IsStepped words opened old new p a b c answer
 stepped words opened old new p a b c answer (inl u) t k =
     let l : length new.log ≡ length old.log = ap (λ (w : State). length w.log) u.same in
     let m : more_of old new ≡ 0 = omega arith in
     record {
       longer = omega arith;
-      counted = subst (λ n. IsCounted opened new n b c) (omega arith) (counted_same opened old new a b c (ap (λ (w : State). w.log) u.same) k);
+      counted = subst (λ n. IsBooked opened new n b c) (omega arith) (counted_same opened old new a b c (ap (λ (w : State). w.log) u.same) k);
       counts = λ n. let z : n ≡ n + more_of old new = omega arith in subst (Counts answer n) z (u.counts n);
       behind = λ r. record { before = old; tied = t; in_range = r; event = inl (record { sizes = ap (λ (w : State). w.sizes) u.same; entries = ap (λ (w : State). w.entries) u.same; listed = ap (λ (w : State). w.place.listed) u.same; version = ap (λ (w : State). w.place.version) u.same }) };
     }
@@ -162,15 +162,15 @@ stepped words opened old new p a b c answer (inr x) t k =
           let e : a + bit (is_step x.line.event) ≡ a + more_of old new = ap (λ z. a + bit z) x.step ∙ (omega arith) in
           let f : b + bit (is_executed x.line.answer) ≡ b = ap (λ z. b + bit z) x.executed ∙ (omega arith) in
           let g : c + bit (is_refused x.line.answer) ≡ c = ap (λ z. c + bit z) x.refused ∙ (omega arith) in
-          subst (λ n. IsCounted opened new n b c) e (subst (λ n. IsCounted opened new (a + bit (is_step x.line.event)) n c) f (subst (IsCounted opened new (a + bit (is_step x.line.event)) (b + bit (is_executed x.line.answer))) g y));
+          subst (λ n. IsBooked opened new n b c) e (subst (λ n. IsBooked opened new (a + bit (is_step x.line.event)) n c) f (subst (IsBooked opened new (a + bit (is_step x.line.event)) (b + bit (is_executed x.line.answer))) g y));
       counts = λ n. let z : n + 1 ≡ n + more_of old new = omega arith in subst (Counts answer n) z (x.counts n);
       behind = λ r. record { before = old; tied = t; in_range = r; event = x.map };
     }
 
 -- what is not counted leaves the words tied and the books as they are
-pub plain_kept : (words : WordsModel) (opened old new : State) (p : PublisherModel) (a b c : ℕ) → Uncounted old new → IsTied words opened old p → IsCounted opened old a b c → IsKept words opened new p a b c
+pub plain_kept : (words : WordsModel) (opened old new : State) (p : PublisherModel) (a b c : ℕ) → Uncounted old new → IsPublished words opened old p → IsBooked opened old a b c → IsKept words opened new p a b c
 plain_kept words opened old new p a b c (inl e) t k = record {
-  tied = subst (λ w. IsTied words opened w p) (sym e) t;
+  tied = subst (λ w. IsPublished words opened w p) (sym e) t;
   counted = counted_same opened old new a b c (ap (λ (w : State). w.log) e) k;
 }
 plain_kept words opened old new p a b c (inr x) t k = record {
@@ -180,11 +180,11 @@ plain_kept words opened old new p a b c (inr x) t k = record {
       let e : a + bit (is_step x.line.event) ≡ a = ap (λ z. a + bit z) x.step ∙ (omega arith) in
       let f : b + bit (is_executed x.line.answer) ≡ b = ap (λ z. b + bit z) x.executed ∙ (omega arith) in
       let g : c + bit (is_refused x.line.answer) ≡ c = ap (λ z. c + bit z) x.refused ∙ (omega arith) in
-      subst (λ n. IsCounted opened new n b c) e (subst (λ n. IsCounted opened new (a + bit (is_step x.line.event)) n c) f (subst (IsCounted opened new (a + bit (is_step x.line.event)) (b + bit (is_executed x.line.answer))) g y));
+      subst (λ n. IsBooked opened new n b c) e (subst (λ n. IsBooked opened new (a + bit (is_step x.line.event)) n c) f (subst (IsBooked opened new (a + bit (is_step x.line.event)) (b + bit (is_executed x.line.answer))) g y));
 }
 
 -- and so does the halt flag
-pub flag_kept : (words : WordsModel) (opened old new : State) (p : PublisherModel) (a b c : ℕ) (flag : Bool) → new ≡ record old { halted = flag } → IsTied words opened old p → IsCounted opened old a b c → IsKept words opened new p a b c
+pub flag_kept : (words : WordsModel) (opened old new : State) (p : PublisherModel) (a b c : ℕ) (flag : Bool) → new ≡ record old { halted = flag } → IsPublished words opened old p → IsBooked opened old a b c → IsKept words opened new p a b c
 flag_kept words opened old new p a b c flag e t k = record {
   tied = tied_quiet words opened old new p (record { sizes = ap (λ (w : State). w.sizes) e; entries = ap (λ (w : State). w.entries) e; listed = ap (λ (w : State). w.place.listed) e; version = ap (λ (w : State). w.place.version) e }) t;
   counted = counted_same opened old new a b c (ap (λ (w : State). w.log) e) k;

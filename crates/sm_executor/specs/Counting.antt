@@ -26,8 +26,8 @@ is_refused played.NotOwner = true
 is_refused played.Unavailable = true
 is_refused _ = false
 
-abbrev pub steps_in : List Logged → ℕ
-steps_in log = count_by (λ x. is_step x.event) log
+abbrev pub steps_recorded : List Logged → ℕ
+steps_recorded log = count_by (λ x. is_step x.event) log
 
 abbrev pub executed_in : List Logged → ℕ
 executed_in log = count_by (λ x. is_executed x.answer) log
@@ -37,10 +37,10 @@ refused_in log = count_by (λ x. is_refused x.answer) log
 
 -- The books have what was recorded since the board was opened: steps, requests that were executed, and requests that were
 -- refused.
-pub record IsCounted (opened now : State) (steps executed refused : ℕ) : Type 0 where
+pub record IsBooked (opened now : State) (steps executed refused : ℕ) : Type 0 where
   pub since : List Logged
   pub log : now.log ≡ opened.log ++ since
-  pub steps_are : steps ≡ steps_in since
+  pub steps_are : steps ≡ steps_recorded since
   pub executed_are : executed ≡ executed_in since
   pub refused_are : refused ≡ refused_in since
 

@@ -10,7 +10,7 @@ use Rattle.sm_protocol.specs.State.{State}
 
 -- The publisher has stored just the entries that the machine's publications added since the board was opened, and each shard's
 -- newest entry is the machine's.
-pub record IsTied (words : WordsModel) (opened now : State) (publisher : PublisherModel) : Type 0 where
+pub record IsPublished (words : WordsModel) (opened now : State) (publisher : PublisherModel) : Type 0 where
   pub words_are : publisher.words ≡ words
   pub shards : length words.opening ≡ now.sizes.shards
   pub servers : words.servers ≡ now.sizes.servers
@@ -35,7 +35,7 @@ pub record Publishes (old new : State) (shard : ℕ) : Type 0 where
 -- The words were tied to the machine, which has made one event since: what that has published, if anything, isn't stored yet.
 pub record IsBehind (words : WordsModel) (opened now : State) (publisher : PublisherModel) : Type 0 where
   pub before : State
-  pub tied : IsTied words opened before publisher
+  pub tied : IsPublished words opened before publisher
   pub in_range : (s : ℕ) → s < now.sizes.shards → IsInRange now.sizes.servers (entry_at now.place s)
   pub event : IsQuiet before now ⊎ ((shard : ℕ) × Publishes before now shard)
 

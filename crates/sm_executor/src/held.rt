@@ -14,7 +14,7 @@ ghost use Rattle.sm_machine.specs.Requested.{played_by};
 ghost use Rattle.sm_machine.specs.Restarted.{approval_of, restart_of};
 ghost use Rattle.sm_machine.specs.Losses.{refill_answer};
 ghost use Rattle.sm_executor.specs.Counting.{Counts, executes, refuses};
-ghost use Rattle.sm_executor.specs.Tied.{IsTied, IsBehind, HasStood};
+ghost use Rattle.sm_executor.specs.Tied.{IsPublished, IsBehind, HasStood};
 ghost use Rattle.sm_executor.specs.Views.{holding, state_in, running, recorded_more, calling};
 
 use crate::caller::Caller;
@@ -53,16 +53,16 @@ impl<A: Side, B: Side, C: Side, N: Naming> Model for Held<A, B, C, N> {
     ghost use Rattle.std.specs.Prelude.{◌≡◌, ◌≤◌, ◌+◌, ◌^◌};
     ghost use Rattle.sm_machine.specs.State.{state_of};
     ghost use Rattle.sm_executor.specs.Views.{Holding, holding};
-    ghost use Rattle.sm_executor.specs.Tied.{IsTied};
-    ghost use Rattle.sm_executor.specs.Counting.{IsCounted};
+    ghost use Rattle.sm_executor.specs.Tied.{IsPublished};
+    ghost use Rattle.sm_executor.specs.Counting.{IsBooked};
 
     ghost Value = { Holding };
 
     ghost view = { λ h. holding h.machine h.runners h.callers };
 
     ghost invariant = { λ h.
-        IsTied N.words N.opened (state_of h.machine) h.publisher
-        × IsCounted N.opened (state_of h.machine) h.steps.total h.executed.total h.refused.total
+        IsPublished N.words N.opened (state_of h.machine) h.publisher
+        × IsBooked N.opened (state_of h.machine) h.steps.total h.executed.total h.refused.total
         × (h.free_steps.parts + h.runners ≡ A.all) × (h.free_steps.amount ≡ 0) × (A.all ≡ 2 ^ 62)
         × (h.free_executed.parts + h.callers ≡ B.all) × (h.free_executed.amount ≡ 0) × (B.all ≡ 2 ^ 62)
         × (h.free_refused.parts + h.callers ≡ C.all) × (h.free_refused.amount ≡ 0) × (C.all ≡ 2 ^ 62)
@@ -79,7 +79,7 @@ fn store_added<N: Naming>(
     requires words { words.now ≡ N.words }
     requires before { before ≡ length (publisher.old.stores ++ N.opened.entries) }
     requires behind { IsBehind N.words N.opened (state_of machine.now) publisher.old }
-    ensures { IsTied N.words N.opened (state_of machine.now) publisher.new }
+    ensures { IsPublished N.words N.opened (state_of machine.now) publisher.new }
 {
     let added = machine.entries();
     if before < added.len() {
@@ -119,7 +119,7 @@ impl<A: Side, B: Side, C: Side, N: Naming> Held<A, B, C, N> {
         refused: Blank,
     ) -> Held<A, B, C, N>
         requires opened { state_of machine ≡ N.opened }
-        requires tied { IsTied N.words N.opened N.opened publisher }
+        requires tied { IsPublished N.words N.opened N.opened publisher }
         requires steps { (steps.name ≡ A.name) × (steps.parts ≡ A.parts) × (A.parts ≡ 2 ^ 62) × (A.all ≡ 2 ^ 62) }
         requires executed { (executed.name ≡ B.name) × (executed.parts ≡ B.parts) × (B.parts ≡ 2 ^ 62) × (B.all ≡ 2 ^ 62) }
         requires refused { (refused.name ≡ C.name) × (refused.parts ≡ C.parts) × (C.parts ≡ 2 ^ 62) × (C.all ≡ 2 ^ 62) }

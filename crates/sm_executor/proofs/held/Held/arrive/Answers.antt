@@ -5,7 +5,7 @@ use Rattle.sm_protocol.specs.Steps.{Answered}
 use Rattle.sm_protocol.specs.Happens.{Arrive, happens}
 use Rattle.sm_machine.specs.Requested.{played_by}
 use Rattle.sm_placement.specs.Sums.{bit}
-use Rattle.sm_executor.specs.Counting.{IsCounted, is_refused}
+use Rattle.sm_executor.specs.Counting.{IsBooked, is_refused}
 use Rattle.sm_executor.proofs.Effects.{Asked, arrived_made, executes_is, refuses_is}
 use Rattle.sm_executor.proofs.Keeps.{asked_kept}
 use Rattle.sm_executor.proofs.held.Held.arrive.Goals as goal
@@ -21,6 +21,6 @@ invariant_of-self g c =
     let k = asked_kept g.N.Naming.words g.N.Naming.opened w v c.self.inside.publisher c.self.inside.steps.total c.self.inside.executed.total c.self.inside.refused.total (played_by answer) made i.0 i.1 in
     let e = c.count_answer.ensures.executed ∙ ap (λ n. c.self.inside.executed.total + n) (executes_is answer) in
     let f = c.count_answer.ensures.refused ∙ ap (λ n. c.self.inside.refused.total + n) (refuses_is answer) in
-    let counted = subst (λ n. IsCounted g.N.Naming.opened v c.self.inside.steps.total c.count_answer.new.executed.total n) (sym f)
-    (subst (λ n. IsCounted g.N.Naming.opened v c.self.inside.steps.total n (c.self.inside.refused.total + bit (is_refused (played_by answer)))) (sym e) k.counted) in
+    let counted = subst (λ n. IsBooked g.N.Naming.opened v c.self.inside.steps.total c.count_answer.new.executed.total n) (sym f)
+    (subst (λ n. IsBooked g.N.Naming.opened v c.self.inside.steps.total n (c.self.inside.refused.total + bit (is_refused (played_by answer)))) (sym e) k.counted) in
     (k.tied, counted, i.2, i.3, i.4, i.5, i.6, i.7, i.8, i.9, i.10, i.11)

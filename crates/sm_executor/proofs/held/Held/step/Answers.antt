@@ -4,7 +4,7 @@ use Rattle.sm_protocol.specs.declared.event.Passage.TheVariants.{Through}
 use Rattle.sm_protocol.specs.Steps.{Answered, step}
 use Rattle.sm_machine.specs.State.{state_of}
 use Rattle.sm_machine.specs.Played.{played_of}
-use Rattle.sm_executor.specs.Counting.{IsCounted, Counts}
+use Rattle.sm_executor.specs.Counting.{IsBooked, Counts}
 use Rattle.sm_executor.specs.Views.{Running}
 use Rattle.sm_executor.proofs.Effects.{Made, step_made}
 use Rattle.sm_executor.proofs.Ranges.{in_range, known_shard}
@@ -50,7 +50,7 @@ invariant_of-self g c =
     let b = ap length c.log.ensures in
     let t = c.add.ensures.total in
     let e : c.add.new.self.total ≡ c.self.inside.steps.total + more_of w v = t ∙ (λ j. c.self.inside.steps.total + (b j - a j)) in
-    (c.store_added.ensures, subst (λ n. IsCounted g.N.Naming.opened v n c.self.inside.executed.total c.self.inside.refused.total) (sym e) s.counted, i.2, i.3, i.4, i.5, i.6, i.7, i.8, i.9, i.10, i.11)
+    (c.store_added.ensures, subst (λ n. IsBooked g.N.Naming.opened v n c.self.inside.executed.total c.self.inside.refused.total) (sym e) s.counted, i.2, i.3, i.4, i.5, i.6, i.7, i.8, i.9, i.10, i.11)
 
 pub returns-clause-counts : goal.returns-clause-counts
 returns-clause-counts g c =
