@@ -24,11 +24,11 @@ abbrev pub move_at : List Move → ℕ → Move
 move_at moves i = slice_index_or moves i no_move
 
 -- the load of a move: what its replica weighs
-abbrev pub load_of : Setup → Move → ℕ
-load_of setup m = (sizes_of setup).load m.shard
+abbrev pub move_load : Setup → Move → ℕ
+move_load setup m = (sizes_of setup).load m.shard
 
 -- the shard and both servers are of the configuration
-pub record IsKnownMove (setup : Setup) (m : Move) : Type 0 where
+pub record IsMoveOf (setup : Setup) (m : Move) : Type 0 where
   pub shard : m.shard < length setup.shards
   pub from : m.from < length setup.servers
   pub to : m.to < length setup.servers

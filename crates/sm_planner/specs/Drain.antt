@@ -10,7 +10,7 @@ use Rattle.sm_planner.specs.declared.moving.Move.{Move}
 use Rattle.sm_planner.specs.declared.moving.NoPlan.{NoPlan}
 use Rattle.sm_planner.specs.declared.moving.NoPlan.TheVariants.{NoMemory, Held, ServerDown, NoPlace}
 use Rattle.sm_planner.specs.Basis.{Basis, is_replica}
-use Rattle.sm_planner.specs.Rights.{has_crown}
+use Rattle.sm_planner.specs.Rights.{has_crown_at}
 use Rattle.sm_planner.specs.Placing.{taken_by}
 use Rattle.sm_planner.specs.Spread.{region_count, spread_of}
 
@@ -19,7 +19,7 @@ use Rattle.sm_planner.specs.Spread.{region_count, spread_of}
 abbrev pub may_leave : Basis → ℕ → ℕ → Bool
 may_leave b v s =
     is_absent (b.place.cells s v)
-    || ((is_primary (b.place.cells s v) && has_crown b s v)
+    || ((is_primary (b.place.cells s v) && has_crown_at b s v)
     || (is_secondary (b.place.cells s v) && is_cell Secondary (b.pool.cells s v)))
 
 -- the lowest shard that may not leave the server

@@ -6,7 +6,7 @@ use Rattle.std.specs.List.{flat_map}
 use Rattle.std.specs.List.{range_with_len}
 use Rattle.sm_planner.specs.declared.moving.Move.{Move}
 use Rattle.sm_plan_code.specs.declared.limits.TheConstants.{MOST_STREAMS}
-use Rattle.sm_planner.specs.Basis.{Basis, move_at, load_of}
+use Rattle.sm_planner.specs.Basis.{Basis, move_at, move_load}
 use Rattle.sm_planner.specs.Placing.{taken_by, freed_by}
 
 -- how much of a stretch of n from a on lies in a stretch of m from b on
@@ -23,13 +23,13 @@ frees_from b order j = b.pool.room (move_at order j).from + sum_by (freed_by b.s
 
 -- what the k-th placed move pays from the pool
 abbrev pub from_pool : Basis → List Move → ℕ → ℕ
-from_pool b order k = overlap (takes_from b order k) (load_of b.setup (move_at order k)) 0 (b.pool.room (move_at order k).to)
+from_pool b order k = overlap (takes_from b order k) (move_load b.setup (move_at order k)) 0 (b.pool.room (move_at order k).to)
 
 -- what it pays from the room that the j-th placed move freed
 abbrev pub from_move : Basis → List Move → ℕ → ℕ → ℕ
 from_move b order k j =
     if nat_lt j k && ((move_at order j).from == (move_at order k).to)
-    then overlap (takes_from b order k) (load_of b.setup (move_at order k)) (frees_from b order j) (load_of b.setup (move_at order j))
+    then overlap (takes_from b order k) (move_load b.setup (move_at order k)) (frees_from b order j) (move_load b.setup (move_at order j))
     else 0
 
 -- the stream of the k-th placed move

@@ -5,14 +5,14 @@ use Rattle.std.specs.List.{list_any}
 use Rattle.sm_placement.specs.Opening.{first_below}
 use Rattle.sm_placement.specs.Setup.{Setup}
 use Rattle.sm_planner.specs.declared.moving.Move.{Move}
-use Rattle.sm_planner.specs.Basis.{Basis, move_at, load_of}
+use Rattle.sm_planner.specs.Basis.{Basis, move_at, move_load}
 
 -- how much room of a server a move takes, and how much it frees there
 abbrev pub taken_by : Setup → ℕ → Move → ℕ
-taken_by setup v m = if m.to == v then load_of setup m else 0
+taken_by setup v m = if m.to == v then move_load setup m else 0
 
 abbrev pub freed_by : Setup → ℕ → Move → ℕ
-freed_by setup v m = if m.from == v then load_of setup m else 0
+freed_by setup v m = if m.from == v then move_load setup m else 0
 
 -- The room of a server that is free once these moves are placed. They are named by their places in the list.
 abbrev pub room_left : Basis → List Move → List ℕ → ℕ → ℕ
@@ -21,13 +21,13 @@ room_left b moves placed v =
     + sum_by (λ i. freed_by b.setup v (move_at moves i)) placed
     - sum_by (λ i. taken_by b.setup v (move_at moves i)) placed
 
-abbrev pub is_among : List ℕ → ℕ → Bool
-is_among placed i = list_any (λ j. j == i) placed
+abbrev pub is_placed : List ℕ → ℕ → Bool
+is_placed placed i = list_any (λ j. j == i) placed
 
 -- the move is not placed yet, and its load fits
 abbrev pub fits : Basis → List Move → List ℕ → ℕ → Bool
 fits b moves placed i =
-    not (is_among placed i) && nat_le (load_of b.setup (move_at moves i)) (room_left b moves placed (move_at moves i).to)
+    not (is_placed placed i) && nat_le (move_load b.setup (move_at moves i)) (room_left b moves placed (move_at moves i).to)
 
 -- the first move of the list that is not placed yet and whose load fits
 abbrev pub first_fit : Basis → List Move → List ℕ → Option ℕ
@@ -40,4 +40,4 @@ pub record IsPlacing (b : Basis) (moves : List Move) (placed : List ℕ) : Type 
 
 -- the first move of the list that is not placed
 abbrev pub first_left : List Move → List ℕ → Option ℕ
-first_left moves placed = first_below (length moves) (λ i. not (is_among placed i))
+first_left moves placed = first_below (length moves) (λ i. not (is_placed placed i))

@@ -47,8 +47,8 @@ waits_of signals k = map Wait (filter (λ q. (signal_at signals q).payer == k) (
 abbrev pub posts_of : List Handed → ℕ → List Instr
 posts_of signals k = map Signal (filter (λ q. (signal_at signals q).source == k) (range_with_len 0 (length signals)))
 
-abbrev pub code_of : Basis → List Move → ℕ → List Instr
-code_of b order k =
+abbrev pub move_code : Basis → List Move → ℕ → List Instr
+move_code b order k =
     waits_of (signals_of b order) k ++ (instructions b.place (move_at order k) ++ posts_of (signals_of b order) k)
 
 -- ---- what a stream declares
@@ -58,8 +58,8 @@ abbrev pub moves_of : List Move → ℕ → List ℕ
 moves_of order i = filter (λ k. stream_of k == i) (range_with_len 0 (length order))
 
 -- the rights to cells, and the crown, that a move needs
-abbrev pub cells_of : Place → Move → List CellRight
-cells_of p m =
+abbrev pub cells_needed : Place → Move → List CellRight
+cells_needed p m =
     record { shard = m.shard; server = m.to; state = Absent }
     ∷ (if is_primary (left_cell p m) then [] else record { shard = m.shard; server = m.from; state = Secondary } ∷ [])
 
@@ -68,16 +68,16 @@ crowns_of p m =
     if is_primary (left_cell p m) then record { shard = m.shard; lead = At m.from; listed = p.listed m.shard } ∷ [] else []
 
 -- what the moves of a stream pay from the pool's room of a server
-abbrev pub room_of : Basis → List Move → ℕ → ℕ → ℕ
-room_of b order i v = sum_by (λ k. if (move_at order k).to == v then from_pool b order k else 0) (moves_of order i)
+abbrev pub room_paid : Basis → List Move → ℕ → ℕ → ℕ
+room_paid b order i v = sum_by (λ k. if (move_at order k).to == v then from_pool b order k else 0) (moves_of order i)
 
 abbrev pub rooms_of : Basis → List Move → ℕ → List Room
-rooms_of b order i = map (λ v. record { server = v; amount = room_of b order i v }) (range_with_len 0 (sizes_of b.setup).servers)
+rooms_of b order i = map (λ v. record { server = v; amount = room_paid b order i v }) (range_with_len 0 (sizes_of b.setup).servers)
 
 -- a stream declares the rights that its moves need, and what they pay from the pool
 abbrev pub holds_of : Basis → List Move → ℕ → Rights
 holds_of b order i = in_order (record {
-  cells = flat_map (λ k. cells_of b.place (move_at order k)) (moves_of order i);
+  cells = flat_map (λ k. cells_needed b.place (move_at order k)) (moves_of order i);
   crowns = flat_map (λ k. crowns_of b.place (move_at order k)) (moves_of order i);
   room = rooms_of b order i;
   spare = [];
@@ -86,7 +86,7 @@ holds_of b order i = in_order (record {
 -- ---- streams and signals
 
 abbrev pub stream_code : Basis → List Move → ℕ → List Instr
-stream_code b order i = flat_map (code_of b order) (moves_of order i)
+stream_code b order i = flat_map (move_code b order) (moves_of order i)
 
 -- a stream makes its moves one after another, and may make just their calls
 abbrev pub stream : Basis → List Move → ℕ → StreamModel
@@ -102,8 +102,8 @@ abbrev pub streams_of : Basis → List Move → List StreamModel
 streams_of b order = map (stream b order) (range_with_len 0 (min (length order) MOST_STREAMS))
 
 -- a signal carries the room that is handed on, and nothing else
-abbrev pub parcel_of : Basis → List Move → Handed → Rights
-parcel_of b order h = record {
+abbrev pub handed_parcel : Basis → List Move → Handed → Rights
+handed_parcel b order h = record {
   cells = [];
   crowns = [];
   room = record { server = (move_at order h.payer).to; amount = from_move b order h.payer h.source } ∷ [];
@@ -114,5 +114,5 @@ abbrev pub planned : Basis → List Move → PlanModel
 planned b order = record {
   budget = sum_by (λ s. s.budget) (streams_of b order);
   streams = streams_of b order;
-  signals = map (parcel_of b order) (signals_of b order);
+  signals = map (handed_parcel b order) (signals_of b order);
 }

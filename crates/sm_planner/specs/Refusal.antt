@@ -39,11 +39,11 @@ first_held b moves =
     option_map (λ i. Held (move_at moves i).shard (move_at moves i).to) (first_below (length moves) (is_closed b moves))
 
 -- the first move with a server that is down: the one that it leaves, or else the one to which it goes
-abbrev pub down_of : Place → Move → ℕ
-down_of p m = if p.down m.from then m.from else m.to
+abbrev pub end_down : Place → Move → ℕ
+end_down p m = if p.down m.from then m.from else m.to
 
 abbrev pub first_down : Place → List Move → Option NoPlan
-first_down p moves = option_map (λ m. ServerDown (down_of p m)) (find (λ m. p.down m.from || p.down m.to) moves)
+first_down p moves = option_map (λ m. ServerDown (end_down p m)) (find (λ m. p.down m.from || p.down m.to) moves)
 
 abbrev pub first_refused : Basis → List Move → Option NoPlan
 first_refused b moves = option_or (first_not_there b.place moves) (option_or (first_held b moves) (first_down b.place moves))

@@ -10,15 +10,15 @@ use Rattle.sm_planner.specs.declared.moving.Move.{Move}
 use Rattle.sm_planner.specs.Basis.{Basis, left_cell}
 
 -- the pool has the crown of a shard whose primary stands at the server, as the published map has it
-abbrev pub has_crown : Basis → ℕ → ℕ → Bool
-has_crown b s v = is_crown (At v) (b.place.listed s) (b.pool.crowns s)
+abbrev pub has_crown_at : Basis → ℕ → ℕ → Bool
+has_crown_at b s v = is_crown (At v) (b.place.listed s) (b.pool.crowns s)
 
 -- the pool has the rights that the move needs
 abbrev pub has_rights : Basis → Move → Bool
 has_rights b m =
     (is_cell Absent (b.pool.cells m.shard m.to)
     && (not (is_secondary (left_cell b.place m)) || is_cell Secondary (b.pool.cells m.shard m.from)))
-    && (not (is_primary (left_cell b.place m)) || has_crown b m.shard m.from)
+    && (not (is_primary (left_cell b.place m)) || has_crown_at b m.shard m.from)
 
 -- the move needs the right to its shard's cell at this server: the new one, or the old one of a secondary
 abbrev pub needs_cell : Place → Move → ℕ → Bool

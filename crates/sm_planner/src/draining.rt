@@ -2,7 +2,7 @@
 ghost use Rattle.std.specs.Prelude.{◌≡◌, ◌<◌, ◌⊎◌, All, IfSome, IfOk, IfErr, OnOk, None, Some, length};
 ghost use Rattle.sm_placement.specs.Layout.{place_of};
 ghost use Rattle.sm_reservation.specs.Pool.{pool_hold};
-ghost use Rattle.sm_planner.specs.Basis.{basis, IsKnownMove};
+ghost use Rattle.sm_planner.specs.Basis.{basis, IsMoveOf};
 ghost use Rattle.sm_planner.specs.Drain.{may_leave, first_stuck, drain_refusal, IsDrainRefusal};
 
 use crate::held::{
@@ -105,7 +105,7 @@ impl Targets {
 
     /// The server may take the shard.
     fn may_take(&self, placement: &Placement, pool: &Pool, leaving: &Move) -> bool
-        requires { IsKnownMove placement.now.setup leaving.now }
+        requires { IsMoveOf placement.now.setup leaving.now }
     {
         let Move { shard, from, to } = *leaving;
         to != from
@@ -164,7 +164,7 @@ impl Targets {
     ) -> Option<Move>
         requires shard { shard < length placement.now.setup.shards }
         requires from { from < length placement.now.setup.servers }
-        ensures { IfSome result (IsKnownMove placement.now.setup) }
+        ensures { IfSome result (IsMoveOf placement.now.setup) }
     {
         self.mark_staying(placement, from, shard);
         let to = self.best(placement, pool, shard, from)?;
@@ -184,8 +184,8 @@ fn put_departure(
 ) -> Result<bool, AllocError>
     requires shard { leaving.0 < length placement.now.setup.shards }
     requires server { leaving.1 < length placement.now.setup.servers }
-    requires known { All (IsKnownMove placement.now.setup) moves.old.items }
-    ensures { OnOk result (All (IsKnownMove placement.now.setup) moves.new.items) }
+    requires known { All (IsMoveOf placement.now.setup) moves.old.items }
+    ensures { OnOk result (All (IsMoveOf placement.now.setup) moves.new.items) }
 {
     let (shard, server) = leaving;
     if is_absent(placement, shard, server) {
@@ -215,7 +215,7 @@ fn targets_of(
     server: ServerId,
 ) -> Result<Departures, AllocError>
     requires { server < length placement.now.setup.servers }
-    ensures { IfOk result (λ leaving. All (IsKnownMove placement.now.setup) leaving.moves.items) }
+    ensures { IfOk result (λ leaving. All (IsMoveOf placement.now.setup) leaving.moves.items) }
 {
     let mut targets = Targets::new(alloc, placement, pool)?;
     let mut moves = Vec::new(alloc);
@@ -238,7 +238,7 @@ pub(crate) fn leaving(
     server: ServerId,
 ) -> Result<Vec<Move>, NoPlan>
     requires { server < length placement.now.setup.servers }
-    ensures known { IfOk result (λ moves. All (IsKnownMove placement.now.setup) moves.items) }
+    ensures known { IfOk result (λ moves. All (IsMoveOf placement.now.setup) moves.items) }
     ensures refused { IfErr result (IsDrainRefusal (drain_refusal (basis placement.now.setup (place_of placement.now) (pool_hold pool.now)) server)) }
     ensures open { OnOk result (drain_refusal (basis placement.now.setup (place_of placement.now) (pool_hold pool.now)) server ≡ None) }
 {

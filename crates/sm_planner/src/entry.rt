@@ -3,7 +3,7 @@ ghost use Rattle.std.specs.Prelude.{◌≡◌, ◌<◌, All, IfOk, IfErr, OnOk, 
 ghost use Rattle.sm_protocol.specs.State.{pool};
 ghost use Rattle.sm_verifier.specs.Admission.{IsAdmitted};
 ghost use Rattle.sm_machine.specs.State.{state_of};
-ghost use Rattle.sm_planner.specs.Basis.{basis, IsKnownMove};
+ghost use Rattle.sm_planner.specs.Basis.{basis, IsMoveOf};
 ghost use Rattle.sm_planner.specs.Refusal.{first_refused, IsMovesRefusal};
 ghost use Rattle.sm_planner.specs.Drain.{drain_refusal};
 ghost use Rattle.sm_planner.specs.declared.moving.NoPlan.{NoPlan};
@@ -19,7 +19,7 @@ use std::alloc::Global;
 ///
 /// Memory counts as short also where the plan does not pass the check, or is not admitted.
 pub fn moves(alloc: Global, machine: &Machine, moves: &[Move]) -> Result<Checked, NoPlan>
-    requires { All (IsKnownMove machine.now.placement.setup) moves.now }
+    requires { All (IsMoveOf machine.now.placement.setup) moves.now }
     ensures setup { IfOk result (λ checked. checked.setup ≡ machine.now.placement.setup) }
     ensures admitted { IfOk result (λ checked. IsAdmitted (state_of machine.now).sizes (state_of machine.now).place (pool (state_of machine.now)) checked.plan) }
     ensures refused { IfErr result (IsMovesRefusal (first_refused (basis machine.now.placement.setup (state_of machine.now).place (pool (state_of machine.now))) moves.now)) }

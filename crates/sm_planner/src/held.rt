@@ -4,9 +4,9 @@ ghost use Rattle.sm_server.specs.Cell.{is_absent, is_primary, is_secondary};
 ghost use Rattle.sm_placement.specs.Layout.{place_of};
 ghost use Rattle.sm_reservation.specs.Amounts.{is_cell};
 ghost use Rattle.sm_reservation.specs.Pool.{pool_hold};
-ghost use Rattle.sm_planner.specs.Basis.{basis, is_replica, IsKnownMove};
-ghost use Rattle.sm_planner.specs.Rights.{has_crown, has_rights, needs_cell, shares_right, is_forestalled};
-ghost use Rattle.sm_planner.specs.Refusal.{is_open, first_not_there, first_held, first_down, down_of, first_refused};
+ghost use Rattle.sm_planner.specs.Basis.{basis, is_replica, IsMoveOf};
+ghost use Rattle.sm_planner.specs.Rights.{has_crown_at, has_rights, needs_cell, shares_right, is_forestalled};
+ghost use Rattle.sm_planner.specs.Refusal.{is_open, first_not_there, first_held, first_down, end_down, first_refused};
 
 use crate::moving::{Move, NoPlan};
 use sm_placement::{Lead, Placement};
@@ -71,7 +71,7 @@ pub(crate) fn has_crown(
     server: ServerId,
 ) -> bool
     requires { shard < length placement.now.setup.shards }
-    ensures { result ≡ has_crown (basis placement.now.setup (place_of placement.now) (pool_hold pool.now)) shard server }
+    ensures { result ≡ has_crown_at (basis placement.now.setup (place_of placement.now) (pool_hold pool.now)) shard server }
 {
     match pool.crown(shard) {
         Some((lead, listed)) => lead == Lead::At(server) && listed == placement.listed(shard),
@@ -81,7 +81,7 @@ pub(crate) fn has_crown(
 
 /// The pool has the rights that a move needs.
 fn has_rights(placement: &Placement, pool: &Pool, wanted: &Move) -> bool
-    requires { IsKnownMove placement.now.setup wanted.now }
+    requires { IsMoveOf placement.now.setup wanted.now }
     ensures { result ≡ has_rights (basis placement.now.setup (place_of placement.now) (pool_hold pool.now)) wanted.now }
 {
     let Move { shard, from, to } = *wanted;
@@ -92,7 +92,7 @@ fn has_rights(placement: &Placement, pool: &Pool, wanted: &Move) -> bool
 
 /// A move needs the right to its shard's cell at a server.
 fn needs_cell(placement: &Placement, other: &Move, server: ServerId) -> bool
-    requires { IsKnownMove placement.now.setup other.now }
+    requires { IsMoveOf placement.now.setup other.now }
     ensures { result ≡ needs_cell (place_of placement.now) other.now server }
 {
     other.to == server || (other.from == server && is_secondary(placement, other.shard, other.from))
@@ -100,8 +100,8 @@ fn needs_cell(placement: &Placement, other: &Move, server: ServerId) -> bool
 
 /// There is a right that both moves need.
 fn shares_right(placement: &Placement, wanted: &Move, other: &Move) -> bool
-    requires wanted { IsKnownMove placement.now.setup wanted.now }
-    requires other { IsKnownMove placement.now.setup other.now }
+    requires wanted { IsMoveOf placement.now.setup wanted.now }
+    requires other { IsMoveOf placement.now.setup other.now }
     ensures { result ≡ shares_right (place_of placement.now) wanted.now other.now }
 {
     let Move { shard, from, to } = *wanted;
@@ -114,8 +114,8 @@ fn shares_right(placement: &Placement, wanted: &Move, other: &Move) -> bool
 
 /// One of the earlier moves needs a right that a move needs.
 fn is_forestalled(placement: &Placement, earlier: &[Move], wanted: &Move) -> bool
-    requires wanted { IsKnownMove placement.now.setup wanted.now }
-    requires earlier { All (IsKnownMove placement.now.setup) earlier.now }
+    requires wanted { IsMoveOf placement.now.setup wanted.now }
+    requires earlier { All (IsMoveOf placement.now.setup) earlier.now }
     ensures { result ≡ is_forestalled (place_of placement.now) earlier.now wanted.now }
 {
     for other in earlier {
@@ -128,8 +128,8 @@ fn is_forestalled(placement: &Placement, earlier: &[Move], wanted: &Move) -> boo
 
 /// The new cell of a move is absent, and its rights are in the pool and needed by no earlier move.
 fn is_open(placement: &Placement, pool: &Pool, earlier: &[Move], wanted: &Move) -> bool
-    requires wanted { IsKnownMove placement.now.setup wanted.now }
-    requires earlier { All (IsKnownMove placement.now.setup) earlier.now }
+    requires wanted { IsMoveOf placement.now.setup wanted.now }
+    requires earlier { All (IsMoveOf placement.now.setup) earlier.now }
     ensures { result ≡ is_open (basis placement.now.setup (place_of placement.now) (pool_hold pool.now)) earlier.now wanted.now }
 {
     is_absent(placement, wanted.shard, wanted.to)
@@ -139,7 +139,7 @@ fn is_open(placement: &Placement, pool: &Pool, earlier: &[Move], wanted: &Move) 
 
 /// The first move that leaves a server without a replica.
 pub(crate) fn first_not_there(placement: &Placement, moves: &[Move]) -> Option<NoPlan>
-    requires { All (IsKnownMove placement.now.setup) moves.now }
+    requires { All (IsMoveOf placement.now.setup) moves.now }
     ensures { result ≡ first_not_there (place_of placement.now) moves.now }
 {
     for wanted in moves {
@@ -155,7 +155,7 @@ pub(crate) fn first_not_there(placement: &Placement, moves: &[Move]) -> Option<N
 
 /// The first move whose rights are not free.
 pub(crate) fn first_held(placement: &Placement, pool: &Pool, moves: &[Move]) -> Option<NoPlan>
-    requires { All (IsKnownMove placement.now.setup) moves.now }
+    requires { All (IsMoveOf placement.now.setup) moves.now }
     ensures { result ≡ first_held (basis placement.now.setup (place_of placement.now) (pool_hold pool.now)) moves.now }
 {
     for (i, wanted) in moves.iter().enumerate() {
@@ -171,7 +171,7 @@ pub(crate) fn first_held(placement: &Placement, pool: &Pool, moves: &[Move]) -> 
 
 /// The first move with a server that is down.
 pub(crate) fn first_down(placement: &Placement, moves: &[Move]) -> Option<NoPlan>
-    requires { All (IsKnownMove placement.now.setup) moves.now }
+    requires { All (IsMoveOf placement.now.setup) moves.now }
     ensures { result ≡ first_down (place_of placement.now) moves.now }
 {
     for wanted in moves {
@@ -186,8 +186,8 @@ pub(crate) fn first_down(placement: &Placement, moves: &[Move]) -> Option<NoPlan
 
 /// The server that a move leaves where it is down, and else the one to which it goes.
 fn down_of(placement: &Placement, wanted: &Move) -> ServerId
-    requires { IsKnownMove placement.now.setup wanted.now }
-    ensures { result ≡ down_of (place_of placement.now) wanted.now }
+    requires { IsMoveOf placement.now.setup wanted.now }
+    ensures { result ≡ end_down (place_of placement.now) wanted.now }
 {
     if placement.is_down(wanted.from) {
         wanted.from
@@ -198,7 +198,7 @@ fn down_of(placement: &Placement, wanted: &Move) -> ServerId
 
 /// Why moves are refused one by one: the first reason, and of one reason the first move.
 pub(crate) fn first_refused(placement: &Placement, pool: &Pool, moves: &[Move]) -> Option<NoPlan>
-    requires { All (IsKnownMove placement.now.setup) moves.now }
+    requires { All (IsMoveOf placement.now.setup) moves.now }
     ensures { result ≡ first_refused (basis placement.now.setup (place_of placement.now) (pool_hold pool.now)) moves.now }
 {
     if let Some(why) = first_not_there(placement, moves) {

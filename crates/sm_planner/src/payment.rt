@@ -1,6 +1,6 @@
 //! Who pays for the room that moves take.
 ghost use Rattle.std.specs.Prelude.{◌≡◌, ◌-◌, ◌≤◌, ◌<◌, All, min, max};
-ghost use Rattle.sm_planner.specs.Basis.{IsKnownMove};
+ghost use Rattle.sm_planner.specs.Basis.{IsMoveOf};
 
 use crate::held::is_primary;
 use crate::marks::{amount_at, put};
@@ -70,7 +70,7 @@ pub(crate) fn stretches(
     pool: &Pool,
     order: &[Move],
 ) -> Result<Vec<Placed>, AllocError>
-    requires { All (IsKnownMove placement.now.setup) order.now }
+    requires { All (IsMoveOf placement.now.setup) order.now }
 {
     let config = placement.config();
     let mut taken = vec![in alloc; 0u128; config.server_count() as usize]?;

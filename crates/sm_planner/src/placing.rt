@@ -1,6 +1,6 @@
 //! The order in which moves are placed.
 ghost use Rattle.std.specs.Prelude.{◌≡◌, All, IfSome, OnOk, IfOk};
-ghost use Rattle.sm_planner.specs.Basis.{IsKnownMove};
+ghost use Rattle.sm_planner.specs.Basis.{IsMoveOf};
 
 use crate::marks::{amount_at, is_marked, mark, put, take};
 use crate::moving::Move;
@@ -36,7 +36,7 @@ pub(crate) fn room_of(
 impl Placing {
     /// Before any move is placed.
     fn new(alloc: Global, config: &Config, pool: &Pool, count: usize) -> Result<Placing, AllocError>
-        ensures { IfOk result (λ placing. All (IsKnownMove config.now) placing.order.items) }
+        ensures { IfOk result (λ placing. All (IsMoveOf config.now) placing.order.items) }
     {
         let room = room_of(alloc, config, pool)?;
         Ok(Placing {
@@ -48,8 +48,8 @@ impl Placing {
 
     /// The first move that is not placed and whose load fits.
     fn first_fit(&self, config: &Config, moves: &[Move]) -> Option<(usize, Move)>
-        requires { All (IsKnownMove config.now) moves.now }
-        ensures { IfSome result (λ r. IsKnownMove config.now r.1) }
+        requires { All (IsMoveOf config.now) moves.now }
+        ensures { IfSome result (λ r. IsMoveOf config.now r.1) }
     {
         for (i, wanted) in moves.iter().enumerate() {
             let load = u128::from(config.load(wanted.shard));
@@ -62,9 +62,9 @@ impl Placing {
 
     /// Places a move: it takes room where it goes, and then frees room where it comes from.
     fn place(&mut self, config: &Config, i: usize, wanted: Move) -> Result<(), AllocError>
-        requires known { All (IsKnownMove config.now) self.old.order.items }
-        requires wanted { IsKnownMove config.now wanted }
-        ensures { OnOk result (All (IsKnownMove config.now) self.new.order.items) }
+        requires known { All (IsMoveOf config.now) self.old.order.items }
+        requires wanted { IsMoveOf config.now wanted }
+        ensures { OnOk result (All (IsMoveOf config.now) self.new.order.items) }
     {
         let load = u128::from(config.load(wanted.shard));
         take(&mut self.room, wanted.to, load);
@@ -91,8 +91,8 @@ pub(crate) fn place_all(
     pool: &Pool,
     moves: &[Move],
 ) -> Result<Placing, AllocError>
-    requires { All (IsKnownMove config.now) moves.now }
-    ensures { IfOk result (λ placing. All (IsKnownMove config.now) placing.order.items) }
+    requires { All (IsMoveOf config.now) moves.now }
+    ensures { IfOk result (λ placing. All (IsMoveOf config.now) placing.order.items) }
 {
     let mut placing = Placing::new(alloc, config, pool, moves.len())?;
     for _ in 0..moves.len() {

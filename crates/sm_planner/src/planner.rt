@@ -4,7 +4,7 @@ ghost use Rattle.sm_placement.specs.Setup.{sizes_of};
 ghost use Rattle.sm_placement.specs.Layout.{place_of};
 ghost use Rattle.sm_reservation.specs.Pool.{pool_hold, HasSize};
 ghost use Rattle.sm_verifier.specs.Admission.{IsAdmitted};
-ghost use Rattle.sm_planner.specs.Basis.{basis, IsKnownMove};
+ghost use Rattle.sm_planner.specs.Basis.{basis, IsMoveOf};
 ghost use Rattle.sm_planner.specs.Refusal.{first_refused, IsOfAll, IsMovesRefusal};
 ghost use Rattle.sm_planner.specs.Drain.{drain_refusal};
 ghost use Rattle.sm_planner.specs.declared.moving.NoPlan.{NoPlan};
@@ -25,7 +25,7 @@ use std::alloc::Global;
 
 /// Places moves that are not refused one by one, and finds what they pay.
 fn draft(alloc: Global, placement: &Placement, pool: &Pool, moves: &[Move]) -> Result<Draft, NoPlan>
-    requires { All (IsKnownMove placement.now.setup) moves.now }
+    requires { All (IsMoveOf placement.now.setup) moves.now }
     ensures { IfErr result IsOfAll }
 {
     let placing = place_all(alloc, placement.config(), pool, moves)?;
@@ -79,7 +79,7 @@ pub(crate) fn moves_at(
     moves: &[Move],
 ) -> Result<Checked, NoPlan>
     requires size { HasSize (sizes_of placement.now.setup) pool.now }
-    requires known { All (IsKnownMove placement.now.setup) moves.now }
+    requires known { All (IsMoveOf placement.now.setup) moves.now }
     ensures setup { IfOk result (λ checked. checked.setup ≡ placement.now.setup) }
     ensures admitted { IfOk result (λ checked. IsAdmitted (sizes_of placement.now.setup) (place_of placement.now) (pool_hold pool.now) checked.plan) }
     ensures refused { IfErr result (IsMovesRefusal (first_refused (basis placement.now.setup (place_of placement.now) (pool_hold pool.now)) moves.now)) }

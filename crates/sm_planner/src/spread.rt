@@ -1,6 +1,6 @@
 //! In how many regions replicas lie.
 ghost use Rattle.std.specs.Prelude.{◌≡◌, ◌<◌, ◌≤◌, All, length, IfOk, IfSome};
-ghost use Rattle.sm_planner.specs.Basis.{IsKnownMove};
+ghost use Rattle.sm_planner.specs.Basis.{IsMoveOf};
 
 use crate::held::is_replica;
 use crate::marks::{is_marked, mark};
