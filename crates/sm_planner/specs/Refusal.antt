@@ -71,13 +71,13 @@ abbrev pub no_spread : Basis → List Move → Option NoPlan
 no_spread b moves = option_map Spread (first_too_close b moves)
 
 -- the moves in the order in which they are placed
-abbrev pub in_turn : List Move → List ℕ → List Move
-in_turn moves placed = map (move_at moves) placed
+abbrev pub in_placed_order : List Move → List ℕ → List Move
+in_placed_order moves placed = map (move_at moves) placed
 
 -- more moves or signals than a plan may have
 abbrev pub too_many : Basis → List Move → List ℕ → Option NoPlan
 too_many b moves placed =
-    if nat_lt MOST_MOVES (length moves) || nat_lt MOST_SIGNALS (length (signals_of b (in_turn moves placed))) then Some TooMany else None
+    if nat_lt MOST_MOVES (length moves) || nat_lt MOST_SIGNALS (length (signals_of b (in_placed_order moves placed))) then Some TooMany else None
 
 -- why moves that are placed so get no plan, None where they get one
 abbrev pub refusal : Basis → List Move → List ℕ → Option NoPlan
@@ -94,4 +94,4 @@ IsRefused b moves why = (placed : List ℕ) × IsPlacing b moves placed × (refu
 -- the plan is the rule's
 abbrev pub IsPlanOf : Basis → List Move → PlanModel → Type 0
 IsPlanOf b moves plan =
-    (placed : List ℕ) × IsPlacing b moves placed × (refusal b moves placed ≡ None) × (plan ≡ planned b (in_turn moves placed))
+    (placed : List ℕ) × IsPlacing b moves placed × (refusal b moves placed ≡ None) × (plan ≡ planned b (in_placed_order moves placed))

@@ -23,7 +23,7 @@ use Rattle.sm_report.specs.Playing.{Scene}
 use Rattle.sm_report.specs.PlayLines.{plan_front}
 use Rattle.sm_plan_text.specs.declared.event.EventText.{EventText}
 use Rattle.sm_report.specs.Stages.{Then, read_stage, member_stage, alone_stage, placement_stage, log_stage, begin_stage, AtCheck, AtChecks, AtStart}
-use Rattle.sm_report.specs.Output.{IsCalled, IsOpenedForCalls, IsAcceptedReport, IsPlanReport, IsOpenedForCheck, plans_of, has_list, IsPlayed, IsBegunForPlay, IsLoggedForPlay, IsPlacedForPlay, IsOpenedForPlay, IsAloneForPlay, IsPlayReport, IsDocumentReport, IsReport}
+use Rattle.sm_report.specs.Output.{IsCalled, IsOpenedForCalls, IsAcceptedReport, IsPlanReport, IsOpenedForCheck, plans_of, has_list, IsPlayedOutput, IsBegunForPlay, IsLoggedForPlay, IsPlacedForPlay, IsOpenedForPlay, IsAloneForPlay, IsPlayReport, IsDocumentReport, IsReport}
 
 -- the verdict on a plan is one
 pub record IsOneVerdict : Type 0 where
@@ -88,7 +88,7 @@ plan_one verdict setup plan p =
     (start_one verdict setup p plan (IsAcceptedReport plan) (given_one _))
 
 begun_one : (setup : Setup) (plan : Option PlanModel) (plans : Option (List PlanModel)) (events : List EventText) (x : Scene) → IsOne (IsBegunForPlay setup plan plans events x)
-begun_one setup (Some plan) None events x = then_one (begin_stage setup x) (IsPlayed setup false (accepted_line plan) events) (λ y. given_one _)
+begun_one setup (Some plan) None events x = then_one (begin_stage setup x) (IsPlayedOutput setup false (accepted_line plan) events) (λ y. given_one _)
 begun_one setup (Some plan) (Some plans) events x = given_one _
 begun_one setup None plans events x = given_one _
 

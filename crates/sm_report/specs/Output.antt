@@ -69,13 +69,13 @@ played_output setup many front events x =
     done (front ++ event_lines setup many x 0 events ++ all_plan_lines many (scene_after events x) ++ ending setup (scene_after events x).state.place)
 
 -- the events are played at a scene
-abbrev pub IsPlayed : Setup → Bool → List ℕ → List EventText → Scene → Output → Type 0
-IsPlayed setup many front events x output = output ≡ played_output setup many front events x
+abbrev pub IsPlayedOutput : Setup → Bool → List ℕ → List EventText → Scene → Output → Type 0
+IsPlayedOutput setup many front events x output = output ≡ played_output setup many front events x
 
 -- One plan has begun before any event, and is accepted then; the plans of a list are begun by events.
 abbrev pub IsBegunForPlay : Setup → Option PlanModel → Option (List PlanModel) → List EventText → Scene → Output → Type 0
-IsBegunForPlay setup (Some plan) None events x = Then (begin_stage setup x) (IsPlayed setup false (accepted_line plan) events)
-IsBegunForPlay setup plan plans events x = IsPlayed setup (has_list plans) [] events x
+IsBegunForPlay setup (Some plan) None events x = Then (begin_stage setup x) (IsPlayedOutput setup false (accepted_line plan) events)
+IsBegunForPlay setup plan plans events x = IsPlayedOutput setup (has_list plans) [] events x
 
 -- the plans of a document at its placement, which has room in the log
 abbrev pub IsLoggedForPlay : DocumentModel → List EventText → Place → Unit {0} → Output → Type 0

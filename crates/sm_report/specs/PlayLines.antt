@@ -19,7 +19,7 @@ use Rattle.sm_protocol.specs.Steps.{Outcome, Refused, Answered}
 use Rattle.sm_report.specs.Lines.{line}
 use Rattle.sm_report.specs.Ending.{server_name, shard_name}
 use Rattle.sm_report.specs.Checking.{call_count, holding_line}
-use Rattle.sm_report.specs.Playing.{Scene, number_of, turn}
+use Rattle.sm_report.specs.Playing.{Scene, start_number, event_turn}
 
 -- ---- plans and streams by their names
 
@@ -82,26 +82,26 @@ not_begun_line setup begin_fault.LogFull = word_line (codes "not begun: 4 LogFul
 not_begun_line setup begin_fault.TooManyPlans = word_line (codes "not begun: 5 TooManyPlans")
 
 -- What an event is answered, at the scene after it. The line of Halted is in no report: nothing halts the machine.
-abbrev pub answer_line : Setup → Bool → Scene → Played → List ℕ
-answer_line setup many x played.Moved = word_line (codes "moved")
-answer_line setup many x (played.Blocked signal) = blocked_line signal
-answer_line setup many x played.Done = word_line (codes "done")
-answer_line setup many x played.Halted = word_line (codes "halted")
-answer_line setup many x played.Lost = word_line (codes "lost")
-answer_line setup many x played.Spent = word_line (codes "spent")
-answer_line setup many x played.Refilled = word_line (codes "refilled")
-answer_line setup many x (played.RefillRefused why) = refill_line why
-answer_line setup many x (played.Executed server) = executed_line (server_name setup server)
-answer_line setup many x (played.Passed to number place) = passed_line (server_name setup to) number place
-answer_line setup many x played.NotOwner = word_line (codes "not owner")
-answer_line setup many x played.Unavailable = word_line (codes "unavailable")
-answer_line setup many x played.LogFull = word_line (codes "log full")
-answer_line setup many x played.Approved = word_line (codes "approved")
-answer_line setup many x (played.Denied why) = denied_line setup many x.places why
-answer_line setup many x played.Up = word_line (codes "up")
-answer_line setup many x (played.Begun number) = begun_line (plan_at x.state number)
-answer_line setup many x (played.NotBegun why) = not_begun_line setup why
-answer_line setup many x played.Unknown = word_line (codes "unknown")
+abbrev pub played_line : Setup → Bool → Scene → Played → List ℕ
+played_line setup many x played.Moved = word_line (codes "moved")
+played_line setup many x (played.Blocked signal) = blocked_line signal
+played_line setup many x played.Done = word_line (codes "done")
+played_line setup many x played.Halted = word_line (codes "halted")
+played_line setup many x played.Lost = word_line (codes "lost")
+played_line setup many x played.Spent = word_line (codes "spent")
+played_line setup many x played.Refilled = word_line (codes "refilled")
+played_line setup many x (played.RefillRefused why) = refill_line why
+played_line setup many x (played.Executed server) = executed_line (server_name setup server)
+played_line setup many x (played.Passed to number place) = passed_line (server_name setup to) number place
+played_line setup many x played.NotOwner = word_line (codes "not owner")
+played_line setup many x played.Unavailable = word_line (codes "unavailable")
+played_line setup many x played.LogFull = word_line (codes "log full")
+played_line setup many x played.Approved = word_line (codes "approved")
+played_line setup many x (played.Denied why) = denied_line setup many x.places why
+played_line setup many x played.Up = word_line (codes "up")
+played_line setup many x (played.Begun number) = begun_line (plan_at x.state number)
+played_line setup many x (played.NotBegun why) = not_begun_line setup why
+played_line setup many x played.Unknown = word_line (codes "unknown")
 
 -- the event in front of its answer
 abbrev pub event_front : ℕ → List ℕ
@@ -110,12 +110,12 @@ event_front i = codes "event " ++ decimal i ++ codes ": "
 -- The line of an event. That a call is refused is in the model alone, and has no line.
 abbrev pub outcome_line : Setup → Bool → ℕ → Scene → Outcome → List ℕ
 outcome_line setup many i x Refused = []
-outcome_line setup many i x (Answered answer) = event_front i ++ answer_line setup many x answer
+outcome_line setup many i x (Answered answer) = event_front i ++ played_line setup many x answer
 
 -- the lines of events that are played one after the other, numbered from i
 abbrev pub event_lines : Setup → Bool → Scene → ℕ → List EventText → List ℕ
 event_lines setup many x i [] = []
-event_lines setup many x i (e ∷ es) = outcome_line setup many i (turn x e).1 (turn x e).0 ++ event_lines setup many (turn x e).1 (i + 1) es
+event_lines setup many x i (e ∷ es) = outcome_line setup many i (event_turn x e).1 (event_turn x e).0 ++ event_lines setup many (event_turn x e).1 (i + 1) es
 
 -- ---- the streams after the events
 
@@ -146,7 +146,7 @@ plan_lines_by many w place (Some number) = progress_lines many place w number
 
 -- the lines of the plan at a place
 abbrev pub plan_lines : Bool → Scene → ℕ → List ℕ
-plan_lines many x place = plan_lines_by many x.state place (number_of x.places place)
+plan_lines many x place = plan_lines_by many x.state place (start_number x.places place)
 
 -- the lines of all plans, by their places
 abbrev pub all_plan_lines : Bool → Scene → List ℕ

@@ -31,15 +31,15 @@ opened_scene c p log plans = record { state = opened c p log; waiting = map (λ 
 -- ---- what an event asks for
 
 -- the number of the plan at this place of the document, once it has begun
-abbrev pub number_of : List ℕ → ℕ → Option ℕ
-number_of places place = position (λ begun. begun == place) places
+abbrev pub start_number : List ℕ → ℕ → Option ℕ
+start_number places place = position (λ begun. begun == place) places
 
 abbrev pub if_begun : State → StreamId → Option StreamId
 if_begun w id = if is_begun w id then Some id else None
 
 -- a stream by its plan's place in the document and its own place in the plan, if it has begun
-abbrev pub stream_of : Scene → ℕ → ℕ → Option StreamId
-stream_of x place i = option_and_then (λ number. if_begun x.state (stream_id number i)) (number_of x.places place)
+abbrev pub named_stream : Scene → ℕ → ℕ → Option StreamId
+named_stream x place i = option_and_then (λ number. if_begun x.state (stream_id number i)) (start_number x.places place)
 
 -- the pass that is recorded at this place of the log
 abbrev pub pass_at : State → ℕ → Option Ticket
@@ -47,9 +47,9 @@ pass_at w place = slice_index_or (passes w.log) place None
 
 -- what an event asks for; None where there is nothing that it speaks of
 abbrev pub asked_by : Scene → EventText → Option Happening
-asked_by x (text.Step place i) = option_map Step (stream_of x place i)
-asked_by x (text.Lose place i after) = option_map (λ id. Lose id after) (stream_of x place i)
-asked_by x (text.Refill place i more) = option_map (λ id. Refill id more) (stream_of x place i)
+asked_by x (text.Step place i) = option_map Step (named_stream x place i)
+asked_by x (text.Lose place i after) = option_map (λ id. Lose id after) (named_stream x place i)
+asked_by x (text.Refill place i more) = option_map (λ id. Refill id more) (named_stream x place i)
 asked_by x (text.Request s v) = Some (Arrive s v)
 asked_by x (text.PassOn place) = option_map PassOn (pass_at x.state place)
 asked_by x (text.Approve v) = Some (Approve v)
@@ -69,15 +69,15 @@ after_event x (text.Begin place) (Answered answer) = after_start x place answer
 after_event x _ _ = x
 
 -- an event that speaks of nothing is Unknown, and changes nothing
-abbrev pub turn_by : Scene → EventText → Option Happening → Outcome × Scene
-turn_by x e None = (Answered played.Unknown, x)
-turn_by x e (Some h) = ((happens x.state h).0, after_event (record x { state = (happens x.state h).1 }) e (happens x.state h).0)
+abbrev pub event_turn_by : Scene → EventText → Option Happening → Outcome × Scene
+event_turn_by x e None = (Answered played.Unknown, x)
+event_turn_by x e (Some h) = ((happens x.state h).0, after_event (record x { state = (happens x.state h).1 }) e (happens x.state h).0)
 
 -- an event, with its outcome
-abbrev pub turn : Scene → EventText → Outcome × Scene
-turn x e = turn_by x e (asked_by x e)
+abbrev pub event_turn : Scene → EventText → Outcome × Scene
+event_turn x e = event_turn_by x e (asked_by x e)
 
 -- the scene after a list of events
 abbrev pub scene_after : List EventText → Scene → Scene
 scene_after [] x = x
-scene_after (e ∷ es) x = scene_after es (turn x e).1
+scene_after (e ∷ es) x = scene_after es (event_turn x e).1
