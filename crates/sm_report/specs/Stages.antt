@@ -26,7 +26,7 @@ use Rattle.sm_report.specs.BadInput.{text_fault_line, too_long_line}
 use Rattle.sm_report.specs.Opening.{open_fault_line}
 use Rattle.sm_report.specs.Checking.{fault_line, holding_line}
 use Rattle.sm_report.specs.Lines.{line}
-use Rattle.sm_report.specs.Playing.{Scene, turn}
+use Rattle.sm_report.specs.Playing.{Scene, event_turn}
 use Rattle.sm_report.specs.PlayLines.{plan_front, not_begun_line}
 use Rattle.sm_plan_text.specs.declared.event.EventText.TheVariants.{Begin}
 use Rattle.sm_protocol.specs.declared.event.Played.TheVariants.{NotBegun}
@@ -78,7 +78,7 @@ begun_or_refused setup _ x = Ok x
 
 -- the plan at the first place has begun, before any event
 abbrev pub begin_stage : Setup → Scene → Result Scene Output
-begin_stage setup x = begun_or_refused setup (turn x (Begin 0)).0 (turn x (Begin 0)).1
+begin_stage setup x = begun_or_refused setup (event_turn x (Begin 0)).0 (event_turn x (Begin 0)).1
 
 -- ---- stages that are told by what is true of the plan
 

@@ -7,5 +7,5 @@ use Rattle.sm_executor.proofs.held.Held.halt.Goals as goal
 pub invariant_of-self : goal.invariant_of-self
 invariant_of-self g c =
     let i = c.self.invariant in
-    let k = flag_kept g.N.Naming.words g.N.Naming.opened (state_of c.self.inside.machine) (state_of c.halt.new.self) c.self.inside.publisher c.self.inside.steps.total c.self.inside.executed.total c.self.inside.refused.total true c.halt.ensures i.0 i.1 in
+    let k = flag_kept g.N.Naming.words g.N.Naming.opened (state_of c.self.inside.machine) (state_of c.halt.new.self) c.self.inside.publisher c.self.inside.steps.total c.self.inside.executed.total c.self.inside.refused.total true c.halt.ensures.state i.0 i.1 in
     (k.tied, k.counted, i.2, i.3, i.4, i.5, i.6, i.7, i.8, i.9, i.10, i.11)
