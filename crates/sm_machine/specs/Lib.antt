@@ -21,3 +21,4 @@ pub mod Requested
 pub mod Restarted
 pub mod Engaged
 pub mod Losses
+pub mod Retired

@@ -1,5 +1,5 @@
 //! A plan that was begun.
-ghost use Rattle.std.specs.Prelude.{◌≡◌, ◌<◌, ◌+◌, ◌-◌, ◌==◌, ℕ, not, is_some, IfSome, Some, None, true, false, length, slice_get, slice_index_or};
+ghost use Rattle.std.specs.Prelude.{◌≡◌, ◌<◌, ◌≤◌, ◌^◌, ◌+◌, ◌-◌, ◌==◌, ℕ, count_by, not, is_some, IfSome, Some, None, true, false, length, slice_get, slice_index_or};
 ghost use Rattle.sm_reservation.specs.Hold.{minus, plus};
 ghost use Rattle.sm_reservation.specs.HoldOf.{hold_of};
 ghost use Rattle.sm_reservation.specs.Capacity.{HasCapacity, HasCapacityAfter};
@@ -12,7 +12,7 @@ ghost use Rattle.sm_verifier.specs.Step.{parcels_of};
 ghost use Rattle.sm_placement.specs.Setup.{sizes_of};
 ghost use Rattle.sm_plan_code.specs.Instr.{shard_of, IsOwn};
 ghost use Rattle.sm_plan_code.specs.Table.{exchange_of};
-ghost use Rattle.sm_protocol.specs.State.{fresh};
+ghost use Rattle.sm_protocol.specs.State.{fresh, is_no_call};
 ghost use Rattle.sm_machine.specs.Trade.{CanTrade, IsTradedBy};
 ghost use Rattle.sm_reservation.specs.Pool.{pool_hold, SameSize};
 ghost use Rattle.sm_machine.specs.Tied.{pool_left};
@@ -20,6 +20,7 @@ ghost use Rattle.sm_machine.specs.Starts.{CanFillAll, AreFilled};
 ghost use Rattle.sm_machine.specs.Course.{hold_in, rights_in, capacity_in, HasCapacityIn, HasCapacityAfterIn, IsCourse, IsGrantInOrder};
 ghost use Rattle.sm_machine.specs.Begun.{course_at, carried_at, with_course, with_carried, IsBegunParts};
 
+use crate::places::count_no_calls;
 use crate::progress::Progress;
 use crate::stream::Course;
 use sm_placement::Config;
@@ -211,11 +212,24 @@ impl Begun {
     /// How many tries of calls a stream may make.
     pub fn allowance(&self, stream: usize) -> u64
         requires { stream < length self.now.plan.streams }
-        ensures { result ≡ (slice_index_or self.now.plan.streams stream no_stream).budget + (slice_index_or self.now.plan.streams stream no_stream).retries + (course_at self.now stream).progress.refills }
+        ensures value { result ≡ (slice_index_or self.now.plan.streams stream no_stream).budget + (slice_index_or self.now.plan.streams stream no_stream).retries + (course_at self.now stream).progress.refills }
+        ensures within { result < 2 ^ 34 }
     {
         let refills = self.progress(stream).refills;
         let parts = &self.plan.streams()[stream];
         u64::from(parts.budget) + u64::from(parts.retries) + u64::from(refills)
+    }
+
+    /// How many recorded steps a stream makes on its way, with the tries that it has made.
+    pub fn steps_made(&self, stream: usize) -> u64
+        requires known { stream < length self.now.plan.streams }
+        requires tries { (course_at self.now stream).progress.tries ≤ (slice_index_or self.now.plan.streams stream no_stream).budget + (slice_index_or self.now.plan.streams stream no_stream).retries + (course_at self.now stream).progress.refills }
+        ensures { result ≡ (course_at self.now stream).progress.tries + count_by is_no_call (slice_index_or self.now.plan.streams stream no_stream).code + 1 }
+    {
+        let _most = self.allowance(stream);
+        let tries = self.progress(stream).tries;
+        let parts = &self.plan.streams()[stream];
+        tries + count_no_calls(&parts.code) as u64 + 1
     }
 
     /// A stream comes to another place.

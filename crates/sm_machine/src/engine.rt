@@ -32,6 +32,7 @@ ghost use Rattle.sm_placement.specs.Place.{set_down};
 ghost use Rattle.sm_machine.specs.Restarts.{live_there, CanPayLive, CanGetLive};
 ghost use Rattle.sm_machine.specs.Restarted.{down_whole, up_whole};
 ghost use Rattle.sm_protocol.specs.Ticket.{is_open_ticket};
+ghost use Rattle.sm_machine.specs.Retired.{steps_made};
 
 use crate::begun::Begun;
 use crate::journal::{Journal, TicketParts};
@@ -202,6 +203,17 @@ impl Engine {
         self.plans
             .at(id.plan as usize)
             .allowance(id.stream as usize)
+    }
+
+    /// How many recorded steps a stream makes on its way, with the tries that it has made.
+    pub fn steps_made(&self, id: StreamId) -> u64
+        requires begun { is_begun (state_of self.now) id ≡ true }
+        requires tries { (progress_of (state_of self.now) id).tries ≤ allowance (state_of self.now) id }
+        ensures { result ≡ steps_made (state_of self.now) id }
+    {
+        self.plans
+            .at(id.plan as usize)
+            .steps_made(id.stream as usize)
     }
 
     /// A stream comes to another place.

@@ -26,6 +26,7 @@ ghost use Rattle.sm_machine.specs.Restarted.{restart_of, approval_of};
 ghost use Rattle.sm_protocol.specs.Happens.{engaged};
 ghost use Rattle.sm_protocol.specs.Hand.{tickets_of, spends};
 ghost use Rattle.sm_machine.specs.Losses.{refill_answer, is_lost_answer, IsStepOver};
+ghost use Rattle.sm_machine.specs.Retired.{has_ended, steps_made};
 
 use crate::answer::{Answer, answer_to, answer_with};
 use crate::engine::Engine;
@@ -235,6 +236,22 @@ impl Machine {
         ensures { result ≡ (progress_of (state_of self.now) id).done }
     {
         self.engine.progress(id).done
+    }
+
+    /// Ends the token of a stream that has made its end, and answers how many recorded steps the stream made: the tries of its
+    /// calls, its other instructions, and its end. A token of any other stream comes back.
+    pub fn retire(&self, token: StreamToken) -> Result<u64, StreamToken>
+        ensures made { IfOk result (λ steps. steps ≡ steps_made (state_of self.now) token) }
+        ensures done { OnOk result (has_ended (state_of self.now) token ≡ true) }
+        ensures back { IfErr result (λ t. t ≡ token) }
+        ensures unfinished { OnErr result (has_ended (state_of self.now) token ≡ false) }
+    {
+        let id = token.id();
+        if !self.engine.is_begun(id) || !self.engine.progress(id).done {
+            return Err(token);
+        }
+        let _ = token.into_id();
+        Ok(self.engine.steps_made(id))
     }
 
     /// A request for a shard comes to a server.

@@ -6,7 +6,7 @@ ghost use Rattle.sm_machine.specs.Starts.{places_of_stream};
 use sm_plan_code::{Instr, Plan, is_call};
 
 /// How many instructions are no calls.
-fn count_no_calls(code: &[Instr]) -> usize
+pub(crate) fn count_no_calls(code: &[Instr]) -> usize
     ensures count { result ≡ count_by is_no_call code.now }
     ensures within { result ≤ length code.now }
 {
