@@ -7,7 +7,7 @@ ghost use Rattle.sm_placement.specs.Rows.{IsKnownCall};
 ghost use Rattle.sm_placement.specs.Place.{called_numbered, publish};
 ghost use Rattle.sm_plan_code.specs.Instr.{shard_of, IsOwn};
 ghost use Rattle.sm_plan_code.specs.Table.{exchange_of};
-ghost use Rattle.sm_protocol.specs.State.{is_begun, progress_of, next_instruction, allowance, signal_count, parcel_at, set_progress, recorded};
+ghost use Rattle.sm_protocol.specs.State.{is_begun, progress_of, next_instruction, allowance, stream_count, signal_count, parcel_at, set_progress, recorded};
 ghost use Rattle.sm_reservation.specs.Hold.{minus, plus};
 ghost use Rattle.sm_reservation.specs.HoldOf.{hold_of};
 ghost use Rattle.sm_reservation.specs.CanJoin.{CanJoin};
@@ -442,6 +442,14 @@ impl Engine {
         ensures { result ≡ length (state_of self.now).plans }
     {
         self.plans.len()
+    }
+
+    /// How many streams a plan has.
+    pub fn stream_count(&self, plan: u32) -> usize
+        requires { plan < length (state_of self.now).plans }
+        ensures { result ≡ stream_count (state_of self.now) plan }
+    {
+        self.plans.at(plan as usize).stream_count()
     }
 
     /// How many plans are unfinished.

@@ -1,8 +1,8 @@
 //! Machines.
 ghost use Rattle.std.specs.Prelude.{◌≡◌, ◌≢◌, ◌≤◌, ◌<◌, ◌⊎◌, IfOk, OnOk, IfErr, OnErr, length, true, false, ◌∷◌, [], if◌then◌else◌, ◌+◌, reverse};
-ghost use Rattle.sm_placement.specs.Place.{down_count};
+ghost use Rattle.sm_placement.specs.Place.{down_count, entry_at};
 ghost use Rattle.sm_placement.specs.Lead.{IsSettled};
-ghost use Rattle.sm_protocol.specs.State.{opened, is_begun, progress_of, allowance};
+ghost use Rattle.sm_protocol.specs.State.{opened, is_begun, progress_of, allowance, free_places, stream_count};
 ghost use Rattle.sm_machine.specs.declared.opened.OpenFault.TheVariants.{LogFull};
 ghost use Rattle.sm_placement.specs.Sums.{bit};
 ghost use Rattle.sm_placement.specs.Setup.{Setup, sizes_of};
@@ -384,6 +384,36 @@ impl Machine {
         ensures { result ≡ allowance (state_of self.now) id }
     {
         self.engine.allowance(id)
+    }
+
+    /// The published map's entry of a shard.
+    pub fn entry(&self, shard: ShardId) -> Entry
+        requires { shard < (state_of self.now).sizes.shards }
+        ensures { result ≡ entry_at (state_of self.now).place shard }
+    {
+        self.engine.placement().entry(shard)
+    }
+
+    /// How many places of the log are neither used nor set aside for what was begun.
+    pub fn free_places(&self) -> u64
+        ensures { result ≡ free_places (state_of self.now) }
+    {
+        self.engine.free()
+    }
+
+    /// How many plans were begun.
+    pub fn plan_count(&self) -> u64
+        ensures { result ≡ length (state_of self.now).plans }
+    {
+        self.engine.plan_count() as u64
+    }
+
+    /// How many streams a plan has that was begun.
+    pub fn stream_count(&self, plan: u32) -> u64
+        requires { plan < length (state_of self.now).plans }
+        ensures { result ≡ stream_count (state_of self.now) plan }
+    {
+        self.engine.stream_count(plan) as u64
     }
 
     /// Raises a stream's allowance of tries, by 262,144 at most at once.
