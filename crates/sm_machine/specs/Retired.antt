@@ -9,5 +9,5 @@ has_ended w id = is_begun w id && (progress_of w id).done
 
 -- how many recorded steps a stream has made that has made its end: the tries of its calls, each instruction of its code that is
 -- no call, and its end
-abbrev pub steps_made : State → StreamId → ℕ
-steps_made w id = (progress_of w id).tries + count_by is_no_call (stream_parts w id).code + 1
+abbrev pub recorded_steps : State → StreamId → ℕ
+recorded_steps w id = (progress_of w id).tries + count_by is_no_call (stream_parts w id).code + 1

@@ -32,7 +32,7 @@ ghost use Rattle.sm_placement.specs.Place.{set_down};
 ghost use Rattle.sm_machine.specs.Restarts.{live_there, CanPayLive, CanGetLive};
 ghost use Rattle.sm_machine.specs.Restarted.{down_whole, up_whole};
 ghost use Rattle.sm_protocol.specs.Ticket.{is_open_ticket};
-ghost use Rattle.sm_machine.specs.Retired.{steps_made};
+ghost use Rattle.sm_machine.specs.Retired.{recorded_steps};
 
 use crate::begun::Begun;
 use crate::journal::{Journal, TicketParts};
@@ -209,7 +209,7 @@ impl Engine {
     pub fn steps_made(&self, id: StreamId) -> u64
         requires begun { is_begun (state_of self.now) id ≡ true }
         requires tries { (progress_of (state_of self.now) id).tries ≤ allowance (state_of self.now) id }
-        ensures { result ≡ steps_made (state_of self.now) id }
+        ensures { result ≡ recorded_steps (state_of self.now) id }
     {
         self.plans
             .at(id.plan as usize)
