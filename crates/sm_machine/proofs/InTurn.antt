@@ -1,5 +1,5 @@
 -- The items of two lists in turn, read and written by their places.
-use Rattle.std.proofs.Common.{◌≡◌, ◌≤◌, ◌<◌, ◌+◌, ◌-◌, ◌/◌, ◌%◌, sym, ◌++◌, ◌∷◌, [], ℕ, zero, suc, List, length, get_or, set, refl, ap, arith}
+use Rattle.std.proofs.Common.{◌≡◌, ◌≤◌, ◌+◌, ◌-◌, ◌/◌, ◌%◌, sym, ◌++◌, ◌∷◌, [], ℕ, zero, suc, List, length, get_or, set, refl, ap, arith}
 use Rattle.sm_machine.specs.Plans.{in_turn}
 use Rattle.sm_machine.specs.PlansFall.{length-in_turn}
 

@@ -1,7 +1,7 @@
 -- A plan more.
-use Rattle.std.proofs.Common.{◌≡◌, ◌<◌, ◌+◌, ◌++◌, ◌∷◌, [], ◌-◌, ◌/◌, length, arith, sym, ◌∙◌, subst, ap, refl, length-append}
+use Rattle.std.proofs.Common.{◌≡◌, ◌∷◌, [], length, arith, subst, ap, length-append}
 use Rattle.sm_machine.specs.Plans.{plans_in, IsEven}
-use Rattle.sm_machine.proofs.InTurn.{AtFork, fork_at, get_here, get_odd, get_even, set_here, set_odd, set_even, push_odd, push_even, odd_half, even_half}
+use Rattle.sm_machine.proofs.InTurn.{fork_at, push_odd, push_even, odd_half}
 use Rattle.sm_machine.proofs.plan_tree.PlanTree.+push.Goals as goal
 
 pub push-requires : goal.push-requires

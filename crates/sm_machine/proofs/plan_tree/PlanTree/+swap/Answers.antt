@@ -1,8 +1,8 @@
 -- A plan is changed.
-use Rattle.std.proofs.Common.{◌≡◌, ◌<◌, ◌+◌, ◌++◌, ◌∷◌, [], ◌-◌, ◌/◌, length, arith, sym, ◌∙◌, subst, ap, refl}
+use Rattle.std.proofs.Common.{◌≡◌, ◌-◌, ◌/◌, length, arith, sym, subst, ap}
 use Rattle.sm_machine.specs.Begun.{no_begun}
 use Rattle.sm_machine.specs.Plans.{plans_in, IsEven}
-use Rattle.sm_machine.proofs.InTurn.{AtFork, fork_at, get_here, get_odd, get_even, set_here, set_odd, set_even, push_odd, push_even, odd_half, even_half}
+use Rattle.sm_machine.proofs.InTurn.{fork_at, get_here, get_odd, get_even, set_here, set_odd, set_even, odd_half, even_half}
 use Rattle.sm_machine.proofs.plan_tree.PlanTree.+swap.Goals as goal
 use Rattle.sm_machine.proofs.plan_tree.PlanTree.+swap.Goals.{then-place-eq0, else-place-eq0+then-place-eq1, else-place-eq0+else-place-eq1}
 
