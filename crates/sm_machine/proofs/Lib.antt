@@ -5,6 +5,10 @@ pub mod ties
 pub mod Ready
 pub mod Working
 pub mod Setups
+pub mod FirstPlaces
+pub mod Hands
+pub mod HandStarts
+pub mod HandPlays
 pub mod Turns
 pub mod Rows
 pub mod Records

@@ -22,3 +22,4 @@ pub mod Restarted
 pub mod Engaged
 pub mod Losses
 pub mod Retired
+pub mod Hand

@@ -1,5 +1,6 @@
 //! What a request is answered.
 ghost use Rattle.std.specs.Prelude.{◌≡◌, ◌∷◌, [], if◌then◌else◌};
+ghost use Rattle.std.specs.Option.{option_to_list};
 ghost use Rattle.sm_protocol.specs.Hand.{tickets_of, spends};
 ghost use Rattle.sm_machine.specs.Requested.{IsReply, played_by, tickets_in};
 
@@ -59,4 +60,37 @@ pub(crate) fn answer_with(ticket: Ticket, reply: Played) -> Answer
     let server = ticket.target();
     ticket.abandon();
     answer_to(shard, server, reply)
+}
+
+/// An answer, and the ticket that comes with it.
+pub(crate) fn split(answer: Answer) -> (Played, Option<Ticket>)
+    ensures played { result.0 ≡ played_by answer }
+    ensures ticket { option_to_list result.1 ≡ tickets_in answer }
+{
+    match answer {
+        Answer::Executed { server } => (Played::Executed { server }, None),
+        Answer::Passed(ticket) => {
+            let TicketParts {
+                place,
+                target: to,
+                number,
+                ..
+            } = ticket.parts();
+            (Played::Passed { to, number, place }, Some(ticket))
+        }
+        Answer::NotOwner => (Played::NotOwner, None),
+        Answer::Unavailable => (Played::Unavailable, None),
+        Answer::LogFull(back) => (Played::LogFull, back),
+        Answer::Unknown(ticket) => (Played::Unknown, Some(ticket)),
+    }
+}
+
+/// A ticket that meets this answer is spent.
+pub(crate) fn is_spent(answer: &Played) -> bool
+    ensures { result ≡ spends answer.now }
+{
+    matches!(
+        answer,
+        Played::Executed { .. } | Played::Passed { .. } | Played::NotOwner | Played::Unavailable
+    )
 }

@@ -2,12 +2,15 @@
 #![tactic(auto)]
 
 mod answer;
+mod answers;
 mod asking;
 mod begun;
 mod engaging;
 mod engine;
+mod hand;
 mod journal;
 mod link;
+mod lists;
 mod machine;
 mod opened;
 mod opening;
@@ -17,6 +20,7 @@ mod places;
 mod plan_room;
 mod plan_tree;
 mod plans;
+mod play;
 mod progress;
 mod ready_plan;
 mod refills;
@@ -25,6 +29,7 @@ mod restarting;
 mod restarts;
 mod rooms;
 mod running;
+mod searches;
 mod servers;
 mod starting;
 mod step;
@@ -35,6 +40,7 @@ mod token;
 mod tries;
 
 pub use answer::Answer;
+pub use hand::Hand;
 pub use link::Link;
 pub use machine::Machine;
 pub use opened::OpenFault;

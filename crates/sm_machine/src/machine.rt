@@ -10,7 +10,7 @@ ghost use Rattle.sm_placement.specs.Layout.{place_of};
 ghost use Rattle.sm_machine.specs.Permits.{passing_below};
 ghost use Rattle.sm_reservation.specs.Pool.{pool_hold, HasSize};
 ghost use Rattle.sm_protocol.specs.State.{pool};
-ghost use Rattle.sm_protocol.specs.Steps.{Answered, Refused};
+ghost use Rattle.sm_protocol.specs.Steps.{Answered, Refused, step};
 ghost use Rattle.sm_protocol.specs.Happens as happening;
 ghost use Rattle.sm_protocol.specs.Happens.{Happening, happens};
 ghost use Rattle.sm_protocol.specs.Safe.{IsSafe, SomeCanStep, SomeCanStepOrSpent};
@@ -446,5 +446,44 @@ impl Machine {
         let number = self.engine.try_number(id);
         let passage = link.passage(id, number);
         self.engine.step_by(id, passage)
+    }
+
+    /// A stream makes its next step, and its call, where it tries one, fares so.
+    pub(crate) fn step_by(&mut self, id: StreamId, passage: Passage) -> Step
+        ensures answer { (step (state_of self.old) id passage).0 ≡ Answered (played_of result) }
+        ensures state { state_of self.new ≡ (step (state_of self.old) id passage).1 }
+        ensures setup { self.new.placement.setup ≡ self.old.placement.setup }
+    {
+        self.engine.step_by(id, passage)
+    }
+
+    /// A stream makes its next step, and its call, where it tries one, is lost: before its effect, or its answer after it.
+    pub(crate) fn lose_by(&mut self, id: StreamId, after: bool) -> Step
+        ensures answer { (happens (state_of self.old) (happening.Lose id after)).0 ≡ Answered (played_of result) }
+        ensures state { state_of self.new ≡ (happens (state_of self.old) (happening.Lose id after)).1 }
+        ensures setup { self.new.placement.setup ≡ self.old.placement.setup }
+    {
+        if after {
+            self.step_by(id, Passage::LostAfter)
+        } else {
+            self.step_by(id, Passage::LostBefore)
+        }
+    }
+
+    /// A stream's allowance is raised.
+    pub(crate) fn refill_by(&mut self, id: StreamId, more: u32) -> Result<(), RefillFault>
+        requires { more ≤ 262144 }
+        ensures answer { (happens (state_of self.old) (happening.Refill id more)).0 ≡ Answered (refill_answer result) }
+        ensures state { state_of self.new ≡ (happens (state_of self.old) (happening.Refill id more)).1 }
+        ensures setup { self.new.placement.setup ≡ self.old.placement.setup }
+    {
+        self.engine.refill(id, more)
+    }
+
+    /// The number that the next plan will have.
+    pub(crate) fn next_plan(&self) -> usize
+        ensures { result ≡ length (state_of self.now).plans }
+    {
+        self.engine.begun_count()
     }
 }

@@ -1,4 +1,8 @@
 //! What a step of a stream is answered.
+ghost use Rattle.std.specs.Prelude.{◌≡◌};
+ghost use Rattle.sm_machine.specs.Played.{played_of};
+
+use sm_protocol::Played;
 
 /// What a step of a stream is answered.
 #[derive(Clone, Copy, Debug, PartialEq, Eq)]
@@ -17,4 +21,19 @@ pub enum Step {
     Lost,
     /// The next step is a call, and the tries of the stream equal its allowance.
     Spent,
+}
+
+/// The answer, as the log and lists of events have it.
+pub(crate) fn played_of(step: Step) -> Played
+    ensures { result ≡ played_of step }
+{
+    match step {
+        Step::Moved => Played::Moved,
+        Step::Blocked { signal } => Played::Blocked { signal },
+        Step::Done => Played::Done,
+        Step::Halted => Played::Halted,
+        Step::Unknown => Played::Unknown,
+        Step::Lost => Played::Lost,
+        Step::Spent => Played::Spent,
+    }
 }

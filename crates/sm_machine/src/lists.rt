@@ -1,0 +1,80 @@
+//! Lists with room for what is put into them.
+ghost use Rattle.std.specs.Prelude.{◌≡◌, ◌≤◌, ◌<◌, ◌+◌, ◌++◌, Some, slice_set, vec_len, vec_capacity, if◌then◌else◌};
+ghost use Rattle.std.specs.List.{insert};
+ghost use Rattle.sm_machine.specs.Hand.{put_at, put_behind};
+
+use crate::ready_plan::ReadyPlan;
+use crate::token::StreamToken;
+
+/// Puts an element in at a place.
+pub(crate) fn put_back<T>(list: &mut Vec<T>, at: usize, value: T)
+    requires within { at ≤ vec_len list.old }
+    requires room { vec_len list.old < vec_capacity list.old }
+    ensures items { list.new.items ≡ insert list.old.items at value }
+    ensures capacity { vec_capacity list.old ≤ vec_capacity list.new }
+{
+    match list.insert(at, value) {
+        Ok(()) => {}
+        Err(_) => unreachable!(),
+    }
+}
+
+/// Puts what is left of an element that stood at a place back there, or, where that was spent, behind the others.
+pub(crate) fn settle<T>(list: &mut Vec<T>, at: usize, spent: bool, left: Option<T>)
+    requires within { at ≤ vec_len list.old }
+    requires room { vec_len list.old < vec_capacity list.old }
+    ensures items { list.new.items ≡ (if spent then put_behind list.old.items left else put_at list.old.items at left) }
+    ensures len { vec_len list.new ≤ vec_len list.old + 1 }
+    ensures capacity { vec_capacity list.old ≤ vec_capacity list.new }
+{
+    match left {
+        None => {}
+        Some(value) => {
+            if spent {
+                list.push_reserved(value);
+            } else {
+                put_back(list, at, value);
+            }
+        }
+    }
+}
+
+/// Puts an element behind the others, if there is one.
+pub(crate) fn add_left<T>(list: &mut Vec<T>, left: Option<T>)
+    requires room { vec_len list.old < vec_capacity list.old }
+    ensures items { list.new.items ≡ put_behind list.old.items left }
+    ensures capacity { vec_capacity list.new ≡ vec_capacity list.old }
+{
+    match left {
+        None => {}
+        Some(value) => list.push_reserved(value),
+    }
+}
+
+/// Puts the tokens of a plan behind the others.
+pub(crate) fn add_tokens(list: &mut Vec<StreamToken>, tokens: Vec<StreamToken>)
+    requires room { vec_len list.old + vec_len tokens ≤ vec_capacity list.old }
+    ensures items { list.new.items ≡ list.old.items ++ tokens.items }
+    ensures capacity { vec_capacity list.old ≤ vec_capacity list.new }
+{
+    let mut tokens = tokens;
+    match list.append(&mut tokens) {
+        Ok(()) => {}
+        Err(_) => unreachable!(),
+    }
+    tokens.destroy_empty();
+}
+
+/// Puts a plan into its place, which is empty.
+pub(crate) fn put_plan(plans: &mut Vec<Option<ReadyPlan>>, at: usize, ready: ReadyPlan)
+    requires within { at < vec_len plans.old }
+    ensures items { plans.new.items ≡ slice_set plans.old.items at (Some ready) }
+    ensures capacity { vec_capacity plans.old ≤ vec_capacity plans.new }
+{
+    match plans[at].replace(ready) {
+        None => {}
+        Some(other) => {
+            let _checked = other.back();
+        }
+    }
+}

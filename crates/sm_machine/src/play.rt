@@ -1,0 +1,257 @@
+//! Lists of events, played with a hand.
+ghost use Rattle.std.specs.Prelude.{◌≡◌, ◌≢◌, ◌≤◌, ◌<◌, ℕ, IfOk, OnOk, OnErr, [], length, map, take};
+ghost use Rattle.std.specs.List.{AllByRecursion};
+ghost use Rattle.sm_placement.specs.Setup.{Setup};
+ghost use Rattle.sm_protocol.specs.declared.event.Event.TheVariants as event;
+ghost use Rattle.sm_protocol.specs.Hand.{play, plays, played_events};
+ghost use Rattle.sm_protocol.specs.Laws.{NamesKnown, AsksNoLoss, IsReached, AreChecked, AllFit, HasNoLost};
+ghost use Rattle.sm_protocol.specs.Safe.{IsSafe, SomeCanStep, SomeCanStepOrSpent};
+ghost use Rattle.sm_protocol.specs.Steps.{Answered, Refused};
+ghost use Rattle.sm_machine.specs.State.{state_of};
+ghost use Rattle.sm_machine.specs.Hand.{AreFor, AreLeft, HasHandRoom, IsSameHand, IsTurn, game_of, hand_of};
+
+use crate::answer::{is_spent, split};
+use crate::answers::Answers;
+use crate::hand::{Hand, token_room};
+use crate::lists::{add_left, add_tokens, put_back, put_plan, settle};
+use crate::machine::Machine;
+use crate::searches::{first_permit, first_ticket, has_token};
+use crate::step::played_of;
+use sm_protocol::{Event, Passage, Played};
+use sm_reservation::StreamId;
+use sm_server::{ServerId, ShardId};
+use std::alloc::{AllocError, Global};
+
+impl Machine {
+    /// A stream makes its next step, if the hand has its token.
+    fn play_step(&mut self, hand: &Hand, stream: StreamId) -> Played
+        ensures { IsTurn self.old hand.now (event.Step stream) result self.new hand.now }
+    {
+        if !has_token(hand.tokens.as_slice(), stream) {
+            return Played::Unknown;
+        }
+        played_of(self.step_by(stream, Passage::Through))
+    }
+
+    /// A stream makes its next step, if the hand has its token, and a call is lost.
+    fn play_lose(&mut self, hand: &Hand, stream: StreamId, after: bool) -> Played
+        ensures { IsTurn self.old hand.now (event.Lose stream after) result self.new hand.now }
+    {
+        if !has_token(hand.tokens.as_slice(), stream) {
+            return Played::Unknown;
+        }
+        played_of(self.lose_by(stream, after))
+    }
+
+    /// A stream's allowance is raised, if the hand has its token.
+    fn play_refill(&mut self, hand: &Hand, stream: StreamId, more: u32) -> Played
+        requires { more ≤ 262144 }
+        ensures { IsTurn self.old hand.now (event.Refill stream more) result self.new hand.now }
+    {
+        if !has_token(hand.tokens.as_slice(), stream) {
+            return Played::Unknown;
+        }
+        match self.refill_by(stream, more) {
+            Ok(()) => Played::Refilled,
+            Err(why) => Played::RefillRefused(why),
+        }
+    }
+
+    /// A request comes to a server. The ticket of its pass goes into the hand.
+    fn play_arrive(&mut self, hand: &mut Hand, shard: ShardId, server: ServerId) -> Played
+        requires shard { shard < (state_of self.old).sizes.shards }
+        requires server { server < (state_of self.old).sizes.servers }
+        requires room { HasHandRoom hand.old 1 }
+        ensures { IsTurn self.old hand.old (event.Arrive shard server) result self.new hand.new }
+    {
+        let (answer, left) = split(self.arrive(shard, server));
+        add_left(&mut hand.tickets, left);
+        answer
+    }
+
+    /// The request of the first ticket of a place of the log comes to the server that it was passed to.
+    fn play_pass_on(&mut self, hand: &mut Hand, place: u32) -> Played
+        requires room { HasHandRoom hand.old 1 }
+        ensures { IsTurn self.old hand.old (event.PassOn place) result self.new hand.new }
+    {
+        let Some(at) = first_ticket(hand.tickets.as_slice(), place) else {
+            return Played::Unknown;
+        };
+        let ticket = hand.tickets.remove(at);
+        let (answer, left) = split(self.pass_on(ticket));
+        settle(&mut hand.tickets, at, is_spent(&answer), left);
+        answer
+    }
+
+    /// The cluster manager asks whether a server may be restarted. The permit goes into the hand.
+    fn play_approve(&mut self, hand: &mut Hand, server: ServerId) -> Played
+        requires server { server < (state_of self.old).sizes.servers }
+        requires room { HasHandRoom hand.old 1 }
+        ensures { IsTurn self.old hand.old (event.Approve server) result self.new hand.new }
+    {
+        match self.approve(server) {
+            Ok(permit) => {
+                hand.permits.push_reserved(permit);
+                Played::Approved
+            }
+            Err(why) => Played::Denied(why),
+        }
+    }
+
+    /// A restart ends, if the hand has the server's permit.
+    fn play_done(&mut self, hand: &mut Hand, server: ServerId) -> Played
+        requires room { HasHandRoom hand.old 1 }
+        ensures { IsTurn self.old hand.old (event.Done server) result self.new hand.new }
+    {
+        let Some(at) = first_permit(hand.permits.as_slice(), server) else {
+            return Played::Unknown;
+        };
+        let permit = hand.permits.remove(at);
+        match self.done(permit) {
+            Ok(()) => Played::Up,
+            Err(permit) => {
+                put_back(&mut hand.permits, at, permit);
+                Played::Unknown
+            }
+        }
+    }
+
+    /// The plan at a place of the hand starts, if there is one. The tokens of its streams go into the hand.
+    fn play_begin(&mut self, hand: &mut Hand, place: u32) -> Played
+        requires plans { AreFor self.old.placement.setup hand.old.plans.items }
+        requires room { HasHandRoom hand.old 1 }
+        ensures { IsTurn self.old hand.old (event.Begin place) result self.new hand.new }
+    {
+        let at = place as usize;
+        if at >= hand.plans.len() {
+            return Played::Unknown;
+        }
+        let Some(ready) = hand.plans[at].take() else {
+            return Played::Unknown;
+        };
+        let number = self.next_plan();
+        match self.start(ready) {
+            Ok(tokens) => {
+                add_tokens(&mut hand.tokens, tokens);
+                Played::Begun {
+                    number: number as u32,
+                }
+            }
+            Err((ready, why)) => {
+                put_plan(&mut hand.plans, at, ready);
+                Played::NotBegun(why)
+            }
+        }
+    }
+
+    /// Plays an event.
+    fn play_one(&mut self, hand: &mut Hand, event: Event) -> Played
+        requires names { NamesKnown (state_of self.old).sizes event }
+        requires plans { AreFor self.old.placement.setup hand.old.plans.items }
+        requires room { HasHandRoom hand.old 1 }
+        ensures { IsTurn self.old hand.old event result self.new hand.new }
+    {
+        match event {
+            Event::Step { stream } => self.play_step(hand, stream),
+            Event::Lose { stream, after } => self.play_lose(hand, stream, after),
+            Event::Refill { stream, more } => self.play_refill(hand, stream, more),
+            Event::Arrive { shard, server } => self.play_arrive(hand, shard, server),
+            Event::PassOn { place } => self.play_pass_on(hand, place),
+            Event::Approve { server } => self.play_approve(hand, server),
+            Event::Done { server } => self.play_done(hand, server),
+            Event::Begin { plan } => self.play_begin(hand, plan),
+        }
+    }
+
+    /// Plays the events, for whose answers there is room.
+    fn play_each(&mut self, hand: &mut Hand, events: &[Event], answers: &mut Answers)
+        requires names { AllByRecursion (NamesKnown (state_of self.old).sizes) events.now }
+        requires plans { AreFor self.old.placement.setup hand.old.plans.items }
+        requires none { answers.old.told ≡ [] }
+        requires places { length events.now ≤ answers.old.room }
+        requires room { HasHandRoom hand.old (length events.now) }
+        ensures answers { map Answered answers.new.told ≡ plays events.now (game_of self.old hand.old) }
+        ensures game { game_of self.new hand.new ≡ play events.now (game_of self.old hand.old) }
+        ensures setup { self.new.placement.setup ≡ self.old.placement.setup }
+        ensures left { AreLeft hand.old.plans.items hand.new.plans.items }
+    {
+        for event in events {
+            let answer = self.play_one(hand, *event);
+            answers.add(answer);
+        }
+    }
+
+    /// Takes all room, and then plays the events.
+    fn play_all(
+        &mut self,
+        alloc: Global,
+        hand: &mut Hand,
+        events: &[Event],
+    ) -> Result<Vec<Played>, AllocError>
+        requires names { AllByRecursion (NamesKnown (state_of self.old).sizes) events.now }
+        requires plans { AreFor self.old.placement.setup hand.old.plans.items }
+        ensures answers { IfOk result (λ answers. map Answered answers.items ≡ plays events.now (game_of self.old hand.old)) }
+        ensures game { OnOk result (game_of self.new hand.new ≡ play events.now (game_of self.old hand.old)) }
+        ensures setup { self.new.placement.setup ≡ self.old.placement.setup }
+        ensures left { AreLeft hand.old.plans.items hand.new.plans.items }
+        ensures machine { OnErr result (self.new ≡ self.old) }
+        ensures hand { OnErr result (IsSameHand hand.old hand.new) }
+    {
+        let tokens = token_room(hand.plans.as_slice());
+        hand.reserve(tokens, events.len())?;
+        let mut answers = Answers::with_room(alloc, events.len())?;
+        self.play_each(hand, events, &mut answers);
+        Ok(answers.into_list())
+    }
+
+    /// A law: what the protocol's headline and its law on lost calls say of a list of events that is played with a hand. Each
+    /// front of the list is such a list too, so they say it of the game after each event.
+    fn plays_safely(&self, hand: &Hand, events: &[Event])
+        requires names { AllByRecursion (NamesKnown (state_of self.now).sizes) events.now }
+        requires plans { AreFor self.now.placement.setup hand.now.plans.items }
+        ensures fit { (n : ℕ) → AllFit (state_of self.now).sizes (played_events (take n events.now) (game_of self.now hand.now)) }
+        ensures reached { (setup : Setup) × ((n : ℕ) → IsReached setup (play (take n events.now) (game_of self.now hand.now)).state) }
+        ensures checked { (n : ℕ) → AreChecked (state_of self.now).sizes (play (take n events.now) (game_of self.now hand.now)).hand }
+        ensures served { (n : ℕ) → AllByRecursion (λ o. o ≢ Refused) (plays (take n events.now) (game_of self.now hand.now)) }
+        ensures safe { (n : ℕ) → IsSafe (play (take n events.now) (game_of self.now hand.now)).state }
+        ensures onward { (n : ℕ) → SomeCanStepOrSpent (play (take n events.now) (game_of self.now hand.now)).state }
+        ensures unlost { HasNoLost (state_of self.now) → (n : ℕ) → AllByRecursion AsksNoLoss (take n events.now) → SomeCanStep (play (take n events.now) (game_of self.now hand.now)).state }
+    {
+        let _tokens = token_room(hand.plans.as_slice());
+        let _count = events.len();
+        self.is_reached();
+    }
+
+    /// Plays a list of events with a hand: each is answered as the protocol says, and what it needs is taken out of the hand, into
+    /// which goes what it gives. Where memory is short, nothing has happened: all room is taken before the first event.
+    ///
+    /// The events name known shards and servers, and each plan of the hand was checked for the machine's configuration. So after
+    /// each event, which is the end of a front of the list: no call was refused, the state is safe, and of each plan that isn't done
+    /// some stream can step, or one that hasn't made its end has spent its allowance; and where no lost call was asked for, and no
+    /// unfinished stream had one in the log, some stream can step.
+    pub fn play(
+        &mut self,
+        alloc: Global,
+        hand: &mut Hand,
+        events: &[Event],
+    ) -> Result<Vec<Played>, AllocError>
+        requires names { AllByRecursion (NamesKnown (state_of self.old).sizes) events.now }
+        requires plans { AreFor self.old.placement.setup hand.old.plans.items }
+        ensures answers { IfOk result (λ answers. map Answered answers.items ≡ plays events.now (game_of self.old hand.old)) }
+        ensures game { OnOk result (game_of self.new hand.new ≡ play events.now (game_of self.old hand.old)) }
+        ensures setup { self.new.placement.setup ≡ self.old.placement.setup }
+        ensures left { AreLeft hand.old.plans.items hand.new.plans.items }
+        ensures machine { OnErr result (self.new ≡ self.old) }
+        ensures hand { OnErr result (IsSameHand hand.old hand.new) }
+        ensures fit { (n : ℕ) → AllFit (state_of self.old).sizes (played_events (take n events.now) (game_of self.old hand.old)) }
+        ensures reached { (setup : Setup) × ((n : ℕ) → IsReached setup (play (take n events.now) (game_of self.old hand.old)).state) }
+        ensures checked { (n : ℕ) → AreChecked (state_of self.old).sizes (play (take n events.now) (game_of self.old hand.old)).hand }
+        ensures served { (n : ℕ) → AllByRecursion (λ o. o ≢ Refused) (plays (take n events.now) (game_of self.old hand.old)) }
+        ensures safe { (n : ℕ) → IsSafe (play (take n events.now) (game_of self.old hand.old)).state }
+        ensures onward { (n : ℕ) → SomeCanStepOrSpent (play (take n events.now) (game_of self.old hand.old)).state }
+        ensures unlost { HasNoLost (state_of self.old) → (n : ℕ) → AllByRecursion AsksNoLoss (take n events.now) → SomeCanStep (play (take n events.now) (game_of self.old hand.old)).state }
+    {
+        self.plays_safely(hand, events);
+        self.play_all(alloc, hand, events)
+    }
+}
