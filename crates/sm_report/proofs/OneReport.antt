@@ -1,6 +1,6 @@
 -- The report of the bytes that are read is one: each stage ends in one way or goes on with one thing, since the verdict on
 -- a plan is one.
-use Rattle.std.proofs.Common.{◌≡◌, ◌∙◌, ℕ, List, Result, Ok, Err, sym, ap, inl, inr}
+use Rattle.std.proofs.Common.{◌≡◌, ◌∙◌, ◌+◌, ◌++◌, ◌∷◌, [], ℕ, Bool, false, List, Option, Some, None, Result, Ok, Err, sym, ap, inl, inr}
 use Rattle.std.specs.Prelude.{◌≢◌}
 use Rattle.sm_placement.specs.Setup.{Setup, Sizes, sizes_of}
 use Rattle.sm_placement.specs.Place.{Place}
@@ -18,9 +18,12 @@ use Rattle.sm_plan_text.specs.Documents.{DocumentModel}
 use Rattle.sm_report.specs.declared.command.Command.{Command}
 use Rattle.sm_report.specs.declared.command.Command.TheVariants.{Calls, Check}
 use Rattle.sm_report.specs.Report.{Output, refused}
-use Rattle.sm_report.specs.Checking.{stuck_line, fault_line, holding_line}
-use Rattle.sm_report.specs.Stages.{Then, read_stage, member_stage, placement_stage, AtCheck, AtStart}
-use Rattle.sm_report.specs.Output.{IsCalled, IsOpenedForCalls, IsAcceptedReport, IsPlanReport, IsOpenedForCheck, IsDocumentReport, IsReport}
+use Rattle.sm_report.specs.Checking.{stuck_line, fault_line, holding_line, accepted_line}
+use Rattle.sm_report.specs.Playing.{Scene}
+use Rattle.sm_report.specs.PlayLines.{plan_front}
+use Rattle.sm_plan_text.specs.declared.event.EventText.{EventText}
+use Rattle.sm_report.specs.Stages.{Then, read_stage, member_stage, alone_stage, placement_stage, log_stage, begin_stage, AtCheck, AtChecks, AtStart}
+use Rattle.sm_report.specs.Output.{IsCalled, IsOpenedForCalls, IsAcceptedReport, IsPlanReport, IsOpenedForCheck, plans_of, has_list, IsPlayed, IsBegunForPlay, IsLoggedForPlay, IsPlacedForPlay, IsOpenedForPlay, IsAloneForPlay, IsPlayReport, IsDocumentReport, IsReport}
 
 -- the verdict on a plan is one
 pub record IsOneVerdict : Type 0 where
@@ -53,11 +56,17 @@ same_line (Stuck ps) (Stream i at why) e = ap fault_line e
 same_line (Stuck ps) (Stuck qs) e = ap stuck_line e
 
 -- the plan passes the check
-check_one : IsOneVerdict → (c : Sizes) (plan : PlanModel) (Next : Output → Type 0) → IsOne Next → IsOne (AtCheck c plan Next)
-check_one verdict c plan Next one a b (inl x) (inl y) = x.3 ∙ ap refused (same_line x.0 y.0 (verdict.fault c plan x.0 y.0 x.1 y.1 x.2 y.2)) ∙ sym y.3
-check_one verdict c plan Next one a b (inl x) (inr y) = absurd (x.2 (verdict.sound c plan x.0 y.0 x.1))
-check_one verdict c plan Next one a b (inr x) (inl y) = absurd (y.2 (verdict.sound c plan y.0 x.0 y.1))
-check_one verdict c plan Next one a b (inr x) (inr y) = one a b x.1 y.1
+check_one : IsOneVerdict → (c : Sizes) (front : List ℕ) (plan : PlanModel) (Next : Output → Type 0) → IsOne Next → IsOne (AtCheck c front plan Next)
+check_one verdict c front plan Next one a b (inl x) (inl y) = x.3 ∙ ap (λ text. refused (front ++ text)) (same_line x.0 y.0 (verdict.fault c plan x.0 y.0 x.1 y.1 x.2 y.2)) ∙ sym y.3
+check_one verdict c front plan Next one a b (inl x) (inr y) = absurd (x.2 (verdict.sound c plan x.0 y.0 x.1))
+check_one verdict c front plan Next one a b (inr x) (inl y) = absurd (y.2 (verdict.sound c plan y.0 x.0 y.1))
+check_one verdict c front plan Next one a b (inr x) (inr y) = one a b x.1 y.1
+
+-- each plan passes the check
+checks_one : IsOneVerdict → (c : Sizes) (many : Bool) (k : ℕ) (plans : List PlanModel) (Next : Output → Type 0) → IsOne Next → IsOne (AtChecks c many k plans Next)
+checks_one verdict c many k [] Next one = one
+checks_one verdict c many k (plan ∷ plans) Next one =
+    check_one verdict c (plan_front many k) plan (AtChecks c many (k + 1) plans Next) (checks_one verdict c many (k + 1) plans Next one)
 
 -- the plan may start
 start_one : IsOneVerdict → (setup : Setup) (p : Place) (plan : PlanModel) (Next : Output → Type 0) → IsOne Next → IsOne (AtStart setup p plan Next)
@@ -75,8 +84,21 @@ given_one given = λ a b x y. x ∙ sym y
 
 plan_one : IsOneVerdict → (setup : Setup) (plan : PlanModel) (p : Place) → IsOne (IsPlanReport setup plan p)
 plan_one verdict setup plan p =
-    check_one verdict (sizes_of setup) plan (AtStart setup p plan (IsAcceptedReport plan))
+    check_one verdict (sizes_of setup) [] plan (AtStart setup p plan (IsAcceptedReport plan))
     (start_one verdict setup p plan (IsAcceptedReport plan) (given_one _))
+
+begun_one : (setup : Setup) (plan : Option PlanModel) (plans : Option (List PlanModel)) (events : List EventText) (x : Scene) → IsOne (IsBegunForPlay setup plan plans events x)
+begun_one setup (Some plan) None events x = then_one (begin_stage setup x) (IsPlayed setup false (accepted_line plan) events) (λ y. given_one _)
+begun_one setup (Some plan) (Some plans) events x = given_one _
+begun_one setup None plans events x = given_one _
+
+pub play_one : IsOneVerdict → (d : DocumentModel) → IsOne (IsPlayReport d)
+play_one verdict d =
+    then_one (alone_stage d.plan d.plans) (IsAloneForPlay d) (λ alone.
+    then_one (member_stage member.Events d.events) (IsOpenedForPlay d) (λ events.
+    then_one (placement_stage d) (IsPlacedForPlay d events) (λ p.
+    then_one (log_stage d p) (IsLoggedForPlay d events p) (λ room.
+    checks_one verdict (sizes_of d.setup) (has_list d.plans) 0 (plans_of d.plan d.plans) _ (begun_one d.setup d.plan d.plans events _)))))
 
 document_one : IsOneVerdict → (command : Command) (d : DocumentModel) → IsOne (IsDocumentReport command d)
 document_one verdict Calls d =

@@ -1,5 +1,5 @@
 -- A stage of the code does what the stage of the definition says: it goes on, or it ends the report.
-use Rattle.std.proofs.Common.{◌≡◌, ◌∙◌, Option, Some, None, Result, Ok, Err, IfSome, sym, ap, subst, refl, inl, inr}
+use Rattle.std.proofs.Common.{◌≡◌, ◌∙◌, Option, Some, None, Result, Ok, Err, IfSome, [], sym, ap, subst, refl, inl, inr}
 use Rattle.sm_placement.specs.Setup.{Setup, sizes_of}
 use Rattle.sm_placement.specs.Place.{Place}
 use Rattle.sm_reservation.specs.Pool.{true_rights}
@@ -54,10 +54,10 @@ member_there P m (Some v) found is h = let same : v ≡ found = cc in subst P sa
 
 -- a plan that does not pass the check is reported with its fault
 pub plan_refused : (setup : Setup) (p : Place) (plan : PlanModel) (early : Early) (result : Result Output Early) → result ≡ Err early
-    → IfEnded early (IsFaultReport (sizes_of setup) plan) → IfMade result (IsPlanReport setup plan p)
+    → IfEnded early (IsFaultReport (sizes_of setup) [] plan) → IfMade result (IsPlanReport setup plan p)
 plan_refused setup p plan early result is ends =
     subst (λ r. IfMade r (IsPlanReport setup plan p)) (sym is)
-    (ended_weaker early (IsFaultReport (sizes_of setup) plan) (IsPlanReport setup plan p) (λ made h. inl h) ends)
+    (ended_weaker early (IsFaultReport (sizes_of setup) [] plan) (IsPlanReport setup plan p) (λ made h. inl h) ends)
 
 -- a plan that passed the check and may not start is reported with what holds it up
 pub plan_held : (setup : Setup) (p : Place) (plan checked : PlanModel) (early : Early) (result : Result Output Early) → result ≡ Err early → checked ≡ plan

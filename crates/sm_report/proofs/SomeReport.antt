@@ -1,6 +1,6 @@
 -- The bytes that are read have a report: each stage ends or goes on, since a plan of a document is sound or has a fault, and
 -- may start or is held up.
-use Rattle.std.proofs.Common.{◌≡◌, ℕ, Option, Some, None, Result, Ok, Err, List, length, nat_lt, refl, inl, inr}
+use Rattle.std.proofs.Common.{◌≡◌, ◌++◌, [], ℕ, Option, Some, None, Result, Ok, Err, List, length, nat_lt, refl, inl, inr}
 use Rattle.std.proofs.lemmas.Bool.{cases_Bool}
 use Rattle.sm_placement.specs.Setup.{Setup, sizes_of}
 use Rattle.sm_placement.specs.Place.{Place}
@@ -37,10 +37,10 @@ then_some : {A : Type 0} (stage : Result A Output) (Next : A → Output → Type
 then_some (Ok found) Next next = next found refl
 then_some (Err ending) Next next = (ending, refl)
 
-check_some : FindsFault → (setup : Setup) (plan : PlanModel) (Next : Output → Type 0) → IsPlanOf setup plan → IsMade Next → IsMade (AtCheck (sizes_of setup) plan Next)
-check_some finds setup plan Next it next = elim (finds (sizes_of setup) plan it.is it.fits) [
+check_some : FindsFault → (setup : Setup) (front : List ℕ) (plan : PlanModel) (Next : Output → Type 0) → IsPlanOf setup plan → IsMade Next → IsMade (AtCheck (sizes_of setup) front plan Next)
+check_some finds setup front plan Next it next = elim (finds (sizes_of setup) plan it.is it.fits) [
   | inl sound ↦ (next.0, inr (sound, next.1))
-  | inr fault ↦ (refused (fault_line fault.0), inl (fault.0, fault.1, fault.2, refl))
+  | inr fault ↦ (refused (front ++ fault_line fault.0), inl (fault.0, fault.1, fault.2, refl))
 ]
 
 start_some : FindsHolding → (setup : Setup) (p : Place) (plan : PlanModel) (Next : Output → Type 0) → IsPlanOf setup plan → IsMade Next → IsMade (AtStart setup p plan Next)
@@ -57,7 +57,7 @@ start_some finds setup p plan Next it next = go (first_holding (sizes_of setup) 
 
 plan_some : HasVerdicts → (setup : Setup) (plan : PlanModel) (p : Place) → IsPlanOf setup plan → IsMade (IsPlanReport setup plan p)
 plan_some verdicts setup plan p it =
-    check_some verdicts.fault setup plan (AtStart setup p plan (IsAcceptedReport plan)) it
+    check_some verdicts.fault setup [] plan (AtStart setup p plan (IsAcceptedReport plan)) it
     (start_some verdicts.holding setup p plan (IsAcceptedReport plan) it (done (accepted_line plan), refl))
 
 document_some : HasVerdicts → (command : Command) (d : DocumentModel) → HasItsPlan d → IsMade (IsDocumentReport command d)

@@ -8,5 +8,7 @@ pub mod BadInput
 pub mod Checking
 pub mod Report
 pub mod Early
+pub mod Playing
+pub mod PlayLines
 pub mod Stages
 pub mod Output

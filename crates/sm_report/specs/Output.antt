@@ -1,5 +1,5 @@
 -- What each command reports, for all the bytes that may be read.
-use Rattle.std.specs.Prelude.{◌≡◌, ℕ, List, ◌++◌, Option, IfSome, Result}
+use Rattle.std.specs.Prelude.{◌≡◌, ℕ, Bool, true, false, List, [], ◌∷◌, ◌++◌, Option, Some, None, IfSome, Result}
 use Rattle.sm_placement.specs.Setup.{Setup, sizes_of}
 use Rattle.sm_placement.specs.Place.{Place}
 use Rattle.sm_plan_code.specs.Plan.{PlanModel}
@@ -12,7 +12,10 @@ use Rattle.sm_report.specs.Answers.{answer_lines, place_after_all}
 use Rattle.sm_report.specs.Checking.{accepted_line}
 use Rattle.sm_report.specs.Ending.{ending}
 use Rattle.sm_report.specs.Report.{Output, done}
-use Rattle.sm_report.specs.Stages.{Then, read_stage, member_stage, placement_stage, AtCheck, AtStart}
+use Rattle.sm_report.specs.Stages.{Then, read_stage, member_stage, alone_stage, placement_stage, log_stage, begin_stage, AtCheck, AtChecks, AtStart}
+use Rattle.sm_report.specs.Playing.{Scene, opened_scene, scene_after}
+use Rattle.sm_report.specs.PlayLines.{event_lines, all_plan_lines}
+use Rattle.sm_plan_text.specs.declared.event.EventText.{EventText}
 
 -- ---- `calls`
 
@@ -38,13 +41,59 @@ IsAcceptedReport plan output = output ≡ done (accepted_line plan)
 
 -- a plan at a placement
 abbrev pub IsPlanReport : Setup → PlanModel → Place → Output → Type 0
-IsPlanReport setup plan p = AtCheck (sizes_of setup) plan (AtStart setup p plan (IsAcceptedReport plan))
+IsPlanReport setup plan p = AtCheck (sizes_of setup) [] plan (AtStart setup p plan (IsAcceptedReport plan))
 
 abbrev pub IsOpenedForCheck : DocumentModel → PlanModel → Output → Type 0
 IsOpenedForCheck d plan = Then (placement_stage d) (IsPlanReport d.setup plan)
 
 abbrev pub IsCheckReport : DocumentModel → Output → Type 0
 IsCheckReport d = Then (member_stage member.Plan d.plan) (IsOpenedForCheck d)
+
+-- ---- `play`
+
+-- The plans of a document that has one, or a list of them, or none.
+abbrev pub plans_of : Option PlanModel → Option (List PlanModel) → List PlanModel
+plans_of plan (Some plans) = plans
+plans_of (Some plan) None = plan ∷ []
+plans_of None None = []
+
+-- it has a list of them
+abbrev pub has_list : Option (List PlanModel) → Bool
+has_list (Some plans) = true
+has_list None = false
+
+-- the answers to events that are played one after the other behind this front, how far the streams have come, and the placement
+-- after them
+abbrev pub played_output : Setup → Bool → List ℕ → List EventText → Scene → Output
+played_output setup many front events x =
+    done (front ++ event_lines setup many x 0 events ++ all_plan_lines many (scene_after events x) ++ ending setup (scene_after events x).state.place)
+
+-- the events are played at a scene
+abbrev pub IsPlayed : Setup → Bool → List ℕ → List EventText → Scene → Output → Type 0
+IsPlayed setup many front events x output = output ≡ played_output setup many front events x
+
+-- One plan has begun before any event, and is accepted then; the plans of a list are begun by events.
+abbrev pub IsBegunForPlay : Setup → Option PlanModel → Option (List PlanModel) → List EventText → Scene → Output → Type 0
+IsBegunForPlay setup (Some plan) None events x = Then (begin_stage setup x) (IsPlayed setup false (accepted_line plan) events)
+IsBegunForPlay setup plan plans events x = IsPlayed setup (has_list plans) [] events x
+
+-- the plans of a document at its placement, which has room in the log
+abbrev pub IsLoggedForPlay : DocumentModel → List EventText → Place → Unit {0} → Output → Type 0
+IsLoggedForPlay d events p _ =
+    AtChecks (sizes_of d.setup) (has_list d.plans) 0 (plans_of d.plan d.plans)
+    (IsBegunForPlay d.setup d.plan d.plans events (opened_scene (sizes_of d.setup) p d.log (plans_of d.plan d.plans)))
+
+abbrev pub IsPlacedForPlay : DocumentModel → List EventText → Place → Output → Type 0
+IsPlacedForPlay d events p = Then (log_stage d p) (IsLoggedForPlay d events p)
+
+abbrev pub IsOpenedForPlay : DocumentModel → List EventText → Output → Type 0
+IsOpenedForPlay d events = Then (placement_stage d) (IsPlacedForPlay d events)
+
+abbrev pub IsAloneForPlay : DocumentModel → Unit {0} → Output → Type 0
+IsAloneForPlay d _ = Then (member_stage member.Events d.events) (IsOpenedForPlay d)
+
+abbrev pub IsPlayReport : DocumentModel → Output → Type 0
+IsPlayReport d = Then (alone_stage d.plan d.plans) (IsAloneForPlay d)
 
 -- ---- all commands
 

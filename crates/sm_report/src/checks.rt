@@ -25,7 +25,7 @@ fn report_plan(alloc: Global, placement: &Placement, plan: Plan) -> Result<Made,
     ensures { IfMade result (IsPlanReport placement.now.setup plan (place_of placement.now)) }
 {
     let pool = Pool::open(alloc, placement)?;
-    let checked = checked(alloc, placement, plan)?;
+    let checked = checked(alloc, "", placement, plan)?;
     may_start(alloc, &checked, &pool, placement)?;
     Ok(Made::accepted(alloc, checked.plan())?)
 }

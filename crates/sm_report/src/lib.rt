@@ -13,6 +13,7 @@ mod input;
 mod made;
 mod names;
 mod opening;
+mod play_lines;
 mod reporting;
 mod stages;
 mod status;

@@ -1,20 +1,24 @@
 //! A report that is made and not yet written.
-ghost use Rattle.std.specs.Prelude.{◌≡◌, ◌≢◌, ◌<◌, ℕ, take, IfOk, string_bytes};
+ghost use Rattle.std.specs.Prelude.{◌≡◌, ◌≢◌, ◌<◌, ◌++◌, ℕ, take, IfOk, string_bytes};
 ghost use Rattle.std.specs.Io.KnownBytes.{Appends};
 ghost use Rattle.sm_report.specs.BadInput.{text_fault_line, too_long_line};
 ghost use Rattle.sm_report.specs.Opening.{open_fault_line};
 ghost use Rattle.sm_report.specs.Checking.{accepted_line, fault_line, holding_line};
+ghost use Rattle.sm_report.specs.Stages.{log_refused_line};
+ghost use Rattle.sm_report.specs.PlayLines.{not_begun_line};
 ghost use Rattle.sm_report.specs.Report.{bad_input, refused, done};
 ghost use Rattle.sm_report.specs.Status.{code_of};
 
 use crate::bad_input::{push_text_fault, push_too_long};
 use crate::delivery::deliver;
 use crate::opening::push_open_fault;
+use crate::play_lines::{push_not_begun, push_word};
 use crate::status::Status;
 use crate::verdict::{push_accepted, push_fault, push_holding};
 use sm_placement::{Config, OpenFault};
 use sm_plan_code::Plan;
 use sm_plan_text::TextFault;
+use sm_protocol::BeginFault;
 use sm_verifier::{Fault, Holding};
 use std::alloc::{AllocError, Global};
 use std::io::Write;
@@ -83,12 +87,31 @@ impl Made {
         Ok(Made::refused(text))
     }
 
-    /// The report of a plan that does not pass the check.
-    pub fn unsound(alloc: Global, fault: &Fault) -> Result<Self, AllocError>
-        ensures { IfOk result (λ made. made ≡ refused (fault_line fault.now)) }
+    /// The report of a plan that does not pass the check, behind a front.
+    pub fn unsound(alloc: Global, front: &str, fault: &Fault) -> Result<Self, AllocError>
+        ensures { IfOk result (λ made. made ≡ refused (front.now ++ fault_line fault.now)) }
     {
         let mut text = String::new(alloc);
+        text.push_str(front)?;
         push_fault(&mut text, fault)?;
+        Ok(Made::refused(text))
+    }
+
+    /// The report of a log that has no room for the restarts under way.
+    pub fn log_full(alloc: Global) -> Result<Self, AllocError>
+        ensures { IfOk result (λ made. made ≡ refused log_refused_line) }
+    {
+        let mut text = String::new(alloc);
+        push_word(&mut text, "log refused: 2 LogFull")?;
+        Ok(Made::refused(text))
+    }
+
+    /// The report of a plan that does not start.
+    pub fn not_begun(alloc: Global, config: &Config, fault: BeginFault) -> Result<Self, AllocError>
+        ensures { IfOk result (λ made. made ≡ refused (not_begun_line config.now fault)) }
+    {
+        let mut text = String::new(alloc);
+        push_not_begun(&mut text, config, fault)?;
         Ok(Made::refused(text))
     }
 

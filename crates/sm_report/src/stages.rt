@@ -1,7 +1,8 @@
 //! The stages of a report, from a document that is read to a plan that may start. Each gives what it found, or how the
 //! report ends there.
-ghost use Rattle.std.specs.Prelude.{◌≡◌, ◌≢◌, Ok, Err, IfOk, IfErr, OnOk, length};
+ghost use Rattle.std.specs.Prelude.{◌≡◌, ◌≢◌, ◌≤◌, ◌++◌, Ok, Err, IfOk, IfErr, OnOk, length};
 ghost use Rattle.sm_placement.specs.Setup.{sizes_of};
+ghost use Rattle.sm_placement.specs.Place.{down_count};
 ghost use Rattle.sm_placement.specs.Layout.{place_of};
 ghost use Rattle.sm_placement.specs.Lead.{IsSettled};
 ghost use Rattle.sm_reservation.specs.Pool.{HasSize, pool_hold, true_rights};
@@ -12,7 +13,7 @@ ghost use Rattle.sm_plan_text.specs.Reading.{rows_of};
 ghost use Rattle.sm_report.specs.Checking.{fault_line};
 ghost use Rattle.sm_report.specs.Early.{IfEnded};
 ghost use Rattle.sm_report.specs.Report.{refused};
-ghost use Rattle.sm_report.specs.Stages.{member_stage, placement_stage, IsFaultReport, IsHoldingReport};
+ghost use Rattle.sm_report.specs.Stages.{member_stage, alone_stage, placement_stage, log_stage, IsFaultReport, IsHoldingReport};
 
 use crate::early::Early;
 use crate::made::Made;
@@ -48,33 +49,65 @@ pub fn placement(alloc: Global, document: &Document) -> Result<Placement, Early>
     }
 }
 
-/// How the report of a plan ends that did not pass the check.
-fn fault_ending(alloc: Global, fault: &Fault) -> Early
-    ensures { IfEnded result (λ made. (fault.now ≢ Fault.NoMemory) × (made ≡ refused (fault_line fault.now))) }
+/// How the report of a plan ends that did not pass the check, behind a front.
+fn fault_ending(alloc: Global, front: &str, fault: &Fault) -> Early
+    ensures { IfEnded result (λ made. (fault.now ≢ Fault.NoMemory) × (made ≡ refused (front.now ++ fault_line fault.now))) }
 {
     match fault {
         Fault::NoMemory => Early::NoMemory,
         Fault::Budget { .. }
         | Fault::SignalNotOnce { .. }
         | Fault::Stream { .. }
-        | Fault::Stuck { .. } => match Made::unsound(alloc, fault) {
+        | Fault::Stuck { .. } => match Made::unsound(alloc, front, fault) {
             Ok(made) => Early::Report(made),
             Err(_) => Early::NoMemory,
         },
     }
 }
 
-/// The plan, once it has passed the check.
-pub fn checked(alloc: Global, placement: &Placement, plan: Plan) -> Result<Checked, Early>
+/// Ends the report where a document has one plan and a list of plans.
+pub fn alone(alloc: Global, document: &Document) -> Result<(), Early>
+    ensures ok { OnOk result (alone_stage (rows_of document.now).plan (rows_of document.now).plans ≡ Ok tt) }
+    ensures ends { IfErr result (λ early. IfEnded early (λ made. alone_stage (rows_of document.now).plan (rows_of document.now).plans ≡ Err made)) }
+{
+    if document.plan.is_some() && document.plans.is_some() {
+        let fault = TextFault::Shape {
+            member: Member::Plans,
+        };
+        return Err(Early::Report(Made::bad_input(alloc, fault)?));
+    }
+    Ok(())
+}
+
+/// Ends the report where the log has fewer places than servers are down.
+pub fn has_log(alloc: Global, document: &Document, placement: &Placement) -> Result<(), Early>
+    requires { placement.now.setup ≡ (rows_of document.now).setup }
+    ensures ok { OnOk result (log_stage (rows_of document.now) (place_of placement.now) ≡ Ok tt) }
+    ensures room { OnOk result (down_count (sizes_of placement.now.setup) (place_of placement.now) ≤ document.now.log) }
+    ensures ends { IfErr result (λ early. IfEnded early (λ made. log_stage (rows_of document.now) (place_of placement.now) ≡ Err made)) }
+{
+    if document.log < placement.down_count() {
+        return Err(Early::Report(Made::log_full(alloc)?));
+    }
+    Ok(())
+}
+
+/// The plan, once it has passed the check; else the report ends, behind a front.
+pub fn checked(
+    alloc: Global,
+    front: &str,
+    placement: &Placement,
+    plan: Plan,
+) -> Result<Checked, Early>
     requires { IsKnownPlan (length placement.now.setup.shards) (length placement.now.setup.servers) plan }
     ensures setup { IfOk result (λ checked. checked.setup ≡ placement.now.setup) }
     ensures plan { IfOk result (λ checked. checked.plan ≡ plan) }
     ensures sound { OnOk result (IsSound (sizes_of placement.now.setup) plan) }
-    ensures ends { IfErr result (λ early. IfEnded early (IsFaultReport (sizes_of placement.now.setup) plan)) }
+    ensures ends { IfErr result (λ early. IfEnded early (IsFaultReport (sizes_of placement.now.setup) front.now plan)) }
 {
     match check(alloc, placement.config(), plan) {
         Ok(checked) => Ok(checked),
-        Err((_, fault)) => Err(fault_ending(alloc, &fault)),
+        Err((_, fault)) => Err(fault_ending(alloc, front, &fault)),
     }
 }
 

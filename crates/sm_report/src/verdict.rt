@@ -35,7 +35,7 @@ fn calls_of(streams: &[Stream]) -> usize
 }
 
 /// How many calls stand in the codes of a plan's streams.
-fn call_count(plan: &Plan) -> usize
+pub fn call_count(plan: &Plan) -> usize
     ensures { result ≡ call_count plan.now }
 {
     calls_of(plan.streams())

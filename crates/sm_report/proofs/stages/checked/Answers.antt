@@ -1,4 +1,4 @@
-use Rattle.std.proofs.Common.{◌≢◌, ◌≡◌, subst}
+use Rattle.std.proofs.Common.{◌≢◌, ◌≡◌, ◌++◌, subst}
 use Rattle.sm_placement.specs.Setup.{sizes_of}
 use Rattle.sm_verifier.specs.declared.checking.Fault.TheVariants.{NoMemory}
 use Rattle.sm_verifier.specs.Plan.{IsFault}
@@ -13,5 +13,5 @@ returns-clause-ends c =
     let fault = c.in-Err.fault in
     let is : IsFault (sizes_of c.args.placement.now.setup) c.args.plan fault =
     subst (λ s. IsFault (sizes_of s) c.args.plan fault) c.config.ensures.setup c.in-Err.ensures.fault in
-    ended_weaker c.fault_ending.result (λ made. (fault ≢ NoMemory) × (made ≡ refused (fault_line fault))) (IsFaultReport (sizes_of c.args.placement.now.setup) c.args.plan)
+    ended_weaker c.fault_ending.result (λ made. (fault ≢ NoMemory) × (made ≡ refused (c.args.front.now ++ fault_line fault))) (IsFaultReport (sizes_of c.args.placement.now.setup) c.args.front.now c.args.plan)
     (λ made h. (fault, is, h.0, h.1)) c.fault_ending.ensures

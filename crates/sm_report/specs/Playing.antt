@@ -1,0 +1,83 @@
+-- Events of a document, which are played one after the other. Who plays has every right that a machine gives away: the token
+-- of each stream that was begun, a permit for each server that is down, and the ticket of each pass that was recorded. So what
+-- an event asks for hangs on the state alone, and on where the plans stand in the document: an event names a plan by its
+-- place there, and a stream that runs has the number that the start of its plan was answered with.
+use Rattle.std.specs.Prelude.{ℕ, ◌==◌, ◌++◌, Option, Some, None, List, [], ◌∷◌, map, option_map, option_and_then, slice_index_or, slice_set, if◌then◌else◌}
+use Rattle.std.specs.List.{position}
+use Rattle.sm_placement.specs.Setup.{Sizes}
+use Rattle.sm_placement.specs.Place.{Place}
+use Rattle.sm_reservation.specs.declared.stream_id.StreamId.{StreamId}
+use Rattle.sm_plan_code.specs.Plan.{PlanModel}
+use Rattle.sm_plan_text.specs.declared.event.EventText.{EventText}
+use Rattle.sm_plan_text.specs.declared.event.EventText.TheVariants as text
+use Rattle.sm_protocol.specs.declared.event.Played.{Played}
+use Rattle.sm_protocol.specs.declared.event.Played.TheVariants as played
+use Rattle.sm_protocol.specs.Ticket.{Ticket, passes}
+use Rattle.sm_protocol.specs.State.{State, opened, stream_id, is_begun}
+use Rattle.sm_protocol.specs.Steps.{Outcome, Answered}
+use Rattle.sm_protocol.specs.Happens.{Happening, Step, Lose, Refill, Arrive, PassOn, Approve, Done, Begin, happens}
+
+pub record Scene : Type 0 where
+  pub state : State
+  -- the plans by their places in the document, None once they have begun
+  pub waiting : List (Option PlanModel)
+  -- the places of the plans that have begun, by their numbers
+  pub places : List ℕ
+
+-- before any event: no plan has begun
+abbrev pub opened_scene : Sizes → Place → ℕ → List PlanModel → Scene
+opened_scene c p log plans = record { state = opened c p log; waiting = map (λ plan. Some plan) plans; places = [] }
+
+-- ---- what an event asks for
+
+-- the number of the plan at this place of the document, once it has begun
+abbrev pub number_of : List ℕ → ℕ → Option ℕ
+number_of places place = position (λ begun. begun == place) places
+
+abbrev pub if_begun : State → StreamId → Option StreamId
+if_begun w id = if is_begun w id then Some id else None
+
+-- a stream by its plan's place in the document and its own place in the plan, if it has begun
+abbrev pub stream_of : Scene → ℕ → ℕ → Option StreamId
+stream_of x place i = option_and_then (λ number. if_begun x.state (stream_id number i)) (number_of x.places place)
+
+-- the pass that is recorded at this place of the log
+abbrev pub pass_at : State → ℕ → Option Ticket
+pass_at w place = slice_index_or (passes w.log) place None
+
+-- what an event asks for; None where there is nothing that it speaks of
+abbrev pub asked_by : Scene → EventText → Option Happening
+asked_by x (text.Step place i) = option_map Step (stream_of x place i)
+asked_by x (text.Lose place i after) = option_map (λ id. Lose id after) (stream_of x place i)
+asked_by x (text.Refill place i more) = option_map (λ id. Refill id more) (stream_of x place i)
+asked_by x (text.Request s v) = Some (Arrive s v)
+asked_by x (text.PassOn place) = option_map PassOn (pass_at x.state place)
+asked_by x (text.Approve v) = Some (Approve v)
+asked_by x (text.Done v) = Some (Done v)
+asked_by x (text.Begin place) = option_map Begin (slice_index_or x.waiting place None)
+
+-- ---- what becomes of it
+
+-- a plan that has begun waits no longer, and has the next number
+abbrev pub after_start : Scene → ℕ → Played → Scene
+after_start x place (played.Begun number) = record x { waiting = slice_set x.waiting place None; places = x.places ++ place ∷ [] }
+after_start x place _ = x
+
+-- the scene after an event, with the state that it has led to
+abbrev pub after_event : Scene → EventText → Outcome → Scene
+after_event x (text.Begin place) (Answered answer) = after_start x place answer
+after_event x _ _ = x
+
+-- an event that speaks of nothing is Unknown, and changes nothing
+abbrev pub turn_by : Scene → EventText → Option Happening → Outcome × Scene
+turn_by x e None = (Answered played.Unknown, x)
+turn_by x e (Some h) = ((happens x.state h).0, after_event (record x { state = (happens x.state h).1 }) e (happens x.state h).0)
+
+-- an event, with its outcome
+abbrev pub turn : Scene → EventText → Outcome × Scene
+turn x e = turn_by x e (asked_by x e)
+
+-- the scene after a list of events
+abbrev pub scene_after : List EventText → Scene → Scene
+scene_after [] x = x
+scene_after (e ∷ es) x = scene_after es (turn x e).1
