@@ -54,6 +54,13 @@ impl Ticket {
         self.parts.target
     }
 
+    /// The number of the handover under which the request was passed on.
+    pub fn number(&self) -> u64
+        ensures { result ≡ self.now.number }
+    {
+        self.parts.number
+    }
+
     /// Spends a ticket that is sent nowhere.
     pub fn abandon(self) {
         let Ticket { parts: _ } = self;

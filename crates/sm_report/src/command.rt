@@ -15,6 +15,8 @@ pub enum Command {
     Calls,
     /// Whether the document's plan is accepted at its placement, or why it is not.
     Check,
+    /// The answers to the document's events, how far its plans have come, and the placement after them.
+    Play,
 }
 
 impl Command {
@@ -26,6 +28,8 @@ impl Command {
             Some(Command::Calls)
         } else if name == "check" {
             Some(Command::Check)
+        } else if name == "play" {
+            Some(Command::Play)
         } else {
             None
         }
@@ -59,13 +63,17 @@ fn parser<'a>(alloc: Global) -> Result<Parser<'a>, AllocError>
     let check = Parser::new(alloc, "check").about(
         "Checks the document's plan, and prints that it is accepted or why it is not",
     );
+    let play = Parser::new(alloc, "play").about(
+        "Plays the document's events, and prints their answers, how far its plans have come, and the placement after them",
+    );
     Parser::new(alloc, "smplan")
         .bin_name("smplan")?
         .about("Reads a placement of shards on standard input, and prints a report of it")
         .no_binary_name(true)
         .subcommand_required(true)
         .subcommand(calls)?
-        .subcommand(check)
+        .subcommand(check)?
+        .subcommand(play)
 }
 
 /// What an error of the command line tells.
