@@ -345,7 +345,13 @@ impl Player {
     }
 
     /// A plan has begun: its streams have these tokens.
-    fn note_begun(&mut self, place: u32, mut fresh: Vec<StreamToken>, calls: usize, lengths: Vec<usize>) -> Played {
+    fn note_begun(
+        &mut self,
+        place: u32,
+        mut fresh: Vec<StreamToken>,
+        calls: usize,
+        lengths: Vec<usize>,
+    ) -> Played {
         let number = self.places.len() as u32;
         let first = self.tokens.len();
         match self.tokens.append(&mut fresh) {

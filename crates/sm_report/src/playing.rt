@@ -8,12 +8,12 @@ ghost use Rattle.sm_report.specs.Playing.{turn, scene_after};
 ghost use Rattle.sm_report.specs.PlayLines.{begun_line, answer_line, outcome_line, event_lines, progress_line_of, progress_lines, plan_lines, all_plan_lines};
 ghost use Rattle.sm_report.specs.Player.{scene_of, IsBegunAnswer, HasAllRights};
 
+use crate::names::server_name;
 use crate::play_lines::{
     push_begun, push_blocked, push_denied, push_event_front, push_executed, push_not_begun,
     push_passed, push_refill_fault, push_stream_at, push_stream_done, push_waiting, push_word,
     stream_text,
 };
-use crate::names::server_name;
 use crate::player::Player;
 use sm_placement::Config;
 use sm_plan_text::EventText;
