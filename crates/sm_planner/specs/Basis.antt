@@ -1,0 +1,42 @@
+-- What a plan is made from, and the moves that it is to make.
+use Rattle.std.specs.Prelude.{◌<◌, ℕ, ◌||◌, Bool, List, All, length, slice_index_or}
+use Rattle.sm_server.specs.declared.call.Cell.{Cell}
+use Rattle.sm_server.specs.Cell.{is_primary, is_secondary}
+use Rattle.sm_placement.specs.Setup.{Setup, sizes_of}
+use Rattle.sm_placement.specs.Place.{Place}
+use Rattle.sm_reservation.specs.Hold.{Hold}
+use Rattle.sm_planner.specs.declared.moving.Move.{Move}
+
+-- a configuration, a placement of it, and the rights that nobody has
+pub record Basis : Type 0 where
+  pub setup : Setup
+  pub place : Place
+  pub pool : Hold
+
+abbrev pub basis : Setup → Place → Hold → Basis
+basis setup place pool = record { setup = setup; place = place; pool = pool }
+
+abbrev pub no_move : Move
+no_move = record { shard = 0; from = 0; to = 0 }
+
+-- the move at a place of the list
+abbrev pub move_at : List Move → ℕ → Move
+move_at moves i = slice_index_or moves i no_move
+
+-- the load of a move: what its replica weighs
+abbrev pub load_of : Setup → Move → ℕ
+load_of setup m = (sizes_of setup).load m.shard
+
+-- the shard and both servers are of the configuration
+pub record IsKnownMove (setup : Setup) (m : Move) : Type 0 where
+  pub shard : m.shard < length setup.shards
+  pub from : m.from < length setup.servers
+  pub to : m.to < length setup.servers
+
+-- the cell that a move leaves
+abbrev pub left_cell : Place → Move → Cell
+left_cell p m = p.cells m.shard m.from
+
+-- the server has a replica of the shard: a primary or a secondary
+abbrev pub is_replica : Cell → Bool
+is_replica cell = is_primary cell || is_secondary cell

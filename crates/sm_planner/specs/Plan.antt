@@ -1,0 +1,118 @@
+-- The plan of moves that are placed in an order.
+use Rattle.std.specs.Prelude.{ℕ, ◌==◌, min, Option, Some, None, List, [], ◌∷◌, ◌++◌, length, count_by, sum_by, filter, map, slice_index_or, if◌then◌else◌}
+use Rattle.std.specs.List.{flat_map}
+use Rattle.std.specs.List.{range_with_len}
+use Rattle.sm_server.specs.declared.call.Role.TheVariants as role
+use Rattle.sm_server.specs.Cell.{is_primary}
+use Rattle.sm_placement.specs.declared.lead.Lead.TheVariants.{At}
+use Rattle.sm_placement.specs.Setup.{sizes_of}
+use Rattle.sm_placement.specs.Place.{Place}
+use Rattle.sm_reservation.specs.declared.right.PlainCell.TheVariants.{Absent, Secondary}
+use Rattle.sm_reservation.specs.declared.right.CellRight.{CellRight}
+use Rattle.sm_reservation.specs.declared.right.Crown.{Crown}
+use Rattle.sm_reservation.specs.declared.right.Room.{Room}
+use Rattle.sm_reservation.specs.Rights.{Rights}
+use Rattle.sm_reservation.specs.InOrder.{in_order}
+use Rattle.sm_plan_code.specs.declared.instruction.Instr.{Instr}
+use Rattle.sm_plan_code.specs.declared.instruction.Instr.TheVariants.{PrepareAdd, PrepareDrop, Add, Drop, Publish, Signal, Wait}
+use Rattle.sm_plan_code.specs.declared.limits.TheConstants.{MOST_STREAMS}
+use Rattle.sm_plan_code.specs.Instr.{is_call}
+use Rattle.sm_plan_code.specs.Plan.{StreamModel, PlanModel}
+use Rattle.sm_planner.specs.declared.moving.Move.{Move}
+use Rattle.sm_planner.specs.Basis.{Basis, move_at, left_cell}
+use Rattle.sm_planner.specs.Payment.{Handed, handed, from_pool, from_move, stream_of, signals_of}
+
+-- ---- instructions
+
+-- the published map is told, where it names a server
+abbrev pub publication : Option ℕ → ℕ → List Instr
+publication None s = []
+publication (Some v) s = Publish s ∷ []
+
+-- a primary is handed over; a secondary is added at the new server, then dropped at the old one
+abbrev pub instructions : Place → Move → List Instr
+instructions p m =
+    if is_primary (left_cell p m)
+    then PrepareAdd m.shard m.to m.from ∷ PrepareDrop m.shard m.from m.to ∷ Add m.shard m.to role.Primary
+    ∷ (publication (p.listed m.shard) m.shard ++ Drop m.shard m.from ∷ [])
+    else Add m.shard m.to role.Secondary ∷ Drop m.shard m.from ∷ []
+
+abbrev pub signal_at : List Handed → ℕ → Handed
+signal_at signals q = slice_index_or signals q (handed 0 0)
+
+-- the k-th placed move waits for the room that others hand to it, moves, and hands on what it freed
+abbrev pub waits_of : List Handed → ℕ → List Instr
+waits_of signals k = map Wait (filter (λ q. (signal_at signals q).payer == k) (range_with_len 0 (length signals)))
+
+abbrev pub posts_of : List Handed → ℕ → List Instr
+posts_of signals k = map Signal (filter (λ q. (signal_at signals q).source == k) (range_with_len 0 (length signals)))
+
+abbrev pub code_of : Basis → List Move → ℕ → List Instr
+code_of b order k =
+    waits_of (signals_of b order) k ++ (instructions b.place (move_at order k) ++ posts_of (signals_of b order) k)
+
+-- ---- what a stream declares
+
+-- the placed moves of a stream
+abbrev pub moves_of : List Move → ℕ → List ℕ
+moves_of order i = filter (λ k. stream_of k == i) (range_with_len 0 (length order))
+
+-- the rights to cells, and the crown, that a move needs
+abbrev pub cells_of : Place → Move → List CellRight
+cells_of p m =
+    record { shard = m.shard; server = m.to; state = Absent }
+    ∷ (if is_primary (left_cell p m) then [] else record { shard = m.shard; server = m.from; state = Secondary } ∷ [])
+
+abbrev pub crowns_of : Place → Move → List Crown
+crowns_of p m =
+    if is_primary (left_cell p m) then record { shard = m.shard; lead = At m.from; listed = p.listed m.shard } ∷ [] else []
+
+-- what the moves of a stream pay from the pool's room of a server
+abbrev pub room_of : Basis → List Move → ℕ → ℕ → ℕ
+room_of b order i v = sum_by (λ k. if (move_at order k).to == v then from_pool b order k else 0) (moves_of order i)
+
+abbrev pub rooms_of : Basis → List Move → ℕ → List Room
+rooms_of b order i = map (λ v. record { server = v; amount = room_of b order i v }) (range_with_len 0 (sizes_of b.setup).servers)
+
+-- a stream declares the rights that its moves need, and what they pay from the pool
+abbrev pub holds_of : Basis → List Move → ℕ → Rights
+holds_of b order i = in_order (record {
+  cells = flat_map (λ k. cells_of b.place (move_at order k)) (moves_of order i);
+  crowns = flat_map (λ k. crowns_of b.place (move_at order k)) (moves_of order i);
+  room = rooms_of b order i;
+  spare = [];
+})
+
+-- ---- streams and signals
+
+abbrev pub stream_code : Basis → List Move → ℕ → List Instr
+stream_code b order i = flat_map (code_of b order) (moves_of order i)
+
+-- a stream makes its moves one after another, and may make just their calls
+abbrev pub stream : Basis → List Move → ℕ → StreamModel
+stream b order i = record {
+  budget = count_by is_call (stream_code b order i);
+  retries = 0;
+  holds = holds_of b order i;
+  code = stream_code b order i;
+}
+
+-- as many streams as moves, at most 64
+abbrev pub streams_of : Basis → List Move → List StreamModel
+streams_of b order = map (stream b order) (range_with_len 0 (min (length order) MOST_STREAMS))
+
+-- a signal carries the room that is handed on, and nothing else
+abbrev pub parcel_of : Basis → List Move → Handed → Rights
+parcel_of b order h = record {
+  cells = [];
+  crowns = [];
+  room = record { server = (move_at order h.payer).to; amount = from_move b order h.payer h.source } ∷ [];
+  spare = [];
+}
+
+abbrev pub planned : Basis → List Move → PlanModel
+planned b order = record {
+  budget = sum_by (λ s. s.budget) (streams_of b order);
+  streams = streams_of b order;
+  signals = map (parcel_of b order) (signals_of b order);
+}

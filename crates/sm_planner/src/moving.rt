@@ -1,0 +1,81 @@
+//! Moves, and why they get no plan.
+use sm_server::{ServerId, ShardId};
+use std::alloc::AllocError;
+use thiserror::Error;
+
+/// How many moves are planned at once at most.
+pub const MOST_MOVES: usize = 4_096;
+
+/// A replica of a shard that is to go from one server to another.
+#[derive(Clone, Copy, Debug, PartialEq, Eq)]
+pub struct Move {
+    /// The shard.
+    pub shard: ShardId,
+    /// The server that has the replica.
+    pub from: ServerId,
+    /// The server that is to have it.
+    pub to: ServerId,
+}
+
+/// Why there is no plan. Of several reasons the first one in this order is given.
+#[derive(Clone, Copy, Debug, PartialEq, Eq, Error)]
+pub enum NoPlan {
+    /// Memory was short.
+    #[error("out of memory")]
+    NoMemory,
+    /// The server has no primary or secondary of the shard.
+    #[error("the server has no replica of the shard")]
+    NotThere {
+        /// The shard.
+        shard: ShardId,
+        /// The server.
+        server: ServerId,
+    },
+    /// The cell is not absent, or a right that is needed is not free.
+    #[error("the server has a part of the shard, or a right is taken")]
+    Held {
+        /// The shard.
+        shard: ShardId,
+        /// The server.
+        server: ServerId,
+    },
+    /// The server is down.
+    #[error("a server of the moves is down")]
+    ServerDown {
+        /// The server.
+        server: ServerId,
+    },
+    /// The server never has room for the load that is to come.
+    #[error("a server has too little room")]
+    NoRoom {
+        /// The server.
+        server: ServerId,
+    },
+    /// No server may take the shard.
+    #[error("no server may take a shard")]
+    NoPlace {
+        /// The shard.
+        shard: ShardId,
+    },
+    /// The shard's replicas would lie in too few regions.
+    #[error("a shard would lie in too few regions")]
+    Spread {
+        /// The shard.
+        shard: ShardId,
+    },
+    /// There are more than 4,096 moves or more than 256 signals.
+    #[error("too many moves or signals")]
+    TooMany,
+}
+
+impl From<AllocError> for NoPlan {
+    ghost use Rattle.sm_planner.specs.declared.moving.NoPlan.TheVariants.{NoMemory};
+
+    ghost from_gives = { λ _ why. why ≡ NoMemory };
+
+    ghost use Rattle.std.specs.Prelude.{◌≡◌};
+
+    fn from(_error: AllocError) -> NoPlan {
+        NoPlan::NoMemory
+    }
+}
