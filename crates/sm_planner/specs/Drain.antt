@@ -8,7 +8,7 @@ use Rattle.sm_reservation.specs.declared.right.PlainCell.TheVariants.{Absent, Se
 use Rattle.sm_reservation.specs.Amounts.{is_cell}
 use Rattle.sm_planner.specs.declared.moving.Move.{Move}
 use Rattle.sm_planner.specs.declared.moving.NoPlan.{NoPlan}
-use Rattle.sm_planner.specs.declared.moving.NoPlan.TheVariants.{Held, ServerDown, NoPlace}
+use Rattle.sm_planner.specs.declared.moving.NoPlan.TheVariants.{NoMemory, NotThere, Held, ServerDown, NoRoom, NoPlace, Spread, TooMany}
 use Rattle.sm_planner.specs.Basis.{Basis, is_replica}
 use Rattle.sm_planner.specs.Rights.{has_crown}
 use Rattle.sm_planner.specs.Placing.{taken_by}
@@ -68,3 +68,14 @@ AreLeaving b v (suc s) moves =
 -- no server may take the shard
 abbrev pub HasNoPlace : Basis → ℕ → List Move → ℕ → Type 0
 HasNoPlace b v moves s = (u : ℕ) → u < (sizes_of b.setup).servers → may_take b v moves s u ≡ false
+
+-- a reason of all moves together: a shard has no target, or memory is short
+abbrev pub IsOfTargets : NoPlan → Type 0
+IsOfTargets NoMemory = Unit {0}
+IsOfTargets (NoPlace s) = Unit {0}
+IsOfTargets _ = ⊥
+
+-- a server is not emptied for its own reason, where it has one, and else for one that is found with the targets
+abbrev pub IsDrainRefusal : Option NoPlan → NoPlan → Type 0
+IsDrainRefusal (Some own) why = why ≡ own
+IsDrainRefusal None why = IsOfTargets why

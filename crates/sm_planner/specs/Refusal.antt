@@ -9,7 +9,7 @@ use Rattle.sm_plan_code.specs.declared.limits.TheConstants.{MOST_SIGNALS}
 use Rattle.sm_planner.specs.declared.moving.Move.{Move}
 use Rattle.sm_planner.specs.declared.moving.TheConstants.{MOST_MOVES}
 use Rattle.sm_planner.specs.declared.moving.NoPlan.{NoPlan}
-use Rattle.sm_planner.specs.declared.moving.NoPlan.TheVariants.{NotThere, Held, ServerDown, NoRoom, Spread, TooMany}
+use Rattle.sm_planner.specs.declared.moving.NoPlan.TheVariants.{NoMemory, NotThere, Held, ServerDown, NoRoom, NoPlace, Spread, TooMany}
 use Rattle.sm_planner.specs.Basis.{Basis, move_at, left_cell, is_replica}
 use Rattle.sm_planner.specs.Rights.{has_rights, is_forestalled}
 use Rattle.sm_planner.specs.Placing.{IsPlacing, first_left}
@@ -47,6 +47,19 @@ first_down p moves = option_map (λ m. ServerDown (down_of p m)) (find (λ m. p.
 
 abbrev pub first_refused : Basis → List Move → Option NoPlan
 first_refused b moves = option_or (first_not_there b.place moves) (option_or (first_held b moves) (first_down b.place moves))
+
+-- a reason that is found over all moves together
+abbrev pub IsOfAll : NoPlan → Type 0
+IsOfAll NoMemory = Unit {0}
+IsOfAll (NoRoom v) = Unit {0}
+IsOfAll (Spread s) = Unit {0}
+IsOfAll TooMany = Unit {0}
+IsOfAll _ = ⊥
+
+-- moves are refused for the reason that one of them gives, where one does, and else for one that they give together
+abbrev pub IsMovesRefusal : Option NoPlan → NoPlan → Type 0
+IsMovesRefusal (Some own) why = why ≡ own
+IsMovesRefusal None why = IsOfAll why
 
 -- ---- moves that are refused together
 

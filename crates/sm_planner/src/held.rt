@@ -197,7 +197,7 @@ fn down_of(placement: &Placement, wanted: &Move) -> ServerId
 }
 
 /// Why moves are refused one by one: the first reason, and of one reason the first move.
-pub fn first_refused(placement: &Placement, pool: &Pool, moves: &[Move]) -> Option<NoPlan>
+pub(crate) fn first_refused(placement: &Placement, pool: &Pool, moves: &[Move]) -> Option<NoPlan>
     requires { All (IsKnownMove placement.now.setup) moves.now }
     ensures { result ≡ first_refused (basis placement.now.setup (place_of placement.now) (pool_hold pool.now)) moves.now }
 {

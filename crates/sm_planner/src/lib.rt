@@ -1,8 +1,16 @@
 //! The planner: from moves that are wanted, or a server that is to be emptied, to a plan that the machine accepts.
 #![tactic(auto)]
 
+mod draining;
+mod entry;
 mod held;
+mod marks;
 mod moving;
+mod payment;
+mod placing;
+mod planner;
+mod spread;
+mod writing;
 
-pub use held::first_refused;
+pub use entry::{drain, moves};
 pub use moving::{MOST_MOVES, Move, NoPlan};

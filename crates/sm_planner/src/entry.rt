@@ -1,0 +1,42 @@
+//! Plans for a machine as it stands.
+ghost use Rattle.std.specs.Prelude.{◌≡◌, ◌<◌, All, IfOk, IfErr, OnOk, None, Some, length};
+ghost use Rattle.sm_protocol.specs.State.{pool};
+ghost use Rattle.sm_verifier.specs.Admission.{IsAdmitted};
+ghost use Rattle.sm_machine.specs.State.{state_of};
+ghost use Rattle.sm_planner.specs.Basis.{basis, IsKnownMove};
+ghost use Rattle.sm_planner.specs.Refusal.{first_refused, IsMovesRefusal};
+ghost use Rattle.sm_planner.specs.Drain.{drain_refusal};
+ghost use Rattle.sm_planner.specs.declared.moving.NoPlan.{NoPlan};
+
+use crate::moving::{Move, NoPlan};
+use crate::planner::{drain_at, moves_at};
+use sm_machine::Machine;
+use sm_server::ServerId;
+use sm_verifier::Checked;
+use std::alloc::Global;
+
+/// A plan that makes the moves, for the machine as it stands: it may start beside the plans that run.
+///
+/// Memory counts as short also where the plan does not pass the check, or is not admitted.
+pub fn moves(alloc: Global, machine: &Machine, moves: &[Move]) -> Result<Checked, NoPlan>
+    requires { All (IsKnownMove machine.now.placement.setup) moves.now }
+    ensures setup { IfOk result (λ checked. checked.setup ≡ machine.now.placement.setup) }
+    ensures admitted { IfOk result (λ checked. IsAdmitted (state_of machine.now).sizes (state_of machine.now).place (pool (state_of machine.now)) checked.plan) }
+    ensures refused { IfErr result (IsMovesRefusal (first_refused (basis machine.now.placement.setup (state_of machine.now).place (pool (state_of machine.now))) moves.now)) }
+    ensures open { OnOk result (first_refused (basis machine.now.placement.setup (state_of machine.now).place (pool (state_of machine.now))) moves.now ≡ None) }
+{
+    moves_at(alloc, machine.placement(), machine.pool(), moves)
+}
+
+/// A plan that empties a server, for the machine as it stands.
+///
+/// Memory counts as short as for `moves`.
+pub fn drain(alloc: Global, machine: &Machine, server: ServerId) -> Result<Checked, NoPlan>
+    requires { server < length machine.now.placement.setup.servers }
+    ensures setup { IfOk result (λ checked. checked.setup ≡ machine.now.placement.setup) }
+    ensures admitted { IfOk result (λ checked. IsAdmitted (state_of machine.now).sizes (state_of machine.now).place (pool (state_of machine.now)) checked.plan) }
+    ensures refused { IfErr result (λ why. (own : NoPlan) → drain_refusal (basis machine.now.placement.setup (state_of machine.now).place (pool (state_of machine.now))) server ≡ Some own → why ≡ own) }
+    ensures open { OnOk result (drain_refusal (basis machine.now.placement.setup (state_of machine.now).place (pool (state_of machine.now))) server ≡ None) }
+{
+    drain_at(alloc, machine.placement(), machine.pool(), server)
+}

@@ -1,0 +1,112 @@
+//! Plans from moves, and from a server that is to be emptied, at a placement with its pool.
+ghost use Rattle.std.specs.Prelude.{◌≡◌, ◌≢◌, ◌<◌, All, IfOk, IfErr, OnOk, None, Some, length};
+ghost use Rattle.sm_placement.specs.Setup.{sizes_of};
+ghost use Rattle.sm_placement.specs.Layout.{place_of};
+ghost use Rattle.sm_reservation.specs.Pool.{pool_hold, HasSize};
+ghost use Rattle.sm_verifier.specs.Admission.{IsAdmitted};
+ghost use Rattle.sm_planner.specs.Basis.{basis, IsKnownMove};
+ghost use Rattle.sm_planner.specs.Refusal.{first_refused, IsOfAll, IsMovesRefusal};
+ghost use Rattle.sm_planner.specs.Drain.{drain_refusal};
+ghost use Rattle.sm_planner.specs.declared.moving.NoPlan.{NoPlan};
+
+use crate::draining::leaving;
+use crate::held::first_refused;
+use crate::moving::{MOST_MOVES, Move, NoPlan};
+use crate::payment::{signals, stretches};
+use crate::placing::place_all;
+use crate::spread::first_too_close;
+use crate::writing::{Draft, write};
+use sm_placement::Placement;
+use sm_plan_code::{MOST_SIGNALS, Plan};
+use sm_reservation::Pool;
+use sm_server::ServerId;
+use sm_verifier::{Checked, admit, check};
+use std::alloc::Global;
+
+/// Places moves that are not refused one by one, and finds what they pay.
+fn draft(alloc: Global, placement: &Placement, pool: &Pool, moves: &[Move]) -> Result<Draft, NoPlan>
+    requires { All (IsKnownMove placement.now.setup) moves.now }
+    ensures { IfErr result IsOfAll }
+{
+    let placing = place_all(alloc, placement.config(), pool, moves)?;
+    if let Some(wanted) = placing.first_left(moves) {
+        return Err(NoPlan::NoRoom { server: wanted.to });
+    }
+    if let Some(shard) = first_too_close(alloc, placement, moves)? {
+        return Err(NoPlan::Spread { shard });
+    }
+    if moves.len() > MOST_MOVES {
+        return Err(NoPlan::TooMany);
+    }
+    let order = stretches(alloc, placement, pool, &placing.order)?;
+    let signals = signals(alloc, &order)?;
+    if signals.len() > MOST_SIGNALS {
+        return Err(NoPlan::TooMany);
+    }
+    Ok(Draft { order, signals })
+}
+
+/// A plan that is checked, and admitted at the placement with its pool.
+fn accepted(
+    alloc: Global,
+    placement: &Placement,
+    pool: &Pool,
+    plan: Plan,
+) -> Result<Checked, NoPlan>
+    requires { HasSize (sizes_of placement.now.setup) pool.now }
+    ensures setup { IfOk result (λ checked. checked.setup ≡ placement.now.setup) }
+    ensures admitted { IfOk result (λ checked. IsAdmitted (sizes_of placement.now.setup) (place_of placement.now) (pool_hold pool.now) checked.plan) }
+    ensures memory { IfErr result (λ why. why ≡ NoPlan.NoMemory) }
+{
+    if !plan.fits(placement.config()) {
+        return Err(NoPlan::NoMemory);
+    }
+    let checked = match check(alloc, placement.config(), plan) {
+        Ok(checked) => checked,
+        Err(_) => return Err(NoPlan::NoMemory),
+    };
+    match admit(&checked, pool, placement) {
+        Ok(()) => Ok(checked),
+        Err(_) => Err(NoPlan::NoMemory),
+    }
+}
+
+/// A plan that makes the moves, at a placement with its pool.
+pub(crate) fn moves_at(
+    alloc: Global,
+    placement: &Placement,
+    pool: &Pool,
+    moves: &[Move],
+) -> Result<Checked, NoPlan>
+    requires size { HasSize (sizes_of placement.now.setup) pool.now }
+    requires known { All (IsKnownMove placement.now.setup) moves.now }
+    ensures setup { IfOk result (λ checked. checked.setup ≡ placement.now.setup) }
+    ensures admitted { IfOk result (λ checked. IsAdmitted (sizes_of placement.now.setup) (place_of placement.now) (pool_hold pool.now) checked.plan) }
+    ensures refused { IfErr result (IsMovesRefusal (first_refused (basis placement.now.setup (place_of placement.now) (pool_hold pool.now)) moves.now)) }
+    ensures open { OnOk result (first_refused (basis placement.now.setup (place_of placement.now) (pool_hold pool.now)) moves.now ≡ None) }
+{
+    if let Some(why) = first_refused(placement, pool, moves) {
+        return Err(why);
+    }
+    let draft = draft(alloc, placement, pool, moves)?;
+    let plan = write(alloc, &draft)?;
+    accepted(alloc, placement, pool, plan)
+}
+
+/// A plan that empties a server, at a placement with its pool.
+pub(crate) fn drain_at(
+    alloc: Global,
+    placement: &Placement,
+    pool: &Pool,
+    server: ServerId,
+) -> Result<Checked, NoPlan>
+    requires size { HasSize (sizes_of placement.now.setup) pool.now }
+    requires server { server < length placement.now.setup.servers }
+    ensures setup { IfOk result (λ checked. checked.setup ≡ placement.now.setup) }
+    ensures admitted { IfOk result (λ checked. IsAdmitted (sizes_of placement.now.setup) (place_of placement.now) (pool_hold pool.now) checked.plan) }
+    ensures refused { IfErr result (λ why. (own : NoPlan) → drain_refusal (basis placement.now.setup (place_of placement.now) (pool_hold pool.now)) server ≡ Some own → why ≡ own) }
+    ensures open { OnOk result (drain_refusal (basis placement.now.setup (place_of placement.now) (pool_hold pool.now)) server ≡ None) }
+{
+    let moves = leaving(alloc, placement, pool, server)?;
+    moves_at(alloc, placement, pool, &moves)
+}
