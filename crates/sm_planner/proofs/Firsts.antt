@@ -1,5 +1,5 @@
 -- The first place of a list at which a test passes.
-use Rattle.std.proofs.Common.{◌≡◌, ◌<◌, ◌≤◌, ◌-◌, ◌+◌, ◌∙◌, ℕ, Bool, Option, Some, None, true, false, List, length, get_or, refl, sym, ap, arith}
+use Rattle.std.proofs.Common.{◌≡◌, ◌<◌, ◌≤◌, ◌-◌, ◌+◌, ◌∙◌, ℕ, Bool, Some, None, true, false, List, sym, ap}
 use Rattle.std.specs.Prelude.{find, not, take}
 use Rattle.std.specs.List.{range_with_len}
 use Rattle.sm_placement.specs.Opening.{first_below}

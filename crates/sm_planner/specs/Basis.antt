@@ -1,5 +1,5 @@
 -- What a plan is made from, and the moves that it is to make.
-use Rattle.std.specs.Prelude.{◌<◌, ℕ, ◌||◌, Bool, List, All, length, slice_index_or}
+use Rattle.std.specs.Prelude.{◌<◌, ℕ, ◌||◌, Bool, List, length, slice_index_or}
 use Rattle.sm_server.specs.declared.call.Cell.{Cell}
 use Rattle.sm_server.specs.Cell.{is_primary, is_secondary}
 use Rattle.sm_placement.specs.Setup.{Setup, sizes_of}

@@ -8,7 +8,7 @@ use Rattle.sm_reservation.specs.declared.right.PlainCell.TheVariants.{Absent, Se
 use Rattle.sm_reservation.specs.Amounts.{is_cell}
 use Rattle.sm_planner.specs.declared.moving.Move.{Move}
 use Rattle.sm_planner.specs.declared.moving.NoPlan.{NoPlan}
-use Rattle.sm_planner.specs.declared.moving.NoPlan.TheVariants.{NoMemory, NotThere, Held, ServerDown, NoRoom, NoPlace, Spread, TooMany}
+use Rattle.sm_planner.specs.declared.moving.NoPlan.TheVariants.{NoMemory, Held, ServerDown, NoPlace}
 use Rattle.sm_planner.specs.Basis.{Basis, is_replica}
 use Rattle.sm_planner.specs.Rights.{has_crown}
 use Rattle.sm_planner.specs.Placing.{taken_by}

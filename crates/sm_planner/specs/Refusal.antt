@@ -9,7 +9,7 @@ use Rattle.sm_plan_code.specs.declared.limits.TheConstants.{MOST_SIGNALS}
 use Rattle.sm_planner.specs.declared.moving.Move.{Move}
 use Rattle.sm_planner.specs.declared.moving.TheConstants.{MOST_MOVES}
 use Rattle.sm_planner.specs.declared.moving.NoPlan.{NoPlan}
-use Rattle.sm_planner.specs.declared.moving.NoPlan.TheVariants.{NoMemory, NotThere, Held, ServerDown, NoRoom, NoPlace, Spread, TooMany}
+use Rattle.sm_planner.specs.declared.moving.NoPlan.TheVariants.{NoMemory, NotThere, Held, ServerDown, NoRoom, Spread, TooMany}
 use Rattle.sm_planner.specs.Basis.{Basis, move_at, left_cell, is_replica}
 use Rattle.sm_planner.specs.Rights.{has_rights, is_forestalled}
 use Rattle.sm_planner.specs.Placing.{IsPlacing, first_left}
