@@ -67,27 +67,51 @@ fn refusal(alloc: Global, document: &Document, why: NoPlan) -> Result<String, Al
     }
 }
 
+/// The text of the plan that a document asks for, or of its refusal.
+fn text_of(alloc: Global, document: &Document, machine: &Machine) -> Result<Vec<u8>, AllocError> {
+    match plan_of(alloc, document, machine) {
+        Ok(checked) => write_plan(alloc, machine.config(), checked.plan()),
+        Err(why) => Ok(refusal(alloc, document, why)?.into_bytes()),
+    }
+}
+
+/// Asserts what a document is answered.
+fn assert_answer(
+    rt: &impl Abort,
+    alloc: Global,
+    document: &Document,
+    placement: Placement,
+    wanted: &str,
+) {
+    match Machine::open(alloc, placement, document.log) {
+        Ok((machine, permits)) => {
+            let said = text_of(alloc, document, &machine);
+            let _placement = machine.give_up(Vec::new(alloc), permits);
+            match said {
+                Ok(said) => assert!(rt; said.as_slice() == wanted.as_bytes(), "{wanted}"),
+                Err(_) => panic!(rt; "no memory"),
+            }
+        }
+        Err(_) => panic!(rt; "no machine"),
+    }
+}
+
 #[test]
 fn plans_are_the_rules(rt: HostRuntime) -> Result<(), Fail> {
     let alloc = rt.alloc();
     for (text, wanted) in ROWS {
         let document = read_document(alloc, text.as_bytes())?;
-        let Ok(placement) = Placement::open(alloc, &document.config, &document.cells, &document.listed, &document.down, document.limit) else {
-            panic!(rt; "not opened");
-        };
-        let (machine, permits) = match Machine::open(alloc, placement, document.log) {
-            Ok(opened) => opened,
-            Err(_) => panic!(rt; "no machine"),
-        };
-        let said = match plan_of(alloc, &document, &machine) {
-            Ok(checked) => String::from_utf8(write_plan(alloc, machine.config(), checked.plan())?),
-            Err(why) => Ok(refusal(alloc, &document, why)?),
-        };
-        match said {
-            Ok(said) => assert_eq!(rt; said.as_str(), wanted),
-            Err(_) => panic!(rt; "no text"),
+        match Placement::open(
+            alloc,
+            &document.config,
+            &document.cells,
+            &document.listed,
+            &document.down,
+            document.limit,
+        ) {
+            Ok(placement) => assert_answer(&rt, alloc, &document, placement, wanted),
+            Err(_) => panic!(&rt; "not opened"),
         }
-        let _placement = machine.give_up(Vec::new(alloc), permits);
     }
     Ok(())
 }
