@@ -23,7 +23,7 @@ test:
 	scripts/check-faults
 	scripts/check-command-line
 	scripts/check-memory
-	scripts/check-memory-tests sm_tests_placement sm_tests_rights sm_tests_text sm_tests sm_tests_machine sm_map
+	scripts/check-memory-tests sm_tests_placement sm_tests_rights sm_tests_text sm_tests sm_tests_machine sm_tests_plans sm_map
 	scripts/check-words
 	scripts/refused-programs
 	scripts/check-caught-by-tests
