@@ -37,3 +37,4 @@ edits:
 bench: build
 	scripts/bench
 	scripts/bench-map
+	scripts/bench-machine
