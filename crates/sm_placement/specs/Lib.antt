@@ -5,6 +5,7 @@ pub mod Config
 pub mod Rows
 pub mod Place
 pub mod Lead
+pub mod SafePlace
 pub mod Layout
 pub mod Counts
 pub mod Grid

@@ -51,6 +51,12 @@ next_call numbers i = numbered_call i (shard_of i)
     numbered_call i None = None
     numbered_call i (Some s) = call_of i (number_after i (numbers s))
 
+-- the call of an instruction for this shard, where it has had its effect: the handover that it began or went on with has the
+-- shard's highest number by now
+abbrev pub call_again : (ℕ → ℕ) → Instr → Option ℕ → Option ServerCall
+call_again numbers i None = None
+call_again numbers i (Some s) = call_of i (numbers s)
+
 -- the placement after a call that is served, with the highest handover numbers
 abbrev pub moved : Result Place Refusal → (ℕ → ℕ) → Option (Place × (ℕ → ℕ))
 moved (Ok p) numbers = Some (p, numbers)

@@ -1,5 +1,6 @@
 -- Instructions: which of them are calls, and which servers they mention.
-use Rattle.std.specs.Prelude.{◌≡◌, ◌⊎◌, ℕ, Bool, true, false, Option, Some, None}
+use Rattle.std.specs.Prelude.{◌≡◌, ◌⊎◌, ◌||◌, ℕ, Bool, true, false, not, Option, Some, None}
+use Rattle.sm_reservation.specs.Amounts.{same_listed}
 use Rattle.sm_plan_code.specs.declared.instruction.Instr.{Instr}
 use Rattle.sm_plan_code.specs.declared.instruction.Instr.TheVariants.{PrepareAdd, PrepareDrop, Add, Drop, Change, Publish, Unlist, Signal, Wait}
 use Rattle.sm_plan_code.specs.declared.instruction.NamedServers.{NamedServers}
@@ -16,6 +17,10 @@ is_call (Unlist s) = false
 is_call (Signal k) = false
 is_call (Wait k) = false
 
+-- the instruction is no call
+abbrev pub is_no_call : Instr → Bool
+is_no_call i = not (is_call i)
+
 -- the servers that it mentions: the one at which the call is made, and the other one of a handover
 abbrev pub names_of : Instr → NamedServers
 names_of (PrepareAdd s v u) = record { first = Some v; second = Some u }
@@ -31,6 +36,10 @@ names_of (Wait k) = record { first = None; second = None }
 -- the server is one of these
 abbrev pub Mentions : NamedServers → ℕ → Type 0
 Mentions names v = (names.first ≡ Some v) ⊎ (names.second ≡ Some v)
+
+-- the instruction mentions the server
+abbrev pub is_mentioned : ℕ → Instr → Bool
+is_mentioned v i = same_listed (names_of i).first (Some v) || same_listed (names_of i).second (Some v)
 
 -- the shard that it is of
 abbrev pub shard_of : Instr → Option ℕ

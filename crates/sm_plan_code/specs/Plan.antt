@@ -1,5 +1,5 @@
 -- Plans: what contracts see of them, what every plan keeps, and which plans are of a configuration.
-use Rattle.std.specs.Prelude.{◌≤◌, ◌<◌, ℕ, List, length, All, IfSome}
+use Rattle.std.specs.Prelude.{◌≤◌, ◌<◌, ℕ, ◌+◌, List, length, count_by, sum_by, All, IfSome}
 use Rattle.sm_placement.specs.declared.lead.Lead.{Lead}
 use Rattle.sm_placement.specs.declared.lead.Lead.TheVariants.{Gone, At, Ready, Handing, Handed}
 use Rattle.sm_reservation.specs.declared.right.CellRight.{CellRight}
@@ -10,7 +10,7 @@ use Rattle.sm_plan_code.specs.declared.instruction.Instr.{Instr}
 use Rattle.sm_plan_code.specs.declared.instruction.Instr.TheVariants.{PrepareAdd, PrepareDrop, Add, Drop, Change, Publish, Unlist, Signal, Wait}
 use Rattle.sm_plan_code.specs.declared.plan.PlanFault.{PlanFault}
 use Rattle.sm_plan_code.specs.declared.plan.PlanFault.TheVariants.{TooMany, UnknownSignal}
-use Rattle.sm_plan_code.specs.Instr.{names_of, shard_of}
+use Rattle.sm_plan_code.specs.Instr.{is_no_call, names_of, shard_of}
 use Rattle.sm_plan_code.specs.declared.limits.TheConstants.{MOST_STREAMS, MOST_SIGNALS, MOST_INSTRUCTIONS, MOST_CALLS, MOST_RIGHTS, MOST_AMOUNT}
 
 -- a stream: how many calls it makes at most, how many tries beside them, what it holds at its start, and its instructions
@@ -25,6 +25,10 @@ pub record PlanModel : Type 0 where
   pub budget : ℕ
   pub streams : List StreamModel
   pub signals : List Rights
+
+-- the places of a log that a plan takes: for each stream its budget, its retries, each instruction that is no call, and its end
+abbrev pub places_of : PlanModel → ℕ
+places_of plan = sum_by (λ stream. stream.budget + stream.retries + count_by is_no_call stream.code + 1) plan.streams
 
 -- ---- within the limits
 

@@ -1,5 +1,5 @@
 -- Accepted plans: those that nothing holds up at the pool.
-use Rattle.sm_protocol.proofs.Below.{◌≡◌, ℕ, ◌+◌, ◌<◌, ◌≤◌, Bool, true, false, Option, Some, None, refl, sym, ap, ◌∙◌, arith, inl, inr, ◌⊎◌, length, ◌==◌, nat_lt, if◌then◌else◌, cases_lt, lt-ltb, le-ltb, eq-eqb, Lead, bit, Setup, load_at, live_at, PlainCell, Hold, leads_of, true_rights, IsKnownHold, Right, OfCell, OfCrown, OfRoom, OfSpare, count, stock, bound, is_cell, is_crown, plain_of, PlanModel, IsScene, Holding, no_stream, declared, first_holding, declared_sum, AreWithin, sum_zero, same_sum, bit-le-one, is_cell_true, is_cell_self, parcel_below, finds_holding, crown_true, crown_self, admitted_within, within_admitted, eqb-false}
+use Rattle.sm_protocol.proofs.Below.{◌≡◌, ℕ, ◌+◌, ◌<◌, ◌≤◌, Bool, true, false, Option, Some, None, refl, sym, ap, ◌∙◌, arith, inl, inr, ◌⊎◌, length, ◌==◌, nat_lt, if◌then◌else◌, cases_lt, lt-ltb, le-ltb, Lead, bit, Setup, load_at, live_at, PlainCell, Hold, leads_of, true_rights, IsKnownHold, Right, OfCell, OfCrown, OfRoom, OfSpare, count, stock, bound, is_cell, is_crown, plain_of, PlanModel, IsScene, Holding, no_stream, declared, first_holding, declared_sum, AreWithin, sum_zero, same_sum, bit-le-one, is_cell_true, is_cell_self, parcel_below, finds_holding, crown_true, crown_self, admitted_within, within_admitted, eqb-false}
 use Rattle.sm_protocol.proofs.Words.{State, held, pool, free_cell, free_crown, places_of, free_places, Outcome, Answered, begun, has_all_plans, Begin, happens, started, IsAccepted, IsReached, IsCheckedPlan, BegunWhereAccepted}
 use Rattle.sm_protocol.specs.declared.event.Played.TheVariants as played
 use Rattle.sm_protocol.specs.declared.event.BeginFault.TheVariants as fault
@@ -67,7 +67,7 @@ module _ (w : State) (v : IsKept w) where
             | inr (inr both) ↦
                 let is : plain_of (w.place.cells s u) ≡ Some state = is_cell_true state (plain_of (w.place.cells s u)) both.0 in
                 let there : (true_rights w.sizes w.place).cells s u ≡ Some state = rw (lt-ltb s w.sizes.shards ls, lt-ltb u w.sizes.servers lu) is in
-                let free : (pool w).cells s u ≡ Some state = ap (λ o. free_cell w s u o) there ∙ ap (λ t. if t then Some state else None) both.1 in
+                let free : (pool w).cells s u ≡ Some state = ap (λ o. free_cell (held w) s u o) there ∙ ap (λ t. if t then Some state else None) both.1 in
                 let c : count (pool w) (OfCell s u state) ≡ 1 = ap (λ o. bit (is_cell state o)) free ∙ ap bit (is_cell_self state) in
                 omega arith
           ]
@@ -83,7 +83,7 @@ module _ (w : State) (v : IsKept w) where
             | inr (inr both) ↦
                 let is : ◌≡◌ {A = Option (Lead × Option ℕ)} (Some (leads_of w.sizes w.place s, w.place.listed s)) (Some (lead, listed)) = crown_true lead listed _ both.0 in
                 let true_crown : (true_rights w.sizes w.place).crowns s ≡ Some (lead, listed) = rw (lt-ltb s w.sizes.shards ls, lead_is w v s) (ap (λ l. Some (l, w.place.listed s)) (sym (leads_are w v s)) ∙ is) in
-                let free : (pool w).crowns s ≡ Some (lead, listed) = ap (λ o. free_crown w s o) true_crown ∙ ap (λ t. if t then Some (lead, listed) else None) both.1 in
+                let free : (pool w).crowns s ≡ Some (lead, listed) = ap (λ o. free_crown (held w) s o) true_crown ∙ ap (λ t. if t then Some (lead, listed) else None) both.1 in
                 let c : count (pool w) (OfCrown s lead listed) ≡ 1 = ap (λ o. bit (is_crown lead listed o)) free ∙ ap bit (crown_self lead listed) in
                 omega arith
           ]

@@ -11,6 +11,7 @@ pub use Rattle.std.proofs.lemmas.List.Sums.{count_by_more_no, count_by_more_yes,
 pub use Rattle.std.proofs.lemmas.Option.{get_or_from_slice_get, none-some, same_Some, slice_get_cases, slice_get_past, slice_get_within}
 pub use Rattle.std.specs.List.{AllByRecursion, filter_map, list_any}
 pub use Rattle.std.specs.Prelude.{Contains, IfSome, count_by, filter, find, if◌then◌else◌, map, nat_lt, option_map, replicate, slice_get, slice_index_or, slice_set, take, unwrap_or, ◌&&◌, ◌==◌}
+pub use Rattle.std.specs.Option.{option_map_or}
 pub use Rattle.sm_placement.proofs.Calls.{numbered_again, placement_with_lasts}
 pub use Rattle.sm_placement.proofs.Layouts.{downed_placement}
 pub use Rattle.sm_placement.proofs.LeadOf.{lead_of_is}

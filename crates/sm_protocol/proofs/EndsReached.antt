@@ -1,6 +1,6 @@
 -- Where all plans are done, the placement is their end.
-use Rattle.sm_protocol.proofs.Below.{◌≡◌, ℕ, suc, ◌+◌, ◌<◌, Bool, true, false, refl, sym, ap, ◌∙◌, inl, inr, arith, List, [], ◌∷◌, length, get_or, slice_get, take, not, ◌==◌, if◌then◌else◌, Option, Some, count_by, cases_Bool, cases_eq, eq-eqb, ne_eqb, le-ltb, lt-ltb, and_parts, slice_get_within, get_or_from_slice_get, count_by_more_yes, count_by_more_no, take-length, Cell, Setup, Sizes, bit, put, sum_below, Place, Lead, StreamId, Hold, Right, Instr, Publish, Unlist, Signal, Wait, is_call, StreamModel, PlanModel, no_stream, stream_at, final_hold, code_at, wait_of, any_none, put-here, put-apart, same_sum, sum_zero, stand_once, sum_by-below, sum_below-front, is_publication, publications, end_of, IsKind, listed_now, listed_set, listed_reaches, listed_rule, listed_kind, cell_now, cell_set, cell_reaches, cell_rule, cell_kind, set_plans, plans_same, end_sets, set_by, set_streams, subst}
-use Rattle.sm_protocol.proofs.Words.{Passage, State, Start, Progress, no_start, plan_at, stream_count, stream_id, progress_of, set_progress, is_begun, is_running, is_under_way, held_by, held, call_number, tried_more, behind_call, ahead_of_call, Happening, started, happens, Through, LostBefore, LostAfter, ends_of, IsReached, AreDone, EndsAreReached}
+use Rattle.sm_protocol.proofs.Below.{◌≡◌, ℕ, suc, ◌+◌, ◌<◌, Bool, true, false, refl, sym, ap, ◌∙◌, inl, inr, arith, List, [], ◌∷◌, length, get_or, slice_get, take, map, not, ◌==◌, if◌then◌else◌, Option, Some, count_by, cases_Bool, cases_eq, eq-eqb, ne_eqb, le-ltb, lt-ltb, and_parts, slice_get_within, get_or_from_slice_get, count_by_more_yes, count_by_more_no, take-length, Cell, Setup, Sizes, bit, put, sum_below, Place, Lead, StreamId, Hold, Right, Instr, Publish, Unlist, Signal, Wait, is_call, StreamModel, PlanModel, no_stream, stream_at, final_hold, code_at, wait_of, any_none, put-here, put-apart, same_sum, sum_zero, stand_once, sum_by-below, sum_below-front, is_publication, publications, end_of, IsKind, listed_now, listed_set, listed_reaches, listed_rule, listed_kind, cell_now, cell_set, cell_reaches, cell_rule, cell_kind, set_plans, plans_same, end_sets, set_by, set_streams, subst}
+use Rattle.sm_protocol.proofs.Words.{Passage, State, Start, Progress, no_start, plan_at, stream_count, stream_id, progress_of, set_progress, is_begun, is_running, is_unfinished, is_under_way, held_by, held, call_number, tried_more, behind_call, ahead_of_call, Happening, started, happens, Through, LostBefore, LostAfter, ends_of, IsReached, EndsAreReached}
 use Rattle.sm_protocol.proofs.Invariant.{IsKept}
 use Rattle.sm_protocol.proofs.Holds.{part, carried}
 use Rattle.sm_protocol.proofs.Keeping.{begun}
@@ -148,7 +148,7 @@ is_versioned setup w r =
     record { version = u.version }
 
 -- the versions at the ends of plans
-ends_version : (c : Sizes) (plans : List Start) (p : Place) (s : ℕ) → (ends_of c plans p).version s ≡ p.version s + sum_below (length plans) (λ k. publications (get_or plans k no_start).plan s)
+ends_version : (c : Sizes) (plans : List Start) (p : Place) (s : ℕ) → (ends_of c (map (λ x. x.plan) plans) p).version s ≡ p.version s + sum_below (length plans) (λ k. publications (get_or plans k no_start).plan s)
 ends_version c [] p s = omega arith
 ends_version c (x ∷ xs) p s =
     let rest = ends_version c xs (end_of c x.plan p) s in
@@ -164,7 +164,7 @@ module _ (A : Type 0) (set : Hold → A → A) (reaches : Hold → Type 0) (unse
   ended plan old = set_streams A set reaches unset (λ i. true) (λ i. final_hold (stream_at c plan i)) (length plan.streams) old
 
   ends_set : (plans : List Start) (at : ℕ) (value : ℕ → A) (plan : ℕ → PlanModel) (p : Place) → ((j : ℕ) → j < length plans → plan (at + j) ≡ (get_or plans j no_start).plan) →
-      ((j : ℕ) → j < length plans → value (suc (at + j)) ≡ ended (plan (at + j)) (value (at + j))) → now p ≡ value at → now (ends_of c plans p) ≡ value (at + length plans)
+      ((j : ℕ) → j < length plans → value (suc (at + j)) ≡ ended (plan (at + j)) (value (at + j))) → now p ≡ value at → now (ends_of c (map (λ x. x.plan) plans) p) ≡ value (at + length plans)
   ends_set [] at value plan p is each e = e ∙ ap value (omega arith)
   ends_set (x ∷ xs) at value plan p is each e =
       let zero_is : at + 0 ≡ at = omega arith in
@@ -178,7 +178,7 @@ module _ (A : Type 0) (set : Hold → A → A) (reaches : Hold → Type 0) (unse
       here
       ∙ ap value (omega arith)
 
-module _ (w : State) (v : IsKept w) (done : AreDone w) where
+module _ (w : State) (v : IsKept w) (done : (k : ℕ) → k < length w.plans → is_unfinished w k ≡ false) where
   all_done : (k i : ℕ) → k < length w.plans → i < stream_count w k → (w.progress k i).done ≡ true
   all_done k i l m = elim (cases_Bool (w.progress k i).done) [
     | inl e ↦ e
@@ -214,13 +214,13 @@ module _ (w : State) (v : IsKept w) (done : AreDone w) where
     from_zero : (j : ℕ) → 0 + j ≡ j
     from_zero j = omega arith
 
-    now_is : now w.place ≡ now (ends_of w.sizes w.plans w.opening)
+    now_is : now w.place ≡ now (ends_of w.sizes (map (λ x. x.plan) w.plans) w.opening)
     now_is =
         h.value (nothing_held (rule_of A now set reaches rule kind w.sizes w.place))
         ∙ plans_same A set reaches kind.unset (λ k i. true) (λ k i. (w.progress k i).done) (λ k i. final_hold (stream_at w.sizes (plan_at w k) i)) (stream_count w) (length w.plans) (now w.opening) (λ k i l m. inl (all_done k i l m))
         ∙ sym (ends_set A set reaches kind.unset now kind.by_set no_version w.sizes w.plans 0 value (plan_at w) w.opening (λ j l. ap (plan_at w) (from_zero j)) (λ j l. refl) refl ∙ ap value (from_zero (length w.plans)))
 
-  versions_are : IsVersioned w → (s : ℕ) → w.place.version s ≡ (ends_of w.sizes w.plans w.opening).version s
+  versions_are : IsVersioned w → (s : ℕ) → w.place.version s ≡ (ends_of w.sizes (map (λ x. x.plan) w.plans) w.opening).version s
   versions_are h s =
       let a = h.version s in
       let b = ends_version w.sizes w.plans w.opening s in

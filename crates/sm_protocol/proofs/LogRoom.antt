@@ -1,5 +1,5 @@
 -- The log keeps within its room, and tries within their allowance.
-use Rattle.sm_protocol.proofs.Below.{◌≡◌, ◌≢◌, ℕ, zero, suc, ◌+◌, ◌<◌, ◌≤◌, Bool, true, false, not, refl, sym, ap, ◌∙◌, inl, inr, subst, arith, ◌⊎◌, Some, Result, Ok, Err, List, [], ◌∷◌, length, length-append, ◌==◌, nat_lt, if◌then◌else◌, slice_get, slice_index_or, count_by, and_parts, and_from, and_left, eqb-false, ltb-true, ltb-false, not-true, cases_lt, cases_eq, cases_Bool, lt-ltb, le-ltb, get_or_append_left, get_or-append_seam, Refusal, put, sum_below, count_below, bit, Setup, Sizes, sizes_of, Place, CallEffect, called_numbered, numbered_answer_at, down_count, set_down, publish, StreamId, ServerCall, Instr, Signal, Wait, is_call, StreamModel, PlanModel, no_stream, Entry, Served, Call, put-here, put-apart, sum_apart, same_sum, sum_of_both, bit-le-one, KeepsBudget, total_budget, sum_by-below, granted, count_put, count_put_down, sum_below_le}
+use Rattle.sm_protocol.proofs.Below.{◌≡◌, ◌≢◌, ℕ, suc, ◌+◌, ◌<◌, ◌≤◌, true, false, not, refl, sym, ap, ◌∙◌, inl, inr, subst, arith, ◌⊎◌, Some, Result, Ok, Err, List, [], ◌∷◌, length, length-append, ◌==◌, nat_lt, if◌then◌else◌, slice_get, slice_index_or, count_by, and_parts, and_from, and_left, eqb-false, ltb-true, ltb-false, not-true, cases_lt, cases_Bool, lt-ltb, le-ltb, get_or_append_left, get_or-append_seam, Refusal, sum_below, count_below, Setup, Sizes, sizes_of, Place, CallEffect, called_numbered, numbered_answer_at, down_count, set_down, publish, StreamId, ServerCall, Instr, Signal, Wait, is_call, StreamModel, PlanModel, no_stream, Entry, Served, Call, same_sum, sum_of_both, KeepsBudget, total_budget, sum_by-below, granted, count_put, count_put_down, sum_below_le}
 use Rattle.sm_protocol.proofs.Words.{Event, Passage, Through, LostBefore, LostAfter, Played, State, Mark, Progress, Start, no_start, fresh, opened, plan_at, stream_count, stream_parts, progress_of, stream_id, is_begun, allowance, set_progress, logged, places_left, places_of, set_aside, free_places, is_no_call, pool, behind_call, ahead_of_call, tried_more, call_number, Happening, engaged, started, happens, IsOpening, IsReached, FitsConfig}
 use Rattle.sm_protocol.specs.declared.event.Event.TheVariants as event
 use Rattle.sm_protocol.specs.declared.event.Played.TheVariants as played

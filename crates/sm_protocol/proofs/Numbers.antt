@@ -1,5 +1,5 @@
 -- The numbers of calls, as calls are tried.
-use Rattle.sm_protocol.proofs.Below.{◌≡◌, ◌≢◌, ◌⊎◌, ℕ, ◌+◌, ◌<◌, ◌≤◌, true, false, Option, Some, refl, sym, ap, ◌∙◌, arith, inl, inr, subst, List, slice_get, ◌==◌, if◌then◌else◌, cases_eq, eq-eqb, ne_eqb, put2, StreamId, Instr, touched, put2-here, put2-row, put2-apart, put2_cases}
+use Rattle.sm_protocol.proofs.Below.{◌≡◌, ◌≢◌, ◌⊎◌, ℕ, ◌+◌, ◌<◌, ◌≤◌, true, false, Option, Some, refl, sym, ap, ◌∙◌, arith, inl, inr, subst, List, slice_get, ◌==◌, if◌then◌else◌, cases_eq, eq-eqb, ne_eqb, put2, StreamId, Instr, touched, put2-here, put2_cases}
 use Rattle.sm_protocol.proofs.Words.{State, Progress, progress_of, set_progress}
 use Rattle.sm_protocol.proofs.Invariant.{AreNumbered}
 use Rattle.sm_protocol.proofs.Courses.{some_same}

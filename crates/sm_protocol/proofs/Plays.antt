@@ -81,7 +81,7 @@ taken_out (x ∷ xs) (suc i) (suc k) plan e = taken_out xs i k plan e
 
 module _ (c : Sizes) (h : Hand) (all : AreChecked c h) where
   stays_checked : (e : Event) (x : Happening) (answer : Played) → AreChecked c (hand_after h e x answer)
-  stays_checked e (Begin plan) (played.Begun number) = λ place p q. all place p (taken_out h.plans _ place p q)
+  stays_checked (event.Begin at) (Begin plan) (played.Begun number) = λ place p q. all place p (taken_out h.plans _ place p q)
   stays_checked e (Begin plan) _ = all
   stays_checked e (Approve v) played.Approved = all
   stays_checked e (Approve v) _ = all

@@ -40,10 +40,10 @@ module _ (w : State) (v : IsKept w) where
 
       go : (o : Option PlainCell) → (true_rights w.sizes w.place).cells s u ≡ o → count (pool w) (OfCell s u state) + held w (OfCell s u state) ≤ bit (is_cell state (plain_of (w.place.cells s u)))
       go None e =
-          let n : count (pool w) (OfCell s u state) ≡ 0 = ap (λ o. bit (is_cell state (free_cell w s u o))) e ∙ ap bit (no_cell state) in
+          let n : count (pool w) (OfCell s u state) ≡ 0 = ap (λ o. bit (is_cell state (free_cell (held w) s u o))) e ∙ ap bit (no_cell state) in
           let f = fits in omega arith
       go (Some st) e =
-          let n : count (pool w) (OfCell s u state) ≡ bit (is_cell state (if held w (OfCell s u st) == 0 then Some st else None)) = ap (λ o. bit (is_cell state (free_cell w s u o))) e in
+          let n : count (pool w) (OfCell s u state) ≡ bit (is_cell state (if held w (OfCell s u st) == 0 then Some st else None)) = ap (λ o. bit (is_cell state (free_cell (held w) s u o))) e in
           let i = inside st (held w (OfCell s u st) == 0) refl (true_state _ (plain_of (w.place.cells s u)) st e) in
           omega arith
 
@@ -55,11 +55,11 @@ module _ (w : State) (v : IsKept w) where
   crown_within s lead listed = elim (cases_lt s w.sizes.shards) [
     | inr out ↦
         let n : (true_rights w.sizes w.place).crowns s ≡ None = rw (le-ltb s w.sizes.shards out) refl in
-        let c : count (pool w) (OfCrown s lead listed) ≡ 0 = ap (λ o. bit (is_crown lead listed (free_crown w s o))) n in
+        let c : count (pool w) (OfCrown s lead listed) ≡ 0 = ap (λ o. bit (is_crown lead listed (free_crown (held w) s o))) n in
         let f = fits in omega arith
     | inl known ↦
         let c : count (pool w) (OfCrown s lead listed) ≡ bit (is_crown lead listed (if held w (OfCrown s (v.leads s) (w.place.listed s)) == 0 then Some (v.leads s, w.place.listed s) else None)) =
-        ap (λ o. bit (is_crown lead listed (free_crown w s o))) (crown_there s known) in
+        ap (λ o. bit (is_crown lead listed (free_crown (held w) s o))) (crown_there s known) in
         let i = inside (held w (OfCrown s (v.leads s) (w.place.listed s)) == 0) refl in
         omega arith
   ]

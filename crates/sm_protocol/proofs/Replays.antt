@@ -1,6 +1,6 @@
 -- The log replays to the state.
-use Rattle.sm_protocol.proofs.Below.{◌≡◌, ℕ, ◌+◌, ◌<◌, ◌≤◌, Bool, true, false, cond, refl, sym, ap, ◌∙◌, inl, inr, ◌⊎◌, subst, arith, Option, Some, None, List, [], ◌∷◌, ◌++◌, length-append, ◌==◌, length, count_by, slice_get, slice_index_or, option_map, and_parts, eqb-true, cases_lt, cases_eq, not-true, or_parts, sum_by_push, sum_by-cons, slice_get_past, same_Some, Setup, sizes_of, Place, PlanModel, first_holding}
-use Rattle.sm_protocol.proofs.Words.{Event, Played, Logged, Ticket, passes, pass_of, pass_of_event, same_ticket, is_ticket, is_open_ticket, is_pass_on, is_passed_on, State, Start, opened, pool, Outcome, Answered, Happening, Begin, started, happens, IsAccepted, ScriptLine, happening_of, script, IsAcceptedStart, Replays, IsRequestTo, IsPass, IsLegal, IsOpening, IsReached, IsCheckedPlan, FitsConfig}
+use Rattle.sm_protocol.proofs.Below.{◌≡◌, ℕ, ◌+◌, ◌<◌, ◌≤◌, Bool, true, false, cond, refl, sym, ap, ◌∙◌, inl, inr, ◌⊎◌, subst, arith, Option, Some, None, List, [], ◌∷◌, ◌++◌, length-append, ◌==◌, length, count_by, slice_get, slice_index_or, option_map, and_parts, eqb-true, cases_lt, cases_eq, not-true, or_parts, sum_by_push, sum_by-cons, slice_get_past, same_Some, Setup, sizes_of, Place, PlanModel, first_holding, option_map_or}
+use Rattle.sm_protocol.proofs.Words.{Event, Played, Logged, Ticket, passes, pass_of, pass_of_event, same_ticket, is_open_ticket, is_pass_on, is_passed_on, State, Start, opened, pool, Outcome, Answered, Happening, Begin, started, happens, IsAccepted, happening_of, script, IsAcceptedStart, Replays, IsRequestTo, IsPass, IsLegal, IsOpening, IsReached, IsCheckedPlan, FitsConfig}
 use Rattle.sm_protocol.specs.declared.event.Event.TheVariants as event
 use Rattle.sm_protocol.specs.declared.event.Played.TheVariants as played
 use Rattle.sm_protocol.proofs.Reached.{IsOfOneMachine, same_machine, by_events}
@@ -30,11 +30,11 @@ same_parts a b e =
 
 pub open_ticket : (log : List Logged) (t : Ticket) → is_open_ticket log t ≡ true → IsOpenTicket log t
 open_ticket log t e =
-    let parts = and_parts (is_ticket (slice_index_or (passes log) t.place None) t) _ e in
+    let parts = and_parts (option_map_or (λ pass. same_ticket pass t) (slice_index_or (passes log) t.place None) false) _ e in
     let pass = by_pass (slice_index_or (passes log) t.place None) refl parts.0 in
     record { earlier = pass_below log t.place t pass; pass = pass; unspent = not-true (is_passed_on log t.place) parts.1 }
   where
-    by_pass : (o : Option Ticket) → slice_index_or (passes log) t.place None ≡ o → is_ticket o t ≡ true → slice_index_or (passes log) t.place None ≡ Some t
+    by_pass : (o : Option Ticket) → slice_index_or (passes log) t.place None ≡ o → option_map_or (λ pass. same_ticket pass t) o false ≡ true → slice_index_or (passes log) t.place None ≡ Some t
     by_pass None f g = absurd (cc)
     by_pass (Some a) f g = f ∙ ap Some (same_parts a t g)
 
@@ -58,12 +58,12 @@ pub record IsReplayed (w : State) : Type 0 where
   pub once : (place : ℕ) → count_by (λ (x : Logged). is_pass_on place x.event) w.log ≤ 1
   pub replays : Replays (opened w.sizes w.opening w.room) (script w) w
 
-pub replays_push : (from : State) (xs : List ScriptLine) (w : State) (x : ScriptLine) (new : State) → Replays from xs w →
-    happens w x.happening ≡ (Answered x.answer, new) → IsAcceptedStart w x.happening → Replays from (xs ++ x ∷ []) new
+pub replays_push : (from : State) (xs : List (Happening × Played)) (w : State) (x : Happening × Played) (new : State) → Replays from xs w →
+    happens w x.0 ≡ (Answered x.1, new) → IsAcceptedStart w x.0 → Replays from (xs ++ x ∷ []) new
 replays_push from [] w x new r e a =
-    let f : happens from x.happening ≡ (Answered x.answer, new) = ap (λ y. happens y x.happening) r ∙ e in
-    (ap (λ o. o.0) f, subst (λ y. IsAcceptedStart y x.happening) (sym r) a, ap (λ o. o.1) f)
-replays_push from (y ∷ xs) w x new r e a = (r.0, r.1, replays_push (happens from y.happening).1 xs w x new r.2 e a)
+    let f : happens from x.0 ≡ (Answered x.1, new) = ap (λ y. happens y x.0) r ∙ e in
+    (ap (λ o. o.0) f, subst (λ y. IsAcceptedStart y x.0) (sym r) a, ap (λ o. o.1) f)
+replays_push from (y ∷ xs) w x new r e a = (r.0, r.1, replays_push (happens from y.0).1 xs w x new r.2 e a)
 
 -- ---- a recorded event keeps it
 
@@ -180,14 +180,14 @@ once_push log x q l open_one = go (is_pass_on q x.event) refl
 abbrev pub line_made : (w : State) (o : Outcome × State) → IsNewLine w o → Logged
 line_made w o n = record { event = n.event; answer = n.answer }
 
-script_of_event : (w : State) (o : Outcome × State) (n : IsNewLine w o) → IsReplayed w → script o.1 ≡ script w ++ record { happening = n.happening; answer = n.answer } ∷ []
+script_of_event : (w : State) (o : Outcome × State) (n : IsNewLine w o) → IsReplayed w → script o.1 ≡ script w ++ (n.happening, n.answer) ∷ []
 script_of_event w o n r =
     let x = line_made w o n in
     let a = script_of_line w.log x w.plans (λ k y place f g. (r.earlier k y place f g).0) r.begun in
     let h = line_of w n.happening n.event x n.is_record in
     let b : script_parts (passes o.1.log) o.1.log o.1.plans (length o.1.log) ≡ script_parts (passes (w.log ++ x ∷ [])) (w.log ++ x ∷ []) w.plans (length (w.log ++ x ∷ [])) =
     ap (λ l. script_parts (passes l) l o.1.plans (length l)) n.log ∙ ap (λ ps. script_parts (passes (w.log ++ x ∷ [])) (w.log ++ x ∷ []) ps (length (w.log ++ x ∷ []))) n.plans in
-    script_is o.1 ∙ b ∙ a ∙ rw h (ap (λ xs. xs ++ record { happening = n.happening; answer = n.answer } ∷ []) (sym (script_is w)))
+    script_is o.1 ∙ b ∙ a ∙ rw h (ap (λ xs. xs ++ (n.happening, n.answer) ∷ []) (sym (script_is w)))
 
 same_opening : (w new : State) → IsOfOneMachine w new → opened w.sizes w.opening w.room ≡ opened new.sizes new.opening new.room
 same_opening w new same = ap (λ c. opened c w.opening w.room) (sym same.sizes) ∙ ap (λ p. opened new.sizes p w.room) (sym same.opening) ∙ ap (λ r. opened new.sizes new.opening r) (sym same.room)
@@ -204,7 +204,7 @@ line_keeps w o n same r =
       replays =
           subst (λ from. Replays from (script o.1) o.1) (same_opening w o.1 same)
           (subst (λ xs. Replays (opened w.sizes w.opening w.room) xs o.1) (sym (script_of_event w o n r))
-          (replays_push (opened w.sizes w.opening w.room) (script w) w (record { happening = n.happening; answer = n.answer }) o.1 r.replays n.made n.no_start));
+          (replays_push (opened w.sizes w.opening w.room) (script w) w (n.happening, n.answer) o.1 r.replays n.made n.no_start));
     }
 
 -- ---- a start keeps it
@@ -222,7 +222,7 @@ start_keeps w e o n accepted r =
       named = r.named;
       once = r.once;
       replays = subst (λ xs. Replays (opened w.sizes w.opening w.room) xs (started w n.plan)) (sym b)
-          (replays_push (opened w.sizes w.opening w.room) (script w) w (record { happening = Begin n.plan; answer = played.Begun (length w.plans) }) (started w n.plan) r.replays m accepted);
+          (replays_push (opened w.sizes w.opening w.room) (script w) w (Begin n.plan, played.Begun (length w.plans)) (started w n.plan) r.replays m accepted);
     })
 
 -- ---- all

@@ -1,5 +1,5 @@
 -- A request is executed by the one server that serves its shard.
-use Rattle.sm_protocol.proofs.Below.{◌≡◌, ℕ, ◌<◌, ◌≤◌, Bool, true, false, refl, sym, ap, ◌∙◌, inl, inr, subst, arith, Option, Some, None, length, ◌==◌, ◌&&◌, if◌then◌else◌, slice_index_or, cases_eq, and_parts, eqb-true, Cell, Absent, Prepared, Secondary, Primary, Forwarding, Lead, Gone, At, Ready, Handing, Handed, serves, Describes, IsPlain, MayHavePassed, leader_serves, CanBePassed, passed_of_lead, prepared_serves}
+use Rattle.sm_protocol.proofs.Below.{◌≡◌, ℕ, Bool, true, false, refl, sym, subst, Option, Some, None, length, ◌==◌, ◌&&◌, if◌then◌else◌, slice_index_or, and_parts, eqb-true, Cell, Absent, Prepared, Secondary, Primary, Forwarding, Lead, serves, Describes, MayHavePassed, CanBePassed, passed_of_lead, prepared_serves}
 use Rattle.sm_protocol.proofs.Words.{Ticket, passes, State, answer_by}
 use Rattle.sm_protocol.specs.declared.event.Played.TheVariants as played
 use Rattle.sm_protocol.proofs.Cases.{reply}

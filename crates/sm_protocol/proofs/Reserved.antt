@@ -1,6 +1,6 @@
 -- What the pool keeps, and restarts that keep what is reserved.
 use Rattle.sm_protocol.proofs.Below.{◌≡◌, ℕ, zero, suc, ◌+◌, ◌<◌, ◌≤◌, Bool, true, false, Option, Some, None, refl, ap, arith, length, ◌==◌, ◌&&◌, not, ne_eqb, and_parts, first_from, is_live_at, live_at, StreamId, OfSpare, Denied, denial, first_without_spare, IsGranted, granted, not_denied}
-use Rattle.sm_protocol.proofs.Words.{State, stream_id, stream_count, progress_of, is_begun, is_running, held, pool, free_places, Answered, engages, engaged, approved, Approve, happens, IsApproved, RoomIsConserved, ApprovedWhereReserved}
+use Rattle.sm_protocol.proofs.Words.{State, stream_id, stream_count, progress_of, is_begun, is_running, held, pool, free_places, Answered, engages, engaged, approved, Approve, happens, IsApproved, EachReached, IsConserved, ApprovedWhereReserved}
 use Rattle.sm_protocol.specs.declared.event.Played.TheVariants as played
 use Rattle.sm_protocol.proofs.Invariant.{IsKept}
 use Rattle.sm_protocol.proofs.Trials.{IsBegun}
@@ -11,7 +11,7 @@ use Rattle.sm_protocol.proofs.Whole.{reached_keeps}
 
 -- ---- what is conserved
 
-pub room_is_conserved : RoomIsConserved
+pub room_is_conserved : EachReached IsConserved
 room_is_conserved setup w reached = let v = (reached_keeps setup w reached).0 in record { room = room_conserved w v; spare = spare_conserved w v }
 
 -- ---- searches

@@ -1,6 +1,6 @@
 -- The script of a log that grows by a line, and of one more start.
 use Rattle.sm_protocol.proofs.Below.{◌≡◌, ℕ, zero, suc, ◌+◌, ◌<◌, ◌≤◌, Bool, false, refl, sym, ap, ◌∙◌, inl, inr, subst, arith, Option, Some, None, List, [], ◌∷◌, ◌++◌, append_assoc, length-append, ◌==◌, length, if◌then◌else◌, slice_get, slice_index_or, AllByRecursion, ne_eqb, eq-eqb, cases_lt, append-nil, get_or_append_left, get_or_past, get_or-append_seam}
-use Rattle.sm_protocol.proofs.Words.{Event, Logged, Ticket, pass_of, passes_from, passes, State, Start, Begin, ScriptLine, happening_of, starts_at, lines_at, script_to, script}
+use Rattle.sm_protocol.proofs.Words.{Event, Played, Logged, Ticket, pass_of, passes_from, passes, State, Start, Happening, Begin, happening_of, starts_at, lines_at, script_to, script}
 use Rattle.sm_protocol.specs.declared.event.Event.TheVariants as event
 use Rattle.sm_protocol.specs.declared.event.Played.TheVariants as played
 
@@ -79,10 +79,10 @@ no_starts number n (x ∷ xs) a =
     rw e (no_starts (number + 1) n xs a.1)
 
 -- the line of a start
-abbrev pub start_line : ℕ → Start → List ScriptLine
-start_line number y = record { happening = Begin y.plan; answer = played.Begun number } ∷ []
+abbrev pub start_line : ℕ → Start → List (Happening × Played)
+start_line number y = (Begin y.plan, played.Begun number) ∷ []
 
-abbrev pub start_if : Bool → ℕ → Start → List ScriptLine
+abbrev pub start_if : Bool → ℕ → Start → List (Happening × Played)
 start_if b number y = if b then start_line number y else []
 
 starts_push : (number : ℕ) (plans : List Start) (y : Start) (n m : ℕ) → m ≡ number + length plans →
@@ -97,7 +97,7 @@ starts_push number (x ∷ xs) y n m e =
 -- ---- scripts
 
 -- the script of a log with these passes and starts
-pub script_parts : List (Option Ticket) → List Logged → List Start → ℕ → List ScriptLine
+pub script_parts : List (Option Ticket) → List Logged → List Start → ℕ → List (Happening × Played)
 script_parts tickets log plans zero = starts_at 0 plans 0
 script_parts tickets log plans (suc n) = script_parts tickets log plans n ++ lines_at tickets (slice_get log n) ++ starts_at 0 plans (suc n)
 

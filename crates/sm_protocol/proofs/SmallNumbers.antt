@@ -1,6 +1,6 @@
 -- Versions and numbers rise with recorded events alone, so they stay small.
 use Rattle.sm_protocol.proofs.Below.{◌≡◌, ℕ, suc, ◌+◌, ◌^◌, ◌<◌, ◌≤◌, Bool, true, false, ap, inl, inr, arith, Ok, [], ◌∷◌, length, length-append, ◌==◌, if◌then◌else◌, cases_eq, put, Setup, sizes_of, Place, CallEffect, StreamId, ServerCall, Instr, PrepareAdd, numbers_after, put-here, put-apart}
-use Rattle.sm_protocol.proofs.Words.{Event, Passage, Through, LostBefore, LostAfter, Played, State, Progress, opened, progress_of, logged, call_number, number_after_try, Happening, happens, IsOpening, NumbersStaySmall}
+use Rattle.sm_protocol.proofs.Words.{Event, Passage, Through, LostBefore, LostAfter, Played, State, Progress, opened, progress_of, logged, call_number, number_after_try, Happening, happens, IsOpening, EachReached, IsSmall}
 use Rattle.sm_protocol.specs.declared.event.Event.TheVariants as event
 use Rattle.sm_protocol.specs.declared.event.Played.TheVariants as played
 use Rattle.sm_protocol.proofs.Cases.{OfSteps, of_happens, answer_to}
@@ -104,7 +104,7 @@ within_at_opening setup p room o = record {
 }
 
 -- versions and numbers stay small
-pub numbers_stay_small : NumbersStaySmall
+pub numbers_stay_small : EachReached IsSmall
 numbers_stay_small setup w reached =
     let h = by_events setup IsWithinLog (within_at_opening setup) (λ u e at f v. within_kept u e v) w reached in
     let r = (has_room setup w reached).room in

@@ -1,31 +1,9 @@
 -- What happens: each event with its answer, and lists of events.
 use Rattle.std.specs.Prelude.{ℕ, ◌+◌, ◌==◌, ◌&&◌, ◌||◌, ◌++◌, nat_lt, nat_le, not, Bool, true, false, Option, Some, None, List, [], ◌∷◌, length, if◌then◌else◌}
-use Rattle.std.specs.List.{list_any}
-use Rattle.sm_server.specs.declared.call.Cell.{Cell}
-use Rattle.sm_server.specs.declared.call.Cell.TheVariants.{Absent, Prepared, Secondary, Primary, Forwarding}
-use Rattle.sm_placement.specs.Sums.{bit, sum_below, first_from}
-use Rattle.sm_placement.specs.Place.{set_down}
-use Rattle.sm_reservation.specs.Amounts.{same_listed}
-use Rattle.sm_reservation.specs.declared.stream_id.StreamId.{StreamId}
-use Rattle.sm_plan_code.specs.declared.instruction.Instr.{Instr}
-use Rattle.sm_plan_code.specs.Instr.{names_of}
-use Rattle.sm_plan_code.specs.Plan.{PlanModel}
-use Rattle.sm_verifier.specs.declared.admission.Holding.{Holding}
-use Rattle.sm_task_controller.specs.declared.decision.Denied.{Denied}
-use Rattle.sm_task_controller.specs.Decision.{denial}
-use Rattle.sm_protocol.specs.declared.event.Event.{Event}
-use Rattle.sm_protocol.specs.declared.event.Event.TheVariants as event
-use Rattle.sm_protocol.specs.declared.event.Passage.TheVariants.{Through, LostBefore, LostAfter}
-use Rattle.sm_protocol.specs.declared.event.Played.{Played}
-use Rattle.sm_protocol.specs.declared.event.Played.TheVariants as played
-use Rattle.sm_protocol.specs.declared.event.BeginFault.TheVariants as fault
-use Rattle.sm_protocol.specs.declared.event.RefillFault.{RefillFault}
-use Rattle.sm_protocol.specs.declared.event.RefillFault.TheVariants as refill
-use Rattle.sm_protocol.specs.State.{State, stream_id, stream_count, stream_parts, progress_of, is_running, is_unfinished, set_progress, logged, recorded, pool, places_of, free_places}
-use Rattle.sm_verifier.specs.FirstHolding.{first_holding}
+pub use Rattle.sm_protocol.specs.Words.{BeginFault, Cell, Denied, Event, Holding, MOST_ALLOWANCE, MOST_NUMBER, MOST_PLANS, Passage, PlanModel, Played, RefillFault, StreamId, bit, denial, first_from, first_holding, is_mentioned, list_any, places_of, set_down, sum_below}
 use Rattle.sm_protocol.specs.Ticket.{Ticket, is_open_ticket}
+use Rattle.sm_protocol.specs.State.{State, stream_id, stream_count, stream_parts, progress_of, is_running, is_unfinished, set_progress, logged, recorded, pool, free_places}
 use Rattle.sm_protocol.specs.Steps.{Outcome, Answered, unchanged, step}
-use Rattle.sm_plan_code.specs.declared.limits.TheConstants.{MOST_ALLOWANCE, MOST_PLANS, MOST_NUMBER}
 
 -- What may happen: an event, with what was handed in for it.
 pub data Happening : Type 0 where
@@ -38,78 +16,57 @@ pub data Happening : Type 0 where
   Done : (server : ℕ) → Happening
   Begin : (plan : PlanModel) → Happening
 
--- ---- refills
-
 -- why a stream's allowance isn't raised by so much, None where it is
 abbrev pub refill_fault : State → StreamId → ℕ → Option RefillFault
 refill_fault w id more =
-    if not (is_running w id) then Some refill.Ended
-    else if nat_lt MOST_ALLOWANCE ((stream_parts w id).budget + (stream_parts w id).retries + (progress_of w id).refills + more) then Some refill.TooMany
-    else if nat_lt (free_places w) (more + 1) then Some refill.LogFull
+    if not (is_running w id) then Some RefillFault.Ended
+    else if nat_lt MOST_ALLOWANCE ((stream_parts w id).budget + (stream_parts w id).retries + (progress_of w id).refills + more) then Some RefillFault.TooMany
+    else if nat_lt (free_places w) (more + 1) then Some RefillFault.LogFull
     else None
 
 -- the refill, where nothing is against it
 abbrev pub refilled : State → StreamId → ℕ → Option RefillFault → Outcome × State
-refilled w id more (Some why) = unchanged w (played.RefillRefused why)
-refilled w id more None = (
-  Answered played.Refilled,
-  record w {
-    progress = set_progress w id (record (progress_of w id) { refills = (progress_of w id).refills + more });
-    log = logged w (event.Refill id more) played.Refilled;
-  },
-)
+refilled w id more (Some why) = unchanged w (Played.RefillRefused why)
+refilled w id more None =
+    let progress = set_progress w id (record (progress_of w id) { refills = (progress_of w id).refills + more }) in
+    (Answered Played.Refilled, record w { progress = progress; log = logged w (Event.Refill id more) Played.Refilled })
 
--- ---- requests
-
--- What the server v answers to a request by its cell. A request that was passed on comes with its ticket; a pass is
--- recorded at this place of the log.
+-- what a server answers to a request by its cell; one that was passed on comes with its ticket, and a pass is recorded here
 abbrev pub answer_by : Cell → ℕ → Option Ticket → ℕ → Played
-answer_by Primary v sent place = played.Executed v
-answer_by (Forwarding to number) v sent place = played.Passed to number place
-answer_by (Prepared from number) v (Some t) place = if (from == t.sender) && (number == t.number) then played.Executed v else played.NotOwner
-answer_by (Prepared from number) v None place = played.NotOwner
-answer_by Absent v sent place = played.NotOwner
-answer_by Secondary v sent place = played.NotOwner
+answer_by Cell.Primary v sent place = Played.Executed v
+answer_by (Cell.Forwarding to number) v sent place = Played.Passed to number place
+answer_by (Cell.Prepared from number) v (Some t) place = if (from == t.sender) && (number == t.number) then Played.Executed v else Played.NotOwner
+answer_by _ v sent place = Played.NotOwner
 
 -- a request for a shard comes to a server
 abbrev pub requested : State → ℕ → ℕ → Option Ticket → Event → Outcome × State
 requested w s v sent event =
-    if free_places w == 0 then unchanged w played.LogFull
+    if free_places w == 0 then unchanged w Played.LogFull
     else
-    let answer = if w.place.down v then played.Unavailable else answer_by (w.place.cells s v) v sent (length w.log) in
+    let answer = if w.place.down v then Played.Unavailable else answer_by (w.place.cells s v) v sent (length w.log) in
     (Answered answer, recorded w event answer)
-
--- ---- restarts
-
--- the instruction mentions the server
-abbrev pub is_mentioned : ℕ → Instr → Bool
-is_mentioned v i = same_listed (names_of i).first (Some v) || same_listed (names_of i).second (Some v)
 
 -- the stream is unfinished, and its code mentions the server
 abbrev pub engages : State → ℕ → StreamId → Bool
 engages w v id = not (progress_of w id).done && list_any (is_mentioned v) (stream_parts w id).code
 
-abbrev stream_if : Bool → StreamId → Option StreamId
-stream_if test id = if test then Some id else None
-
 -- the lowest stream that engages the server
 abbrev pub engaged : State → ℕ → Option StreamId
 engaged w v =
-    first_from 0 (length w.plans) (λ k. first_from 0 (stream_count w k) (λ i. stream_if (engages w v (stream_id k i)) (stream_id k i)))
+    first_from 0 (length w.plans) (λ k.
+    first_from 0 (stream_count w k) (λ i. if engages w v (stream_id k i) then Some (stream_id k i) else None))
 
 -- the restart is approved where nothing is against it, and takes the server down
 abbrev pub approved : State → ℕ → Option Denied → Outcome × State
-approved w v (Some why) = unchanged w (played.Denied why)
-approved w v None = (Answered played.Approved, record w { place = set_down w.place v true; log = logged w (event.Approve v) played.Approved })
+approved w v (Some why) = unchanged w (Played.Denied why)
+approved w v None = (Answered Played.Approved, record w { place = set_down w.place v true; log = logged w (Event.Approve v) Played.Approved })
 
 -- the end of a restart brings the server up, if it is down
 abbrev pub restarted : State → ℕ → Outcome × State
 restarted w v =
     if w.place.down v
-    then (Answered played.Up, record w { place = set_down w.place v false; log = logged w (event.Done v) played.Up })
-    else unchanged w played.Unknown
-
--- ---- starts
+    then (Answered Played.Up, record w { place = set_down w.place v false; log = logged w (Event.Done v) Played.Up })
+    else unchanged w Played.Unknown
 
 -- how many plans are unfinished
 abbrev pub running_plans : State → ℕ
@@ -125,21 +82,20 @@ started w plan = record w { plans = w.plans ++ record { plan = plan; since = len
 
 -- a plan starts where nothing holds it up, the log has its places and another plan may run
 abbrev pub begun : State → PlanModel → Option Holding → Outcome × State
-begun w plan (Some why) = unchanged w (played.NotBegun (fault.Holding why))
+begun w plan (Some why) = unchanged w (Played.NotBegun (BeginFault.Holding why))
 begun w plan None =
-    if nat_lt (free_places w) (places_of plan) then unchanged w (played.NotBegun fault.LogFull)
-    else if has_all_plans w then unchanged w (played.NotBegun fault.TooManyPlans)
-    else (Answered (played.Begun (length w.plans)), started w plan)
-
--- ---- all
+    if nat_lt (free_places w) (places_of plan) then unchanged w (Played.NotBegun BeginFault.LogFull)
+    else if has_all_plans w then unchanged w (Played.NotBegun BeginFault.TooManyPlans)
+    else (Answered (Played.Begun (length w.plans)), started w plan)
 
 -- what an event does to a state, with its outcome
 abbrev pub happens : State → Happening → Outcome × State
-happens w (Step id) = step w id Through
-happens w (Lose id after) = step w id (if after then LostAfter else LostBefore)
+happens w (Step id) = step w id Passage.Through
+happens w (Lose id after) = step w id (if after then Passage.LostAfter else Passage.LostBefore)
 happens w (Refill id more) = refilled w id more (refill_fault w id more)
-happens w (Arrive s v) = requested w s v None (event.Arrive s v)
-happens w (PassOn t) = if is_open_ticket w.log t then requested w t.shard t.target (Some t) (event.PassOn t.place) else unchanged w played.Unknown
+happens w (Arrive s v) = requested w s v None (Event.Arrive s v)
+happens w (PassOn t) =
+    if is_open_ticket w.log t then requested w t.shard t.target (Some t) (Event.PassOn t.place) else unchanged w Played.Unknown
 happens w (Approve v) = approved w v (denial w.sizes w.place (pool w) (engaged w v) (free_places w) v)
 happens w (Done v) = restarted w v
 happens w (Begin plan) = begun w plan (first_holding w.sizes w.place (pool w) plan)

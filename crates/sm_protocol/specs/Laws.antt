@@ -1,28 +1,12 @@
--- The laws of the protocol: what holds of every state that events lead to.
+-- The laws of the protocol, behind their premises: what holds of every state that events lead to.
 use Rattle.std.specs.Prelude.{◌≡◌, ◌≢◌, ◌≤◌, ◌<◌, ◌↔◌, ℕ, ◌+◌, ◌^◌, ◌==◌, ◌&&◌, ◌++◌, Bool, true, false, Option, Some, None, List, [], ◌∷◌, length, count_by, Contains, nat_lt, slice_index_or, if◌then◌else◌}
-use Rattle.std.specs.List.{AllByRecursion}
-use Rattle.sm_placement.specs.Setup.{Setup, IsSetup, Sizes, sizes_of}
-use Rattle.sm_placement.specs.Place.{Place, load_at, live_at, down_count}
-use Rattle.sm_placement.specs.Sums.{bit}
-use Rattle.sm_placement.specs.Layout.{IsPlacement}
-use Rattle.sm_placement.specs.Lead.{IsSettled}
-use Rattle.sm_reservation.specs.declared.stream_id.StreamId.{StreamId}
-use Rattle.sm_reservation.specs.Amounts.{OfRoom, OfSpare}
-use Rattle.sm_plan_code.specs.Plan.{PlanModel, IsPlan, IsKnownPlan}
-use Rattle.sm_verifier.specs.Plan.{IsSound}
-use Rattle.sm_protocol.specs.declared.event.Event.{Event}
-use Rattle.sm_protocol.specs.declared.event.Event.TheVariants as event
-use Rattle.sm_protocol.specs.declared.event.Played.TheVariants as played
-use Rattle.sm_protocol.specs.State.{State, opened, progress_of, is_begun, is_unfinished, held, pool, places_of, free_places}
+pub use Rattle.sm_protocol.specs.Words.{AllByRecursion, Event, IsCheckedPlan, IsPlacement, IsServing, IsSettled, IsSetup, MOST_CALLS, MOST_PLACES, OfRoom, OfSpare, Place, PlanModel, Played, Setup, Sizes, StreamId, VERSIONS_END, bit, down_count, live_at, load_at, places_of, sizes_of}
+use Rattle.sm_protocol.specs.State.{State, opened, progress_of, is_begun, is_unfinished, held, pool, free_places}
 use Rattle.sm_protocol.specs.Steps.{Outcome, Refused, Answered, call_number}
 use Rattle.sm_protocol.specs.Happens.{Happening, Step, Lose, Refill, Arrive, PassOn, Approve, Done, Begin, has_all_plans, happens, run, outcomes}
-use Rattle.sm_protocol.specs.Safe.{IsAccepted, IsApproved, IsServing, IsSafe, SomeCanStep, SomeCanStepOrSpent, unhalted}
-use Rattle.sm_protocol.specs.Log.{IsAtEnds, IsInLog, IsLegal}
 use Rattle.sm_protocol.specs.Hand.{Hand, Game, spends, play, plays, all_given, played_events, or_unknown}
-use Rattle.sm_placement.specs.declared.limits.TheConstants.{VERSIONS_END}
-use Rattle.sm_plan_code.specs.declared.limits.TheConstants.{MOST_PLACES, MOST_CALLS}
-
--- ---- premises
+use Rattle.sm_protocol.specs.Safe.{IsAccepted, IsApproved, IsSafe, SomeCanStep, SomeCanStepOrSpent, unhalted}
+use Rattle.sm_protocol.specs.Log.{IsAtEnds, IsInLog}
 
 -- A machine opens on a settled placement of a configuration, with a log of at most 1,048,576 places, one at least for each
 -- server that is down.
@@ -32,12 +16,6 @@ pub record IsOpening (setup : Setup) (p : Place) (room : ℕ) : Type 0 where
   pub settled : IsSettled (sizes_of setup) p
   pub least : down_count (sizes_of setup) p ≤ room
   pub most : room ≤ MOST_PLACES
-
--- a plan that was checked for a configuration of these numbers
-pub record IsCheckedPlan (c : Sizes) (plan : PlanModel) : Type 0 where
-  pub parts : IsPlan plan
-  pub fits : IsKnownPlan c.shards c.servers plan
-  pub sound : IsSound c plan
 
 -- the event names known shards and servers, a plan that is to start was checked, and a refill is within its limit
 abbrev pub FitsConfig : Sizes → Happening → Type 0
@@ -62,6 +40,10 @@ pub record IsReached (setup : Setup) (w : State) : Type 0 where
   pub fit : AllFit (sizes_of setup) events
   pub state : unhalted w ≡ run events (opened (sizes_of setup) place room)
 
+-- each state that events lead to is so
+abbrev pub EachReached : (State → Type 0) → Type 0
+EachReached P = (setup : Setup) (w : State) → IsReached setup w → P w
+
 -- the event is none by which a call may be lost
 abbrev pub LosesNothing : Happening → Type 0
 LosesNothing (Lose id after) = ⊥
@@ -69,25 +51,21 @@ LosesNothing _ = Unit {0}
 
 -- the log has a lost call of the stream
 abbrev pub HasLost : State → StreamId → Type 0
-HasLost w id = (after : Bool) × Contains w.log (record { event = event.Lose id after; answer = played.Lost })
+HasLost w id = (after : Bool) × Contains w.log (record { event = Event.Lose id after; answer = Played.Lost })
 
 -- no stream that has not made its end has a lost call in the log
 abbrev pub HasNoLost : State → Type 0
 HasNoLost w = (id : StreamId) → is_begun w id ≡ true → (progress_of w id).done ≡ false → ¬ HasLost w id
 
--- ---- starts and restarts
-
 -- a checked plan is begun exactly where it is accepted, the log has its places and another plan may run
 abbrev pub BegunWhereAccepted : Type 0
 BegunWhereAccepted = (setup : Setup) (w : State) (plan : PlanModel) → IsReached setup w → IsCheckedPlan w.sizes plan →
-    ((happens w (Begin plan)).0 ≡ Answered (played.Begun (length w.plans))) ↔ (IsAccepted w plan × (places_of plan ≤ free_places w) × (has_all_plans w ≡ false))
+    ((happens w (Begin plan)).0 ≡ Answered (Played.Begun (length w.plans))) ↔ (IsAccepted w plan × (places_of plan ≤ free_places w) × (has_all_plans w ≡ false))
 
 -- a restart is approved exactly where the server may be spared, the caps allow it and the log has its places
 abbrev pub ApprovedWhereReserved : Type 0
 ApprovedWhereReserved = (setup : Setup) (w : State) (v : ℕ) → IsReached setup w → v < w.sizes.servers →
-    ((happens w (Approve v)).0 ≡ Answered played.Approved) ↔ IsApproved w v
-
--- ---- the headline
+    ((happens w (Approve v)).0 ≡ Answered Played.Approved) ↔ IsApproved w v
 
 -- From a state in whose log no unfinished stream has a lost call, whatever list of starts of checked plans, stream steps,
 -- refills, requests and restart events follows: no event that comes next has its call refused, the state is safe, and of each
@@ -123,8 +101,6 @@ abbrev pub EffectsOnce : Type 0
 EffectsOnce = (setup : Setup) (p : Place) (room : ℕ) (es : List Happening) (n : ℕ) → IsOpening setup p room → AllFit (sizes_of setup) es →
     count_by (λ m. m == n) (effect_numbers es (opened (sizes_of setup) p room)) ≤ 1
 
--- ---- requests
-
 -- the answer spends a ticket of this place of the log
 abbrev pub spends_at : ℕ → Happening → Outcome → Bool
 spends_at place (PassOn t) (Answered answer) = (t.place == place) && spends answer
@@ -148,30 +124,17 @@ asked _ = None
 -- who executes a request is the one server that serves its shard
 abbrev pub ExecutedServes : Type 0
 ExecutedServes = (setup : Setup) (w : State) (e : Happening) (s v : ℕ) → IsReached setup w → asked e ≡ Some s →
-    (happens w e).0 ≡ Answered (played.Executed v) → IsServing w.place s v × ((u : ℕ) → IsServing w.place s u → u ≡ v)
-
--- ---- the log
-
--- the recorded events and starts lead from the opening to the state, with the recorded answers; no pass is passed on twice,
--- and what is passed on is an earlier pass
-abbrev pub LogReplays : Type 0
-LogReplays = (setup : Setup) (w : State) → IsReached setup w → IsLegal w
+    (happens w e).0 ≡ Answered (Played.Executed v) → IsServing w.place s v × ((u : ℕ) → IsServing w.place s u → u ≡ v)
 
 -- an event that is not recorded and starts no plan changes nothing
 abbrev pub UnrecordedChangesNothing : Type 0
 UnrecordedChangesNothing = (w : State) (e : Happening) → (happens w e).1.log ≡ w.log → (happens w e).1.plans ≡ w.plans → (happens w e).1 ≡ w
 
--- every plan is done
-abbrev pub AreDone : State → Type 0
-AreDone w = (k : ℕ) → k < length w.plans → is_unfinished w k ≡ false
-
 -- where all plans are done, each stream's instructions stand in the log in their order, each once, then its end, and the
 -- placement is the end of the plans in the order of their starts, whatever the schedule was
 abbrev pub EndsAreReached : Type 0
-EndsAreReached = (setup : Setup) (w : State) → IsReached setup w → AreDone w →
+EndsAreReached = (setup : Setup) (w : State) → IsReached setup w → ((k : ℕ) → k < length w.plans → is_unfinished w k ≡ false) →
     ((id : StreamId) → is_begun w id ≡ true → IsInLog w id) × IsAtEnds w
-
--- ---- lists of events that are played with a hand
 
 -- A list of events that is played with a hand makes the run of those for which the hand has something, with what it gives:
 -- they lead to the same state and have the same outcomes, and all others are Unknown.
@@ -181,25 +144,23 @@ PlaysAreRuns = (es : List Event) (g : Game) →
 
 -- the event names known shards and servers, and a refill is within its limit
 abbrev pub NamesKnown : Sizes → Event → Type 0
-NamesKnown c (event.Arrive s v) = (s < c.shards) × (v < c.servers)
-NamesKnown c (event.Approve v) = v < c.servers
-NamesKnown c (event.Done v) = v < c.servers
-NamesKnown c (event.Refill id more) = more ≤ MOST_CALLS
+NamesKnown c (Event.Arrive s v) = (s < c.shards) × (v < c.servers)
+NamesKnown c (Event.Approve v) = v < c.servers
+NamesKnown c (Event.Done v) = v < c.servers
+NamesKnown c (Event.Refill id more) = more ≤ MOST_CALLS
 NamesKnown c _ = Unit {0}
 
 -- the event asks for no lost call
 abbrev pub AsksNoLoss : Event → Type 0
-AsksNoLoss (event.Lose id after) = ⊥
+AsksNoLoss (Event.Lose id after) = ⊥
 AsksNoLoss _ = Unit {0}
 
 -- each plan in the hand was checked for a configuration of these numbers
 abbrev pub AreChecked : Sizes → Hand → Type 0
 AreChecked c h = (place : ℕ) (plan : PlanModel) → slice_index_or h.plans place None ≡ Some plan → IsCheckedPlan c plan
 
--- What the hand gave fits, and after the list of events the game is one like before: its state is one that events lead to,
--- and the plans left in its hand were checked. No call was refused, the state is safe, and of each plan that isn't done some
--- stream can step, or one that hasn't made its end has spent its allowance; where no unfinished stream had a lost call in the
--- log, and none was asked for, some stream can step.
+-- What the hand gave fits, no call was refused, and after the list of events the game is one like before, safe, and goes on as
+-- the law on lost calls says, or as the headline does where no unfinished stream had a lost call, and none was asked for.
 pub record IsPlayed (setup : Setup) (es : List Event) (g : Game) : Type 0 where
   pub fit : AllFit (sizes_of setup) (played_events es g)
   pub reached : IsReached setup (play es g).state
@@ -214,16 +175,11 @@ abbrev pub PlaysAreSafe : Type 0
 PlaysAreSafe = (setup : Setup) (es : List Event) (g : Game) → IsReached setup g.state → AreChecked (sizes_of setup) g.hand → AllByRecursion (NamesKnown (sizes_of setup)) es →
     IsPlayed setup es g
 
--- ---- what is conserved, and what is bounded
-
 -- each server's room is what is free of it in the pool, what is held or under way, and its load; each shard's live replicas are
 -- those that are free in the pool, those that are held or under way, and its floor
 pub record IsConserved (w : State) : Type 0 where
   pub room : (v : ℕ) → v < w.sizes.servers → (pool w).room v + held w (OfRoom v) + load_at w.sizes w.place v ≡ w.sizes.room v
   pub spare : (s : ℕ) → s < w.sizes.shards → (pool w).spare s + held w (OfSpare s) + w.sizes.floor s ≡ live_at w.sizes w.place s
-
-abbrev pub RoomIsConserved : Type 0
-RoomIsConserved = (setup : Setup) (w : State) → IsReached setup w → IsConserved w
 
 -- Versions and numbers stay far below what a word has room for, and the log within its room: each shard's version and highest
 -- handover number, the number of the next call, those of calls under way, and the last one of each cell.
@@ -234,6 +190,3 @@ pub record IsSmall (w : State) : Type 0 where
   pub pendings : (id : StreamId) → (progress_of w id).pending < 2 ^ 47
   pub lasts : (s v : ℕ) → w.place.last s v < 2 ^ 47
   pub log : length w.log ≤ w.room
-
-abbrev pub NumbersStaySmall : Type 0
-NumbersStaySmall = (setup : Setup) (w : State) → IsReached setup w → IsSmall w

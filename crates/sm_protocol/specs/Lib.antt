@@ -1,3 +1,4 @@
+pub mod Words
 pub mod Ticket
 pub mod State
 pub mod Steps

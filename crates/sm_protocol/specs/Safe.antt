@@ -1,22 +1,9 @@
 -- Accepted plans, approved restarts, safe states, and what a state goes on with.
-use Rattle.std.specs.Prelude.{◌≡◌, ◌≤◌, ◌<◌, ℕ, ◌+◌, true, false, ◌⊎◌, Some, length}
-use Rattle.sm_placement.specs.Place.{live_at, down_count, Place, load_at, is_live_at}
-use Rattle.sm_placement.specs.Rows.{serves}
-use Rattle.sm_reservation.specs.Pool.{leads_of}
-use Rattle.sm_reservation.specs.declared.stream_id.StreamId.{StreamId}
-use Rattle.sm_reservation.specs.Amounts.{Right, OfSpare, stock, bound}
-use Rattle.sm_plan_code.specs.Plan.{PlanModel}
-use Rattle.sm_verifier.specs.Plan.{IsSound}
-use Rattle.sm_verifier.specs.Admission.{AreUp}
-use Rattle.sm_verifier.specs.Within.{declared_sum}
+use Rattle.std.specs.Prelude.{◌≡◌, ◌≤◌, ◌<◌, ℕ, ◌+◌, true, false, ◌⊎◌, length}
+pub use Rattle.sm_protocol.specs.Words.{AreUp, IsSafePlace, IsServing, IsSound, OfSpare, Passage, PlanModel, Played, Right, StreamId, bound, declared_sum, down_count, is_live_at, leads_of, live_at, stock, sum_below}
 use Rattle.sm_protocol.specs.State.{State, is_running, held, free_places, stream_id, plan_at, stream_count, stream_parts, progress_of, allowance, is_begun, is_unfinished}
-use Rattle.sm_protocol.specs.Happens.{engages}
-use Rattle.sm_server.specs.declared.call.Cell.TheVariants.{Forwarding}
-use Rattle.sm_placement.specs.Sums.{sum_below}
-use Rattle.sm_placement.specs.Setup.{Sizes}
-use Rattle.sm_protocol.specs.declared.event.Played.TheVariants.{Moved, Done, Spent}
-use Rattle.sm_protocol.specs.declared.event.Passage.TheVariants.{Through}
 use Rattle.sm_protocol.specs.Steps.{Outcome, Answered, step}
+use Rattle.sm_protocol.specs.Happens.{engages}
 
 -- The plan passes the check. Of each right, what its streams declare and what is held or under way are together no more
 -- than what there is beside what nobody may use: so each declared cell right and crown is true of the placement, declared
@@ -26,10 +13,6 @@ pub record IsAccepted (w : State) (plan : PlanModel) : Type 0 where
   pub rights : (r : Right) → declared_sum plan.streams r + held w r + bound w.sizes w.place r ≤ stock w.sizes w.place (leads_of w.sizes w.place) r
   pub up : AreUp w.place plan.streams
 
--- how many spare replicas of a shard are held or under way
-abbrev pub reserved : State → ℕ → ℕ
-reserved w s = held w (OfSpare s)
-
 -- The server is up, no unfinished stream's code mentions it, fewer servers are down than the limit, each shard that is live
 -- at it keeps its floor and what is reserved without it, and the log has two free places.
 pub record IsApproved (w : State) (v : ℕ) : Type 0 where
@@ -37,25 +20,11 @@ pub record IsApproved (w : State) (v : ℕ) : Type 0 where
   pub free : (id : StreamId) → is_running w id ≡ true → engages w v id ≡ false
   pub cap : down_count w.sizes w.place < w.place.limit
   pub spare : (s : ℕ) → s < w.sizes.shards → is_live_at w.place s v ≡ true →
-      w.sizes.floor s + reserved w s + 1 ≤ live_at w.sizes w.place s
+      w.sizes.floor s + held w (OfSpare s) + 1 ≤ live_at w.sizes w.place s
   pub places : 2 ≤ free_places w
 
--- ---- safe states, and what a state goes on with
-
--- the server serves the shard, up or down
-abbrev pub IsServing : Place → ℕ → ℕ → Type 0
-IsServing p s v = serves (p.cells s) v ≡ true
-
--- Each shard has at most one server that serves it, each load is within its room, each shard has its floor of live replicas,
--- and a listed server serves its shard, or forwards to the server that does.
-pub record IsSafePlace (c : Sizes) (p : Place) : Type 0 where
-  pub serving : (s u v : ℕ) → IsServing p s u → IsServing p s v → u ≡ v
-  pub rooms : (v : ℕ) → v < c.servers → load_at c p v ≤ c.room v
-  pub floors : (s : ℕ) → s < c.shards → c.floor s ≤ live_at c p s
-  pub listed : (s u : ℕ) → p.listed s ≡ Some u → IsServing p s u ⊎ ((v number : ℕ) × (p.cells s u ≡ Forwarding v number) × IsServing p s v)
-
--- Beside, each stream's tries are within its allowance and the calls that had their effect within its budget, and the tries
--- of all streams of a plan are within the plan's budget and the refills.
+-- The placement is safe, each stream's tries are within its allowance and the calls that had their effect within its budget,
+-- and the tries of all streams of a plan are within the plan's budget and the refills.
 pub record IsSafe (w : State) : Type 0 where
   pub place : IsSafePlace w.sizes w.place
   pub tries : (id : StreamId) → is_begun w id ≡ true → (progress_of w id).tries ≤ allowance w id
@@ -69,17 +38,17 @@ unhalted w = record w { halted = false }
 
 -- a step that is made
 abbrev pub IsStep : Outcome → Type 0
-IsStep (Answered Moved) = Unit {0}
-IsStep (Answered Done) = Unit {0}
+IsStep (Answered Played.Moved) = Unit {0}
+IsStep (Answered Played.Done) = Unit {0}
 IsStep _ = ⊥
 
 -- the next step of the stream would be made, the halt flag aside
 abbrev pub CanStep : State → StreamId → Type 0
-CanStep w id = IsStep (step (unhalted w) id Through).0
+CanStep w id = IsStep (step (unhalted w) id Passage.Through).0
 
 -- the stream stands before a call, and has spent its allowance
 abbrev pub HasSpent : State → StreamId → Type 0
-HasSpent w id = (step (unhalted w) id Through).0 ≡ Answered Spent
+HasSpent w id = (step (unhalted w) id Passage.Through).0 ≡ Answered Played.Spent
 
 -- of the plan some stream that has not made its end stands so
 abbrev pub SomeStream : State → ℕ → (StreamId → Type 0) → Type 0

@@ -1,26 +1,7 @@
 -- The state of the protocol: all that calls, starts of plans, requests and restarts have made so far. What changes with
 -- plans, streams and signals is a function of their numbers, with one value for all that are not begun.
-use Rattle.std.specs.Prelude.{ℕ, ◌+◌, Bool, false, not, ◌&&◌, nat_lt, Option, List, [], ◌∷◌, ◌++◌, length, slice_get, slice_index_or, ◌-◌, ◌==◌, true, Some, None, if◌then◌else◌, count_by, sum_by, drop}
-use Rattle.sm_placement.specs.Sums.{put2, any_below, sum_below}
-use Rattle.sm_placement.specs.Setup.{Sizes}
-use Rattle.sm_placement.specs.Place.{Place, forget_numbers, down_count}
-use Rattle.sm_reservation.specs.declared.stream_id.StreamId.{StreamId}
-use Rattle.sm_plan_code.specs.declared.instruction.Instr.{Instr}
-use Rattle.sm_plan_code.specs.Plan.{StreamModel, PlanModel}
-use Rattle.sm_verifier.specs.Stream.{no_stream, stream_at, hold_before}
-use Rattle.sm_protocol.specs.declared.event.Event.{Event}
-use Rattle.sm_protocol.specs.declared.event.Played.{Played}
-use Rattle.sm_protocol.specs.declared.event.Logged.{Logged}
-use Rattle.sm_placement.specs.declared.entry.Entry.{Entry}
-use Rattle.sm_placement.specs.declared.lead.Lead.{Lead}
-use Rattle.sm_reservation.specs.declared.right.PlainCell.{PlainCell}
-use Rattle.sm_reservation.specs.Rights.{Rights}
-use Rattle.sm_reservation.specs.Hold.{Hold}
-use Rattle.sm_reservation.specs.HoldOf.{hold_of}
-use Rattle.sm_reservation.specs.Amounts.{Right, OfCell, OfCrown, OfRoom, OfSpare, count}
-use Rattle.sm_reservation.specs.Pool.{true_rights}
-use Rattle.sm_verifier.specs.Step.{parcels_of}
-use Rattle.sm_plan_code.specs.Instr.{is_call}
+use Rattle.std.specs.Prelude.{ℕ, ◌+◌, Bool, false, not, ◌&&◌, nat_lt, Option, List, [], ◌∷◌, ◌++◌, length, slice_get, slice_index_or, ◌-◌, true, if◌then◌else◌, count_by, drop}
+pub use Rattle.sm_protocol.specs.Words.{Entry, Event, Hold, Instr, Logged, OfRoom, OfSpare, Place, PlanModel, Played, Right, Rights, Sizes, StreamId, StreamModel, any_below, count, down_count, forget_numbers, free_cell, free_crown, hold_before, hold_of, is_no_call, no_stream, parcels_of, places_of, put2, stream_at, sum_below, true_rights}
 
 -- A plan that was begun, and the log's length at its start.
 pub record Start : Type 0 where
@@ -52,6 +33,7 @@ pub record Mark : Type 0 where
   pub posted : Bool
   pub awaited : Bool
 
+-- a signal of which nothing has become
 abbrev pub no_mark : Mark
 no_mark = record { posted = false; awaited = false }
 
@@ -91,8 +73,7 @@ opened c p room = record {
   halted = false;
 }
 
--- ---- plans and streams
-
+-- what stands where no plan was begun
 abbrev pub no_start : Start
 no_start = record { plan = record { budget = 0; streams = []; signals = [] }; since = 0 }
 
@@ -107,16 +88,16 @@ stream_count w k = length (plan_at w k).streams
 abbrev pub signal_count : State → ℕ → ℕ
 signal_count w k = length (plan_at w k).signals
 
+-- a stream's name, by the numbers of its plan and of its place there
+abbrev pub stream_id : ℕ → ℕ → StreamId
+stream_id k i = record { plan = k; stream = i }
+
 -- a stream as its plan has it, and as it stands
 abbrev pub stream_parts : State → StreamId → StreamModel
 stream_parts w id = slice_index_or (plan_at w id.plan).streams id.stream no_stream
 
 abbrev pub progress_of : State → StreamId → Progress
 progress_of w id = w.progress id.plan id.stream
-
--- a stream's name, by the numbers of its plan and of its place there
-abbrev pub stream_id : ℕ → ℕ → StreamId
-stream_id k i = record { plan = k; stream = i }
 
 -- the stream was begun
 abbrev pub is_begun : State → StreamId → Bool
@@ -138,21 +119,16 @@ allowance w id = (stream_parts w id).budget + (stream_parts w id).retries + (pro
 abbrev pub is_unfinished : State → ℕ → Bool
 is_unfinished w k = any_below (stream_count w k) (λ i. not (w.progress k i).done)
 
--- ---- changes of parts
-
--- a stream stands otherwise
+-- the progress of all streams, where one stands otherwise
 abbrev pub set_progress : State → StreamId → Progress → ℕ → ℕ → Progress
 set_progress w id progress = put2 w.progress id.plan id.stream progress
 
--- the log with one more event and its answer
+-- the log with one more event and its answer, and the state where nothing else changes
 abbrev pub logged : State → Event → Played → List Logged
 logged w event answer = w.log ++ record { event = event; answer = answer } ∷ []
 
--- the state with an event recorded that changes nothing else
 abbrev pub recorded : State → Event → Played → State
 recorded w event answer = record w { log = logged w event answer }
-
--- ---- what unfinished streams hold and parcels carry, and what is left of it in the pool
 
 -- the position to which the effects of a stream have come: a call that had its effect counts as made
 abbrev pub reach : ℕ → Bool → ℕ
@@ -163,11 +139,10 @@ reach at false = at
 abbrev pub hold_at_progress : State → ℕ → ℕ → Progress → Hold
 hold_at_progress w k i progress = hold_before (stream_at w.sizes (plan_at w k) i) (reach progress.at progress.ahead)
 
--- what a stream holds
+-- what a stream holds, and what a signal carries
 abbrev pub hold_of_stream : State → ℕ → ℕ → Hold
 hold_of_stream w k i = hold_at_progress w k i (w.progress k i)
 
--- what a signal carries
 abbrev pub parcel_at : State → ℕ → ℕ → Rights
 parcel_at w k q = parcels_of (plan_at w k).signals q
 
@@ -175,56 +150,30 @@ parcel_at w k q = parcels_of (plan_at w k).signals q
 abbrev pub is_under_way : Mark → Bool
 is_under_way mark = mark.posted && not mark.awaited
 
--- how much of a right a stream holds, nothing once it has ended
-abbrev pub stream_part : State → ℕ → Right → ℕ → ℕ
-stream_part w k r i = if (w.progress k i).done then 0 else count (hold_of_stream w k i) r
-
--- how much of it a signal's parcel carries that is under way
-abbrev pub signal_part : State → ℕ → Right → ℕ → ℕ
-signal_part w k r q = if is_under_way (w.marks k q) then count (hold_of (parcel_at w k q)) r else 0
-
--- how much of a right the streams of a plan hold and its parcels under way carry
+-- how much of a right the streams of a plan hold, each nothing once it has ended, and its parcels under way carry
 abbrev pub held_by : State → Right → ℕ → ℕ
-held_by w r k = sum_below (stream_count w k) (stream_part w k r) + sum_below (signal_count w k) (signal_part w k r)
+held_by w r k =
+    sum_below (stream_count w k) (λ i. if (w.progress k i).done then 0 else count (hold_of_stream w k i) r)
+    + sum_below (signal_count w k) (λ q. if is_under_way (w.marks k q) then count (hold_of (parcel_at w k q)) r else 0)
 
 -- how much of a right is held or under way
 abbrev pub held : State → Right → ℕ
 held w r = sum_below (length w.plans) (held_by w r)
 
--- a right to a cell, or a crown, unless it is held or under way
-abbrev pub free_cell : State → ℕ → ℕ → Option PlainCell → Option PlainCell
-free_cell w s v None = None
-free_cell w s v (Some state) = if held w (OfCell s v state) == 0 then Some state else None
-
-abbrev pub free_crown : State → ℕ → Option (Lead × Option ℕ) → Option (Lead × Option ℕ)
-free_crown w s None = None
-free_crown w s (Some crown) = if held w (OfCrown s crown.0 crown.1) == 0 then Some crown else None
-
 -- The pool: what is true of the placement and neither held nor under way, and the room and spare replicas that are left.
 abbrev pub pool : State → Hold
 pool w = record {
-  cells = λ s v. free_cell w s v ((true_rights w.sizes w.place).cells s v);
-  crowns = λ s. free_crown w s ((true_rights w.sizes w.place).crowns s);
+  cells = λ s v. free_cell (held w) s v ((true_rights w.sizes w.place).cells s v);
+  crowns = λ s. free_crown (held w) s ((true_rights w.sizes w.place).crowns s);
   room = λ v. (true_rights w.sizes w.place).room v - held w (OfRoom v);
   spare = λ s. (true_rights w.sizes w.place).spare s - held w (OfSpare s);
 }
 
--- ---- the places of the log: what is set aside for what was begun, and what is free
-
--- the instruction is no call
-abbrev pub is_no_call : Instr → Bool
-is_no_call i = not (is_call i)
-
--- what a stream that stands so takes yet: a place for each try that it may still make, for each instruction left that is no
--- call, and for its end
+-- what a stream that stands so takes yet: a place for each try left, for each instruction left that is no call, and for its end
 abbrev pub places_left : StreamModel → Progress → ℕ
 places_left stream progress =
     if progress.done then 0
     else stream.budget + stream.retries + progress.refills - progress.tries + count_by is_no_call (drop progress.at stream.code) + 1
-
--- the places that a plan takes: for each stream its budget, its retries, each instruction that is no call, and its end
-abbrev pub places_of : PlanModel → ℕ
-places_of plan = sum_by (λ stream. stream.budget + stream.retries + count_by is_no_call stream.code + 1) plan.streams
 
 -- the places that are set aside: what the streams begun take yet, and one for the end of each restart
 abbrev pub set_aside : State → ℕ

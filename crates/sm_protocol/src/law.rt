@@ -1,5 +1,6 @@
 //! The laws of the protocol: what holds of every state that events lead to.
-ghost use Rattle.sm_protocol.specs.Laws.{ApprovedWhereReserved, BegunWhereAccepted, EffectsOnce, EndsAreReached, ExecutedServes, Headline, LogReplays, NumbersStaySmall, PlaysAreRuns, PlaysAreSafe, RoomIsConserved, TicketsOnce, UnrecordedChangesNothing, WithLosses};
+ghost use Rattle.sm_protocol.specs.Laws.{ApprovedWhereReserved, BegunWhereAccepted, EachReached, EffectsOnce, EndsAreReached, ExecutedServes, Headline, IsConserved, IsSmall, PlaysAreRuns, PlaysAreSafe, TicketsOnce, UnrecordedChangesNothing, WithLosses};
+ghost use Rattle.sm_protocol.specs.Log.{IsLegal};
 
 /// A checked plan is begun exactly where it is accepted, the log has its places and another plan may run.
 pub fn begun_where_accepted()
@@ -38,7 +39,7 @@ pub fn executed_serves()
 /// The recorded events and starts lead from the opening to the state, with the recorded answers. No pass is passed on twice,
 /// and what is passed on is an earlier pass, with its shard, sender, target and number.
 pub fn log_replays()
-    ensures { LogReplays }
+    ensures { EachReached IsLegal }
 {}
 
 /// Each ticket is spent by one answer at most.
@@ -71,10 +72,10 @@ pub fn plays_are_safe()
 /// Of the room of each server and the live replicas of each shard, what is free in the pool, what is held or under way, and
 /// what nobody may use are together what there is.
 pub fn room_is_conserved()
-    ensures { RoomIsConserved }
+    ensures { EachReached IsConserved }
 {}
 
 /// Versions and numbers stay below 2^47, and the log within its room.
 pub fn numbers_stay_small()
-    ensures { NumbersStaySmall }
+    ensures { EachReached IsSmall }
 {}

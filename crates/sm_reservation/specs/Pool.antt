@@ -1,5 +1,5 @@
 -- A pool: the rights that no grant has, by key.
-use Rattle.std.specs.Prelude.{◌≡◌, ◌≤◌, ◌<◌, ◌-◌, ◌*◌, ◌&&◌, ℕ, List, length, Option, None, nat_lt, ◌==◌, unwrap_or, if◌then◌else◌}
+use Rattle.std.specs.Prelude.{◌≡◌, ◌≤◌, ◌<◌, ◌-◌, ◌*◌, ◌&&◌, ℕ, List, length, Option, Some, None, nat_lt, ◌==◌, unwrap_or, if◌then◌else◌}
 use Rattle.std.specs.Option.{option_map}
 use Rattle.sm_placement.specs.declared.lead.Lead.{Lead}
 use Rattle.sm_placement.specs.declared.lead.Lead.TheVariants.{Gone}
@@ -69,6 +69,15 @@ true_rights c p = record {
   room = λ v. if nat_lt v c.servers then c.room v - load_at c p v else 0;
   spare = λ s. if nat_lt s c.shards then live_at c p s - c.floor s else 0;
 }
+
+-- a right to a cell, or a crown, unless some of it is in use
+abbrev pub free_cell : (Right → ℕ) → ℕ → ℕ → Option PlainCell → Option PlainCell
+free_cell used s v None = None
+free_cell used s v (Some state) = if used (OfCell s v state) == 0 then Some state else None
+
+abbrev pub free_crown : (Right → ℕ) → ℕ → Option (Lead × Option ℕ) → Option (Lead × Option ℕ)
+free_crown used s None = None
+free_crown used s (Some crown) = if used (OfCrown s crown.0 crown.1) == 0 then Some crown else None
 
 -- a right of a known shard and server
 abbrev pub IsKnownRight : Sizes → Right → Type 0

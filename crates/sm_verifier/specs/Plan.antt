@@ -3,7 +3,7 @@ use Rattle.std.specs.Prelude.{◌≡◌, ◌≤◌, ◌<◌, ◌+◌, ◌==◌, 
 use Rattle.sm_placement.specs.Setup.{Sizes}
 use Rattle.sm_plan_code.specs.declared.instruction.Instr.{Instr}
 use Rattle.sm_plan_code.specs.declared.instruction.Instr.TheVariants.{Signal, Wait}
-use Rattle.sm_plan_code.specs.Plan.{PlanModel}
+use Rattle.sm_plan_code.specs.Plan.{PlanModel, IsPlan, IsKnownPlan}
 use Rattle.sm_plan_code.specs.declared.instruction.Why.{Why}
 use Rattle.sm_verifier.specs.declared.checking.Fault.{Fault}
 use Rattle.sm_verifier.specs.declared.checking.Fault.TheVariants.{NoMemory, Budget, SignalNotOnce, Stream, Stuck}
@@ -52,6 +52,12 @@ pub record IsSound (c : Sizes) (plan : PlanModel) : Type 0 where
   pub signals : AreUsedOnce plan (length plan.signals)
   pub streams : AreGood c plan (length plan.streams)
   pub order : HasOrder plan
+
+-- a plan that was checked for a configuration of these numbers
+pub record IsCheckedPlan (c : Sizes) (plan : PlanModel) : Type 0 where
+  pub parts : IsPlan plan
+  pub fits : IsKnownPlan c.shards c.servers plan
+  pub sound : IsSound c plan
 
 -- ---- what is wrong with a plan
 

@@ -1,5 +1,5 @@
 -- The end of a plan: what its streams hold at their ends sets a placement.
-use Rattle.std.specs.Prelude.{ℕ, zero, suc, ◌+◌, ◌==◌, Bool, false, Option, Some, None, length, count_by, sum_by, if◌then◌else◌}
+use Rattle.std.specs.Prelude.{ℕ, zero, suc, ◌+◌, ◌==◌, Bool, false, Option, Some, None, List, [], ◌∷◌, length, count_by, sum_by, if◌then◌else◌}
 use Rattle.sm_server.specs.declared.call.Cell.{Cell}
 use Rattle.sm_server.specs.declared.call.Cell.TheVariants as cell
 use Rattle.sm_placement.specs.declared.lead.Lead.{Lead}
@@ -56,3 +56,8 @@ publications plan s = sum_by (λ stream. count_by (is_publication s) stream.code
 -- has risen by one with each change of its entry.
 abbrev pub end_of : Sizes → PlanModel → Place → Place
 end_of c plan p = record (set_by_streams c plan (length plan.streams) p) { version = λ s. p.version s + publications plan s }
+
+-- the ends of plans, one after another
+abbrev pub ends_of : Sizes → List PlanModel → Place → Place
+ends_of c [] p = p
+ends_of c (plan ∷ plans) p = ends_of c plans (end_of c plan p)

@@ -61,11 +61,11 @@ same_pool w f log same = same_hold (pool (record w { progress = f; log = log }))
     new : State
     new = record w { progress = f; log = log }
 
-    cell : (s u : ℕ) (o : Option PlainCell) → free_cell new s u o ≡ free_cell w s u o
+    cell : (s u : ℕ) (o : Option PlainCell) → free_cell (held new) s u o ≡ free_cell (held w) s u o
     cell s u None = refl
     cell s u (Some state) = ap (λ n. if n == 0 then Some state else None) (same (OfCell s u state))
 
-    crown : (s : ℕ) (o : Option (Lead × Option ℕ)) → free_crown new s o ≡ free_crown w s o
+    crown : (s : ℕ) (o : Option (Lead × Option ℕ)) → free_crown (held new) s o ≡ free_crown (held w) s o
     crown s None = refl
     crown s (Some x) = ap (λ n. if n == 0 then Some x else None) (same (OfCrown s x.0 x.1))
 

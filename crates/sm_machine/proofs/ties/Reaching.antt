@@ -20,7 +20,7 @@ use Rattle.sm_protocol.specs.declared.event.Passage.TheVariants.{Through, LostBe
 use Rattle.sm_protocol.specs.declared.event.RefillFault.{RefillFault}
 use Rattle.sm_protocol.specs.declared.event.Played.TheVariants as played
 use Rattle.sm_protocol.specs.declared.event.BeginFault.TheVariants as fault
-use Rattle.sm_protocol.specs.State.{State, opened, progress_of, is_begun, next_instruction, logged, recorded, pool, free_cell, free_crown, places_of, free_places}
+use Rattle.sm_protocol.specs.State.{State, opened, progress_of, is_begun, next_instruction, logged, recorded, held, pool, free_cell, free_crown, places_of, free_places}
 use Rattle.sm_protocol.specs.Ticket.{Ticket, is_open_ticket}
 use Rattle.sm_protocol.specs.Steps.{Outcome, Answered, unchanged, made, step}
 use Rattle.sm_protocol.specs.Happens.{Happening, Step, Lose, Refill, Arrive, PassOn, Approve, Done, Begin, requested, refilled, refill_fault, approved, restarted, started, begun, has_all_plans, happens, run}
@@ -50,11 +50,11 @@ pool_opened c p room = same_hold (true_rights c p) (pool w)
     w : State
     w = opened c p room
 
-    cell : (s u : ℕ) (o : Option PlainCell) → o ≡ free_cell w s u o
+    cell : (s u : ℕ) (o : Option PlainCell) → o ≡ free_cell (held w) s u o
     cell s u None = refl
     cell s u (Some state) = refl
 
-    crown : (s : ℕ) (o : Option (Lead × Option ℕ)) → o ≡ free_crown w s o
+    crown : (s : ℕ) (o : Option (Lead × Option ℕ)) → o ≡ free_crown (held w) s o
     crown s None = refl
     crown s (Some x) = refl
 

@@ -69,7 +69,7 @@ module _ (w : State) (v : IsKept w) where
     | inl it ↦
         let is : plain_of (w.place.cells s u) ≡ Some state = is_cell_true state (plain_of (w.place.cells s u)) it in
         let here : (true_rights w.sizes w.place).cells s u ≡ Some state = rw (lt-ltb s w.sizes.shards ls, lt-ltb u w.sizes.servers lu) is in
-        let free : (pool w).cells s u ≡ Some state = ap (λ o. free_cell w s u o) here ∙ ap (λ t. if t then Some state else None) (eq-eqb (held w (OfCell s u state)) 0 none) in
+        let free : (pool w).cells s u ≡ Some state = ap (λ o. free_cell (held w) s u o) here ∙ ap (λ t. if t then Some state else None) (eq-eqb (held w (OfCell s u state)) 0 none) in
         ap (λ o. bit (is_cell state o)) free ∙ sym (ap (λ o. bit (is_cell state o)) is)
     | inr other ↦
         let l : count (pool w) (OfCell s u state) + held w (OfCell s u state) + 0 ≤ bit (is_cell state (plain_of (w.place.cells s u))) = within (OfCell s u state) in
@@ -83,7 +83,7 @@ module _ (w : State) (v : IsKept w) where
     | inl it ↦
         let is : ◌≡◌ {A = Option (Lead × Option ℕ)} (Some (leads_of w.sizes w.place s, w.place.listed s)) (Some (lead, listed)) = crown_true lead listed _ it in
         let here : (true_rights w.sizes w.place).crowns s ≡ Some (lead, listed) = rw (lt-ltb s w.sizes.shards ls, lead_is w v s) (ap (λ l. Some (l, w.place.listed s)) (sym (leads_are w v s)) ∙ is) in
-        let free : (pool w).crowns s ≡ Some (lead, listed) = ap (λ o. free_crown w s o) here ∙ ap (λ t. if t then Some (lead, listed) else None) (eq-eqb (held w (OfCrown s lead listed)) 0 none) in
+        let free : (pool w).crowns s ≡ Some (lead, listed) = ap (λ o. free_crown (held w) s o) here ∙ ap (λ t. if t then Some (lead, listed) else None) (eq-eqb (held w (OfCrown s lead listed)) 0 none) in
         ap (λ o. bit (is_crown lead listed o)) free ∙ ap bit (crown_self lead listed) ∙ sym (ap bit it)
     | inr other ↦
         let l : count (pool w) (OfCrown s lead listed) + held w (OfCrown s lead listed) + 0 ≤ bit (is_crown lead listed (Some (leads_of w.sizes w.place s, w.place.listed s))) = within (OfCrown s lead listed) in
@@ -107,9 +107,9 @@ module _ (w : State) (v : IsKept w) where
   -- nothing else is in the pool
   pub pool_known : IsKnownHold w.sizes.shards w.sizes.servers (pool w)
   pool_known = record {
-    no_shard = λ s u l. ap (λ o. free_cell w s u o) (let e : (true_rights w.sizes w.place).cells s u ≡ None = rw (le-ltb s w.sizes.shards l) refl in e);
-    no_server = λ s u l. ap (λ o. free_cell w s u o) (let e : (true_rights w.sizes w.place).cells s u ≡ None = no_known s u l in e);
-    crowns = λ s l. ap (λ o. free_crown w s o) (let e : (true_rights w.sizes w.place).crowns s ≡ None = rw (le-ltb s w.sizes.shards l) refl in e);
+    no_shard = λ s u l. ap (λ o. free_cell (held w) s u o) (let e : (true_rights w.sizes w.place).cells s u ≡ None = rw (le-ltb s w.sizes.shards l) refl in e);
+    no_server = λ s u l. ap (λ o. free_cell (held w) s u o) (let e : (true_rights w.sizes w.place).cells s u ≡ None = no_known s u l in e);
+    crowns = λ s l. ap (λ o. free_crown (held w) s o) (let e : (true_rights w.sizes w.place).crowns s ≡ None = rw (le-ltb s w.sizes.shards l) refl in e);
     room = λ u l. let e : (true_rights w.sizes w.place).room u ≡ 0 = rw (le-ltb u w.sizes.servers l) refl in omega arith;
     spare = λ s l. let e : (true_rights w.sizes w.place).spare s ≡ 0 = rw (le-ltb s w.sizes.shards l) refl in omega arith;
   }
