@@ -12,7 +12,10 @@ ghost use Rattle.sm_verifier.specs.Step.{parcels_of};
 ghost use Rattle.sm_placement.specs.Setup.{sizes_of};
 ghost use Rattle.sm_plan_code.specs.Instr.{shard_of, IsOwn};
 ghost use Rattle.sm_plan_code.specs.Table.{exchange_of};
+ghost use Rattle.std.specs.List.{list_any};
 ghost use Rattle.sm_protocol.specs.State.{fresh, is_no_call};
+ghost use Rattle.sm_protocol.specs.Happens.{is_mentioned};
+ghost use Rattle.sm_machine.specs.Servers.{AreMentionedBy};
 ghost use Rattle.sm_machine.specs.Trade.{CanTrade, IsTradedBy};
 ghost use Rattle.sm_reservation.specs.Pool.{pool_hold, SameSize};
 ghost use Rattle.sm_machine.specs.Tied.{pool_left};
@@ -22,10 +25,12 @@ ghost use Rattle.sm_machine.specs.Begun.{course_at, carried_at, with_course, wit
 
 use crate::places::count_no_calls;
 use crate::progress::Progress;
+use crate::servers::MentionedServers;
 use crate::stream::Course;
 use sm_placement::Config;
 use sm_plan_code::{Instr, Parts, Plan};
 use sm_reservation::{Change, ClosedPool, Grant, Parcel, Pool};
+use sm_server::ServerId;
 use std::alloc::Global;
 use std::marker::Model;
 
@@ -161,17 +166,19 @@ pub(crate) struct Begun {
     since: u32,
     courses: Vec<Course>,
     signals: Vec<Carried>,
+    mentioned: Vec<MentionedServers>,
     unfinished: u32,
 }
 
 impl Model for Begun {
     ghost use Rattle.sm_machine.specs.Begun.{BegunParts, IsBegunParts};
+    ghost use Rattle.sm_machine.specs.Servers.{AreMentionedBy};
 
     ghost Value = { BegunParts };
 
     ghost view = { λ b. record { plan = b.plan; since = b.since; courses = b.courses.items; signals = b.signals.items; unfinished = b.unfinished } };
 
-    ghost invariant = { λ b. IsBegunParts (record { plan = b.plan; since = b.since; courses = b.courses.items; signals = b.signals.items; unfinished = b.unfinished }) };
+    ghost invariant = { λ b. IsBegunParts (record { plan = b.plan; since = b.since; courses = b.courses.items; signals = b.signals.items; unfinished = b.unfinished }) × AreMentionedBy b.plan.streams b.mentioned.items };
 }
 
 impl Begun {
@@ -207,6 +214,14 @@ impl Begun {
         let at = self.progress(stream).at;
         let parts = &self.plan.streams()[stream];
         parts.code.get(at).copied()
+    }
+
+    /// The code of a stream mentions the server. One look, however long the code is.
+    pub fn mentions(&self, stream: usize, server: ServerId) -> bool
+        requires { stream < length self.now.plan.streams }
+        ensures { result ≡ list_any (is_mentioned server) (slice_index_or self.now.plan.streams stream no_stream).code }
+    {
+        self.mentioned[stream].has(server)
     }
 
     /// How many tries of calls a stream may make.
@@ -355,16 +370,24 @@ impl Begun {
                 since: 0,
                 courses: Vec::new(alloc),
                 signals: Vec::new(alloc),
+                mentioned: Vec::new(alloc),
                 unfinished: 0,
             },
             Err(_) => unreachable!(),
         }
     }
 
-    /// A plan that is begun now, with its streams and its signals.
-    pub fn new(plan: Plan, since: u32, courses: Vec<Course>, signals: Vec<Carried>) -> Begun
+    /// A plan that is begun now, with its streams, its signals, and the servers that each stream mentions.
+    pub fn new(
+        plan: Plan,
+        since: u32,
+        courses: Vec<Course>,
+        signals: Vec<Carried>,
+        mentioned: Vec<MentionedServers>,
+    ) -> Begun
         requires courses { length courses.items ≡ length plan.streams }
         requires signals { length signals.items ≡ length plan.signals }
+        requires mentioned { AreMentionedBy plan.streams mentioned.items }
         ensures { result ≡ record { plan = plan; since = since; courses = courses.items; signals = signals.items; unfinished = length plan.streams } }
     {
         let unfinished = plan.streams().len() as u32;
@@ -373,6 +396,7 @@ impl Begun {
             since,
             courses,
             signals,
+            mentioned,
             unfinished,
         }
     }
@@ -400,6 +424,7 @@ impl Begun {
             since: _,
             courses,
             signals,
+            mentioned: _,
             unfinished: _,
         } = self;
         close_courses(courses, pool);

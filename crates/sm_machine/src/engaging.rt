@@ -1,44 +1,10 @@
 //! Streams that engage a server: they are unfinished, and their code mentions it.
-ghost use Rattle.std.specs.Prelude.{◌≡◌, ◌<◌, Some, length};
-ghost use Rattle.std.specs.List.{list_any};
-ghost use Rattle.sm_reservation.specs.Amounts.{same_listed};
-ghost use Rattle.sm_protocol.specs.Happens.{is_mentioned};
+ghost use Rattle.std.specs.Prelude.{◌≡◌, ◌<◌, length};
 ghost use Rattle.sm_machine.specs.Engaged.{engages_in, engaged_in};
 
 use crate::begun::Begun;
-use sm_plan_code::{Instr, names};
 use sm_reservation::StreamId;
 use sm_server::ServerId;
-
-/// The server is the one that is named.
-fn is_named(named: Option<ServerId>, server: ServerId) -> bool
-    ensures { result ≡ same_listed named (Some server) }
-{
-    match named {
-        Some(named) => named == server,
-        None => false,
-    }
-}
-
-/// The instruction mentions the server.
-fn is_mentioned(instr: &Instr, server: ServerId) -> bool
-    ensures { result ≡ is_mentioned server instr.now }
-{
-    let named = names(instr);
-    is_named(named.first, server) || is_named(named.second, server)
-}
-
-/// The code mentions the server.
-fn mentions(code: &[Instr], server: ServerId) -> bool
-    ensures { result ≡ list_any (is_mentioned server) code.now }
-{
-    for instr in code {
-        if is_mentioned(instr, server) {
-            return true;
-        }
-    }
-    false
-}
 
 impl Begun {
     /// The stream is unfinished, and its code mentions the server.
@@ -49,8 +15,7 @@ impl Begun {
         if self.progress(stream).done {
             return false;
         }
-        let parts = &self.plan().streams()[stream];
-        mentions(&parts.code, server)
+        self.mentions(stream, server)
     }
 
     /// The lowest stream that engages the server, under the plan's number.

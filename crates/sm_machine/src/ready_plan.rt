@@ -3,11 +3,13 @@ ghost use Rattle.std.specs.Prelude.{◌≡◌, ◌≤◌, ◌++◌, ◌∷◌, [
 ghost use Rattle.sm_reservation.specs.Capacity.{most_keys};
 ghost use Rattle.sm_plan_code.specs.Plan.{IsSmallParcel};
 ghost use Rattle.sm_placement.specs.Setup.{sizes_of};
+ghost use Rattle.sm_machine.specs.Servers.{AreMentionedBy};
 ghost use Rattle.sm_machine.specs.Started.{AreRoomsOf};
 ghost use Rattle.sm_machine.specs.Starts.{IsEmptyCourse, IsEmptyCarried, ready_course, ready_signal, ready_courses, ready_signals, begun_of};
 
 use crate::begun::{Begun, Carried};
 use crate::plan_room::PlanRoom;
+use crate::servers::MentionedServers;
 use crate::stream::Course;
 use crate::token::StreamToken;
 use sm_reservation::{Grant, Parcel};
@@ -21,6 +23,7 @@ pub struct ReadyPlan {
     checked: Checked,
     courses: Vec<Course>,
     signals: Vec<Carried>,
+    mentioned: Vec<MentionedServers>,
     tokens: Vec<StreamToken>,
     room: PlanRoom,
 }
@@ -31,12 +34,13 @@ impl Model for ReadyPlan {
     ghost use Rattle.sm_placement.specs.Setup.{sizes_of};
     ghost use Rattle.sm_machine.specs.Starts.{ready_courses, ready_signals};
     ghost use Rattle.sm_machine.specs.Started.{AreRoomsOf};
+    ghost use Rattle.sm_machine.specs.Servers.{AreMentionedBy};
 
     ghost Value = { CheckedModel };
 
     ghost view = { λ r. r.checked };
 
-    ghost invariant = { λ r. (r.courses.items ≡ ready_courses r.checked) × (r.signals.items ≡ ready_signals r.checked) × (r.tokens.items ≡ []) × (length r.checked.plan.streams ≤ vec_capacity r.tokens) × AreRoomsOf (sizes_of r.checked.setup) r.checked (length r.checked.plan.streams) };
+    ghost invariant = { λ r. (r.courses.items ≡ ready_courses r.checked) × (r.signals.items ≡ ready_signals r.checked) × AreMentionedBy r.checked.plan.streams r.mentioned.items × (r.tokens.items ≡ []) × (length r.checked.plan.streams ≤ vec_capacity r.tokens) × AreRoomsOf (sizes_of r.checked.setup) r.checked (length r.checked.plan.streams) };
 }
 
 /// Ends streams that hold nothing. Takes no memory.
@@ -147,15 +151,20 @@ fn make_signals(alloc: Global, checked: &Checked) -> Result<Vec<Carried>, AllocE
     Ok(signals)
 }
 
-/// The streams and the signals of a checked plan, each with room for what it will have.
-fn make_parts(alloc: Global, checked: &Checked) -> Result<(Vec<Course>, Vec<Carried>), AllocError>
+/// The streams and the signals of a checked plan, each with room for what it will have, and the servers that each stream mentions.
+fn make_parts(
+    alloc: Global,
+    checked: &Checked,
+) -> Result<(Vec<Course>, Vec<Carried>, Vec<MentionedServers>), AllocError>
     ensures courses { IfOk result (λ r. r.0.items ≡ ready_courses checked.now) }
     ensures signals { IfOk result (λ r. r.1.items ≡ ready_signals checked.now) }
+    ensures mentioned { IfOk result (λ r. AreMentionedBy checked.now.plan.streams r.2.items) }
     ensures rooms { OnOk result (AreRoomsOf (sizes_of checked.now.setup) checked.now (length checked.now.plan.streams)) }
 {
+    let mentioned = MentionedServers::of_each(alloc, checked.plan().streams())?;
     let courses = make_courses(alloc, checked)?;
     match make_signals(alloc, checked) {
-        Ok(signals) => Ok((courses, signals)),
+        Ok(signals) => Ok((courses, signals, mentioned)),
         Err(error) => {
             discard_courses(courses);
             Err(error)
@@ -189,10 +198,11 @@ pub fn make_ready(alloc: Global, checked: Checked) -> Result<ReadyPlan, (Checked
         Err(error) => return Err((checked, error)),
     };
     match make_parts(alloc, &checked) {
-        Ok((courses, signals)) => Ok(ReadyPlan {
+        Ok((courses, signals, mentioned)) => Ok(ReadyPlan {
             checked,
             courses,
             signals,
+            mentioned,
             tokens,
             room,
         }),
@@ -221,6 +231,7 @@ impl ReadyPlan {
             checked,
             courses,
             signals,
+            mentioned: _,
             tokens,
             room,
         } = self;
@@ -242,11 +253,12 @@ impl ReadyPlan {
             checked,
             courses,
             signals,
+            mentioned,
             tokens,
             room,
         } = self;
         let plan = checked.into_plan();
-        let begun = Begun::new(plan, since, courses, signals);
+        let begun = Begun::new(plan, since, courses, signals, mentioned);
         (begun, room, tokens)
     }
 }

@@ -1,13 +1,14 @@
-//! The servers that a stream's code mentions, made once.
-ghost use Rattle.std.specs.Prelude.{◌≡◌, IfOk, length};
-ghost use Rattle.sm_machine.specs.Servers.{is_in, AreMentioned, HasGrownBy, HasGrownByCode};
+//! The servers that streams' codes mention, made once.
+ghost use Rattle.std.specs.Prelude.{◌≡◌, IfOk, OnOk, length};
+ghost use Rattle.sm_machine.specs.Servers.{is_in, AreMentioned, AreMentionedBy, HasGrownBy, HasGrownByCode};
 
-use sm_plan_code::{Instr, names};
+use sm_plan_code::{Instr, Stream, names};
 use sm_server::ServerId;
 use std::alloc::{AllocError, Global};
 use std::marker::Model;
 
-/// The servers that a code mentions, with a flag for each server, so that one is told in a time that does not grow with the code.
+/// The servers that a code mentions, with flags up to the last of them, so that one is told in a time that does not grow with the
+/// code.
 #[derive(Drop)]
 pub(crate) struct MentionedServers {
     flags: Vec<bool>,
@@ -22,37 +23,51 @@ impl Model for MentionedServers {
 }
 
 /// Adds a server, where one is given.
-fn add_server(flags: &mut [bool], server: Option<ServerId>)
-    ensures { HasGrownBy server flags.old flags.new }
+fn add_server(flags: &mut Vec<bool>, server: Option<ServerId>) -> Result<(), AllocError>
+    ensures { OnOk result (HasGrownBy server flags.old.items flags.new.items) }
 {
-    if let Some(server) = server
-        && (server.number() as usize) < flags.len()
-    {
-        flags[server.number() as usize] = true;
+    let Some(server) = server else {
+        return Ok(());
+    };
+    let number = server.number() as usize;
+    if number >= flags.len() {
+        flags.resize(number + 1, false)?;
     }
+    flags[number] = true;
+    Ok(())
 }
 
 /// Adds the servers that a code mentions.
-fn add_code(flags: &mut [bool], code: &[Instr])
-    ensures { HasGrownByCode code.now flags.old flags.new }
+fn add_code(flags: &mut Vec<bool>, code: &[Instr]) -> Result<(), AllocError>
+    ensures { OnOk result (HasGrownByCode code.now flags.old.items flags.new.items) }
 {
     for instr in code {
         let named = names(instr);
-        add_server(flags, named.first);
-        add_server(flags, named.second);
+        add_server(flags, named.first)?;
+        add_server(flags, named.second)?;
     }
+    Ok(())
 }
 
 impl MentionedServers {
-    /// Those of so many servers that a code mentions.
-    pub fn of(alloc: Global, code: &[Instr], servers: u32) -> Result<MentionedServers, AllocError>
-        ensures size { IfOk result (λ set. length set ≡ servers) }
-        ensures mentioned { IfOk result (AreMentioned code.now) }
+    /// Those that a code mentions.
+    pub fn of(alloc: Global, code: &[Instr]) -> Result<MentionedServers, AllocError>
+        ensures { IfOk result (AreMentioned code.now) }
     {
-        let mut flags = vec![in alloc; false; servers as usize]?;
-        let all = flags.as_mut_slice();
-        add_code(all, code);
+        let mut flags = Vec::new(alloc);
+        add_code(&mut flags, code)?;
         Ok(MentionedServers { flags })
+    }
+
+    /// Those that each of the streams mentions.
+    pub fn of_each(alloc: Global, streams: &[Stream]) -> Result<Vec<MentionedServers>, AllocError>
+        ensures { IfOk result (λ sets. AreMentionedBy streams.now sets.items) }
+    {
+        let mut sets = Vec::new(alloc);
+        for stream in streams {
+            sets.push(MentionedServers::of(alloc, &stream.code)?)?;
+        }
+        Ok(sets)
     }
 
     /// The code mentions the server.
