@@ -22,3 +22,4 @@ pub mod Requested
 pub mod Restarted
 pub mod Engaged
 pub mod Losses
+pub mod Told

@@ -26,7 +26,7 @@ ghost use Rattle.sm_machine.specs.Restarted.{restart_of, approval_of};
 ghost use Rattle.sm_protocol.specs.Happens.{engaged};
 ghost use Rattle.sm_protocol.specs.Hand.{tickets_of, spends};
 ghost use Rattle.sm_machine.specs.Losses.{refill_answer, is_lost_answer, IsStepOver};
-ghost use Rattle.sm_machine.specs.Retired.{has_ended, recorded_steps};
+ghost use Rattle.sm_machine.specs.Retired.{has_ended, recorded_steps, made_in};
 
 use crate::answer::{Answer, answer_to, answer_with};
 use crate::engine::Engine;
@@ -239,9 +239,11 @@ impl Machine {
     }
 
     /// Ends the token of a stream that has made its end, and answers how many recorded steps the stream made: the tries of its
-    /// calls, its other instructions, and its end. A token of any other stream comes back.
+    /// calls, its other instructions, and its end, which are its steps and lost tries in the log. A token of any other stream comes
+    /// back.
     pub fn retire(&self, token: StreamToken) -> Result<u64, StreamToken>
         ensures made { IfOk result (λ steps. steps ≡ recorded_steps (state_of self.now) token) }
+        ensures logged { IfOk result (λ steps. steps ≡ made_in token (state_of self.now).log) }
         ensures done { OnOk result (has_ended (state_of self.now) token ≡ true) }
         ensures back { IfErr result (λ t. t ≡ token) }
         ensures unfinished { OnErr result (has_ended (state_of self.now) token ≡ false) }
