@@ -1,7 +1,7 @@
 -- A start of a plan is the protocol's, and what every machine keeps is kept.
 use Rattle.std.proofs.Common.{◌≡◌, ◌<◌, ◌≤◌, ◌+◌, ◌-◌, ℕ, suc, Bool, true, false, length, refl, sym, ap, ◌∙◌, subst, arith, inl, inr, Option, Some, None}
 use Rattle.std.specs.Prelude.{slice_index, nat_lt, nat_le, ◌||◌, if◌then◌else◌}
-use Rattle.std.proofs.lemmas.Bool.{cases_lt, ltb-false}
+use Rattle.std.proofs.lemmas.Bool.{cases_lt, leb-false, ltb-false}
 use Rattle.sm_placement.specs.Sums.{bit}
 use Rattle.sm_reservation.specs.Capacity.{HoldModel}
 use Rattle.sm_reservation.specs.declared.stream_id.StreamId.{StreamId}
@@ -51,6 +51,10 @@ second : (a b : Bool) → (a || b) ≡ false → b ≡ false
 second true b e = absurd (cc)
 second false b e = e
 
+first : (a b : Bool) → (a || b) ≡ false → a ≡ false
+first true b e = absurd (cc)
+first false b e = refl
+
 -- the tests in the order of the faults
 record Passes (x : Whole) (plan : PlanModel) (o : Option Holding) : Type 0 where
   held : o ≡ None
@@ -88,6 +92,10 @@ refused w plan None free running f r why x xs xf xr e = go (nat_lt (free_places 
 -- where nothing holds a plan up, another number is left
 pub few_by : (x : Whole) (plan : PlanModel) → begin_fault x plan ≡ None → length x.state.plans ≤ 4294967295
 few_by x plan e = not_less 4294967295 (length x.state.plans) (second (nat_le 16 x.running) _ (passes x plan (first_holding x.state.sizes x.state.place x.pool plan) e).plans)
+
+-- and another plan may run
+pub runs_by : (x : Whole) (plan : PlanModel) → begin_fault x plan ≡ None → x.running < 16
+runs_by x plan e = leb-false 16 x.running (first (nat_le 16 x.running) _ (passes x plan (first_holding x.state.sizes x.state.place x.pool plan) e).plans)
 
 module _ (x : Whole) (g : IsWorking x) (p : CheckedModel) (checked : IsCheckedPlan x.state.sizes p.plan) where
   abbrev w : State

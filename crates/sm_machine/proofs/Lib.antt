@@ -23,3 +23,4 @@ pub mod Restarted
 pub mod Engaged
 pub mod Losses
 pub mod Told
+pub mod Unfinished

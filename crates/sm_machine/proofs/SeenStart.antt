@@ -1,5 +1,5 @@
 -- What a start needs, as its call sees it.
-use Rattle.std.proofs.Common.{◌≡◌, ◌≤◌, ◌+◌, ◌-◌, ℕ, length, sym, ap, ◌∙◌, subst, Option, None}
+use Rattle.std.proofs.Common.{◌≡◌, ◌≤◌, ◌<◌, ◌+◌, ◌-◌, ℕ, length, sym, ap, ◌∙◌, subst, Option, None}
 use Rattle.std.specs.Prelude.{nat_lt, Result, Ok, Err, IfOk, OnErr}
 use Rattle.sm_placement.specs.Sums.{bit}
 use Rattle.sm_protocol.specs.declared.event.BeginFault.{BeginFault}
@@ -14,7 +14,9 @@ use Rattle.sm_protocol.specs.Laws.{IsCheckedPlan}
 use Rattle.sm_machine.specs.Machine.{MachineModel}
 use Rattle.sm_machine.specs.State.{Whole, whole_of}
 use Rattle.sm_machine.specs.Started.{AreRoomsOf, IsStarted}
-use Rattle.sm_machine.proofs.Begins.{started_here, can_fill_all, few_by}
+use Rattle.sm_machine.specs.Unfinished.{unfinished_below}
+use Rattle.sm_machine.proofs.Unfinished.{place_left}
+use Rattle.sm_machine.proofs.Begins.{started_here, can_fill_all, few_by, runs_by}
 
 pub same_sizes : (m : MachineModel) (p : CheckedModel) → p.setup ≡ m.placement.setup → sizes_of p.setup ≡ (whole_of m).state.sizes
 unfolding whole_of
@@ -39,6 +41,9 @@ module _ (m : MachineModel) (p q : CheckedModel) (same : q ≡ p) (setup : p.set
 
   pub few_here : length (whole_of m).state.plans ≤ 4294967295
   few_here = few_by (whole_of m) p.plan no_fault
+
+  pub place_here : length (unfinished_below (whole_of m).unfinished (length (whole_of m).state.plans)) < 16
+  place_here = place_left (whole_of m) g (runs_by (whole_of m) p.plan no_fault)
 
   pub can_fill_here : CanFillAll (begun_of p 0) (whole_of m).pool
   can_fill_here = can_fill_all (whole_of m) g p checked no_fault (rooms_of m p setup rooms)

@@ -30,6 +30,7 @@ use Rattle.sm_machine.specs.Course.{CourseParts, no_course, rights_in, hold_in}
 use Rattle.sm_machine.specs.Begun.{BegunParts, CarriedParts, no_begun, no_carried, start_of, course_at, carried_at, with_course, with_carried, IsBegunParts}
 use Rattle.sm_machine.specs.Machine.{MachineModel, begun_at}
 use Rattle.sm_machine.specs.State.{Whole, whole_of, state_of, with_state, with_stream, with_signal}
+use Rattle.sm_machine.specs.Unfinished.{unfinished_below, unfinished_of, AreUnfinished}
 use Rattle.sm_machine.proofs.Tables.{inner, inner-set, inner-kept, map-kept, put2-same, outer, outer-kept, outer-set}
 
 -- a plan is read where it lies, and written back there
@@ -164,6 +165,15 @@ known_parts b id h =
     let e : get_or (map start_of b.plans) id.plan no_start ≡ start_of (begun_at b.plans id.plan) = get_or-map start_of b.plans id.plan no_begun in
     let g : length (map start_of b.plans) ≡ length b.plans = length-map _ _ in
     (omega (arith, l, g), subst (λ x. id.stream < length x.plan.streams) e m)
+
+pub plan_known : (b w : MachineModel) (id : StreamId) → b ≡ w → is_begun (state_of w) id ≡ true → id.plan < length b.plans
+plan_known b w id z h = (known_parts b id (subst (λ x. is_begun (state_of x) id ≡ true) (sym z) h)).0
+
+-- the list of unfinished plans is the whole's
+pub unfinished_is : (b w : MachineModel) (numbers : List ℕ) → b ≡ w → AreUnfinished b.plans numbers → numbers ≡ unfinished_below (whole_of w).unfinished (length (state_of w).plans)
+unfolding whole_of
+unfinished_is b w numbers z are =
+    are ∙ ap (unfinished_below (unfinished_of b.plans)) (sym (length-map b.plans start_of)) ∙ ap (λ (m : MachineModel). unfinished_below (whole_of m).unfinished (length (state_of m).plans)) z
 
 -- a signal of a plan that was begun
 pub signals_known : (b w : MachineModel) (id : StreamId) → b ≡ w → is_begun (state_of w) id ≡ true → (q : ℕ) → q < signal_count (state_of w) id.plan → q < length (begun_at b.plans id.plan).plan.signals

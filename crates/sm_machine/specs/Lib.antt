@@ -1,5 +1,6 @@
 pub mod Course
 pub mod Begun
+pub mod Unfinished
 pub mod Plans
 pub mod PlansFall
 pub mod Journal

@@ -33,9 +33,11 @@ ghost use Rattle.sm_machine.specs.Restarts.{live_there, CanPayLive, CanGetLive};
 ghost use Rattle.sm_machine.specs.Restarted.{down_whole, up_whole};
 ghost use Rattle.sm_protocol.specs.Ticket.{is_open_ticket};
 ghost use Rattle.sm_machine.specs.Retired.{recorded_steps};
+ghost use Rattle.sm_machine.specs.Unfinished.{unfinished_below};
 
 use crate::begun::Begun;
 use crate::journal::{Journal, TicketParts};
+use crate::lists::{add_number, take_out};
 use crate::opening::Opening;
 use crate::plans::Plans;
 use crate::progress::Progress;
@@ -67,6 +69,8 @@ pub(crate) struct Engine {
     desk: Begun,
     journal: Journal,
     free: u64,
+    /// The unfinished plans, by their numbers, so that they are found among all plans that were begun.
+    unfinished: Vec<u32>,
     running: u32,
     halted: bool,
 }
@@ -74,12 +78,13 @@ pub(crate) struct Engine {
 impl Model for Engine {
     ghost use Rattle.std.specs.Prelude.{◌≡◌, ◌≤◌, length, vec_capacity};
     ghost use Rattle.sm_machine.specs.Machine.{MachineModel};
+    ghost use Rattle.sm_machine.specs.Unfinished.{AreUnfinished};
 
     ghost Value = { MachineModel };
 
     ghost view = { λ m. record { opening = m.opening; placement = m.placement; pool = m.pool; entries = m.entries.items; numbers = m.numbers.items; next_number = m.next_number; plans = m.plans; journal = m.journal; free = m.free; running = m.running; halted = m.halted } };
 
-    ghost invariant = { λ m. (length m.entries.items ≤ length m.journal.log) × (length m.journal.log ≤ m.journal.room) × (m.journal.room ≤ vec_capacity m.entries) × (length m.numbers.items ≡ length m.placement.setup.shards) × (m.pool.shards ≡ length m.placement.setup.shards) × (m.pool.servers ≡ length m.placement.setup.servers) };
+    ghost invariant = { λ m. (length m.entries.items ≤ length m.journal.log) × (length m.journal.log ≤ m.journal.room) × (m.journal.room ≤ vec_capacity m.entries) × (length m.numbers.items ≡ length m.placement.setup.shards) × (m.pool.shards ≡ length m.placement.setup.shards) × (m.pool.servers ≡ length m.placement.setup.servers) × AreUnfinished m.plans m.unfinished.items × (16 ≤ vec_capacity m.unfinished) };
 }
 
 impl Engine {
@@ -93,6 +98,8 @@ impl Engine {
         requires capacity { room ≤ vec_capacity rooms.entries }
         requires numbers { rooms.numbers.items ≡ replicate (length placement.setup.shards) 0 }
         requires journal { rooms.journal ≡ record { log = []; room = room } }
+        requires unfinished { rooms.unfinished.items ≡ [] }
+        requires places { 16 ≤ vec_capacity rooms.unfinished }
         ensures { whole_of result ≡ opened_whole placement.setup (place_of placement) room }
     {
         let mut placement = placement;
@@ -104,6 +111,7 @@ impl Engine {
             entries,
             numbers,
             journal,
+            unfinished,
         } = rooms;
         Engine {
             opening,
@@ -116,6 +124,7 @@ impl Engine {
             desk: Begun::blank(alloc),
             journal,
             free: u64::from(room).saturating_sub(down),
+            unfinished,
             running: 0,
             halted: false,
         }
@@ -427,6 +436,7 @@ impl Engine {
         self.plans.swap(plan, &mut self.desk);
         if last {
             self.running = self.running.saturating_sub(1);
+            take_out(&mut self.unfinished, id.plan);
         }
     }
 
@@ -482,15 +492,19 @@ impl Engine {
     pub fn add_plan(&mut self, ready: ReadyPlan) -> Vec<StreamToken>
         requires fill { CanFillAll (begun_of ready 0) (whole_of self.old).pool }
         requires few { length (state_of self.old).plans ≤ 4294967295 }
+        requires place { length (unfinished_below (whole_of self.old).unfinished (length (state_of self.old).plans)) < 16 }
         ensures begun { IsBegunIn (whole_of self.old) ready (whole_of self.new) }
         ensures none { result.items ≡ [] }
         ensures room { length ready.plan.streams ≤ vec_capacity result }
     {
         let _room = self.journal.room();
         let since = self.journal.len() as u32;
+        let number = self.plans.len() as u32;
+        let streams = ready.checked().plan().streams().len();
         let (mut begun, room, tokens) = ready.into_begun(since);
         begun.fill(&mut self.pool);
         self.plans.push(begun, room);
+        add_number(&mut self.unfinished, number, streams > 0);
         tokens
     }
 
@@ -528,6 +542,7 @@ impl Engine {
             desk,
             journal: _,
             free: _,
+            unfinished: _,
             running: _,
             halted: _,
         } = self;
@@ -566,11 +581,11 @@ impl Engine {
         self.placement.set_down(server);
     }
 
-    /// How many plans were begun.
-    pub fn begun_count(&self) -> usize
-        ensures { result ≡ length (state_of self.now).plans }
+    /// The unfinished plans, by their numbers, in the order of their starts.
+    pub fn unfinished(&self) -> &[u32]
+        ensures { result.now ≡ unfinished_below (whole_of self.now).unfinished (length (state_of self.now).plans) }
     {
-        self.plans.len()
+        self.unfinished.as_slice()
     }
 
     /// The lowest stream of a plan that engages a server.

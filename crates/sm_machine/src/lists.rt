@@ -1,10 +1,29 @@
 //! Lists with room for what is put into them.
-ghost use Rattle.std.specs.Prelude.{◌≡◌, ◌≤◌, ◌<◌, ◌+◌, ◌++◌, Some, slice_set, vec_len, vec_capacity, if◌then◌else◌};
-ghost use Rattle.std.specs.List.{insert};
+ghost use Rattle.std.specs.Prelude.{◌≡◌, ◌≤◌, ◌<◌, ◌+◌, ◌++◌, ◌∷◌, [], ◌==◌, not, length, Some, slice_set, vec_len, vec_capacity, if◌then◌else◌};
+ghost use Rattle.std.specs.List.{filter, insert};
 ghost use Rattle.sm_machine.specs.Hand.{put_at, put_behind};
 
 use crate::ready_plan::ReadyPlan;
 use crate::token::StreamToken;
+
+/// Puts a number behind the others, where it is one of them.
+pub(crate) fn add_number(numbers: &mut Vec<u32>, number: u32, is_one: bool)
+    requires room { length numbers.old.items < vec_capacity numbers.old }
+    ensures items { numbers.new.items ≡ (if is_one then numbers.old.items ++ number ∷ [] else numbers.old.items) }
+    ensures capacity { vec_capacity numbers.old ≤ vec_capacity numbers.new }
+{
+    if is_one {
+        numbers.push_reserved(number);
+    }
+}
+
+/// Takes a number out.
+pub(crate) fn take_out(numbers: &mut Vec<u32>, number: u32)
+    ensures items { numbers.new.items ≡ filter (λ other. not (other == number)) numbers.old.items }
+    ensures capacity { vec_capacity numbers.old ≤ vec_capacity numbers.new }
+{
+    numbers.retain(|other| *other != number);
+}
 
 /// Puts an element in at a place.
 pub(crate) fn put_back<T>(list: &mut Vec<T>, at: usize, value: T)

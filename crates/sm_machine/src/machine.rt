@@ -481,11 +481,4 @@ impl Machine {
     {
         self.engine.refill(id, more)
     }
-
-    /// The number that the next plan will have.
-    pub(crate) fn next_plan(&self) -> usize
-        ensures { result ≡ length (state_of self.now).plans }
-    {
-        self.engine.begun_count()
-    }
 }

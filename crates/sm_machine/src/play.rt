@@ -129,7 +129,7 @@ impl Machine {
         let Some(ready) = hand.plans[at].take() else {
             return Played::Unknown;
         };
-        let number = self.next_plan();
+        let number = self.plan_count();
         match self.start(ready) {
             Ok(tokens) => {
                 add_tokens(&mut hand.tokens, tokens);

@@ -1,5 +1,5 @@
 //! Restarts of servers: their approvals and their ends, which are recorded.
-ghost use Rattle.std.specs.Prelude.{◌≡◌, ◌<◌, ◌≤◌, None, true, length};
+ghost use Rattle.std.specs.Prelude.{◌≡◌, ◌<◌, ◌≤◌, None, true};
 ghost use Rattle.sm_task_controller.specs.Decision.{denial};
 ghost use Rattle.sm_protocol.specs.Happens.{engaged};
 ghost use Rattle.sm_machine.specs.State.{whole_of, state_of};
@@ -38,11 +38,12 @@ impl Engine {
 
     /// The lowest stream that engages a server.
     pub fn engaged(&self, server: ServerId) -> Option<StreamId>
-        requires { length (state_of self.now).plans ≤ 4294967296 }
+        requires { IsWorking (whole_of self.now) }
         ensures { result ≡ engaged (state_of self.now) server }
     {
-        for plan in 0..self.begun_count() {
-            let found = self.engaged_by(plan as u32, server);
+        let plans = self.unfinished();
+        for plan in plans {
+            let found = self.engaged_by(*plan, server);
             if found.is_some() {
                 return found;
             }

@@ -9,6 +9,7 @@ ghost use Rattle.sm_machine.specs.Opening.{place_of_rows};
 
 use crate::journal::Journal;
 use crate::opening::Opening;
+use crate::starting::MOST_RUNNING;
 use sm_placement::{Entry, Placement};
 use sm_reservation::Pool;
 use sm_server::ShardId;
@@ -27,6 +28,8 @@ pub(crate) struct Rooms {
     pub numbers: Vec<u64>,
     /// The log's places.
     pub journal: Journal,
+    /// Places for the numbers of unfinished plans.
+    pub unfinished: Vec<u32>,
 }
 
 impl Rooms {
@@ -41,6 +44,8 @@ impl Rooms {
         ensures capacity { IfOk result (λ rooms. room ≤ vec_capacity rooms.entries) }
         ensures numbers { IfOk result (λ rooms. rooms.numbers.items ≡ replicate (length placement.now.setup.shards) 0) }
         ensures journal { IfOk result (λ rooms. rooms.journal ≡ record { log = []; room = room }) }
+        ensures unfinished { IfOk result (λ rooms. rooms.unfinished.items ≡ []) }
+        ensures places { IfOk result (λ rooms. 16 ≤ vec_capacity rooms.unfinished) }
     {
         let shards = placement.config().shard_count();
         Ok(Rooms {
@@ -49,6 +54,7 @@ impl Rooms {
             entries: Vec::with_capacity(alloc, room as usize)?,
             numbers: vec![in alloc; 0; shards as usize]?,
             journal: Journal::open(alloc, room)?,
+            unfinished: Vec::with_capacity(alloc, MOST_RUNNING as usize)?,
         })
     }
 }

@@ -17,7 +17,7 @@ use sm_reservation::StreamId;
 use sm_verifier::Checked;
 
 /// How many plans may be unfinished at once.
-const MOST_RUNNING: u32 = 16;
+pub(crate) const MOST_RUNNING: u32 = 16;
 
 /// The tokens of the first streams of a plan, into a list with room for them. Takes no memory.
 fn fill_tokens(tokens: &mut Vec<StreamToken>, plan: u32, count: usize)

@@ -1,10 +1,20 @@
 -- A stream makes its end.
-use Rattle.sm_machine.specs.Begun.{no_begun}
+use Rattle.std.proofs.Common.{ap, ◌∙◌}
+use Rattle.sm_machine.specs.Begun.{BegunParts, no_begun}
 use Rattle.sm_machine.specs.contracts.engine.Engine.{the_view}
-use Rattle.sm_machine.proofs.Writes.{read_here, laid_back, given-back}
+use Rattle.sm_machine.proofs.Writes.{read_here, laid_back, given-back, plan_known}
+use Rattle.sm_machine.proofs.Unfinished.{swapped}
+use Rattle.std.specs.Prelude.{◌==◌}
 use Rattle.sm_machine.proofs.engine.Engine.give_back.Goals as goal
 
 pub returns : goal.returns
 returns c =
     rw (laid_back _ _ _ _ _ _ c.swap-2.ensures.others c.swap.ensures.others) (given-back (the_view c.self.inside) c.args.self.now c.args.id c.self.view_is c.requires.begun _ c.end-grant.new.self
     (read_here (the_view c.self.inside).plans c.args.id.plan _ no_begun c.swap.ensures.here) c.end-grant.ensures.parts c.give_back.new.self c.end-grant.result c.end-grant.ensures.grant c.end-grant.ensures.after c.give_back.ensures.hold)
+
+pub invariant_of-self : goal.invariant_of-self
+invariant_of-self c =
+    let plans = swapped c.self.inside.plans c.swap.new.self c.swap-2.new.self c.args.id.plan _ c.swap.new.other c.end-grant.new.self c.self.inside.unfinished.items
+    (plan_known (the_view c.self.inside) c.args.self.now c.args.id c.self.view_is c.requires.begun) c.swap-2.ensures.others c.swap.ensures.others c.swap.ensures.here
+    (ap (λ (x : BegunParts). x.unfinished == 0) c.end-grant.ensures.after) c.self.invariant.6 in
+    (c.self.invariant.0, c.self.invariant.1, c.self.invariant.2, c.self.invariant.3, c.give_back.ensures.size.shards ∙ c.self.invariant.4, c.give_back.ensures.size.servers ∙ c.self.invariant.5, plans, c.self.invariant.7)

@@ -1,10 +1,20 @@
 -- A stream comes to another place.
-use Rattle.sm_machine.specs.Begun.{no_begun}
+use Rattle.std.proofs.Common.{ap}
+use Rattle.sm_machine.specs.Begun.{BegunParts, no_begun}
 use Rattle.sm_machine.specs.contracts.engine.Engine.{the_view}
-use Rattle.sm_machine.proofs.Writes.{read_here, laid_back, progress-written}
+use Rattle.sm_machine.proofs.Writes.{read_here, laid_back, progress-written, plan_known}
+use Rattle.sm_machine.proofs.Unfinished.{swapped}
+use Rattle.std.specs.Prelude.{◌==◌}
 use Rattle.sm_machine.proofs.engine.Engine.set_progress.Goals as goal
 
 pub returns : goal.returns
 returns c =
     rw (laid_back _ _ _ _ _ _ c.swap-2.ensures.others c.swap.ensures.others) (progress-written (the_view c.self.inside) c.args.self.now c.args.id c.self.view_is c.requires.known _ c.set_progress.new.self
     (read_here (the_view c.self.inside).plans c.args.id.plan _ no_begun c.swap.ensures.here) c.set_progress.ensures.parts c.args.progress c.set_progress.ensures.value)
+
+pub invariant_of-self : goal.invariant_of-self
+invariant_of-self c =
+    let plans = swapped c.self.inside.plans c.swap.new.self c.swap-2.new.self c.args.id.plan _ c.swap.new.other c.set_progress.new.self c.self.inside.unfinished.items
+    (plan_known (the_view c.self.inside) c.args.self.now c.args.id c.self.view_is c.requires.known) c.swap-2.ensures.others c.swap.ensures.others c.swap.ensures.here
+    (ap (λ (x : BegunParts). x.unfinished == 0) c.set_progress.ensures.value) c.self.invariant.6 in
+    (c.self.invariant.0, c.self.invariant.1, c.self.invariant.2, c.self.invariant.3, c.self.invariant.4, c.self.invariant.5, plans, c.self.invariant.7)

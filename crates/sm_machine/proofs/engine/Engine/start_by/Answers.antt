@@ -2,7 +2,7 @@
 use Rattle.std.proofs.Common.{length, ap, ◌∙◌}
 use Rattle.sm_protocol.specs.State.{places_of}
 use Rattle.sm_machine.specs.State.{whole_of}
-use Rattle.sm_machine.proofs.SeenStart.{few_here, can_fill_here, started_so}
+use Rattle.sm_machine.proofs.SeenStart.{few_here, place_here, can_fill_here, started_so}
 use Rattle.sm_machine.proofs.engine.Engine.start_by.Goals as goal
 
 pub add_plan-tokens-requires-clause-fill : goal.add_plan-tokens-requires-clause-fill
@@ -14,6 +14,12 @@ add_plan-tokens-requires-clause-fill c =
 pub add_plan-tokens-requires-clause-few : goal.add_plan-tokens-requires-clause-few
 add_plan-tokens-requires-clause-few c =
     few_here c.args.self.now c.args.ready c.checked-checked.result.now c.checked-checked.ensures.value c.requires.setup c.requires.working
+    c.plan-2.result.now c.plan-2.ensures.value c.streams-streams.ensures.plan c.plan.ensures.fits c.plan.ensures.sound c.checked-checked.ensures.rooms
+    c.begin_fault.result c.begin_fault.ensures c.in_default.is
+
+pub add_plan-tokens-requires-clause-place : goal.add_plan-tokens-requires-clause-place
+add_plan-tokens-requires-clause-place c =
+    place_here c.args.self.now c.args.ready c.checked-checked.result.now c.checked-checked.ensures.value c.requires.setup c.requires.working
     c.plan-2.result.now c.plan-2.ensures.value c.streams-streams.ensures.plan c.plan.ensures.fits c.plan.ensures.sound c.checked-checked.ensures.rooms
     c.begin_fault.result c.begin_fault.ensures c.in_default.is
 

@@ -3,13 +3,12 @@ use Rattle.std.proofs.Common.{◌≡◌, ◌<◌, sym, ap, ◌∙◌, subst, Non
 use Rattle.sm_task_controller.specs.Decision.{denial}
 use Rattle.sm_protocol.specs.Happens.{engaged}
 use Rattle.sm_machine.specs.State.{whole_of, state_of, Whole}
-use Rattle.sm_machine.proofs.Engaged.{few_plans}
 use Rattle.sm_machine.proofs.Restarted.{few_free, approved_so}
 use Rattle.sm_machine.proofs.Setups.{setup_kept}
 use Rattle.sm_machine.proofs.machine.Machine.approve.Goals as goal
 
 pub engaged-engaged-requires : goal.engaged-engaged-requires
-engaged-engaged-requires c = few_plans c.self.invariant.setup (whole_of c.self.inside.engine).state c.self.invariant.reached
+engaged-engaged-requires c = c.self.invariant
 
 pub decide-requires-clause-free : goal.decide-requires-clause-free
 decide-requires-clause-free c = few_free (whole_of c.self.inside.engine) c.self.invariant c.args.server

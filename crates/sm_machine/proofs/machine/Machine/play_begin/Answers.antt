@@ -19,7 +19,7 @@ returns-in-Ok c =
     let within : c.args.place < length c.args.hand.now.plans.items = omega arith in
     let default = get_or_default c.args.hand.now.plans.items c.args.place None c.index_mut.result.now within in
     let there : slice_index_or c.args.hand.now.plans.items c.args.place None ≡ Some c.in-Some.ready = cc in
-    has_started c.args.self.now c.start.new.self c.args.hand.now _ c.args.place c.in-Some.ready there c.next_plan-number.result c.in-Ok.tokens.items c.next_plan-number.ensures
+    has_started c.args.self.now c.start.new.self c.args.hand.now _ c.args.place c.in-Some.ready there c.plan_count-number.result c.in-Ok.tokens.items c.plan_count-number.ensures
     c.in-Ok.ensures.answer c.in-Ok.ensures.state c.start.ensures.setup c.in-Ok.ensures.tokens within (ap (slice_set c.args.hand.now.plans.items c.args.place) c.take.ensures.after)
     c.add_tokens.ensures.items c.add_tokens.ensures.capacity refl refl
 
