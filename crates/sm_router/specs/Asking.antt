@@ -7,6 +7,7 @@ use Rattle.sm_machine.specs.declared.answer.Answer.{Answer}
 use Rattle.sm_machine.specs.declared.answer.Answer.TheVariants as answer
 use Rattle.sm_router.specs.declared.asking.Asked.{Asked}
 use Rattle.sm_router.specs.declared.asking.Asked.TheVariants as asked
+use Rattle.sm_router.specs.declared.asking.TheConstants.{MOST_HOPS}
 use Rattle.sm_router.specs.declared.asking.Next.{Next}
 use Rattle.sm_router.specs.declared.asking.Next.TheVariants.{Look, PassOn, End}
 
@@ -61,9 +62,9 @@ LeadsTo looked arrived passed_on shard next old [] said new = IsEnd looked shard
 LeadsTo looked arrived passed_on shard next old (hop ∷ hops) said new =
     IsHop looked arrived passed_on shard next old hop × LeadsTo looked arrived passed_on shard (after_answer hop.said) hop.caller hops said new
 
--- An ask for a shard: it begins with a look, makes at most eight hops, and gives up after eight alone.
+-- An ask for a shard: it begins with a look, makes at most MOST_HOPS hops, and gives up after so many alone.
 pub record HasAsked {C : Type 0} (looked : C → ℕ → Entry → C → Type 0) (arrived : C → ℕ → ℕ → Answer → C → Type 0) (passed_on : C → Ticket → Answer → C → Type 0) (shard : ℕ) (old : C) (said : Asked) (new : C) : Type 0 where
   pub hops : List (Hop C)
-  pub few : length hops ≤ 8
+  pub few : length hops ≤ MOST_HOPS
   pub made : LeadsTo looked arrived passed_on shard Look old hops said new
-  pub all : said ≡ asked.TooManyHops → length hops ≡ 8
+  pub all : said ≡ asked.TooManyHops → length hops ≡ MOST_HOPS
