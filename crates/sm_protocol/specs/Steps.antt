@@ -20,8 +20,8 @@ call_number w progress = if progress.pending == 0 then w.next_number else progre
 abbrev pub number_after_try : State → Progress → ℕ
 number_after_try w progress = if progress.pending == 0 then w.next_number + 1 else w.next_number
 
--- The call of a stream's next try. One that has had its effect is made again as it was. One that has not is made like a new
--- one: after a try that was lost before its effect that is the same call, since only who holds the shard's crown hands it over.
+-- The call of a stream's next try. One that has had its effect is made again as it was. One that has not, new or tried before,
+-- is that of its instruction at the highest handover numbers.
 abbrev pub call_to_make : State → Progress → Instr → Option ServerCall
 call_to_make w progress i = if progress.ahead then call_again w.numbers i (shard_of i) else next_call w.numbers i
 
