@@ -1,0 +1,76 @@
+//! A plan that is halted between any two of its steps, and resumed.
+use super::plans::chained_plan;
+use super::run::{Run, open_in};
+use super::worlds::{World, assert_loads};
+use sm_machine::Step;
+use std::alloc::Global;
+use std::process::Abort;
+
+/// The steps of the plan, each a stream and a position, in an order in which each of them can be made.
+fn order_of(rt: &impl Abort, alloc: Global) -> Vec<(u32, u32)> {
+    match chained_plan(alloc, 0) {
+        Ok(checked) => match Vec::from_slice(alloc, checked.order()) {
+            Ok(order) => order,
+            Err(_) => panic!(rt; "there is no memory for an order"),
+        },
+        Err(_) => panic!(rt; "there is no memory for a plan"),
+    }
+}
+
+/// A machine that has begun the plan.
+fn begun(rt: &impl Abort, alloc: Global) -> Run {
+    let mut run = open_in(rt, alloc, World::Wide, 14);
+    run.must_begin(rt, alloc, chained_plan(alloc, 0));
+    run
+}
+
+/// The steps at some places of the order are made.
+fn make(rt: &impl Abort, run: &mut Run, steps: &[(u32, u32)]) {
+    for (stream, _) in steps {
+        let answer = run.step(rt, *stream as usize);
+        assert!(rt; answer == Step::Moved || answer == Step::Done);
+    }
+}
+
+/// What a machine's readers answer.
+fn readings(rt: &impl Abort, run: &Run) -> ((usize, u64, bool), (usize, u64, bool), usize) {
+    (
+        run.course(rt, 0),
+        run.course(rt, 1),
+        run.machine.log().len(),
+    )
+}
+
+/// The machine is halted, and steps change nothing until it is resumed.
+fn halt_and_resume(rt: &impl Abort, run: &mut Run) {
+    let before = readings(rt, run);
+    run.machine.halt();
+    run.assert_steps(rt, 0, &[Step::Halted]);
+    run.assert_steps(rt, 1, &[Step::Halted]);
+    assert_eq!(rt; readings(rt, run), before);
+    run.machine.resume();
+}
+
+/// The plan that is halted before a step of the order, resumed and finished leaves the log of a run that was not.
+fn assert_goes_on(rt: &impl Abort, alloc: Global, whole: &Run, order: &[(u32, u32)], at: usize) {
+    let mut run = begun(rt, alloc);
+    assert!(rt; at <= order.len());
+    make(rt, &mut run, &order[..at]);
+    halt_and_resume(rt, &mut run);
+    make(rt, &mut run, &order[at..]);
+    assert!(rt; run.machine.log() == whole.machine.log());
+    assert_loads(rt, &run.close(), &[10, 8, 4, 0]);
+}
+
+#[test]
+fn a_halt_between_any_two_steps_changes_nothing(rt: HostRuntime) {
+    let alloc = rt.alloc();
+    let order = order_of(&rt, alloc);
+    let mut whole = begun(&rt, alloc);
+    make(&rt, &mut whole, order.as_slice());
+    whole.assert_recorded(&rt, 14);
+    for at in 0..14 {
+        assert_goes_on(&rt, alloc, &whole, order.as_slice(), at);
+    }
+    assert_loads(&rt, &whole.close(), &[10, 8, 4, 0]);
+}

@@ -1,0 +1,193 @@
+//! A machine with the rights to go on with it.
+ghost use Rattle.std.specs.Prelude.{◌≡◌, IsTrue};
+
+use super::worlds::{World, placement_of, server_id, shard_id};
+use sm_machine::{Answer, BeginFault, Machine, Permit, Step, StreamToken, Ticket};
+use sm_placement::Placement;
+use sm_reservation::StreamId;
+use sm_server::{ServerId, ShardId};
+use sm_verifier::Checked;
+use std::alloc::{AllocError, Global};
+use std::process::Abort;
+
+/// The plan was checked for the machine's configuration.
+pub(crate) fn is_for(machine: &Machine, checked: &Checked) -> bool
+    ensures { IsTrue result → checked.now.setup ≡ machine.now.placement.setup }
+{
+    checked.config() == machine.config()
+}
+
+/// A machine, the tokens of its plans in their order, its permits, and the tickets that end with it.
+pub(crate) struct Run {
+    pub machine: Machine,
+    pub tokens: Vec<StreamToken>,
+    pub permits: Vec<Permit>,
+    pub tickets: Vec<Ticket>,
+}
+
+/// Opens a machine over a placement, with so many places of the log.
+fn open(rt: &impl Abort, alloc: Global, placement: Placement, log_room: u32) -> Run {
+    assert!(rt; placement.settled());
+    match Machine::open(alloc, placement, log_room) {
+        Ok((machine, permits)) => Run {
+            machine,
+            tokens: Vec::new(alloc),
+            permits,
+            tickets: Vec::new(alloc),
+        },
+        Err((_, why)) => panic!(rt; "a machine is not opened: {why}"),
+    }
+}
+
+/// Opens a machine over a placement for which there is memory, with so many places of the log.
+pub(crate) fn open_over(
+    rt: &impl Abort,
+    alloc: Global,
+    placement: Result<Placement, AllocError>,
+    log_room: u32,
+) -> Run {
+    match placement {
+        Ok(placement) => open(rt, alloc, placement, log_room),
+        Err(_) => panic!(rt; "there is no memory for a placement"),
+    }
+}
+
+/// Opens a machine over the placement of a world, with so many places of the log.
+pub(crate) fn open_in(rt: &impl Abort, alloc: Global, world: World, log_room: u32) -> Run {
+    open_over(rt, alloc, placement_of(alloc, world), log_room)
+}
+
+/// What a request was answered, without its ticket.
+#[derive(Clone, Copy, Debug, PartialEq, Eq)]
+pub(crate) enum Outcome {
+    Executed(u32),
+    Passed,
+    NotOwner,
+    Unavailable,
+    LogFull,
+    Unknown,
+}
+
+/// Who executed a request.
+fn executed_by(answer: &Answer) -> u32 {
+    match answer {
+        Answer::Executed { server } => server.number(),
+        _ => u32::MAX,
+    }
+}
+
+/// What a request was answered; its ticket is abandoned.
+pub(crate) fn outcome_of(answer: Answer) -> Outcome {
+    let server = executed_by(&answer);
+    match answer {
+        Answer::Executed { server: _ } => Outcome::Executed(server),
+        Answer::Passed(ticket) => {
+            ticket.abandon();
+            Outcome::Passed
+        }
+        Answer::NotOwner => Outcome::NotOwner,
+        Answer::Unavailable => Outcome::Unavailable,
+        Answer::LogFull(None) => Outcome::LogFull,
+        Answer::LogFull(Some(ticket)) => {
+            ticket.abandon();
+            Outcome::LogFull
+        }
+        Answer::Unknown(ticket) => {
+            ticket.abandon();
+            Outcome::Unknown
+        }
+    }
+}
+
+/// The ticket of a request that was passed on.
+pub(crate) fn ticket_of(rt: &impl Abort, answer: Answer) -> Ticket {
+    match answer {
+        Answer::Passed(ticket) => ticket,
+        other => {
+            let _outcome = outcome_of(other);
+            panic!(rt; "a request is not passed on")
+        }
+    }
+}
+
+impl Run {
+    /// Begins a plan, whose tokens come behind those that are there.
+    pub fn begin(
+        &mut self,
+        rt: &impl Abort,
+        alloc: Global,
+        checked: Checked,
+    ) -> Result<(), (Checked, BeginFault)> {
+        assert!(rt; is_for(&self.machine, &checked));
+        let mut tokens = self.machine.begin(alloc, checked)?;
+        match self.tokens.append(&mut tokens) {
+            Ok(()) => tokens.destroy_empty(),
+            Err(_) => panic!(rt; "there is no memory for tokens"),
+        }
+        Ok(())
+    }
+
+    /// Begins a plan for which there is memory, and which has to begin.
+    pub fn must_begin(
+        &mut self,
+        rt: &impl Abort,
+        alloc: Global,
+        checked: Result<Checked, AllocError>,
+    ) {
+        match checked {
+            Ok(checked) => {
+                if let Err((_, why)) = self.begin(rt, alloc, checked) {
+                    panic!(rt; "a plan is not begun: {why}");
+                }
+            }
+            Err(_) => panic!(rt; "there is no memory for a plan"),
+        }
+    }
+
+    /// A stream makes a step, by the place of its token.
+    pub fn step(&mut self, rt: &impl Abort, token: usize) -> Step {
+        assert!(rt; token < self.tokens.len());
+        self.machine.step(&mut self.tokens[token])
+    }
+
+    /// Asserts that the steps of a stream are answered so.
+    pub fn assert_steps(&mut self, rt: &impl Abort, token: usize, answers: &[Step]) {
+        for answer in answers {
+            assert_eq!(rt; self.step(rt, token), *answer);
+        }
+    }
+
+    /// A request for a shard comes to a server.
+    pub fn arrive(&mut self, rt: &impl Abort, shard: u32, server: u32) -> Answer {
+        let shard = shard_id(rt, self.machine.placement(), shard);
+        let server = server_id(rt, self.machine.placement(), server);
+        self.machine.arrive(shard, server)
+    }
+
+    /// How many instructions a stream of the first plan has made, and how many tries.
+    pub fn course(&self, rt: &impl Abort, stream: u32) -> (usize, u64, bool) {
+        let id = StreamId { plan: 0, stream };
+        assert!(rt; self.machine.is_begun(id));
+        (
+            self.machine.position(id),
+            self.machine.calls(id),
+            self.machine.is_done(id),
+        )
+    }
+
+    /// Asserts how many events the log has.
+    pub fn assert_recorded(&self, rt: &impl Abort, count: usize) {
+        assert_eq!(rt; self.machine.log().len(), count);
+    }
+
+    /// Ends the machine.
+    pub fn close(self) -> Placement {
+        let Run {
+            machine,
+            tokens,
+            permits,
+            tickets,
+        } = self;
+        machine.give_up(tokens, permits, tickets)
+    }
+}
