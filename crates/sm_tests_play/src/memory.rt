@@ -1,0 +1,85 @@
+//! Plans that are made ready and events that are played, or for which there is no memory. `scripts/check-memory-tests` runs each of
+//! these tests with its first allocation refused, then with its second, and so on.
+use super::events::{approve, arrive, begin, pass_on, step};
+use super::table::{Table, open};
+use super::worlds::{is_handover, plan_of, s_to_b};
+use sm_machine::make_ready;
+use sm_protocol::{Event, Played};
+use sm_server::{ServerId, ShardId};
+use sm_verifier::Checked;
+use std::alloc::Global;
+use std::process::Abort;
+
+/// Asserts that a plan is made ready, or comes back as it was.
+fn assert_made_ready(rt: &impl Abort, alloc: Global, checked: Checked) {
+    match make_ready(alloc, checked) {
+        Ok(ready) => {
+            assert!(rt; is_handover(ready.checked()));
+            assert!(rt; is_handover(&ready.back()));
+        }
+        Err((checked, _)) => assert!(rt; is_handover(&checked)),
+    }
+}
+
+/// Where an allocation is refused, `make_ready` says so, and the checked plan comes back.
+#[test]
+fn a_plan_is_made_ready_or_not(rt: HostRuntime) {
+    let alloc = rt.alloc();
+    if let Ok(checked) = plan_of(alloc, &s_to_b(0)) {
+        assert_made_ready(&rt, alloc, checked);
+    }
+}
+
+/// Events that put a token, a permit and a ticket into the hand, and take one of them out.
+const fn events() -> [Event; 6] {
+    [
+        approve(2),
+        begin(0),
+        step(0),
+        step(0),
+        arrive(0, 0),
+        pass_on(3),
+    ]
+}
+
+/// Asserts that nothing has happened, and that the hand has its plan alone.
+fn assert_untouched(rt: &impl Abort, table: &Table) {
+    table.assert_recorded(rt, 0);
+    assert_eq!(rt; table.machine.plan_count(), 0);
+    assert_eq!(rt; table.machine.free_places(), 16);
+    assert_eq!(rt; table.machine.placement().down_count(), 0);
+    assert_eq!(rt; table.machine.pool().room(ServerId::new(1)), 4);
+    assert_eq!(rt; table.machine.pool().spare(ShardId::new(0)), 1);
+    let hand = &table.hand;
+    assert!(rt; hand.tokens.is_empty() && hand.permits.is_empty() && hand.tickets.is_empty());
+    assert!(rt; hand.plans.len() == 1 && hand.plans[0].is_some());
+}
+
+/// Asserts that the events were played.
+fn assert_played(rt: &impl Abort, table: &Table, answers: &[Played]) {
+    table.assert_recorded(rt, 5);
+    assert_eq!(rt; answers.len(), 6);
+    assert!(rt; answers[0] == Played::Approved);
+    let to_b = Played::Executed {
+        server: ServerId::new(1),
+    };
+    assert!(rt; answers[5] == to_b);
+    let hand = &table.hand;
+    assert!(rt; hand.tokens.len() == 1 && hand.permits.len() == 1 && hand.tickets.is_empty());
+}
+
+/// Where an allocation is refused, `play` says so, and machine and hand are as before.
+#[test]
+fn events_are_played_or_not(rt: HostRuntime) {
+    let alloc = rt.alloc();
+    let Ok(mut table) = open(&rt, alloc, 16) else {
+        return;
+    };
+    if table.add_plan(alloc, &s_to_b(0)).is_ok() {
+        match table.play(&rt, alloc, &events()) {
+            Ok(answers) => assert_played(&rt, &table, answers.as_slice()),
+            Err(_) => assert_untouched(&rt, &table),
+        }
+    }
+    let _placement = table.close();
+}

@@ -1,0 +1,230 @@
+//! Events made by single calls, with what a hand has for them.
+use super::known::is_for;
+use super::table::{Table, put};
+use super::worlds::{server_id, shard_id};
+use sm_machine::{Answer, Link, ReadyPlan, Step, StreamToken, Ticket};
+use sm_protocol::{Event, Passage, Played};
+use sm_reservation::StreamId;
+use sm_server::{ServerId, ShardId};
+use std::process::Abort;
+
+/// Loses each try in the same way, as long as it can count.
+#[derive(Drop)]
+struct Loses {
+    after: bool,
+    lost: u64,
+}
+
+impl Link for Loses {
+    ghost use Rattle.std.specs.Prelude.{⊤};
+
+    ghost losses = { λ link. link.lost };
+
+    ghost asked = { λ _ _ _ _ _. ⊤ };
+
+    fn passage(&mut self, _stream: StreamId, _number: u64) -> Passage {
+        if self.lost == u64::MAX {
+            return Passage::Through;
+        }
+        self.lost += 1;
+        if self.after {
+            Passage::LostAfter
+        } else {
+            Passage::LostBefore
+        }
+    }
+
+    fn lost(&self) -> u64 {
+        self.lost
+    }
+}
+
+/// What a step is answered, as lists of events have it.
+fn played_of(step: Step) -> Played {
+    match step {
+        Step::Moved => Played::Moved,
+        Step::Blocked { signal } => Played::Blocked { signal },
+        Step::Done => Played::Done,
+        Step::Halted => Played::Halted,
+        Step::Unknown => Played::Unknown,
+        Step::Lost => Played::Lost,
+        Step::Spent => Played::Spent,
+    }
+}
+
+/// What a request is answered, as lists of events have it.
+fn answered(answer: &Answer) -> Played {
+    match answer {
+        Answer::Executed { server } => Played::Executed { server: *server },
+        Answer::Passed(ticket) => Played::Passed {
+            to: ticket.target(),
+            number: ticket.number(),
+            place: ticket.place(),
+        },
+        Answer::NotOwner => Played::NotOwner,
+        Answer::Unavailable => Played::Unavailable,
+        Answer::LogFull(_) => Played::LogFull,
+        Answer::Unknown(_) => Played::Unknown,
+    }
+}
+
+/// The place of a stream's token.
+fn token_place(tokens: &[StreamToken], id: StreamId) -> Option<usize> {
+    for at in 0..tokens.len() {
+        if tokens[at].id() == id {
+            return Some(at);
+        }
+    }
+    None
+}
+
+/// The place of the ticket of a pass.
+fn ticket_place(tickets: &[Ticket], place: u32) -> Option<usize> {
+    for at in 0..tickets.len() {
+        if tickets[at].place() == place {
+            return Some(at);
+        }
+    }
+    None
+}
+
+impl Table {
+    /// A stream makes its next step, and loses its call where a link is given.
+    fn single_step(&mut self, rt: &impl Abort, id: StreamId, loses: Option<bool>) -> Played {
+        let Some(at) = token_place(self.hand.tokens.as_slice(), id) else {
+            return Played::Unknown;
+        };
+        assert!(rt; at < self.hand.tokens.len());
+        let step = match loses {
+            None => self.machine.step(&mut self.hand.tokens[at]),
+            Some(after) => {
+                let mut link = Loses { after, lost: 0 };
+                self.machine.step_over(&mut self.hand.tokens[at], &mut link)
+            }
+        };
+        played_of(step)
+    }
+
+    /// A stream's allowance is raised.
+    fn single_refill(&mut self, rt: &impl Abort, id: StreamId, more: u32) -> Played {
+        let Some(at) = token_place(self.hand.tokens.as_slice(), id) else {
+            return Played::Unknown;
+        };
+        assert!(rt; at < self.hand.tokens.len() && more <= 262_144);
+        match self.machine.refill(&mut self.hand.tokens[at], more) {
+            Ok(()) => Played::Refilled,
+            Err(why) => Played::RefillRefused(why),
+        }
+    }
+
+    /// What a request was answered; its ticket is kept.
+    fn settle(&mut self, rt: &impl Abort, answer: Answer) -> Played {
+        let played = answered(&answer);
+        match answer {
+            Answer::Passed(ticket) => put(rt, &mut self.hand.tickets, ticket),
+            Answer::LogFull(Some(ticket)) => put(rt, &mut self.hand.tickets, ticket),
+            Answer::Unknown(ticket) => put(rt, &mut self.hand.tickets, ticket),
+            Answer::LogFull(None) => {}
+            Answer::Executed { server: _ } => {}
+            Answer::NotOwner => {}
+            Answer::Unavailable => {}
+        }
+        played
+    }
+
+    /// A request for a shard comes to a server.
+    fn single_arrive(&mut self, rt: &impl Abort, shard: ShardId, server: ServerId) -> Played {
+        let shard = shard_id(rt, self.machine.placement(), shard.number());
+        let server = server_id(rt, self.machine.placement(), server.number());
+        let answer = self.machine.arrive(shard, server);
+        self.settle(rt, answer)
+    }
+
+    /// The request of a ticket comes to the server that it was passed to.
+    fn single_pass_on(&mut self, rt: &impl Abort, place: u32) -> Played {
+        let Some(at) = ticket_place(self.hand.tickets.as_slice(), place) else {
+            return Played::Unknown;
+        };
+        assert!(rt; at < self.hand.tickets.len());
+        let ticket = self.hand.tickets.remove(at);
+        let answer = self.machine.pass_on(ticket);
+        self.settle(rt, answer)
+    }
+
+    /// The cluster manager asks for the restart of a server.
+    fn single_approve(&mut self, rt: &impl Abort, server: ServerId) -> Played {
+        let server = server_id(rt, self.machine.placement(), server.number());
+        match self.machine.approve(server) {
+            Ok(permit) => {
+                put(rt, &mut self.hand.permits, permit);
+                Played::Approved
+            }
+            Err(why) => Played::Denied(why),
+        }
+    }
+
+    /// The restart of a server ends. Of servers one at most is down.
+    fn single_done(&mut self, rt: &impl Abort, server: ServerId) -> Played {
+        let Some(permit) = self.hand.permits.pop() else {
+            return Played::Unknown;
+        };
+        if permit.server() != server {
+            put(rt, &mut self.hand.permits, permit);
+            return Played::Unknown;
+        }
+        match self.machine.done(permit) {
+            Ok(()) => Played::Up,
+            Err(_) => panic!(rt; "a restart does not end"),
+        }
+    }
+
+    /// The plan at a place starts.
+    fn single_begin(&mut self, rt: &impl Abort, place: u32) -> Played {
+        let at = place as usize;
+        if at >= self.hand.plans.len() {
+            return Played::Unknown;
+        }
+        match self.hand.plans[at].take() {
+            None => Played::Unknown,
+            Some(ready) => self.start(rt, at, ready),
+        }
+    }
+
+    /// A plan starts that stood at a place, or goes back there.
+    fn start(&mut self, rt: &impl Abort, at: usize, ready: ReadyPlan) -> Played {
+        assert!(rt; is_for(&self.machine, ready.checked()));
+        let number = self.machine.plan_count();
+        match self.machine.start(ready) {
+            Ok(tokens) => {
+                let mut tokens = tokens;
+                assert!(rt; self.hand.tokens.append(&mut tokens).is_ok());
+                tokens.destroy_empty();
+                Played::Begun {
+                    number: number as u32,
+                }
+            }
+            Err((ready, why)) => {
+                assert!(rt; at < self.hand.plans.len());
+                match self.hand.plans[at].replace(ready) {
+                    None => {}
+                    Some(_) => panic!(rt; "a plan is in another one's place"),
+                }
+                Played::NotBegun(why)
+            }
+        }
+    }
+
+    /// Makes an event by a single call.
+    pub fn make(&mut self, rt: &impl Abort, event: &Event) -> Played {
+        match *event {
+            Event::Step { stream } => self.single_step(rt, stream, None),
+            Event::Lose { stream, after } => self.single_step(rt, stream, Some(after)),
+            Event::Refill { stream, more } => self.single_refill(rt, stream, more),
+            Event::Arrive { shard, server } => self.single_arrive(rt, shard, server),
+            Event::PassOn { place } => self.single_pass_on(rt, place),
+            Event::Approve { server } => self.single_approve(rt, server),
+            Event::Done { server } => self.single_done(rt, server),
+            Event::Begin { plan } => self.single_begin(rt, plan),
+        }
+    }
+}
