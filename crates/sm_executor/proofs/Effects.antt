@@ -1,5 +1,5 @@
 -- What each event records and publishes.
-use Rattle.std.proofs.Common.{◌≡◌, ◌⊎◌, ◌<◌, ℕ, suc, ◌+◌, Bool, true, false, refl, sym, ap, inl, inr, Option, Some, None, Result, Ok, Err, [], ◌∷◌, ◌++◌, length}
+use Rattle.std.proofs.Common.{◌≡◌, ◌⊎◌, ◌<◌, ℕ, suc, ◌+◌, Bool, true, false, refl, sym, ap, subst, arith, inl, inr, Option, Some, None, Result, Ok, Err, [], ◌∷◌, ◌++◌, length}
 use Rattle.std.specs.Prelude.{◌==◌, if◌then◌else◌}
 use Rattle.sm_server.specs.declared.call.Refusal.{Refusal}
 use Rattle.sm_server.specs.declared.call.Served.{Served}
@@ -32,29 +32,31 @@ use Rattle.sm_protocol.specs.declared.event.RefillFault.{RefillFault}
 use Rattle.sm_machine.specs.declared.answer.Answer.{Answer}
 use Rattle.sm_machine.specs.declared.answer.Answer.TheVariants as said
 use Rattle.sm_machine.specs.Requested.{played_by}
+use Rattle.sm_machine.specs.Losses.{event_over}
 use Rattle.sm_protocol.proofs.Cases.{IsBefore, answer_to, parcel_taken}
 use Rattle.sm_executor.specs.Counting.{is_step, is_executed, is_refused, executes, refuses, Counts}
 use Rattle.sm_executor.specs.Tied.{IsQuiet, Publishes}
 
 -- nothing was recorded, and nothing has changed
-pub record IsIdle (old new : State) (answer : Played) : Type 0 where
+pub record IsIdle (ended : Bool) (old new : State) (answer : Played) : Type 0 where
   pub same : new ≡ old
-  pub counts : (n : ℕ) → Counts answer n n
+  pub counts : (n : ℕ) → Counts ended answer n n
 
 -- a step was recorded
-pub record IsRecorded (old new : State) (answer : Played) : Type 0 where
+pub record IsRecorded (ended : Bool) (old new : State) (answer : Played) : Type 0 where
   pub line : Logged
   pub log : new.log ≡ old.log ++ line ∷ []
   pub step : is_step line.event ≡ true
   pub executed : is_executed line.answer ≡ false
   pub refused : is_refused line.answer ≡ false
-  pub counts : (n : ℕ) → Counts answer n (n + 1)
+  pub plans : new.plans ≡ old.plans
+  pub counts : (n : ℕ) → Counts ended answer n (n + 1)
   pub map : IsQuiet old new ⊎ ((s : ℕ) × Publishes old new s)
 
--- what a step comes to
-abbrev pub Made : State → Outcome → State → Type 0
-Made old Refused new = new ≡ old
-Made old (Answered answer) new = IsIdle old new answer ⊎ IsRecorded old new answer
+-- what a step comes to, of a stream that had made its end before or had not
+abbrev pub Made : Bool → State → Outcome → State → Type 0
+Made ended old Refused new = new ≡ old
+Made ended old (Answered answer) new = IsIdle ended old new answer ⊎ IsRecorded ended old new answer
 
 ok_is : (x y : CallEffect) → ◌≡◌ {A = Result CallEffect Refusal} (Ok x) (Ok y) → x ≡ y
 ok_is x y e = cc
@@ -75,18 +77,18 @@ off_map c p s v call number effect e = go (numbered_answer_at c p s v call numbe
 
 module _ (w : State) (id : StreamId) (passage : Passage) (known : (i : Instr) (s : ℕ) → IsBefore w id (Some i) → shard_of i ≡ Some s → s < w.sizes.shards) where
   abbrev P : Outcome × State → Type 0
-  P o = Made w o.0 o.1
+  P o = Made (progress_of w id).done w o.0 o.1
 
   of_tried : (i : Instr) (x : ServerCall) (p : Passage) (a : Result CallEffect Refusal) → answer_to w id x ≡ a → P (tried w id i p a)
-  of_tried i x LostBefore a e = inr (record { line = record { event = event.Lose id false; answer = played.Lost }; log = refl; step = refl; executed = refl; refused = refl; counts = λ n. refl; map = inl (record { sizes = refl; entries = refl; listed = refl; version = refl }) })
+  of_tried i x LostBefore a e = inr (record { line = record { event = event.Lose id false; answer = played.Lost }; log = refl; step = refl; executed = refl; refused = refl; plans = refl; counts = λ n. refl; map = inl (record { sizes = refl; entries = refl; listed = refl; version = refl }) })
   of_tried i x Through (Err why) e = refl
   of_tried i x LostAfter (Err why) e = refl
   of_tried i x Through (Ok effect) e =
       let off = off_map w.sizes w.place x.shard x.server x.call (call_number w (progress_of w id)) effect e in
-      inr (record { line = record { event = event.Step id; answer = played.Moved }; log = refl; step = refl; executed = refl; refused = refl; counts = λ n. refl; map = inl (record { sizes = refl; entries = refl; listed = off.listed; version = off.version }) })
+      inr (record { line = record { event = event.Step id; answer = played.Moved }; log = refl; step = refl; executed = refl; refused = refl; plans = refl; counts = λ n. refl; map = inl (record { sizes = refl; entries = refl; listed = off.listed; version = off.version }) })
   of_tried i x LostAfter (Ok effect) e =
       let off = off_map w.sizes w.place x.shard x.server x.call (call_number w (progress_of w id)) effect e in
-      inr (record { line = record { event = event.Lose id true; answer = played.Lost }; log = refl; step = refl; executed = refl; refused = refl; counts = λ n. refl; map = inl (record { sizes = refl; entries = refl; listed = off.listed; version = off.version }) })
+      inr (record { line = record { event = event.Lose id true; answer = played.Lost }; log = refl; step = refl; executed = refl; refused = refl; plans = refl; counts = λ n. refl; map = inl (record { sizes = refl; entries = refl; listed = off.listed; version = off.version }) })
 
   of_call : (i : Instr) (o : Option ServerCall) → P (call_tried w id passage i o)
   of_call i None = inl (record { same = refl; counts = λ n. refl })
@@ -104,6 +106,7 @@ module _ (w : State) (id : StreamId) (passage : Passage) (known : (i : Instr) (s
     step = refl;
     executed = refl;
     refused = refl;
+    plans = refl;
     counts = λ n. refl;
     map =
         let l : put w.place.listed s server s ≡ server = put-here w.place.listed s server s refl in
@@ -120,18 +123,18 @@ module _ (w : State) (id : StreamId) (passage : Passage) (known : (i : Instr) (s
         );
   })
 
-  quiet_moved : (new : State) → new.sizes ≡ w.sizes → new.entries ≡ w.entries → new.place ≡ w.place → new.log ≡ logged w (event.Step id) played.Moved → IsRecorded w new played.Moved
-  quiet_moved new c e p l = record { line = record { event = event.Step id; answer = played.Moved }; log = l; step = refl; executed = refl; refused = refl; counts = λ n. refl; map = inl (record { sizes = c; entries = e; listed = ap (λ (x : Place). x.listed) p; version = ap (λ (x : Place). x.version) p }) }
+  quiet_moved : (new : State) → new.plans ≡ w.plans → new.sizes ≡ w.sizes → new.entries ≡ w.entries → new.place ≡ w.place → new.log ≡ logged w (event.Step id) played.Moved → IsRecorded (progress_of w id).done w new played.Moved
+  quiet_moved new k c e p l = record { line = record { event = event.Step id; answer = played.Moved }; log = l; step = refl; executed = refl; refused = refl; plans = k; counts = λ n. refl; map = inl (record { sizes = c; entries = e; listed = ap (λ (x : Place). x.listed) p; version = ap (λ (x : Place). x.version) p }) }
 
   of_made : (o : Option Instr) → IsBefore w id o → P (made w id passage o)
-  of_made None b = inr (record { line = record { event = event.Step id; answer = played.Done }; log = refl; step = refl; executed = refl; refused = refl; counts = λ n. inr refl; map = inl (record { sizes = refl; entries = refl; listed = refl; version = refl }) })
+  of_made None b = inr (record { line = record { event = event.Step id; answer = played.Done }; log = refl; step = refl; executed = refl; refused = refl; plans = refl; counts = λ n. subst (λ e. Counts e played.Done n (n + 1)) (sym b.running) refl; map = inl (record { sizes = refl; entries = refl; listed = refl; version = refl }) })
   of_made (Some (Publish s)) b = of_entry s (to_list (leads_of w.sizes w.place s)) (known (Publish s) s b refl)
   of_made (Some (Unlist s)) b = of_entry s None (known (Unlist s) s b refl)
-  of_made (Some (Signal q)) b = inr (quiet_moved (posted w id q).1 refl refl refl refl)
+  of_made (Some (Signal q)) b = inr (quiet_moved (posted w id q).1 refl refl refl refl refl)
   of_made (Some (Wait q)) b = go (w.marks id.plan q).posted
     where
       go : (t : Bool) → P (if t then (Answered played.Moved, parcel_taken w id q) else unchanged w (played.Blocked q))
-      go true = inr (quiet_moved (parcel_taken w id q) refl refl refl refl)
+      go true = inr (quiet_moved (parcel_taken w id q) refl refl refl refl refl)
       go false = inl (record { same = refl; counts = λ n. refl })
   of_made (Some (PrepareAdd s v u)) b = of_call (PrepareAdd s v u) _
   of_made (Some (PrepareDrop s u v)) b = of_call (PrepareDrop s u v) _
@@ -140,11 +143,11 @@ module _ (w : State) (id : StreamId) (passage : Passage) (known : (i : Instr) (s
   of_made (Some (Change s v role)) b = of_call (Change s v role) _
 
   -- what a step comes to
-  pub step_made : Made w (step w id passage).0 (step w id passage).1
+  pub step_made : Made (progress_of w id).done w (step w id passage).0 (step w id passage).1
   step_made = on_flag w.halted
     where
       on_done : (d : Bool) → is_begun w id ≡ true → (progress_of w id).done ≡ d → P (if d then unchanged w played.Done else made w id passage (next_instruction w id))
-      on_done true b e = inl (record { same = refl; counts = λ n. inl refl })
+      on_done true b e = inl (record { same = refl; counts = λ n. subst (λ x. Counts x played.Done n n) (sym e) (let z : n ≡ n + 0 = omega arith in z) })
       on_done false b e = of_made (next_instruction w id) (record { begun = b; running = e; next_is = refl })
 
       on_begun : (b : Bool) → is_begun w id ≡ b →
@@ -167,6 +170,7 @@ pub record IsNoted (old new : State) (answer : Played) : Type 0 where
   pub log : new.log ≡ old.log ++ line ∷ []
   pub step : is_step line.event ≡ false
   pub answer_is : line.answer ≡ answer
+  pub plans : new.plans ≡ old.plans
   pub quiet : IsQuiet old new
 
 -- a request was not recorded, and nothing has changed
@@ -188,7 +192,7 @@ requested_made w s v sent x e = go (free_places w == 0)
 
     go : (b : Bool) → Asked w (if b then unchanged w played.LogFull else (Answered answer, recorded w x answer)).0 (if b then unchanged w played.LogFull else (Answered answer, recorded w x answer)).1
     go true = inl (record { same = refl; executed = refl; refused = refl })
-    go false = inr (record { line = record { event = x; answer = answer }; log = refl; step = e; answer_is = refl; quiet = record { sizes = refl; entries = refl; listed = refl; version = refl } })
+    go false = inr (record { line = record { event = x; answer = answer }; log = refl; step = e; answer_is = refl; plans = refl; quiet = record { sizes = refl; entries = refl; listed = refl; version = refl } })
 
 pub arrived_made : (w : State) (s v : ℕ) → Asked w (happens w (Arrive s v)).0 (happens w (Arrive s v)).1
 arrived_made w s v = requested_made w s v None (event.Arrive s v) refl
@@ -226,6 +230,7 @@ pub record IsPlain (old new : State) : Type 0 where
   pub step : is_step line.event ≡ false
   pub executed : is_executed line.answer ≡ false
   pub refused : is_refused line.answer ≡ false
+  pub plans : new.plans ≡ old.plans
   pub quiet : IsQuiet old new
 
 -- nothing has changed, or what was recorded is not counted
@@ -237,18 +242,45 @@ approved_made w v = go (denial w.sizes w.place (pool w) (engaged w v) (free_plac
   where
     go : (o : Option Denied) → Uncounted w (approved w v o).1
     go (Some why) = inl refl
-    go None = inr (record { line = record { event = event.Approve v; answer = played.Approved }; log = refl; step = refl; executed = refl; refused = refl; quiet = record { sizes = refl; entries = refl; listed = refl; version = refl } })
+    go None = inr (record { line = record { event = event.Approve v; answer = played.Approved }; log = refl; step = refl; executed = refl; refused = refl; plans = refl; quiet = record { sizes = refl; entries = refl; listed = refl; version = refl } })
 
 pub restarted_made : (w : State) (v : ℕ) → Uncounted w (happens w (Done v)).1
 restarted_made w v = go (w.place.down v)
   where
     go : (b : Bool) → Uncounted w (if b then (Answered played.Up, record w { place = set_down w.place v false; log = logged w (event.Done v) played.Up }) else unchanged w played.Unknown).1
     go false = inl refl
-    go true = inr (record { line = record { event = event.Done v; answer = played.Up }; log = refl; step = refl; executed = refl; refused = refl; quiet = record { sizes = refl; entries = refl; listed = refl; version = refl } })
+    go true = inr (record { line = record { event = event.Done v; answer = played.Up }; log = refl; step = refl; executed = refl; refused = refl; plans = refl; quiet = record { sizes = refl; entries = refl; listed = refl; version = refl } })
 
 pub refilled_made : (w : State) (id : StreamId) (more : ℕ) → Uncounted w (happens w (Refill id more)).1
 refilled_made w id more = go (refill_fault w id more)
   where
     go : (o : Option RefillFault) → Uncounted w (refilled w id more o).1
     go (Some why) = inl refl
-    go None = inr (record { line = record { event = event.Refill id more; answer = played.Refilled }; log = refl; step = refl; executed = refl; refused = refl; quiet = record { sizes = refl; entries = refl; listed = refl; version = refl } })
+    go None = inr (record { line = record { event = event.Refill id more; answer = played.Refilled }; log = refl; step = refl; executed = refl; refused = refl; plans = refl; quiet = record { sizes = refl; entries = refl; listed = refl; version = refl } })
+
+-- ---- plans
+
+-- none of these starts a plan
+pub plans_made : (ended : Bool) (old new : State) (answer : Played) → Made ended old (Answered answer) new → new.plans ≡ old.plans
+plans_made ended old new answer (inl u) = ap (λ (w : State). w.plans) u.same
+plans_made ended old new answer (inr x) = x.plans
+
+pub plans_asked : (old new : State) (answer : Played) → Asked old (Answered answer) new → new.plans ≡ old.plans
+plans_asked old new answer (inl u) = ap (λ (w : State). w.plans) u.same
+plans_asked old new answer (inr x) = x.plans
+
+pub plans_uncounted : (old new : State) → Uncounted old new → new.plans ≡ old.plans
+plans_uncounted old new (inl e) = ap (λ (w : State). w.plans) e
+plans_uncounted old new (inr x) = x.plans
+
+-- ---- steps over links
+
+-- what a step over a link comes to
+pub made_over : (w v : State) (id : StreamId) (passage : Passage) (answer : Played) → ((i : Instr) (s : ℕ) → IsBefore w id (Some i) → shard_of i ≡ Some s → s < w.sizes.shards) →
+    happens w (event_over id passage) ≡ (Answered answer, v) → Made (progress_of w id).done w (Answered answer) v
+made_over w v id passage answer known e = subst (λ (o : Outcome × State). Made (progress_of w id).done w o.0 o.1) e (by_passage passage)
+  where
+    by_passage : (p : Passage) → Made (progress_of w id).done w (happens w (event_over id p)).0 (happens w (event_over id p)).1
+    by_passage Through = step_made w id Through known
+    by_passage LostBefore = step_made w id LostBefore known
+    by_passage LostAfter = step_made w id LostAfter known

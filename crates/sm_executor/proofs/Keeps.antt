@@ -1,6 +1,6 @@
 -- The words stay tied to the machine, and the books are its counts.
 use Rattle.std.proofs.Common.{◌≡◌, ◌≢◌, ◌<◌, ℕ, suc, ◌+◌, ◌-◌, ◌≤◌, Bool, true, false, refl, sym, ap, ◌∙◌, inl, inr, subst, arith, cond, List, [], ◌∷◌, ◌++◌, length, Option, Some, get_or, length-append}
-use Rattle.std.specs.Prelude.{count_by, reverse, IsSomeAnd}
+use Rattle.std.specs.Prelude.{zero, count_by, reverse, IsSomeAnd, slice_get}
 use Rattle.std.proofs.lemmas.List.{append_assoc, append-nil, length-reverse, reverse-reverse, reverse-append}
 use Rattle.std.proofs.Math.Seq.{get_or-append_seam}
 use Rattle.std.proofs.lemmas.List.Sums.{sum_by-append}
@@ -9,7 +9,7 @@ use Rattle.sm_placement.specs.Sums.{bit}
 use Rattle.sm_placement.specs.Place.{entry_at}
 use Rattle.sm_placement.proofs.Sums.{put-here, put-apart}
 use Rattle.sm_map.specs.Entry.{IsInRange}
-use Rattle.sm_map.specs.History.{newest, Follows}
+use Rattle.sm_map.specs.History.{newest, Follows, opened_at, entries_of_shard}
 use Rattle.sm_map.specs.Models.{WordsModel, PublisherModel, history}
 use Rattle.sm_map.proofs.Histories.{after_store}
 use Rattle.sm_protocol.specs.declared.event.Played.{Played}
@@ -17,7 +17,7 @@ use Rattle.sm_protocol.specs.declared.event.Logged.{Logged}
 use Rattle.sm_protocol.specs.State.{State}
 use Rattle.sm_protocol.specs.Steps.{Answered}
 use Rattle.sm_executor.specs.Counting.{is_step, is_executed, is_refused, IsBooked, Counts}
-use Rattle.sm_executor.specs.Tied.{IsPublished, IsQuiet, Publishes, IsBehind}
+use Rattle.sm_executor.specs.Tied.{IsPublished, IsMapOf, IsQuiet, Publishes, IsBehind}
 use Rattle.sm_executor.proofs.Effects.{Asked, Made, Uncounted}
 
 -- ---- the books
@@ -49,6 +49,29 @@ pub counted_opened : (opened : State) → IsBooked opened opened 0 0 0
 counted_opened opened = record { since = []; log = sym (append-nil opened.log); steps_are = refl; executed_are = refl; refused_are = refl }
 
 -- ---- the words
+
+-- when a board is opened
+opened_newest : (es : List Entry) (s : ℕ) (e : Entry) → slice_get es s ≡ Some e → newest (opened_at es s) ≡ Some e
+opened_newest [] s e h = absurd (cc)
+opened_newest (x ∷ xs) zero e h = h
+opened_newest (x ∷ xs) (suc s) e h = opened_newest xs s e h
+
+-- a list of what stands at each number, with one more
+pub one_more : {X : Type 0} (f : ℕ → X) (xs : List X) (x : X) → ((s : ℕ) → s < length xs → slice_get xs s ≡ Some (f s)) → x ≡ f (length xs) →
+    (s : ℕ) → s < length xs + 1 → slice_get (xs ++ x ∷ []) s ≡ Some (f s)
+one_more f [] x each e zero l = ap Some e
+one_more f [] x each e (suc s) l = absurd (omega arith)
+one_more f (y ∷ ys) x each e zero l = each zero (omega arith)
+one_more f (y ∷ ys) x each e (suc s) l = one_more (λ s. f (suc s)) ys x (λ s l. each (suc s) (omega arith)) e s (omega arith)
+
+pub tied_opened : (words : WordsModel) (opened : State) (p : PublisherModel) → IsMapOf words opened → p.words ≡ words → p.stores ≡ [] → IsPublished words opened opened p
+tied_opened words opened p k e f = record {
+  words_are = e;
+  shards = k.shards;
+  servers = k.servers;
+  stores = ap (λ l. l ++ opened.entries) (sym f);
+  newest_is = λ s l. ap (λ (v : WordsModel). newest (entries_of_shard v.opening p.stores s)) e ∙ ap (λ st. newest (entries_of_shard words.opening st s)) f ∙ opened_newest words.opening s (entry_at opened.place s) (k.entries s l);
+}
 
 -- what publishes nothing leaves them tied
 pub tied_quiet : (words : WordsModel) (opened old new : State) (p : PublisherModel) → IsQuiet old new → IsPublished words opened old p → IsPublished words opened new p
@@ -135,24 +158,24 @@ abbrev pub more_of : State → State → ℕ
 more_of old new = length new.log - length old.log
 
 -- the log is no shorter after a step, the book of steps rises with it, and so does the runner's count
-pub record IsStepped (words : WordsModel) (opened old new : State) (p : PublisherModel) (a b c : ℕ) (answer : Played) : Type 0 where
+pub record IsStepped (ended : Bool) (words : WordsModel) (opened old new : State) (p : PublisherModel) (a b c : ℕ) (answer : Played) : Type 0 where
   pub longer : length old.log ≤ length new.log
   pub counted : IsBooked opened new (a + more_of old new) b c
-  pub counts : (n : ℕ) → Counts answer n (n + more_of old new)
+  pub counts : (n : ℕ) → Counts ended answer n (n + more_of old new)
   pub behind : ((s : ℕ) → s < new.sizes.shards → IsInRange new.sizes.servers (entry_at new.place s)) → IsBehind words opened new p
 
-pub stepped : (words : WordsModel) (opened old new : State) (p : PublisherModel) (a b c : ℕ) (answer : Played) → Made old (Answered answer) new → IsPublished words opened old p → IsBooked opened old a b c →
-    IsStepped words opened old new p a b c answer
-stepped words opened old new p a b c answer (inl u) t k =
+pub stepped : (ended : Bool) (words : WordsModel) (opened old new : State) (p : PublisherModel) (a b c : ℕ) (answer : Played) → Made ended old (Answered answer) new → IsPublished words opened old p → IsBooked opened old a b c →
+    IsStepped ended words opened old new p a b c answer
+stepped ended words opened old new p a b c answer (inl u) t k =
     let l : length new.log ≡ length old.log = ap (λ (w : State). length w.log) u.same in
     let m : more_of old new ≡ 0 = omega arith in
     record {
       longer = omega arith;
       counted = subst (λ n. IsBooked opened new n b c) (omega arith) (counted_same opened old new a b c (ap (λ (w : State). w.log) u.same) k);
-      counts = λ n. let z : n ≡ n + more_of old new = omega arith in subst (Counts answer n) z (u.counts n);
+      counts = λ n. let z : n ≡ n + more_of old new = omega arith in subst (Counts ended answer n) z (u.counts n);
       behind = λ r. record { before = old; tied = t; in_range = r; event = inl (record { sizes = ap (λ (w : State). w.sizes) u.same; entries = ap (λ (w : State). w.entries) u.same; listed = ap (λ (w : State). w.place.listed) u.same; version = ap (λ (w : State). w.place.version) u.same }) };
     }
-stepped words opened old new p a b c answer (inr x) t k =
+stepped ended words opened old new p a b c answer (inr x) t k =
     let l : length new.log ≡ length old.log + 1 = ap length x.log ∙ length-append old.log (x.line ∷ []) in
     let m : more_of old new ≡ 1 = omega arith in
     record {
@@ -163,7 +186,7 @@ stepped words opened old new p a b c answer (inr x) t k =
           let f : b + bit (is_executed x.line.answer) ≡ b = ap (λ z. b + bit z) x.executed ∙ (omega arith) in
           let g : c + bit (is_refused x.line.answer) ≡ c = ap (λ z. c + bit z) x.refused ∙ (omega arith) in
           subst (λ n. IsBooked opened new n b c) e (subst (λ n. IsBooked opened new (a + bit (is_step x.line.event)) n c) f (subst (IsBooked opened new (a + bit (is_step x.line.event)) (b + bit (is_executed x.line.answer))) g y));
-      counts = λ n. let z : n + 1 ≡ n + more_of old new = omega arith in subst (Counts answer n) z (x.counts n);
+      counts = λ n. let z : n + 1 ≡ n + more_of old new = omega arith in subst (Counts ended answer n) z (x.counts n);
       behind = λ r. record { before = old; tied = t; in_range = r; event = x.map };
     }
 

@@ -1,3 +1,5 @@
 pub mod Effects
 pub mod Keeps
 pub mod Ranges
+pub mod Starting
+pub mod StillRunning

@@ -1,5 +1,6 @@
 -- What the books of a board count: recorded steps, requests that were executed, and requests that were refused.
-use Rattle.std.specs.Prelude.{◌≡◌, ◌⊎◌, ◌+◌, ◌++◌, ℕ, Bool, true, false, List, count_by}
+use Rattle.std.specs.Prelude.{◌≡◌, ◌+◌, ◌++◌, ℕ, Bool, true, false, not, List, count_by}
+use Rattle.sm_placement.specs.Sums.{bit}
 use Rattle.sm_protocol.specs.declared.event.Event.{Event}
 use Rattle.sm_protocol.specs.declared.event.Event.TheVariants as event
 use Rattle.sm_protocol.specs.declared.event.Played.{Played}
@@ -44,13 +45,13 @@ pub record IsBooked (opened now : State) (steps executed refused : ℕ) : Type 0
   pub executed_are : executed ≡ executed_in since
   pub refused_are : refused ≡ refused_in since
 
--- what the answer to a step does to the count of its runner: it rises by one with Moved and with Lost, by one at most with
--- Done, and else it stays
-abbrev pub Counts : Played → ℕ → ℕ → Type 0
-Counts played.Moved old new = new ≡ old + 1
-Counts played.Lost old new = new ≡ old + 1
-Counts played.Done old new = (new ≡ old) ⊎ (new ≡ old + 1)
-Counts _ old new = new ≡ old
+-- what the answer to a step does to the count of its runner, where the stream had made its end before or had not: it rises by
+-- one with Moved, with Lost, and with the first Done, and else it stays
+abbrev pub Counts : Bool → Played → ℕ → ℕ → Type 0
+Counts ended played.Moved old new = new ≡ old + 1
+Counts ended played.Lost old new = new ≡ old + 1
+Counts ended played.Done old new = new ≡ old + bit (not ended)
+Counts ended _ old new = new ≡ old
 
 -- what the answer to a request adds to the counts of its caller
 abbrev pub executes : Answer → ℕ

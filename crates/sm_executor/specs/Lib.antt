@@ -2,3 +2,4 @@ pub mod Names
 pub mod Counting
 pub mod Tied
 pub mod Views
+pub mod Closed

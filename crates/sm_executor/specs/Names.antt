@@ -1,5 +1,5 @@
--- The name of a board: what it was opened with. And a name of none.
-use Rattle.std.specs.Prelude.{[], false, None}
+-- The name of a board: what it is opened with. And a name of none.
+use Rattle.std.specs.Prelude.{ℕ, [], false, None}
 use Rattle.sm_server.specs.declared.call.Cell.TheVariants.{Absent}
 use Rattle.sm_placement.specs.Setup.{Setup, sizes_of}
 use Rattle.sm_placement.specs.Place.{Place}
@@ -17,3 +17,14 @@ no_place = record { cells = λ s v. Absent; last = λ s v. 0; down = λ v. false
 
 abbrev pub no_state : State
 no_state = opened (sizes_of no_setup) no_place 0
+
+-- what a board is opened with: the words of its map, the configuration, and the names of its ledgers
+pub record Bases : Type 0 where
+  pub words : WordsModel
+  pub setup : Setup
+  pub steps : ℕ
+  pub executed : ℕ
+  pub refused : ℕ
+
+abbrev pub bases : WordsModel → Setup → ℕ → ℕ → ℕ → Bases
+bases words setup steps executed refused = record { words = words; setup = setup; steps = steps; executed = executed; refused = refused }

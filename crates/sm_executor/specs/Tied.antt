@@ -1,5 +1,5 @@
 -- How the words of the published map stand to the machine behind the lock.
-use Rattle.std.specs.Prelude.{List, ◌≡◌, ◌⊎◌, ◌++◌, ◌∷◌, ◌<◌, ℕ, suc, Some, length}
+use Rattle.std.specs.Prelude.{List, ◌≡◌, ◌⊎◌, ◌++◌, ◌∷◌, ◌<◌, ℕ, suc, Some, length, slice_get}
 use Rattle.sm_placement.specs.Sums.{put}
 use Rattle.sm_placement.specs.Place.{entry_at}
 use Rattle.sm_map.specs.Entry.{IsInRange}
@@ -7,6 +7,12 @@ use Rattle.sm_placement.specs.declared.entry.Entry.{Entry}
 use Rattle.sm_map.specs.History.{AllStand, newest}
 use Rattle.sm_map.specs.Models.{WordsModel, PublisherModel, history}
 use Rattle.sm_protocol.specs.State.{State}
+
+-- The words were opened with the map of this state: an entry for each shard.
+pub record IsMapOf (words : WordsModel) (opened : State) : Type 0 where
+  pub servers : words.servers ≡ opened.sizes.servers
+  pub shards : length words.opening ≡ opened.sizes.shards
+  pub entries : (s : ℕ) → s < opened.sizes.shards → slice_get words.opening s ≡ Some (entry_at opened.place s)
 
 -- The publisher has stored just the entries that the machine's publications added since the board was opened, and each shard's
 -- newest entry is the machine's.

@@ -1,10 +1,11 @@
 -- What contracts see of what lies behind the lock, of a runner, of an end and of a caller.
-use Rattle.std.specs.Prelude.{ℕ, ◌-◌, List, length}
+use Rattle.std.specs.Prelude.{◌≡◌, ◌<◌, ℕ, ◌-◌, List, length, slice_index_or}
 use Rattle.sm_placement.specs.declared.entry.Entry.{Entry}
 use Rattle.sm_reservation.specs.declared.stream_id.StreamId.{StreamId}
-use Rattle.sm_protocol.specs.State.{State}
+use Rattle.sm_protocol.specs.State.{State, stream_id, progress_of, allowance}
 use Rattle.sm_machine.specs.Machine.{MachineModel}
 use Rattle.sm_machine.specs.State.{state_of}
+use Rattle.sm_machine.specs.Retired.{recorded_steps}
 
 -- the machine, and how many runners and callers the board has given out
 pub record Holding : Type 0 where
@@ -26,6 +27,27 @@ pub record Running : Type 0 where
 
 abbrev pub running : StreamId → ℕ → Running
 running stream steps = record { stream = stream; steps = steps }
+
+-- the runners are one for each of the first n streams of a plan, in their order, and none of their steps is recorded
+pub record AreRunners (plan n : ℕ) (runners : List Running) : Type 0 where
+  pub count : length runners ≡ n
+  pub each : (i : ℕ) (d : Running) → i < n → slice_index_or runners i d ≡ running (stream_id plan i) 0
+
+-- a stream that has made its end: how many steps it made, how many of them were tries of calls, how many tries it was allowed, and
+-- how many steps its runner has counted
+pub record Finished : Type 0 where
+  pub stream : StreamId
+  pub steps : ℕ
+  pub calls : ℕ
+  pub budget : ℕ
+  pub counted : ℕ
+
+abbrev pub finished : StreamId → ℕ → ℕ → ℕ → ℕ → Finished
+finished stream steps calls budget counted = record { stream = stream; steps = steps; calls = calls; budget = budget; counted = counted }
+
+-- the end that a runner of the stream comes to
+abbrev pub end_in : State → Running → Finished
+end_in w runner = finished runner.stream (recorded_steps w runner.stream) (progress_of w runner.stream).tries (allowance w runner.stream) runner.steps
 
 -- how many events the one state has recorded more than the other
 abbrev pub recorded_more : State → State → ℕ

@@ -2,7 +2,7 @@
 //!
 //! Each method takes the lock, makes one call of what lies behind it, and lets go. A contract can't name what lies behind a lock, so it
 //! tells what the call does to the runner or the caller; what it does to the machine stands on the call that it makes.
-ghost use Rattle.std.specs.Prelude.{◌≡◌, ◌<◌, ◌≤◌, ◌+◌, ◌∷◌, [], length, IfOk, IfErr, IfSome, true, false};
+ghost use Rattle.std.specs.Prelude.{◌≡◌, ◌<◌, ◌≤◌, ◌+◌, ◌∷◌, [], length, IfOk, IfErr, IfSome, Bool, true, false, vec_capacity, ℕ};
 ghost use Rattle.sm_placement.specs.Place.{entry_at};
 ghost use Rattle.sm_map.specs.Entry.{IsInRange};
 ghost use Rattle.sm_map.specs.History.{NoneNewer};
@@ -11,29 +11,38 @@ ghost use Rattle.sm_protocol.specs.Happens as happening;
 ghost use Rattle.sm_protocol.specs.Happens.{happens};
 ghost use Rattle.sm_machine.specs.Played.{played_of};
 ghost use Rattle.sm_machine.specs.Restarted.{approval_of, restart_of};
-ghost use Rattle.sm_machine.specs.Losses.{refill_answer};
+ghost use Rattle.sm_machine.specs.Losses.{refill_answer, is_lost_answer};
+ghost use Rattle.sm_placement.specs.Sums.{bit};
 ghost use Rattle.sm_executor.specs.Counting.{Counts, executes, refuses};
 ghost use Rattle.sm_executor.specs.Tied.{HasStood};
-ghost use Rattle.sm_executor.specs.Views.{holding, state_in, calling};
+ghost use Rattle.sm_executor.specs.Views.{holding, state_in, calling, AreRunners};
 
 use crate::caller::Caller;
 use crate::held::Held;
 use crate::names::{Naming, Side};
-use crate::runner::Runner;
-use sm_machine::{Answer, Machine, Permit, Step, Ticket};
+use crate::runner::{Ended, Runner};
+use sm_machine::{Answer, BeginFault, Link, Machine, Permit, Step, Ticket};
 use sm_map::{Entry, Words};
+use sm_placement::Config;
 use sm_protocol::RefillFault;
+use sm_reservation::StreamId;
 use sm_server::{ServerId, ShardId};
 use sm_task_controller::Denied;
+use sm_verifier::Checked;
+use std::alloc::Global;
 use std::marker::Model;
 use std::sync::{Condvar, Mutex, MutexGuard, Wait};
 
 /// A machine that threads share.
 pub struct Board<A: Side, B: Side, C: Side, N: Naming> {
-    held: Mutex<Held<A, B, C, N>>,
-    moved: Condvar,
-    words: Words,
+    pub(crate) held: Mutex<Held<A, B, C, N>>,
+    pub(crate) moved: Condvar,
+    pub(crate) words: Words,
+    pub(crate) config: Config,
+    pub(crate) positions: Vec<(StreamId, usize)>,
     ghost named: { words ≡ N.words },
+    ghost configured: { config ≡ N.setup },
+    ghost roomy: { 1024 ≤ vec_capacity positions },
 }
 
 /// The locked machine. A contract sees what lies behind the lock.
@@ -52,15 +61,82 @@ impl<'b, A: Side, B: Side, C: Side, N: Naming> Model for Guard<'b, A, B, C, N> {
 }
 
 impl<A: Side, B: Side, C: Side, N: Naming> Board<A, B, C, N> {
-    /// A board over what is to lie behind its lock, beside the words.
-    pub(crate) fn of(held: Held<A, B, C, N>, words: Words) -> Board<A, B, C, N>
-        requires { words ≡ N.words }
+    /// A board over what is to lie behind its lock, beside the words, the configuration, and room for the streams that have not
+    /// made their ends.
+    pub(crate) fn of(
+        held: Held<A, B, C, N>,
+        words: Words,
+        config: Config,
+        positions: Vec<(StreamId, usize)>,
+    ) -> Board<A, B, C, N>
+        requires words { words ≡ N.words }
+        requires config { config ≡ N.setup }
+        requires room { 1024 ≤ vec_capacity positions }
+    {
+        Board::again(held, Condvar::new(), words, config, positions)
+    }
+
+    /// The parts of a board, as a board again.
+    pub(crate) fn again(
+        held: Held<A, B, C, N>,
+        moved: Condvar,
+        words: Words,
+        config: Config,
+        positions: Vec<(StreamId, usize)>,
+    ) -> Board<A, B, C, N>
+        requires words { words ≡ N.words }
+        requires config { config ≡ N.setup }
+        requires room { 1024 ≤ vec_capacity positions }
+        ensures { result.positions.items ≡ positions.items }
     {
         Board {
             held: Mutex::new(held),
-            moved: Condvar::new(),
+            moved,
             words,
+            config,
+            positions,
         }
+    }
+
+    /// The configuration of the board's machine.
+    pub fn config(&self) -> &Config
+        ensures { result.now ≡ N.setup }
+    {
+        &self.config
+    }
+
+    /// A plan begins that was checked for the board's configuration: each of its streams has a runner. Where it does not begin, the
+    /// checked plan comes back, and nothing changes.
+    pub fn begin<R: Wait>(
+        &self,
+        rt: &R,
+        alloc: Global,
+        checked: Checked,
+    ) -> Result<Vec<Runner<A>>, (Checked, BeginFault)>
+        requires { checked.setup ≡ N.setup }
+        ensures runners { IfOk result (λ runners. (plan : ℕ) × AreRunners plan (length checked.plan.streams) runners.items) }
+        ensures back { IfErr result (λ e. e.0 ≡ checked) }
+    {
+        self.held.lock(rt).begin(alloc, checked)
+    }
+
+    /// The runner's end, where its stream has made it. Else the runner comes back.
+    pub fn retire<R: Wait>(&self, rt: &R, runner: Runner<A>) -> Result<Ended<A>, Runner<A>>
+        ensures ended { IfOk result (λ end. (end.stream ≡ runner.stream) × (end.counted ≡ runner.steps)) }
+        ensures back { IfErr result (λ r. r ≡ runner) }
+    {
+        self.held.lock(rt).retire(runner)
+    }
+
+    /// The runner's next step over a link, which is asked for the try of a call.
+    pub fn step_over<R: Wait, L: Link>(&self, rt: &R, runner: &mut Runner<A>, link: &mut L) -> Step
+        ensures stream { runner.new.stream ≡ runner.old.stream }
+        ensures counts { (ended : Bool) × Counts ended (played_of result) runner.old.steps runner.new.steps }
+        ensures lost { L.losses link.new ≡ L.losses link.old + bit (is_lost_answer (played_of result)) }
+    {
+        let step = self.held.lock(rt).step_over(&self.words, runner, link);
+        self.moved.notify_all();
+        step
     }
 
     /// A new caller, which has seen nothing. None where the board has given out 4,096.
@@ -73,7 +149,7 @@ impl<A: Side, B: Side, C: Side, N: Naming> Board<A, B, C, N> {
     /// The runner's next step.
     pub fn step<R: Wait>(&self, rt: &R, runner: &mut Runner<A>) -> Step
         ensures stream { runner.new.stream ≡ runner.old.stream }
-        ensures counts { Counts (played_of result) runner.old.steps runner.new.steps }
+        ensures counts { (ended : Bool) × Counts ended (played_of result) runner.old.steps runner.new.steps }
     {
         let step = self.held.lock(rt).step(&self.words, runner);
         self.moved.notify_all();

@@ -43,4 +43,14 @@ impl<B: Side, C: Side, N: Naming> Caller<B, C, N> {
     {
         words.look(&mut self.pass, shard)
     }
+
+    /// Gives its shares up.
+    pub(crate) fn spend(self) {
+        let Caller {
+            pass: _,
+            executed: _,
+            refused: _,
+            of: _,
+        } = self;
+    }
 }

@@ -2,9 +2,10 @@
 //!
 //! Each method is one event at most, and changes the machine just as the machine's own call does. The books rise with the log,
 //! and what a step publishes is stored in the words before the method returns.
-ghost use Rattle.std.specs.Prelude.{◌≡◌, ◌<◌, ◌≤◌, ◌+◌, ◌^◌, ◌++◌, ◌∷◌, [], length, IfOk, IfErr, IfSome, IfNone, true, false};
+ghost use Rattle.std.specs.Prelude.{◌≡◌, ◌≢◌, OnOk, OnErr, ◌<◌, ◌≤◌, ◌+◌, ◌^◌, ◌++◌, ◌∷◌, [], length, IfOk, IfErr, IfSome, IfNone, true, false};
 ghost use Rattle.sm_placement.specs.Place.{entry_at};
 ghost use Rattle.sm_map.specs.History.{NoneNewer};
+ghost use Rattle.sm_protocol.specs.State.{progress_of};
 ghost use Rattle.sm_protocol.specs.Steps.{Answered};
 ghost use Rattle.sm_protocol.specs.Happens as happening;
 ghost use Rattle.sm_protocol.specs.Happens.{happens};
@@ -12,19 +13,28 @@ ghost use Rattle.sm_machine.specs.State.{state_of};
 ghost use Rattle.sm_machine.specs.Played.{played_of};
 ghost use Rattle.sm_machine.specs.Requested.{played_by};
 ghost use Rattle.sm_machine.specs.Restarted.{approval_of, restart_of};
-ghost use Rattle.sm_machine.specs.Losses.{refill_answer};
+ghost use Rattle.sm_machine.specs.Losses.{refill_answer, is_lost_answer, IsStepOver};
+ghost use Rattle.sm_machine.specs.Retired.{has_ended};
+ghost use Rattle.sm_machine.specs.Started.{IsNotStarted};
+ghost use Rattle.sm_placement.specs.Sums.{bit};
+ghost use Rattle.sm_protocol.specs.declared.event.BeginFault.TheVariants as fault;
+ghost use Rattle.sm_protocol.specs.declared.event.Played.TheVariants as played;
+ghost use Rattle.sm_executor.specs.Closed.{GoesOn};
 ghost use Rattle.sm_executor.specs.Counting.{Counts, executes, refuses};
 ghost use Rattle.sm_executor.specs.Tied.{IsPublished, IsBehind, HasStood};
-ghost use Rattle.sm_executor.specs.Views.{holding, state_in, running, recorded_more, calling};
+ghost use Rattle.sm_executor.specs.Views.{holding, state_in, running, recorded_more, calling, AreRunners, end_in};
 
 use crate::caller::Caller;
 use crate::names::{Naming, Side};
-use crate::runner::Runner;
-use sm_machine::{Answer, Machine, Permit, Step, Ticket};
+use crate::runner::{Ended, Runner};
+use crate::shares::fill_runners;
+use sm_machine::{Answer, BeginFault, Link, Machine, Permit, Step, Ticket};
 use sm_map::{Entry, Publisher, Words};
 use sm_protocol::RefillFault;
 use sm_server::{ServerId, ShardId};
 use sm_task_controller::Denied;
+use sm_verifier::Checked;
+use std::alloc::Global;
 use std::marker::{Model, PhantomData};
 use std::sync::ledger::{Blank, Book, Share};
 
@@ -36,21 +46,21 @@ const MOST_CALLERS: u64 = 4_096;
 /// What the publisher has stored is what the machine has published since the board was opened, and the books are the counts of its
 /// log since then.
 pub(crate) struct Held<A: Side, B: Side, C: Side, N: Naming> {
-    machine: Machine,
-    publisher: Publisher,
-    steps: Book<A>,
-    executed: Book<B>,
-    refused: Book<C>,
-    free_steps: Share<A>,
-    free_executed: Share<B>,
-    free_refused: Share<C>,
-    runners: u64,
-    callers: u64,
-    of: PhantomData<N>,
+    pub(crate) machine: Machine,
+    pub(crate) publisher: Publisher,
+    pub(crate) steps: Book<A>,
+    pub(crate) executed: Book<B>,
+    pub(crate) refused: Book<C>,
+    pub(crate) free_steps: Share<A>,
+    pub(crate) free_executed: Share<B>,
+    pub(crate) free_refused: Share<C>,
+    pub(crate) runners: u64,
+    pub(crate) callers: u64,
+    pub(crate) of: PhantomData<N>,
 }
 
 impl<A: Side, B: Side, C: Side, N: Naming> Model for Held<A, B, C, N> {
-    ghost use Rattle.std.specs.Prelude.{◌≡◌, ◌≤◌, ◌+◌, ◌^◌};
+    ghost use Rattle.std.specs.Prelude.{◌≡◌, ◌≤◌, ◌+◌, ◌*◌, ◌^◌, length};
     ghost use Rattle.sm_machine.specs.State.{state_of};
     ghost use Rattle.sm_executor.specs.Views.{Holding, holding};
     ghost use Rattle.sm_executor.specs.Tied.{IsPublished};
@@ -66,7 +76,9 @@ impl<A: Side, B: Side, C: Side, N: Naming> Model for Held<A, B, C, N> {
         × (h.free_steps.parts + h.runners ≡ A.all) × (h.free_steps.amount ≡ 0) × (A.all ≡ 2 ^ 62)
         × (h.free_executed.parts + h.callers ≡ B.all) × (h.free_executed.amount ≡ 0) × (B.all ≡ 2 ^ 62)
         × (h.free_refused.parts + h.callers ≡ C.all) × (h.free_refused.amount ≡ 0) × (C.all ≡ 2 ^ 62)
-        × (h.callers ≤ 4096) };
+        × (h.callers ≤ 4096)
+        × (h.machine.placement.setup ≡ N.setup)
+        × (h.runners ≤ 64 * length (state_of h.machine).plans) };
 }
 
 /// Stores the entry that was added behind the first so many, if one was.
@@ -119,6 +131,7 @@ impl<A: Side, B: Side, C: Side, N: Naming> Held<A, B, C, N> {
         refused: Blank,
     ) -> Held<A, B, C, N>
         requires opened { state_of machine ≡ N.opened }
+        requires setup { machine.placement.setup ≡ N.setup }
         requires tied { IsPublished N.words N.opened N.opened publisher }
         requires steps { (steps.name ≡ A.name) × (steps.parts ≡ A.parts) × (A.parts ≡ 2 ^ 62) × (A.all ≡ 2 ^ 62) }
         requires executed { (executed.name ≡ B.name) × (executed.parts ≡ B.parts) × (B.parts ≡ 2 ^ 62) × (B.all ≡ 2 ^ 62) }
@@ -143,6 +156,14 @@ impl<A: Side, B: Side, C: Side, N: Naming> Held<A, B, C, N> {
         }
     }
 
+    /// A law: the log has only grown since the opening, and the configuration is the board's.
+    pub fn goes_on(&self)
+        ensures log { GoesOn N.opened (state_in self.now) }
+        ensures setup { self.now.machine.placement.setup ≡ N.setup }
+    {
+        let _runners = self.runners;
+    }
+
     /// The machine.
     pub fn machine(&self) -> &Machine
         ensures { result.now ≡ self.now.machine }
@@ -157,7 +178,7 @@ impl<A: Side, B: Side, C: Side, N: Naming> Held<A, B, C, N> {
         ensures state { state_in self.new ≡ (happens (state_in self.old) (happening.Step runner.old.stream)).1 }
         ensures others { self.new ≡ holding self.new.machine self.old.runners self.old.callers }
         ensures runner { runner.new ≡ running runner.old.stream (runner.old.steps + recorded_more (state_in self.old) (state_in self.new)) }
-        ensures counts { Counts (played_of result) runner.old.steps runner.new.steps }
+        ensures counts { Counts (progress_of (state_in self.old) runner.old.stream).done (played_of result) runner.old.steps runner.new.steps }
     {
         self.machine.is_reached();
         let recorded = self.machine.log().len();
@@ -168,6 +189,84 @@ impl<A: Side, B: Side, C: Side, N: Naming> Held<A, B, C, N> {
         self.steps.add(&mut runner.share, more as u64);
         store_added::<N>(words, &mut self.publisher, &self.machine, added);
         step
+    }
+
+    /// A stream makes its next step over a link. What it publishes is stored in the words.
+    pub fn step_over<L: Link>(
+        &mut self,
+        words: &Words,
+        runner: &mut Runner<A>,
+        link: &mut L,
+    ) -> Step
+        requires { words.now ≡ N.words }
+        ensures over { IsStepOver L.asked link.old link.new (state_in self.old) runner.old.stream (played_of result) (state_in self.new) }
+        ensures lost { L.losses link.new ≡ L.losses link.old + bit (is_lost_answer (played_of result)) }
+        ensures others { self.new ≡ holding self.new.machine self.old.runners self.old.callers }
+        ensures runner { runner.new ≡ running runner.old.stream (runner.old.steps + recorded_more (state_in self.old) (state_in self.new)) }
+        ensures counts { Counts (progress_of (state_in self.old) runner.old.stream).done (played_of result) runner.old.steps runner.new.steps }
+    {
+        self.machine.is_reached();
+        let recorded = self.machine.log().len();
+        let added = self.machine.entries().len();
+        let step = self.machine.step_over(&mut runner.token, link);
+        self.machine.is_reached();
+        let made = self.machine.log().len() - recorded;
+        self.steps.add(&mut runner.share, made as u64);
+        store_added::<N>(words, &mut self.publisher, &self.machine, added);
+        step
+    }
+
+    /// A plan begins as the machine begins it, and each of its streams has a runner.
+    pub fn begin(
+        &mut self,
+        alloc: Global,
+        checked: Checked,
+    ) -> Result<Vec<Runner<A>>, (Checked, BeginFault)>
+        requires { checked.setup ≡ N.setup }
+        ensures answer { OnOk result ((happens (state_in self.old) (happening.Begin checked.plan)).0 ≡ Answered (played.Begun (length (state_in self.old).plans))) }
+        ensures state { OnOk result (state_in self.new ≡ (happens (state_in self.old) (happening.Begin checked.plan)).1) }
+        ensures others { OnOk result (self.new ≡ holding self.new.machine (self.old.runners + length checked.plan.streams) self.old.callers) }
+        ensures runners { IfOk result (λ runners. AreRunners (length (state_in self.old).plans) (length checked.plan.streams) runners.items) }
+        ensures fault { IfErr result (λ e. e.1 ≢ fault.NoMemory → IsNotStarted (state_in self.old) checked.plan e.1) }
+        ensures unchanged { OnErr result (self.new ≡ self.old) }
+        ensures back { IfErr result (λ e. e.0 ≡ checked) }
+    {
+        let mut runners = match Vec::with_capacity(alloc, checked.plan().streams().len()) {
+            Ok(runners) => runners,
+            Err(_) => return Err((checked, BeginFault::NoMemory)),
+        };
+        match self.machine.begin(alloc, checked) {
+            Ok(tokens) => {
+                self.machine.is_reached();
+                let count = tokens.len() as u64;
+                fill_runners(&mut runners, tokens, &mut self.free_steps);
+                self.runners += count;
+                Ok(runners)
+            }
+            Err(back) => {
+                runners.destroy_empty();
+                Err(back)
+            }
+        }
+    }
+
+    /// The runner's end, where its stream has made it. Else the runner comes back.
+    pub fn retire(&self, runner: Runner<A>) -> Result<Ended<A>, Runner<A>>
+        ensures ended { IfOk result (λ end. (has_ended (state_in self.now) runner.stream ≡ true) × (end ≡ end_in (state_in self.now) runner)) }
+        ensures back { IfErr result (λ r. (has_ended (state_in self.now) runner.stream ≡ false) × (r ≡ runner)) }
+    {
+        let Runner { token, share } = runner;
+        let stream = token.id();
+        match self.machine.retire(token) {
+            Ok(steps) => Ok(Ended {
+                stream,
+                steps,
+                calls: self.machine.calls(stream),
+                budget: self.machine.allowance(stream),
+                share,
+            }),
+            Err(token) => Err(Runner { token, share }),
+        }
     }
 
     /// A request for a shard comes to a server.

@@ -4,11 +4,17 @@
 mod as_desk;
 mod board;
 mod caller;
+mod closing;
+mod ground;
 mod held;
 mod names;
 mod runner;
+mod shares;
+mod unfinished;
 
 pub use board::{Board, Guard};
 pub use caller::Caller;
+pub use closing::{CloseFault, NotClosed};
+pub use ground::Ground;
 pub use names::{Naming, Side};
-pub use runner::Runner;
+pub use runner::{Ended, Runner};

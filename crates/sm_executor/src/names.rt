@@ -19,20 +19,25 @@ impl Side for Brand {
     ghost all = { 0 };
 }
 
-/// What a board was opened with: the words of its map, and the state that its machine was in.
+/// What a board was opened with: the words of its map, the configuration, and the state that its machine was in.
 pub trait Naming {
     ghost use Rattle.sm_map.specs.Models.{WordsModel};
+    ghost use Rattle.sm_placement.specs.Setup.{Setup};
     ghost use Rattle.sm_protocol.specs.State.{State};
 
     ghost words: { WordsModel };
+
+    ghost setup: { Setup };
 
     ghost opened: { State };
 }
 
 impl Naming for Brand {
-    ghost use Rattle.sm_executor.specs.Names.{no_words, no_state};
+    ghost use Rattle.sm_executor.specs.Names.{no_words, no_setup, no_state};
 
     ghost words = { no_words };
+
+    ghost setup = { no_setup };
 
     ghost opened = { no_state };
 }

@@ -1,4 +1,4 @@
-//! The right to make the steps of a stream on a board.
+//! The right to make the steps of a stream on a board, and what is left of it when the stream has made its end.
 ghost use Rattle.std.specs.Prelude.{◌≡◌};
 
 use crate::names::Side;
@@ -40,5 +40,66 @@ impl<A: Side> Runner<A> {
     {
         let Runner { token, share: _ } = self;
         token
+    }
+}
+
+/// A stream that has made its end, with its runner's share of the steps. It can be neither copied nor dropped.
+pub struct Ended<A: Side> {
+    pub(crate) stream: StreamId,
+    pub(crate) steps: u64,
+    pub(crate) calls: u64,
+    pub(crate) budget: u64,
+    pub(crate) share: Share<A>,
+}
+
+impl<A: Side> Model for Ended<A> {
+    ghost use Rattle.std.specs.Prelude.{◌≡◌};
+    ghost use Rattle.sm_executor.specs.Views.{Finished, finished};
+
+    ghost Value = { Finished };
+
+    ghost view = { λ e. finished e.stream e.steps e.calls e.budget e.share.amount };
+
+    ghost invariant = { λ e. e.share.parts ≡ 1 };
+}
+
+impl<A: Side> Ended<A> {
+    /// Which stream it was.
+    pub fn stream(&self) -> StreamId
+        ensures { result ≡ self.now.stream }
+    {
+        self.stream
+    }
+
+    /// How many of its steps were recorded: the tries of its calls, its other instructions, and its end.
+    pub fn steps(&self) -> u64
+        ensures { result ≡ self.now.steps }
+    {
+        self.steps
+    }
+
+    /// How many tries of calls it made.
+    pub fn calls(&self) -> u64
+        ensures { result ≡ self.now.calls }
+    {
+        self.calls
+    }
+
+    /// How many tries it was allowed: its budget, its retries and its refills.
+    pub fn budget(&self) -> u64
+        ensures { result ≡ self.now.budget }
+    {
+        self.budget
+    }
+
+    /// Gives its share up.
+    pub(crate) fn spend(self) {
+        let Ended {
+            stream: _,
+            steps: _,
+            calls: _,
+            budget: _,
+            share: _,
+        } = self;
     }
 }

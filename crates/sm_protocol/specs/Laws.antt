@@ -130,10 +130,14 @@ ExecutedServes = (setup : Setup) (w : State) (e : Happening) (s v : ℕ) → IsR
 abbrev pub UnrecordedChangesNothing : Type 0
 UnrecordedChangesNothing = (w : State) (e : Happening) → (happens w e).1.log ≡ w.log → (happens w e).1.plans ≡ w.plans → (happens w e).1 ≡ w
 
+-- every plan is done
+abbrev pub AreDone : State → Type 0
+AreDone w = (k : ℕ) → k < length w.plans → is_unfinished w k ≡ false
+
 -- where all plans are done, each stream's instructions stand in the log in their order, each once, then its end, and the
 -- placement is the end of the plans in the order of their starts, whatever the schedule was
 abbrev pub EndsAreReached : Type 0
-EndsAreReached = (setup : Setup) (w : State) → IsReached setup w → ((k : ℕ) → k < length w.plans → is_unfinished w k ≡ false) →
+EndsAreReached = (setup : Setup) (w : State) → IsReached setup w → AreDone w →
     ((id : StreamId) → is_begun w id ≡ true → IsInLog w id) × IsAtEnds w
 
 -- A list of events that is played with a hand makes the run of those for which the hand has something, with what it gives:

@@ -24,4 +24,6 @@ invariant_of-result g c =
       c.open-refused.ensures.amount,
       c.requires.refused.3,
       omega arith,
+      c.requires.setup,
+      omega arith,
     )

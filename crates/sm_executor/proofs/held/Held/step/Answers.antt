@@ -1,12 +1,13 @@
 -- A stream's step.
-use Rattle.std.proofs.Common.{◌≡◌, ◌≤◌, ◌+◌, ◌-◌, ap, sym, subst, ◌∙◌, length}
+use Rattle.std.proofs.Common.{◌≡◌, ◌≤◌, ◌*◌, List, ◌+◌, ◌-◌, ap, sym, subst, ◌∙◌, length}
 use Rattle.sm_protocol.specs.declared.event.Passage.TheVariants.{Through}
+use Rattle.sm_protocol.specs.State.{Start, progress_of}
 use Rattle.sm_protocol.specs.Steps.{Answered, step}
 use Rattle.sm_machine.specs.State.{state_of}
 use Rattle.sm_machine.specs.Played.{played_of}
 use Rattle.sm_executor.specs.Counting.{IsBooked, Counts}
-use Rattle.sm_executor.specs.Views.{Running}
-use Rattle.sm_executor.proofs.Effects.{Made, step_made}
+use Rattle.sm_executor.specs.Views.{Running, state_in}
+use Rattle.sm_executor.proofs.Effects.{Made, step_made, plans_made}
 use Rattle.sm_executor.proofs.Ranges.{in_range, known_shard}
 use Rattle.sm_executor.proofs.Keeps.{stepped, more_of}
 use Rattle.sm_executor.proofs.held.Held.step.Goals as goal
@@ -18,9 +19,9 @@ overflow_sub-more g c =
     let v = state_of c.step-step.new.self in
     let id = c.runner.inside.token in
     let r = c.is_reached.ensures in
-    let made : Made w (Answered (played_of c.step-step.result)) v = subst (λ x. Made w x v) c.step-step.ensures.answer
-    (subst (λ x. Made w (step w id Through).0 x) (sym c.step-step.ensures.state) (step_made w id Through (known_shard r.0 w r.1 id))) in
-    let s = stepped g.N.Naming.words g.N.Naming.opened w v c.self.inside.publisher c.self.inside.steps.total c.self.inside.executed.total c.self.inside.refused.total _ made i.0 i.1 in
+    let made : Made (progress_of w id).done w (Answered (played_of c.step-step.result)) v = subst (λ x. Made (progress_of w id).done w x v) c.step-step.ensures.answer
+    (subst (λ x. Made (progress_of w id).done w (step w id Through).0 x) (sym c.step-step.ensures.state) (step_made w id Through (known_shard r.0 w r.1 id))) in
+    let s = stepped (progress_of w id).done g.N.Naming.words g.N.Naming.opened w v c.self.inside.publisher c.self.inside.steps.total c.self.inside.executed.total c.self.inside.refused.total _ made i.0 i.1 in
     subst (λ n. length c.log-recorded.result.now ≤ n) (sym (ap length c.log.ensures)) (subst (λ n. n ≤ length v.log) (sym (ap length c.log-recorded.ensures)) s.longer)
 
 pub store_added-requires-clause-behind : goal.store_added-requires-clause-behind
@@ -31,9 +32,9 @@ store_added-requires-clause-behind g c =
     let id = c.runner.inside.token in
     let r = c.is_reached.ensures in
     let q = c.is_reached-2.ensures in
-    let made : Made w (Answered (played_of c.step-step.result)) v = subst (λ x. Made w x v) c.step-step.ensures.answer
-    (subst (λ x. Made w (step w id Through).0 x) (sym c.step-step.ensures.state) (step_made w id Through (known_shard r.0 w r.1 id))) in
-    let s = stepped g.N.Naming.words g.N.Naming.opened w v c.self.inside.publisher c.self.inside.steps.total c.self.inside.executed.total c.self.inside.refused.total _ made i.0 i.1 in
+    let made : Made (progress_of w id).done w (Answered (played_of c.step-step.result)) v = subst (λ x. Made (progress_of w id).done w x v) c.step-step.ensures.answer
+    (subst (λ x. Made (progress_of w id).done w (step w id Through).0 x) (sym c.step-step.ensures.state) (step_made w id Through (known_shard r.0 w r.1 id))) in
+    let s = stepped (progress_of w id).done g.N.Naming.words g.N.Naming.opened w v c.self.inside.publisher c.self.inside.steps.total c.self.inside.executed.total c.self.inside.refused.total _ made i.0 i.1 in
     s.behind (in_range q.0 v q.1)
 
 pub invariant_of-self : goal.invariant_of-self
@@ -43,14 +44,14 @@ invariant_of-self g c =
     let v = state_of c.step-step.new.self in
     let id = c.runner.inside.token in
     let r = c.is_reached.ensures in
-    let made : Made w (Answered (played_of c.step-step.result)) v = subst (λ x. Made w x v) c.step-step.ensures.answer
-    (subst (λ x. Made w (step w id Through).0 x) (sym c.step-step.ensures.state) (step_made w id Through (known_shard r.0 w r.1 id))) in
-    let s = stepped g.N.Naming.words g.N.Naming.opened w v c.self.inside.publisher c.self.inside.steps.total c.self.inside.executed.total c.self.inside.refused.total _ made i.0 i.1 in
+    let made : Made (progress_of w id).done w (Answered (played_of c.step-step.result)) v = subst (λ x. Made (progress_of w id).done w x v) c.step-step.ensures.answer
+    (subst (λ x. Made (progress_of w id).done w (step w id Through).0 x) (sym c.step-step.ensures.state) (step_made w id Through (known_shard r.0 w r.1 id))) in
+    let s = stepped (progress_of w id).done g.N.Naming.words g.N.Naming.opened w v c.self.inside.publisher c.self.inside.steps.total c.self.inside.executed.total c.self.inside.refused.total _ made i.0 i.1 in
     let a = ap length c.log-recorded.ensures in
     let b = ap length c.log.ensures in
     let t = c.add.ensures.total in
     let e : c.add.new.self.total ≡ c.self.inside.steps.total + more_of w v = t ∙ (λ j. c.self.inside.steps.total + (b j - a j)) in
-    (c.store_added.ensures, subst (λ n. IsBooked g.N.Naming.opened v n c.self.inside.executed.total c.self.inside.refused.total) (sym e) s.counted, i.2, i.3, i.4, i.5, i.6, i.7, i.8, i.9, i.10, i.11)
+    (c.store_added.ensures, subst (λ n. IsBooked g.N.Naming.opened v n c.self.inside.executed.total c.self.inside.refused.total) (sym e) s.counted, i.2, i.3, i.4, i.5, i.6, i.7, i.8, i.9, i.10, i.11, c.step-step.ensures.setup ∙ i.12, subst (λ (l : List Start). c.self.inside.runners ≤ 64 * length l) (sym (plans_made (progress_of w id).done w v _ made)) i.13)
 
 pub returns-clause-counts : goal.returns-clause-counts
 returns-clause-counts g c =
@@ -59,11 +60,13 @@ returns-clause-counts g c =
     let v = state_of c.step-step.new.self in
     let id = c.runner.inside.token in
     let r = c.is_reached.ensures in
-    let made : Made w (Answered (played_of c.step-step.result)) v = subst (λ x. Made w x v) c.step-step.ensures.answer
-    (subst (λ x. Made w (step w id Through).0 x) (sym c.step-step.ensures.state) (step_made w id Through (known_shard r.0 w r.1 id))) in
-    let s = stepped g.N.Naming.words g.N.Naming.opened w v c.self.inside.publisher c.self.inside.steps.total c.self.inside.executed.total c.self.inside.refused.total _ made i.0 i.1 in
+    let made : Made (progress_of w id).done w (Answered (played_of c.step-step.result)) v = subst (λ x. Made (progress_of w id).done w x v) c.step-step.ensures.answer
+    (subst (λ x. Made (progress_of w id).done w (step w id Through).0 x) (sym c.step-step.ensures.state) (step_made w id Through (known_shard r.0 w r.1 id))) in
+    let s = stepped (progress_of w id).done g.N.Naming.words g.N.Naming.opened w v c.self.inside.publisher c.self.inside.steps.total c.self.inside.executed.total c.self.inside.refused.total _ made i.0 i.1 in
     let a = ap length c.log-recorded.ensures in
     let b = ap length c.log.ensures in
     let same : c.runner.inside.share.amount ≡ c.args.runner.now.steps = ap (λ (x : Running). x.steps) c.runner.view_is in
     let e : c.add.new.share.amount ≡ c.args.runner.now.steps + more_of w v = c.add.ensures.amount ∙ (λ j. same j + (b j - a j)) in
-    subst (Counts (played_of c.step-step.result) c.args.runner.now.steps) (sym e) (s.counts c.args.runner.now.steps)
+    let f : (progress_of w id).done ≡ (progress_of (state_in c.args.self.now) c.args.runner.now.stream).done = (λ j. (progress_of (state_in (c.self.view_is j)) (c.runner.view_is j).stream).done) in
+    subst (λ x. Counts x (played_of c.step-step.result) c.args.runner.now.steps c.add.new.share.amount) f
+    (subst (Counts (progress_of w id).done (played_of c.step-step.result) c.args.runner.now.steps) (sym e) (s.counts c.args.runner.now.steps))

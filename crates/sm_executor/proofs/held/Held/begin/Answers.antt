@@ -1,0 +1,31 @@
+-- A plan begins.
+use Rattle.std.proofs.Common.{◌≡◌, ◌≤◌, ◌∙◌, subst, arith, length}
+use Rattle.sm_plan_code.specs.Plan.{PlanModel}
+use Rattle.sm_protocol.specs.Happens.{started}
+use Rattle.sm_machine.specs.State.{state_of}
+use Rattle.sm_executor.specs.Views.{Holding, state_in, AreRunners}
+use Rattle.sm_executor.proofs.Starting.{begun_is, started_kept, few_runners, runners_are}
+use Rattle.sm_executor.proofs.held.Held.begin.Goals as goal
+
+pub invariant_of-self : goal.invariant_of-self
+invariant_of-self g c =
+    let i = c.self.invariant in
+    let w = state_of c.self.inside.machine in
+    let v = state_of c.begin.new.self in
+    let plan = c.args.checked.plan in
+    let ens = c.in-Ok-begin.ensures in
+    let e : v ≡ started w plan = ens.state ∙ begun_is w plan (length w.plans) ens.answer in
+    let k = started_kept g.N.Naming.words g.N.Naming.opened w v c.self.inside.publisher c.self.inside.steps.total c.self.inside.executed.total c.self.inside.refused.total plan e i.0 i.1 in
+    let n = c.len-count.ensures in
+    let ok = c.in-Ok-begin.tokens.ok in
+    let parts = c.fill_runners.ensures.parts in
+    let all = i.2 in
+    let few : length plan.streams ≤ 64 = subst (λ (p : PlanModel). length p.streams ≤ 64) c.plan.ensures.value c.streams.ensures.plan.small.stream_count in
+    let count = ens.tokens.count in
+    let most : c.len-count.result ≤ 64 = omega arith in
+    (k.tied, k.counted, omega arith, c.fill_runners.ensures.amount, i.4, i.5, i.6, i.7, i.8, i.9, i.10, i.11, ens.setup ∙ i.12, few_runners w v plan c.self.inside.runners c.len-count.result e most i.13)
+
+pub returns-in-Ok-begin-clause-runners : goal.returns-in-Ok-begin-clause-runners
+returns-in-Ok-begin-clause-runners g c =
+    subst (λ (h : Holding). AreRunners (length (state_in h).plans) (length c.args.checked.plan.streams) c.fill_runners.new.runners.items) c.self.view_is
+    (runners_are (length (state_of c.self.inside.machine).plans) (length c.args.checked.plan.streams) c.in-Ok-begin.tokens.items c.fill_runners.new.runners.items c.in-Ok-begin.ensures.tokens c.fill_runners.ensures.runners)

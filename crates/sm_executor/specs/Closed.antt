@@ -1,0 +1,60 @@
+-- What is so where a board is closed, and why one is not.
+use Rattle.std.specs.Prelude.{◌≡◌, ◌↔◌, ◌++◌, ◌∷◌, [], ℕ, zero, suc, true, List, length, map, sum, if◌then◌else◌}
+use Rattle.sm_reservation.specs.declared.stream_id.StreamId.{StreamId}
+use Rattle.sm_protocol.specs.State.{State, stream_id, stream_count, is_begun}
+use Rattle.sm_protocol.specs.Laws.{AreDone}
+use Rattle.sm_protocol.specs.Log.{IsInLog, IsAtEnds}
+use Rattle.sm_protocol.specs.declared.event.Logged.{Logged}
+use Rattle.sm_executor.specs.declared.closing.CloseFault.{CloseFault}
+use Rattle.sm_executor.specs.declared.closing.CloseFault.TheVariants.{NotDone}
+use Rattle.sm_executor.specs.Counting.{IsBooked}
+use Rattle.sm_executor.specs.Views.{Finished, Calling}
+
+-- ---- the streams that have not made their ends
+
+-- the first n streams of a plan that have not made their ends, each with how many instructions it has made
+abbrev pub unfinished_in : State → ℕ → ℕ → List (StreamId × ℕ)
+unfinished_in w k zero = []
+unfinished_in w k (suc i) = unfinished_in w k i ++ (if (w.progress k i).done then [] else (stream_id k i, (w.progress k i).at) ∷ [])
+
+-- those of the first k plans
+abbrev pub unfinished_to : State → ℕ → List (StreamId × ℕ)
+unfinished_to w zero = []
+unfinished_to w (suc k) = unfinished_to w k ++ unfinished_in w k (stream_count w k)
+
+-- all of them, by their plans and then by their own numbers
+abbrev pub unfinished_streams : State → List (StreamId × ℕ)
+unfinished_streams w = unfinished_to w (length w.plans)
+
+-- ---- the account
+
+-- The books, from the opening to now, are the sums of what these ends and callers have counted.
+abbrev pub IsAccount : State → State → List Finished → List Calling → Type 0
+IsAccount opened now ended callers = IsBooked opened now (sum (map (λ e. e.counted) ended)) (sum (map (λ c. c.executed) callers)) (sum (map (λ c. c.refused) callers))
+
+-- Every stream has made its end: the log has each stream's instructions in their order, each once, and then its end; the placement
+-- is the end of the plans in the order of their starts, whatever the schedule was; and the log since the opening has as many steps,
+-- executed and refused requests as these ends and callers have counted.
+pub record IsClosed (opened now : State) (ended : List Finished) (callers : List Calling) : Type 0 where
+  pub done : AreDone now
+  pub in_log : (id : StreamId) → is_begun now id ≡ true → IsInLog now id
+  pub at_ends : IsAtEnds now
+  pub account : IsAccount opened now ended callers
+
+-- the log has only grown
+abbrev pub GoesOn : State → State → Type 0
+GoesOn opened now = (since : List Logged) × (now.log ≡ opened.log ++ since)
+
+-- what a contract sees of a board that is not closed: why, what came back, and which streams have not made their ends
+pub record NotClosing : Type 0 where
+  pub fault : CloseFault
+  pub ended : List Finished
+  pub callers : List Calling
+  pub positions : List (StreamId × ℕ)
+
+-- The streams named are those of a state that goes on from the opening, and NotDone is told where there are some.
+pub record IsNotClosed (opened : State) (fault : CloseFault) (positions : List (StreamId × ℕ)) : Type 0 where
+  pub now : State
+  pub goes_on : GoesOn opened now
+  pub named : positions ≡ unfinished_streams now
+  pub not_done : (fault ≡ NotDone) ↔ ¬ (positions ≡ [])

@@ -1,0 +1,180 @@
+//! How a board ends.
+ghost use Rattle.std.specs.Prelude.{◌≡◌, ◌+◌, IfOk, IfErr, OnErr, OnOk, length, map, sum, []};
+ghost use Rattle.sm_machine.specs.State.{state_of};
+ghost use Rattle.sm_executor.specs.Closed.{IsAccount, IsClosed, IsNotClosed, GoesOn};
+ghost use Rattle.sm_executor.specs.Views.{state_in};
+
+use crate::board::Board;
+use crate::caller::Caller;
+use crate::held::Held;
+use crate::names::{Naming, Side};
+use crate::runner::Ended;
+use crate::shares::{both_merged, merged, spend_callers, spend_ended};
+use crate::unfinished::list_unfinished;
+use sm_machine::Machine;
+use sm_protocol::ends_are_reached;
+use sm_reservation::StreamId;
+use std::marker::Model;
+
+/// Why a board is not closed.
+#[derive(Clone, Copy, Debug, PartialEq, Eq)]
+pub enum CloseFault {
+    /// A stream has not made its end.
+    NotDone,
+    /// Not as many ends or callers are handed in as the board has given runners and callers out.
+    BookDiffers,
+}
+
+/// A board that is not closed, with the ends and the callers that came back, and the streams that have not made their ends.
+pub struct NotClosed<A: Side, B: Side, C: Side, N: Naming> {
+    board: Board<A, B, C, N>,
+    ended: Vec<Ended<A>>,
+    callers: Vec<Caller<B, C, N>>,
+    fault: CloseFault,
+}
+
+impl<A: Side, B: Side, C: Side, N: Naming> Model for NotClosed<A, B, C, N> {
+    ghost use Rattle.sm_executor.specs.Closed.{NotClosing};
+
+    ghost Value = { NotClosing };
+
+    ghost view = { λ n. record { fault = n.fault; ended = n.ended.items; callers = n.callers.items; positions = n.board.positions.items } };
+}
+
+impl<A: Side, B: Side, C: Side, N: Naming> NotClosed<A, B, C, N> {
+    /// Why.
+    pub fn fault(&self) -> CloseFault
+        ensures { result ≡ self.now.fault }
+    {
+        self.fault
+    }
+
+    /// The streams that have not made their ends, each with how many instructions it has made.
+    pub fn positions(&self) -> &[(StreamId, usize)]
+        ensures { result.now ≡ self.now.positions }
+    {
+        self.board.positions.as_slice()
+    }
+
+    /// The board with the ends and the callers.
+    pub fn back(self) -> (Board<A, B, C, N>, Vec<Ended<A>>, Vec<Caller<B, C, N>>)
+        ensures ended { result.1.items ≡ self.ended }
+        ensures callers { result.2.items ≡ self.callers }
+    {
+        let NotClosed {
+            board,
+            ended,
+            callers,
+            fault: _,
+        } = self;
+        (board, ended, callers)
+    }
+}
+
+impl<A: Side, B: Side, C: Side, N: Naming> Held<A, B, C, N> {
+    /// The machine, where as many ends and callers are handed in as there were runners and callers: the books are then the sums of
+    /// what they have counted. Else all come back.
+    pub fn close(
+        self,
+        ended: Vec<Ended<A>>,
+        callers: Vec<Caller<B, C, N>>,
+    ) -> Result<Machine, (Held<A, B, C, N>, Vec<Ended<A>>, Vec<Caller<B, C, N>>)>
+        requires { (A.all ≡ A.parts) × (B.all ≡ B.parts) × (C.all ≡ C.parts) }
+        ensures machine { IfOk result (λ machine. machine ≡ self.machine) }
+        ensures counts { OnOk result ((length ended.items ≡ self.runners) × (length callers.items ≡ self.callers)) }
+        ensures account { OnOk result (IsAccount N.opened (state_in self) ended.items callers.items) }
+        ensures back { IfErr result (λ e. (e.0 ≡ self) × (e.1 ≡ ended) × (e.2 ≡ callers)) }
+        ensures differs { OnErr result (¬ ((length ended.items ≡ self.runners) × (length callers.items ≡ self.callers))) }
+    {
+        if ended.len() as u64 != self.runners || callers.len() as u64 != self.callers {
+            return Err((self, ended, callers));
+        }
+        let Held {
+            machine,
+            publisher: _,
+            mut steps,
+            mut executed,
+            mut refused,
+            free_steps,
+            free_executed,
+            free_refused,
+            runners: _,
+            callers: _,
+            of: _,
+        } = self;
+        let mut all_steps = merged(free_steps, ended);
+        let (mut all_executed, mut all_refused) = both_merged(free_executed, free_refused, callers);
+        steps.audit(&mut all_steps);
+        executed.audit(&mut all_executed);
+        refused.audit(&mut all_refused);
+        Ok(machine)
+    }
+}
+
+impl<A: Side, B: Side, C: Side, N: Naming> Board<A, B, C, N> {
+    /// The machine, where all streams have made their ends, and as many ends and callers are handed in as the board has given runners
+    /// and callers out. Else the board comes back with all that was handed in: NotDone where a stream has not made its end, and
+    /// else BookDiffers.
+    ///
+    /// Takes no memory.
+    pub fn close(
+        self,
+        ended: Vec<Ended<A>>,
+        callers: Vec<Caller<B, C, N>>,
+    ) -> Result<Machine, NotClosed<A, B, C, N>>
+        requires { (A.all ≡ A.parts) × (B.all ≡ B.parts) × (C.all ≡ C.parts) }
+        ensures closed { IfOk result (λ machine. IsClosed N.opened (state_of machine) ended.items callers.items) }
+        ensures setup { IfOk result (λ machine. machine.placement.setup ≡ N.setup) }
+        ensures back { IfErr result (λ e. (e.ended ≡ ended.items) × (e.callers ≡ callers.items)) }
+        ensures why { IfErr result (λ e. IsNotClosed N.opened e.fault e.positions) }
+    {
+        let Board {
+            held,
+            moved,
+            words,
+            config,
+            mut positions,
+        } = self;
+        let held = held.into_inner();
+        held.goes_on();
+        held.machine().is_reached();
+        ends_are_reached();
+        list_unfinished(held.machine(), &mut positions);
+        if !positions.is_empty() {
+            return Err(NotClosed {
+                board: Board::again(held, moved, words, config, positions),
+                ended,
+                callers,
+                fault: CloseFault::NotDone,
+            });
+        }
+        match held.close(ended, callers) {
+            Ok(machine) => Ok(machine),
+            Err((held, ended, callers)) => Err(NotClosed {
+                board: Board::again(held, moved, words, config, positions),
+                ended,
+                callers,
+                fault: CloseFault::BookDiffers,
+            }),
+        }
+    }
+
+    /// The machine as it stands, with nothing told of what was counted.
+    pub fn give_up(self, ended: Vec<Ended<A>>, callers: Vec<Caller<B, C, N>>) -> Machine
+        ensures log { GoesOn N.opened (state_of result) }
+        ensures setup { result.placement.setup ≡ N.setup }
+    {
+        spend_ended(ended);
+        spend_callers(callers);
+        let Board {
+            held,
+            moved: _,
+            words: _,
+            config: _,
+            positions: _,
+        } = self;
+        let held = held.into_inner();
+        held.goes_on();
+        held.give_up()
+    }
+}

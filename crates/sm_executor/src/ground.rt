@@ -1,0 +1,113 @@
+//! What a board is opened with.
+ghost use Rattle.std.specs.Prelude.{◌≡◌, ◌<◌, ◌≤◌, ◌^◌, All, IfOk, IfErr, length, slice_get, Some, ℕ};
+ghost use Rattle.sm_placement.specs.Place.{entry_at};
+ghost use Rattle.sm_map.specs.Entry.{IsInRange};
+ghost use Rattle.sm_machine.specs.State.{state_of};
+ghost use Rattle.sm_executor.specs.Tied.{IsMapOf};
+
+use crate::board::Board;
+use crate::held::Held;
+use crate::names::{Naming, PARTS, Side};
+use crate::unfinished::MOST_UNFINISHED;
+use sm_machine::Machine;
+use sm_map::{Entry, Publisher, Words};
+use sm_placement::Config;
+use sm_server::ShardId;
+use std::alloc::{AllocError, Global};
+use std::marker::Model;
+use std::sync::ledger::Blank;
+
+/// The words of a machine's map with their publisher, a copy of its configuration, and three ledgers that have counted nothing.
+///
+/// A contract sees the words, the configuration, and the names of the ledgers.
+#[derive(Drop)]
+pub struct Ground {
+    words: Words,
+    publisher: Publisher,
+    config: Config,
+    steps: Blank,
+    executed: Blank,
+    refused: Blank,
+}
+
+impl Model for Ground {
+    ghost use Rattle.std.specs.Prelude.{◌≡◌, ◌^◌, []};
+    ghost use Rattle.sm_executor.specs.Names.{Bases, bases};
+
+    ghost Value = { Bases };
+
+    ghost view = { λ g. bases g.words g.config g.steps.name g.executed.name g.refused.name };
+
+    ghost invariant = { λ g.
+        (g.publisher ≡ record { words = g.words; stores = [] })
+        × (g.steps.parts ≡ 2 ^ 62) × (g.executed.parts ≡ 2 ^ 62) × (g.refused.parts ≡ 2 ^ 62) };
+}
+
+/// The map's entry of each shard.
+fn entries_of(alloc: Global, machine: &Machine) -> Result<Vec<Entry>, AllocError>
+    ensures count { IfOk result (λ entries. length entries.items ≡ (state_of machine.now).sizes.shards) }
+    ensures each { IfOk result (λ entries. (s : ℕ) → s < (state_of machine.now).sizes.shards → slice_get entries.items s ≡ Some (entry_at (state_of machine.now).place s)) }
+    ensures in_range { IfOk result (λ entries. All (IsInRange (state_of machine.now).sizes.servers) entries.items) }
+{
+    machine.is_reached();
+    let count = machine.config().shard_count();
+    let mut entries = Vec::with_capacity(alloc, count as usize)?;
+    for number in 0..count {
+        let Entry { server, version } = machine.entry(ShardId::new(number));
+        entries.push_reserved(Entry { server, version });
+    }
+    Ok(entries)
+}
+
+impl Ground {
+    /// The ground of a machine as it stands. Takes memory, and else cannot fail.
+    pub fn new(alloc: Global, machine: &Machine) -> Result<Ground, AllocError>
+        ensures map { IfOk result (λ ground. IsMapOf ground.words (state_of machine.now)) }
+        ensures setup { IfOk result (λ ground. ground.setup ≡ machine.now.placement.setup) }
+    {
+        let entries = entries_of(alloc, machine)?;
+        let servers = machine.config().server_count();
+        let (words, publisher) = Words::open(alloc, servers, entries.as_slice())?;
+        Ok(Ground {
+            words,
+            publisher,
+            config: machine.config().copy(alloc)?,
+            steps: Blank::new(PARTS),
+            executed: Blank::new(PARTS),
+            refused: Blank::new(PARTS),
+        })
+    }
+}
+
+impl<A: Side, B: Side, C: Side, N: Naming> Board<A, B, C, N> {
+    /// Opens a board over a machine, on the ground of this machine as it stands, under the names of that ground. Where memory runs
+    /// out, both come back.
+    pub fn open(
+        alloc: Global,
+        machine: Machine,
+        ground: Ground,
+    ) -> Result<Board<A, B, C, N>, (Machine, Ground, AllocError)>
+        requires map { IsMapOf ground.words (state_of machine) }
+        requires setup { ground.setup ≡ machine.placement.setup }
+        requires names { (ground.words ≡ N.words) × (ground.setup ≡ N.setup) × (state_of machine ≡ N.opened) }
+        requires steps { (ground.steps ≡ A.name) × (A.parts ≡ 2 ^ 62) × (A.all ≡ 2 ^ 62) }
+        requires executed { (ground.executed ≡ B.name) × (B.parts ≡ 2 ^ 62) × (B.all ≡ 2 ^ 62) }
+        requires refused { (ground.refused ≡ C.name) × (C.parts ≡ 2 ^ 62) × (C.all ≡ 2 ^ 62) }
+        ensures { IfErr result (λ e. (e.0 ≡ machine) × (e.1 ≡ ground)) }
+    {
+        let room = match Vec::with_capacity(alloc, MOST_UNFINISHED) {
+            Ok(room) => room,
+            Err(why) => return Err((machine, ground, why)),
+        };
+        let Ground {
+            words,
+            publisher,
+            config,
+            steps,
+            executed,
+            refused,
+        } = ground;
+        let held = Held::open(machine, publisher, steps, executed, refused);
+        Ok(Board::of(held, words, config, room))
+    }
+}

@@ -1,0 +1,43 @@
+//! The streams of a machine that have not made their ends.
+ghost use Rattle.std.specs.Prelude.{◌≡◌, ◌≤◌, ◌<◌, ◌+◌, ◌++◌, length, vec_len, vec_capacity};
+ghost use Rattle.sm_protocol.specs.State.{stream_count};
+ghost use Rattle.sm_machine.specs.State.{state_of};
+ghost use Rattle.sm_executor.specs.Closed.{unfinished_in, unfinished_streams};
+
+use sm_machine::Machine;
+use sm_reservation::StreamId;
+
+/// How many streams can be unfinished at once: those of sixteen plans, of 64 streams each.
+pub(crate) const MOST_UNFINISHED: usize = 1_024;
+
+/// Adds the streams of a plan that have not made their ends, each with how many instructions it has made. Takes no memory.
+fn push_unfinished(machine: &Machine, plan: u32, positions: &mut Vec<(StreamId, usize)>)
+    requires known { plan < length (state_of machine.now).plans }
+    requires room { vec_len positions.old + length (unfinished_in (state_of machine.now) plan (stream_count (state_of machine.now) plan)) ≤ vec_capacity positions.old }
+    ensures items { positions.new.items ≡ positions.old.items ++ unfinished_in (state_of machine.now) plan (stream_count (state_of machine.now) plan) }
+    ensures capacity { vec_capacity positions.new ≡ vec_capacity positions.old }
+{
+    machine.is_reached();
+    for number in 0..machine.stream_count(plan) {
+        let id = StreamId {
+            plan,
+            stream: number as u32,
+        };
+        if !machine.is_done(id) {
+            positions.push_reserved((id, machine.position(id)));
+        }
+    }
+}
+
+/// The streams that have not made their ends, into a list with room for them. Takes no memory.
+pub(crate) fn list_unfinished(machine: &Machine, positions: &mut Vec<(StreamId, usize)>)
+    requires { 1024 ≤ vec_capacity positions.old }
+    ensures items { positions.new.items ≡ unfinished_streams (state_of machine.now) }
+    ensures capacity { vec_capacity positions.new ≡ vec_capacity positions.old }
+{
+    machine.is_reached();
+    positions.clear();
+    for number in 0..machine.plan_count() {
+        push_unfinished(machine, number as u32, positions);
+    }
+}
