@@ -22,3 +22,4 @@ pub mod Existing
 pub mod Ended
 pub mod Small
 pub mod Drained
+pub mod Unrefused

@@ -16,7 +16,7 @@ use Rattle.sm_planner.specs.declared.moving.Move.{Move}
 use Rattle.sm_planner.specs.declared.moving.NoPlan.{NoPlan}
 use Rattle.sm_planner.specs.Basis.{Basis, basis, IsMoveOf, move_at, left_cell}
 use Rattle.sm_planner.specs.Plan.{planned}
-use Rattle.sm_planner.specs.Drain.{AreLeaving}
+use Rattle.sm_planner.specs.Drain.{drain_refusal, AreLeaving}
 use Rattle.sm_planner.specs.Refusal.{IsRefused, IsPlanOf}
 
 -- The streams' budgets add up to the plan's at most, each signal is of the plan, posted once and awaited once, and there is
@@ -77,3 +77,8 @@ pub record IsDrained (b : Basis) (v : ℕ) (plan : PlanModel) : Type 0 where
 abbrev pub DrainsEmpty : Type 0
 DrainsEmpty = (b : Basis) (v : ℕ) (moves : List Move) (plan : PlanModel) →
     v < (sizes_of b.setup).servers → AreLeaving b v (sizes_of b.setup).shards moves → IsPlanOf b moves plan → IsDrained b v plan
+
+-- the rule refuses none of the moves of a drain: where the server may be emptied and each shard has a target, there is a plan
+abbrev pub DrainsHavePlans : Type 0
+DrainsHavePlans = (b : Basis) (v : ℕ) (moves : List Move) →
+    IsSetup b.setup → drain_refusal b v ≡ None → AreLeaving b v (sizes_of b.setup).shards moves → (plan : PlanModel) × IsPlanOf b moves plan

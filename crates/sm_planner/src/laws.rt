@@ -1,5 +1,5 @@
 //! Laws of the rule's plans.
-ghost use Rattle.sm_planner.specs.Laws.{PlansAreOrderly, PlansAreUsable, PlansAreUsableAt, PlansMove, RuleAnswersOnce, DrainsEmpty};
+ghost use Rattle.sm_planner.specs.Laws.{PlansAreOrderly, PlansAreUsable, PlansAreUsableAt, PlansMove, RuleAnswersOnce, DrainsEmpty, DrainsHavePlans};
 
 /// The plan of moves in any order keeps its budget, uses each signal once, and has an order of its steps: a signal goes
 /// from a move to one that is placed later.
@@ -27,4 +27,9 @@ pub fn rule_answers_once()
 /// At the end of the plan of a drain the server has nothing; and the plan is sound and admitted.
 pub fn drains_empty()
     ensures { DrainsEmpty }
+{}
+
+/// The rule has a plan for the moves of a drain, where the server may be emptied and each of its shards has a target.
+pub fn drains_have_plans()
+    ensures { DrainsHavePlans }
 {}

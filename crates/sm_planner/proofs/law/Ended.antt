@@ -40,14 +40,14 @@ search_below (suc n) test = elim (cases_Bool (test n)) [
   ]
 ]
 
-primary_is : (x : Cell) → is_primary x ≡ true → x ≡ cell.Primary
+pub primary_is : (x : Cell) → is_primary x ≡ true → x ≡ cell.Primary
 primary_is cell.Absent e = cc
 primary_is (cell.Prepared from number) e = cc
 primary_is cell.Secondary e = cc
 primary_is cell.Primary e = refl
 primary_is (cell.Forwarding to number) e = cc
 
-secondary_is : (x : Cell) → is_secondary x ≡ true → x ≡ cell.Secondary
+pub secondary_is : (x : Cell) → is_secondary x ≡ true → x ≡ cell.Secondary
 secondary_is cell.Absent e = cc
 secondary_is (cell.Prepared from number) e = cc
 secondary_is cell.Secondary e = refl

@@ -13,7 +13,7 @@ use Rattle.sm_planner.proofs.law.Payments.{IsAffordable, load, to, taken, freed}
 
 -- ---- numbers in a list
 
-any_there : (i : ℕ) (xs : List ℕ) (k : ℕ) → k < length xs → get_or xs k 0 ≡ i → is_placed xs i ≡ true
+pub any_there : (i : ℕ) (xs : List ℕ) (k : ℕ) → k < length xs → get_or xs k 0 ≡ i → is_placed xs i ≡ true
 any_there i [] k l e = absurd (omega arith)
 any_there i (x ∷ xs) zero l e = rw (eq-eqb x i e) refl
 any_there i (x ∷ xs) (suc k) l e = elim (cases_Bool (x == i)) [
