@@ -14,7 +14,7 @@ pub fn plans_are_usable()
     ensures reached { PlansAreUsableAt }
 {}
 
-/// At the end of the plan each moved replica stands at its new server as it stood at the old one, and all else is as before.
+/// At the end of the plan each moved replica stands at its new server as it stood at the old one; all other cells are as before.
 pub fn plans_move()
     ensures { PlansMove }
 {}
