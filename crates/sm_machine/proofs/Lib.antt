@@ -24,3 +24,4 @@ pub mod Engaged
 pub mod Losses
 pub mod Told
 pub mod Unfinished
+pub mod Directed

@@ -1,6 +1,7 @@
 -- A machine keeps its configuration.
 use Rattle.std.proofs.Common.{◌≡◌, ◌∙◌, ap}
 use Rattle.std.specs.Prelude.{ℕ, Result, Ok, Err, IfOk, OnErr}
+use Rattle.sm_placement.specs.Setup.{Setup}
 use Rattle.sm_verifier.specs.Checked.{CheckedModel}
 use Rattle.sm_machine.specs.Machine.{MachineModel}
 use Rattle.sm_machine.specs.State.{whole_of}
@@ -9,6 +10,11 @@ use Rattle.sm_machine.specs.Started.{IsStarted}
 pub setup_kept : (m a n : MachineModel) → m ≡ a → (whole_of n).setup ≡ (whole_of m).setup → n.placement.setup ≡ a.placement.setup
 unfolding whole_of
 setup_kept m a n e s = s ∙ ap (λ (k : MachineModel). k.placement.setup) e
+
+-- its configuration is that of the placement
+pub setup_is : (m : MachineModel) (setup : Setup) → (whole_of m).setup ≡ setup → m.placement.setup ≡ setup
+unfolding whole_of
+setup_is m setup e = e
 
 -- whether the plan starts or not
 pub setup_by : {A E : Type 0} (m n : MachineModel) (p : CheckedModel) (number : A → ℕ) (r : Result A E) → IfOk r (λ a. IsStarted (whole_of m) p (number a) (whole_of n)) → OnErr r (n ≡ m) → (whole_of n).setup ≡ (whole_of m).setup

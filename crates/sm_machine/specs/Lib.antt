@@ -24,3 +24,4 @@ pub mod Engaged
 pub mod Losses
 pub mod Retired
 pub mod Hand
+pub mod Director

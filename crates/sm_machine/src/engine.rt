@@ -1,13 +1,13 @@
 #![tactic(auto, unfolding(crate::specs::State::whole_of))]
 //! The fields of a machine, read and written one at a time.
-ghost use Rattle.std.specs.Prelude.{◌≡◌, ◌<◌, ◌≤◌, ◌+◌, ◌-◌, ◌^◌, ◌∷◌, ◌==◌, if◌then◌else◌, ℕ, suc, not, is_some, Some, None, Ok, IsOk, OnOk, IfOk, OnErr, IfErr, IfSome, [], replicate, reverse, vec_capacity, true, false, length};
+ghost use Rattle.std.specs.Prelude.{◌≡◌, ◌<◌, ◌≤◌, ◌+◌, ◌-◌, ◌^◌, ◌∷◌, ◌==◌, if◌then◌else◌, ℕ, suc, not, is_some, Some, None, Ok, IsOk, OnOk, IfOk, OnErr, IfErr, IfSome, [], replicate, reverse, vec_capacity, true, false, length, slice_index_or};
 ghost use Rattle.std.specs.Option.{ForSome};
 ghost use Rattle.sm_placement.specs.Sums.{put, put2};
 ghost use Rattle.sm_placement.specs.Rows.{IsKnownCall};
 ghost use Rattle.sm_placement.specs.Place.{called_numbered, publish};
 ghost use Rattle.sm_plan_code.specs.Instr.{shard_of, IsOwn};
 ghost use Rattle.sm_plan_code.specs.Table.{exchange_of};
-ghost use Rattle.sm_protocol.specs.State.{is_begun, progress_of, next_instruction, allowance, stream_count, signal_count, parcel_at, set_progress, recorded};
+ghost use Rattle.sm_protocol.specs.State.{is_begun, progress_of, next_instruction, allowance, plan_at, stream_count, signal_count, parcel_at, set_progress, recorded};
 ghost use Rattle.sm_reservation.specs.Hold.{minus, plus};
 ghost use Rattle.sm_reservation.specs.HoldOf.{hold_of};
 ghost use Rattle.sm_reservation.specs.CanJoin.{CanJoin};
@@ -31,7 +31,7 @@ ghost use Rattle.sm_machine.specs.Engaged.{engaged_by};
 ghost use Rattle.sm_placement.specs.Place.{set_down};
 ghost use Rattle.sm_machine.specs.Restarts.{live_there, CanPayLive, CanGetLive};
 ghost use Rattle.sm_machine.specs.Restarted.{down_whole, up_whole};
-ghost use Rattle.sm_protocol.specs.Ticket.{is_open_ticket};
+ghost use Rattle.sm_protocol.specs.Ticket.{passes, is_open_ticket};
 ghost use Rattle.sm_machine.specs.Retired.{recorded_steps};
 ghost use Rattle.sm_machine.specs.Unfinished.{unfinished_below};
 
@@ -47,7 +47,7 @@ use crate::restarts::{get_live, pay_live};
 use crate::rooms::Rooms;
 use crate::token::StreamToken;
 use sm_placement::{Entry, Placement};
-use sm_plan_code::{Instr, ServerCall};
+use sm_plan_code::{Instr, Plan, ServerCall};
 use sm_protocol::{Event, Logged, Played};
 use sm_reservation::{Change, Pool, StreamId};
 use sm_server::{ServerId, ShardId};
@@ -462,6 +462,14 @@ impl Engine {
         self.plans.at(plan as usize).stream_count()
     }
 
+    /// The plan of a number.
+    pub fn plan(&self, plan: u32) -> &Plan
+        requires { plan < length (state_of self.now).plans }
+        ensures { result.now ≡ plan_at (state_of self.now) plan }
+    {
+        self.plans.at(plan as usize).plan()
+    }
+
     /// How many plans are unfinished.
     pub fn running(&self) -> u32
         ensures { result ≡ (whole_of self.now).running }
@@ -523,6 +531,13 @@ impl Engine {
         ensures { result ≡ is_open_ticket (state_of self.now).log ticket.now }
     {
         self.journal.is_open(ticket)
+    }
+
+    /// The pass that is recorded at a place of the log.
+    pub fn pass_at(&self, place: u32) -> Option<TicketParts>
+        ensures { result ≡ slice_index_or (passes (state_of self.now).log) place None }
+    {
+        self.journal.pass_at(place)
     }
 
     /// The placement as it stands. The pool ends, with all that streams hold and signals carry. Takes no memory.

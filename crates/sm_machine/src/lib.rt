@@ -5,6 +5,7 @@ mod answer;
 mod answers;
 mod asking;
 mod begun;
+mod director;
 mod engaging;
 mod engine;
 mod hand;
@@ -40,6 +41,7 @@ mod token;
 mod tries;
 
 pub use answer::Answer;
+pub use director::Director;
 pub use hand::Hand;
 pub use link::Link;
 pub use machine::Machine;

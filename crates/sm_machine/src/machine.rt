@@ -1,8 +1,9 @@
 //! Machines.
-ghost use Rattle.std.specs.Prelude.{◌≡◌, ◌≢◌, ◌≤◌, ◌<◌, ◌⊎◌, IfOk, OnOk, IfErr, OnErr, length, true, false, ◌∷◌, [], if◌then◌else◌, ◌+◌, reverse};
+ghost use Rattle.std.specs.Prelude.{◌≡◌, ◌≢◌, ◌≤◌, ◌<◌, ◌⊎◌, IfOk, OnOk, IfErr, OnErr, length, true, false, ◌∷◌, [], if◌then◌else◌, ◌+◌, reverse, None, slice_index_or};
 ghost use Rattle.sm_placement.specs.Place.{down_count, entry_at};
 ghost use Rattle.sm_placement.specs.Lead.{IsSettled};
-ghost use Rattle.sm_protocol.specs.State.{opened, is_begun, progress_of, allowance, free_places, stream_count};
+ghost use Rattle.sm_protocol.specs.State.{opened, is_begun, progress_of, allowance, free_places, stream_count, plan_at};
+ghost use Rattle.sm_protocol.specs.Ticket.{passes};
 ghost use Rattle.sm_machine.specs.declared.opened.OpenFault.TheVariants.{LogFull};
 ghost use Rattle.sm_placement.specs.Sums.{bit};
 ghost use Rattle.sm_placement.specs.Setup.{Setup, sizes_of};
@@ -39,6 +40,7 @@ use crate::step::Step;
 use crate::ticket::{Ticket, close_tickets};
 use crate::token::{StreamToken, close_tokens};
 use sm_placement::{Config, Entry, Placement};
+use sm_plan_code::Plan;
 use sm_protocol::{BeginFault, Event, Logged, Passage, RefillFault};
 use sm_reservation::{Pool, StreamId};
 use sm_server::{ServerId, ShardId};
@@ -76,6 +78,7 @@ impl Machine {
     ) -> Result<(Machine, Vec<Permit>), (Placement, OpenFault)>
         requires { IsSettled (sizes_of placement.setup) (place_of placement) }
         ensures state { IfOk result (λ r. state_of r.0 ≡ opened (sizes_of placement.setup) (place_of placement) log_room) }
+        ensures setup { IfOk result (λ r. r.0.placement.setup ≡ placement.setup) }
         ensures permits { IfOk result (λ r. r.1.items ≡ passing_below (place_of placement).down (length placement.setup.servers)) }
         ensures fits { OnOk result ((log_room ≤ 1048576) × (down_count (sizes_of placement.setup) (place_of placement) ≤ log_room)) }
         ensures back { IfErr result (λ e. e.0 ≡ placement) }
@@ -308,6 +311,15 @@ impl Machine {
         close_tokens(tokens);
         close_permits(permits);
         close_tickets(tickets);
+        self.into_placement()
+    }
+
+    /// Ends the machine, when all rights to go on have ended, and answers its placement as it stands. Takes no memory.
+    pub(crate) fn into_placement(self) -> Placement
+        ensures place { place_of result ≡ (state_of self).place }
+        ensures sizes { sizes_of result.setup ≡ (state_of self).sizes }
+        ensures setup { result.setup ≡ self.placement.setup }
+    {
         let Machine { engine } = self;
         engine.into_placement()
     }
@@ -416,6 +428,24 @@ impl Machine {
         ensures { result ≡ stream_count (state_of self.now) plan }
     {
         self.engine.stream_count(plan) as u64
+    }
+
+    /// The plan of a number.
+    pub fn plan(&self, plan: u32) -> &Plan
+        requires { plan < length (state_of self.now).plans }
+        ensures { result.now ≡ plan_at (state_of self.now) plan }
+    {
+        self.engine.plan(plan)
+    }
+
+    /// A ticket of the pass that is recorded at this place of the log.
+    pub(crate) fn ticket_at(&self, place: u32) -> Option<Ticket>
+        ensures { result ≡ slice_index_or (passes (state_of self.now).log) place None }
+    {
+        match self.engine.pass_at(place) {
+            Some(parts) => Some(Ticket::new(parts)),
+            None => None,
+        }
     }
 
     /// Raises a stream's allowance of tries, by 262,144 at most at once.

@@ -1,9 +1,10 @@
 -- A machine over a settled placement keeps what every machine keeps.
-use Rattle.std.proofs.Common.{◌≤◌, subst, arith}
+use Rattle.std.proofs.Common.{◌≤◌, subst, ap, arith}
 use Rattle.sm_placement.specs.Setup.{IsSetup, sizes_of}
 use Rattle.sm_placement.specs.Place.{down_count}
 use Rattle.sm_placement.specs.Layout.{place_of}
-use Rattle.sm_machine.specs.State.{whole_of}
+use Rattle.sm_machine.specs.State.{Whole, whole_of}
+use Rattle.sm_machine.proofs.Setups.{setup_is}
 use Rattle.sm_machine.proofs.Turns.{opened_working}
 use Rattle.sm_machine.proofs.machine.Machine.open.Goals as goal
 
@@ -23,3 +24,6 @@ invariant_of-result c =
       most = most;
     })
     c.of-engine.ensures
+
+pub returns-clause-setup : goal.returns-clause-setup
+returns-clause-setup c = setup_is c.of-engine.result c.args.placement.setup (ap (λ (x : Whole). x.setup) c.of-engine.ensures)

@@ -1,0 +1,19 @@
+-- What happens to a machine under one who has all rights that it gives away.
+use Rattle.std.specs.Prelude.{◌≡◌, ◌≢◌, Option, Some, None}
+use Rattle.sm_protocol.specs.declared.event.Played.{Played}
+use Rattle.sm_protocol.specs.declared.event.Played.TheVariants as played
+use Rattle.sm_protocol.specs.Steps.{Answered}
+use Rattle.sm_protocol.specs.Happens.{Happening, happens}
+use Rattle.sm_machine.specs.Machine.{MachineModel}
+use Rattle.sm_machine.specs.State.{state_of}
+
+-- The event has happened, with this answer, which is not that the machine is halted. The configuration is as it was.
+pub record IsDirected (m : MachineModel) (e : Happening) (answer : Played) (n : MachineModel) : Type 0 where
+  pub event : happens (state_of m) e ≡ (Answered answer, state_of n)
+  pub running : answer ≢ played.Halted
+  pub setup : n.placement.setup ≡ m.placement.setup
+
+-- the same of an event, if there is one; where there is none, it is unknown, and nothing has changed
+abbrev pub IsDirectedIf : MachineModel → Option Happening → Played → MachineModel → Type 0
+IsDirectedIf m None answer n = (answer ≡ played.Unknown) × (n ≡ m)
+IsDirectedIf m (Some e) answer n = IsDirected m e answer n
