@@ -137,7 +137,7 @@ names_are_few d h =
     let most_shards = parts.shard_count in
     record { shards = omega arith; servers = omega arith }
 
-each_where_there : {A : Type 0} (P : A → Type 0) (f : Data → A) (o : Option (List Data)) → All P (map f (unwrap_or o [])) → IfSome (option_map (map f) o) (All P)
+pub each_where_there : {A : Type 0} (P : A → Type 0) (f : Data → A) (o : Option (List Data)) → All P (map f (unwrap_or o [])) → IfSome (option_map (map f) o) (All P)
 each_where_there P f None h = tt
 each_where_there P f (Some ds) h = h
 
@@ -157,6 +157,10 @@ plan_fits shards servers (Some d) few h = (plan_good members.Plan shards servers
 -- the plan of a document without faults has none
 pub plan_without_faults : (d : Data) → document_faults d ≡ [] → faults_within (plan_faults members.Plan (shard_names_in d) (server_names_in d) []) (found members.Plan d) ≡ []
 plan_without_faults d h = (faultless_parts d h).plan
+
+-- nor has one of its list of plans
+pub plans_without_faults : (d : Data) → document_faults d ≡ [] → walked (plan_faults members.Plans (shard_names_in d) (server_names_in d)) [] (entries_in members.Plans d) ≡ []
+plans_without_faults d h = (faultless_parts d h).plans
 
 plans_fit : (shards servers : List (List ℕ)) (ds : List Data) → HaveIds shards servers → walked (plan_faults members.Plans shards servers) [] ds ≡ [] → All (IsKnownPlan (length shards) (length servers)) (map (plan_in shards servers) ds)
 plans_fit shards servers ds few h =

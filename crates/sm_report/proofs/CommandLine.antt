@@ -19,16 +19,21 @@ takes_check : takes program (codes "check" ∷ []) ≡ true
 unfolding clap_on_literals
 takes_check = refl
 
-takes_named : (word : Text) (calls check : Bool) → bytes_eq word (codes "calls") ≡ calls → bytes_eq word (codes "check") ≡ check
+takes_play : takes program (codes "play" ∷ []) ≡ true
+unfolding clap_on_literals
+takes_play = refl
+
+takes_named : (word : Text) (calls check play : Bool) → bytes_eq word (codes "calls") ≡ calls → bytes_eq word (codes "check") ≡ check → bytes_eq word (codes "play") ≡ play
     → asked_for (word ∷ []) ≢ None → takes program (word ∷ []) ≡ true
-takes_named word true check is_calls is_check asked = rw ((bytes_eq-Decides word (codes "calls")).0 is_calls) takes_calls
-takes_named word false true is_calls is_check asked = rw ((bytes_eq-Decides word (codes "check")).0 is_check) takes_check
-takes_named word false false is_calls is_check asked = absurd (asked (rw is_calls (rw is_check refl)))
+takes_named word true check play is_calls is_check is_play asked = rw ((bytes_eq-Decides word (codes "calls")).0 is_calls) takes_calls
+takes_named word false true play is_calls is_check is_play asked = rw ((bytes_eq-Decides word (codes "check")).0 is_check) takes_check
+takes_named word false false true is_calls is_check is_play asked = rw ((bytes_eq-Decides word (codes "play")).0 is_play) takes_play
+takes_named word false false false is_calls is_check is_play asked = absurd (asked (rw is_calls (rw is_check (rw is_play refl))))
 
 -- clap takes the words that name a command
 pub takes_asked : (words : List Text) → asked_for words ≢ None → takes program words ≡ true
 takes_asked [] asked = absurd (asked refl)
-takes_asked (word ∷ []) asked = takes_named word (bytes_eq word (codes "calls")) (bytes_eq word (codes "check")) refl refl asked
+takes_asked (word ∷ []) asked = takes_named word (bytes_eq word (codes "calls")) (bytes_eq word (codes "check")) (bytes_eq word (codes "play")) refl refl refl asked
 takes_asked (word ∷ next ∷ rest) asked = absurd (asked refl)
 
 -- memory ran out, so nothing else is said

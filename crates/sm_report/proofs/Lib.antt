@@ -4,3 +4,5 @@ pub mod Inputs
 pub mod Texts
 pub mod OneReport
 pub mod SomeReport
+pub mod EventTurns
+pub mod PlayStages

@@ -16,7 +16,7 @@ use Rattle.sm_verifier.specs.Verdict.{IsSameFault}
 use Rattle.sm_plan_text.specs.declared.member.Member.TheVariants as member
 use Rattle.sm_plan_text.specs.Documents.{DocumentModel}
 use Rattle.sm_report.specs.declared.command.Command.{Command}
-use Rattle.sm_report.specs.declared.command.Command.TheVariants.{Calls, Check}
+use Rattle.sm_report.specs.declared.command.Command.TheVariants.{Calls, Check, Play}
 use Rattle.sm_report.specs.Report.{Output, refused}
 use Rattle.sm_report.specs.Checking.{stuck_line, fault_line, holding_line, accepted_line}
 use Rattle.sm_report.specs.Playing.{Scene}
@@ -107,6 +107,7 @@ document_one verdict Calls d =
 document_one verdict Check d =
     then_one (member_stage member.Plan d.plan) (IsOpenedForCheck d) (λ plan.
     then_one (placement_stage d) (IsPlanReport d.setup plan) (plan_one verdict d.setup plan))
+document_one verdict Play d = play_one verdict d
 
 -- what a command reports of bytes is one output
 pub same_report : IsOneVerdict → (command : Command) (most : ℕ) (bytes : List ℕ) (a b : Output) → IsReport command most bytes a → IsReport command most bytes b → a ≡ b

@@ -1,6 +1,7 @@
 -- The bytes that are read have a report: each stage ends or goes on, since a plan of a document is sound or has a fault, and
 -- may start or is held up.
-use Rattle.std.proofs.Common.{◌≡◌, ◌++◌, [], ℕ, Option, Some, None, Result, Ok, Err, List, length, nat_lt, refl, inl, inr}
+use Rattle.std.proofs.Common.{◌≡◌, ◌<◌, ◌+◌, ◌++◌, ◌∷◌, [], ℕ, zero, suc, Bool, true, false, All, IfSome, arith, Option, Some, None, Result, Ok, Err, List, length, nat_lt, refl, inl, inr}
+use Rattle.std.specs.Prelude.{slice_index_or}
 use Rattle.std.proofs.lemmas.Bool.{cases_Bool}
 use Rattle.sm_placement.specs.Setup.{Setup, sizes_of}
 use Rattle.sm_placement.specs.Place.{Place}
@@ -13,13 +14,16 @@ use Rattle.sm_plan_text.specs.declared.fault.TextFault.{TextFault}
 use Rattle.sm_plan_text.specs.declared.member.Member.TheVariants as member
 use Rattle.sm_plan_text.specs.Documents.{DocumentModel}
 use Rattle.sm_plan_text.specs.Reading.{read}
-use Rattle.sm_plan_text.proofs.ReadPlans.{IsPlanOf, HasItsPlan, read_has_plan}
+use Rattle.sm_plan_text.proofs.ReadPlans.{IsPlanOf, HasItsPlans, read_has_plan}
 use Rattle.sm_report.specs.declared.command.Command.{Command}
-use Rattle.sm_report.specs.declared.command.Command.TheVariants.{Calls, Check}
+use Rattle.sm_report.specs.declared.command.Command.TheVariants.{Calls, Check, Play}
 use Rattle.sm_report.specs.Report.{Output, refused, done}
+use Rattle.sm_report.specs.Playing.{Scene}
+use Rattle.sm_plan_text.specs.declared.event.EventText.{EventText}
 use Rattle.sm_report.specs.Checking.{fault_line, holding_line, accepted_line}
-use Rattle.sm_report.specs.Stages.{Then, read_or_bad, read_stage, member_stage, placement_stage, AtCheck, AtStart}
-use Rattle.sm_report.specs.Output.{calls_output, IsCalled, IsOpenedForCalls, IsAcceptedReport, IsPlanReport, IsOpenedForCheck, IsDocumentReport, IsReport}
+use Rattle.sm_report.specs.PlayLines.{plan_front}
+use Rattle.sm_report.specs.Stages.{Then, read_or_bad, read_stage, member_stage, alone_stage, placement_stage, log_stage, begin_stage, AtCheck, AtChecks, AtStart}
+use Rattle.sm_report.specs.Output.{calls_output, IsCalled, IsOpenedForCalls, IsAcceptedReport, IsPlanReport, IsOpenedForCheck, plans_of, has_list, played_output, IsPlayedOutput, IsBegunForPlay, IsLoggedForPlay, IsPlacedForPlay, IsOpenedForPlay, IsAloneForPlay, IsPlayReport, IsDocumentReport, IsReport}
 use Rattle.sm_report.proofs.Onward.{member_there}
 
 -- each plan has its verdict
@@ -60,14 +64,46 @@ plan_some verdicts setup plan p it =
     check_some verdicts.fault setup [] plan (AtStart setup p plan (IsAcceptedReport plan)) it
     (start_some verdicts.holding setup p plan (IsAcceptedReport plan) it (done (accepted_line plan), refl))
 
-document_some : HasVerdicts → (command : Command) (d : DocumentModel) → HasItsPlan d → IsMade (IsDocumentReport command d)
+-- each plan of a list passes the check, or the report ends with the first that does not
+checks_some : FindsFault → (setup : Setup) (many : Bool) (k : ℕ) (plans : List PlanModel) (Next : Output → Type 0) → All (IsPlanOf setup) plans → IsMade Next → IsMade (AtChecks (sizes_of setup) many k plans Next)
+checks_some finds setup many k [] Next all next = next
+checks_some finds setup many k (plan ∷ plans) Next all next =
+    check_some finds setup (plan_front many k) plan (AtChecks (sizes_of setup) many (k + 1) plans Next) (all 0 plan (omega arith))
+    (checks_some finds setup many (k + 1) plans Next (λ i d below. all (suc i) d (omega arith)) next)
+
+begun_some : (setup : Setup) (plan : Option PlanModel) (plans : Option (List PlanModel)) (events : List EventText) (x : Scene) → IsMade (IsBegunForPlay setup plan plans events x)
+begun_some setup (Some plan) None events x = then_some (begin_stage setup x) (IsPlayedOutput setup false (accepted_line plan) events) (λ y begun. (played_output setup false (accepted_line plan) events y, refl))
+begun_some setup (Some plan) (Some plans) events x = (played_output setup true [] events x, refl)
+begun_some setup None None events x = (played_output setup false [] events x, refl)
+begun_some setup None (Some plans) events x = (played_output setup true [] events x, refl)
+
+all_plans : (setup : Setup) (plan : Option PlanModel) (plans : Option (List PlanModel)) → IfSome plan (IsPlanOf setup) → IfSome plans (All (IsPlanOf setup)) → All (IsPlanOf setup) (plans_of plan plans)
+all_plans setup plan (Some plans) one all = all
+all_plans setup (Some plan) None one all = by_place
+  where
+    by_place : (k : ℕ) (d : PlanModel) → k < 1 → IsPlanOf setup (slice_index_or (plan ∷ []) k d)
+    by_place zero d below = one
+    by_place (suc k) d below = absurd (omega arith)
+all_plans setup None None one all = λ k d below. absurd (omega arith)
+
+play_some : HasVerdicts → (d : DocumentModel) → HasItsPlans d → IsMade (IsPlayReport d)
+play_some verdicts d has =
+    then_some (alone_stage d.plan d.plans) (IsAloneForPlay d) (λ alone first.
+    then_some (member_stage member.Events d.events) (IsOpenedForPlay d) (λ events there.
+    then_some (placement_stage d) (IsPlacedForPlay d events) (λ p opened.
+    then_some (log_stage d p) (IsLoggedForPlay d events p) (λ room logged.
+    checks_some verdicts.fault d.setup (has_list d.plans) 0 (plans_of d.plan d.plans) _ (all_plans d.setup d.plan d.plans has.plan has.plans)
+    (begun_some d.setup d.plan d.plans events _)))))
+
+document_some : HasVerdicts → (command : Command) (d : DocumentModel) → HasItsPlans d → IsMade (IsDocumentReport command d)
 document_some verdicts Calls d has =
     then_some (member_stage member.Calls d.calls) (IsOpenedForCalls d) (λ calls there.
     then_some (placement_stage d) (IsCalled d calls) (λ p opened. (calls_output d.setup p calls, refl)))
 document_some verdicts Check d has =
     then_some (member_stage member.Plan d.plan) (IsOpenedForCheck d) (λ plan there.
     then_some (placement_stage d) (IsPlanReport d.setup plan) (λ p opened.
-    plan_some verdicts d.setup plan p (member_there (IsPlanOf d.setup) member.Plan d.plan plan there has)))
+    plan_some verdicts d.setup plan p (member_there (IsPlanOf d.setup) member.Plan d.plan plan there has.plan)))
+document_some verdicts Play d has = play_some verdicts d has
 
 -- ---- what is read
 
@@ -75,7 +111,7 @@ read_or_bad_ok : (found : Result DocumentModel TextFault) (d : DocumentModel) �
 read_or_bad_ok (Ok rows) d e = cc
 read_or_bad_ok (Err fault) d e = absurd (cc)
 
-stage_has_plan : (most : ℕ) (bytes : List ℕ) (d : DocumentModel) → read_stage most bytes ≡ Ok d → HasItsPlan d
+stage_has_plan : (most : ℕ) (bytes : List ℕ) (d : DocumentModel) → read_stage most bytes ≡ Ok d → HasItsPlans d
 stage_has_plan most bytes d e = elim (cases_Bool (nat_lt most (length bytes))) [
   | inl long ↦ absurd (let ended = rw long at e in cc)
   | inr short ↦ read_has_plan bytes d (read_or_bad_ok (read bytes) d (rw short at e))

@@ -7,7 +7,7 @@ use Rattle.clap.specs.Kinds.{Kinds, IsAmong}
 use Rattle.clap.specs.declared.error.kind.ErrorKind.{ErrorKind}
 use Rattle.clap.specs.declared.error.kind.ErrorKind.TheVariants as kind
 use Rattle.sm_report.specs.declared.command.Command.{Command}
-use Rattle.sm_report.specs.declared.command.Command.TheVariants.{Calls, Check}
+use Rattle.sm_report.specs.declared.command.Command.TheVariants.{Calls, Check, Play}
 use Rattle.sm_report.specs.declared.command.Word.{Word}
 use Rattle.sm_report.specs.declared.command.Word.TheVariants.{Report}
 use Rattle.sm_report.specs.declared.command.LineFault.{LineFault}
@@ -18,6 +18,7 @@ abbrev pub named : List ℕ → Option Command
 named name =
     if bytes_eq name (codes "calls") then Some Calls
     else if bytes_eq name (codes "check") then Some Check
+    else if bytes_eq name (codes "play") then Some Play
     else None
 
 -- what the words ask for: one word alone names a command
@@ -25,12 +26,16 @@ abbrev pub asked_for : List (List ℕ) → Option Word
 asked_for (word ∷ []) = option_map (λ c. Report c) (named word)
 asked_for _ = None
 
--- the program's command line, as clap reads it
-abbrev pub program : App
-program =
+-- the words for calls and for checks, as clap reads them
+abbrev pub first_words : App
+first_words =
     with_subcommand
     (with_subcommand (on_top (λ s. record s { no_binary_name = true; subcommand_required = true }) (new_app (codes "smplan"))) (new_app (codes "calls")).top)
     (new_app (codes "check")).top
+
+-- the program's command line, as clap reads it
+abbrev pub program : App
+program = with_subcommand first_words (new_app (codes "play")).top
 
 -- what is said of an error of this kind: help where help was asked for, unless memory ran out
 abbrev pub TellsKind : LineFault → ErrorKind → Type 0

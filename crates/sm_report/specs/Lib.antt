@@ -10,5 +10,6 @@ pub mod Report
 pub mod Early
 pub mod Playing
 pub mod PlayLines
+pub mod Player
 pub mod Stages
 pub mod Output

@@ -7,7 +7,7 @@ use Rattle.sm_plan_text.specs.declared.member.Member.TheVariants as member
 use Rattle.sm_plan_text.specs.Calls.{NamedCall}
 use Rattle.sm_plan_text.specs.Documents.{DocumentModel}
 use Rattle.sm_report.specs.declared.command.Command.{Command}
-use Rattle.sm_report.specs.declared.command.Command.TheVariants.{Calls, Check}
+use Rattle.sm_report.specs.declared.command.Command.TheVariants.{Calls, Check, Play}
 use Rattle.sm_report.specs.Answers.{answer_lines, place_after_all}
 use Rattle.sm_report.specs.Checking.{accepted_line}
 use Rattle.sm_report.specs.Ending.{ending}
@@ -100,6 +100,7 @@ IsPlayReport d = Then (alone_stage d.plan d.plans) (IsAloneForPlay d)
 abbrev pub IsDocumentReport : Command → DocumentModel → Output → Type 0
 IsDocumentReport Calls d = IsCallsReport d
 IsDocumentReport Check d = IsCheckReport d
+IsDocumentReport Play d = IsPlayReport d
 
 -- what a command reports of the bytes that are read, where there may be at most so many
 abbrev pub IsReport : Command → ℕ → List ℕ → Output → Type 0

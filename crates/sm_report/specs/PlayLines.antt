@@ -14,7 +14,7 @@ use Rattle.sm_protocol.specs.declared.event.BeginFault.{BeginFault}
 use Rattle.sm_protocol.specs.declared.event.BeginFault.TheVariants as begin_fault
 use Rattle.sm_protocol.specs.declared.event.RefillFault.{RefillFault}
 use Rattle.sm_protocol.specs.declared.event.RefillFault.TheVariants as refill_fault
-use Rattle.sm_protocol.specs.State.{State, stream_id, stream_count, stream_parts, progress_of, plan_at}
+use Rattle.sm_protocol.specs.State.{State, Progress, stream_id, stream_count, stream_parts, progress_of, plan_at}
 use Rattle.sm_protocol.specs.Steps.{Outcome, Refused, Answered}
 use Rattle.sm_report.specs.Lines.{line}
 use Rattle.sm_report.specs.Ending.{server_name, shard_name}
@@ -125,12 +125,13 @@ stream_at_line stream at length = line (stream ∷ codes ": at " ∷ decimal at 
 abbrev pub stream_done_line : List ℕ → List ℕ
 stream_done_line stream = line (stream ∷ codes ": done" ∷ [])
 
+-- how far a stream of this name has come, whose code is so long
+abbrev pub progress_line_of : List ℕ → ℕ → Progress → List ℕ
+progress_line_of stream length progress = if progress.done then stream_done_line stream else stream_at_line stream progress.at length
+
 -- how far a stream of the plan at this place of the document has come
 abbrev pub progress_line : Bool → ℕ → State → StreamId → List ℕ
-progress_line many place w id =
-    if (progress_of w id).done
-    then stream_done_line (stream_text many place id.stream)
-    else stream_at_line (stream_text many place id.stream) (progress_of w id).at (length (stream_parts w id).code)
+progress_line many place w id = progress_line_of (stream_text many place id.stream) (length (stream_parts w id).code) (progress_of w id)
 
 -- the lines of all streams of the plan with this number
 abbrev pub progress_lines : Bool → ℕ → State → ℕ → List ℕ

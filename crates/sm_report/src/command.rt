@@ -2,7 +2,7 @@
 ghost use Rattle.std.specs.Prelude.{◌≡◌, ◌≢◌, Some, None, IfOk, IfErr, map};
 ghost use Rattle.clap.specs.Words.{app_of, fault_of, kind_of};
 ghost use Rattle.clap.specs.Walk.{texts};
-ghost use Rattle.sm_report.specs.CommandLine.{named, asked_for, program, Tells, TellsKind};
+ghost use Rattle.sm_report.specs.CommandLine.{named, asked_for, first_words, program, Tells, TellsKind};
 
 use clap::error::ErrorKind;
 use clap::{Command as Parser, Error};
@@ -15,6 +15,8 @@ pub enum Command {
     Calls,
     /// Whether the document's plan is accepted at its placement, or why it is not.
     Check,
+    /// The answers to the document's events, how far its plans have come, and the placement after them.
+    Play,
 }
 
 impl Command {
@@ -26,6 +28,8 @@ impl Command {
             Some(Command::Calls)
         } else if name == "check" {
             Some(Command::Check)
+        } else if name == "play" {
+            Some(Command::Play)
         } else {
             None
         }
@@ -49,9 +53,9 @@ pub enum LineFault {
     Bad { text: String },
 }
 
-/// The command line: one word, the name of a command.
-fn parser<'a>(alloc: Global) -> Result<Parser<'a>, AllocError>
-    ensures { IfOk result (λ p. app_of p ≡ program) }
+/// The words for calls and for checks.
+fn first_words<'a>(alloc: Global) -> Result<Parser<'a>, AllocError>
+    ensures { IfOk result (λ p. app_of p ≡ first_words) }
 {
     let calls = Parser::new(alloc, "calls").about(
         "Makes the document's calls, and prints their answers and the placement after them",
@@ -66,6 +70,16 @@ fn parser<'a>(alloc: Global) -> Result<Parser<'a>, AllocError>
         .subcommand_required(true)
         .subcommand(calls)?
         .subcommand(check)
+}
+
+/// The command line: one word, the name of a command.
+fn parser<'a>(alloc: Global) -> Result<Parser<'a>, AllocError>
+    ensures { IfOk result (λ p. app_of p ≡ program) }
+{
+    let play = Parser::new(alloc, "play").about(
+        "Plays the document's events, and prints their answers, how far its plans have come, and the placement after them",
+    );
+    first_words(alloc)?.subcommand(play)
 }
 
 /// What an error of the command line tells.

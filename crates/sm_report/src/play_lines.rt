@@ -34,7 +34,12 @@ pub fn push_event_front(out: &mut String, i: usize) -> Result<(), AllocError>
 }
 
 /// Adds a stream, with its plan's place where the document has a list of plans.
-fn push_stream_text(out: &mut String, many: bool, place: u32, stream: u32) -> Result<(), AllocError>
+fn push_stream_text(
+    out: &mut String,
+    many: bool,
+    place: usize,
+    stream: u32,
+) -> Result<(), AllocError>
     ensures { OnOk result (string_bytes out.new ≡ string_bytes out.old ++ stream_text many place stream) }
 {
     if many {
@@ -44,7 +49,12 @@ fn push_stream_text(out: &mut String, many: bool, place: u32, stream: u32) -> Re
 }
 
 /// A stream, with its plan's place where the document has a list of plans.
-pub fn stream_text(alloc: Global, many: bool, place: u32, stream: u32) -> Result<String, AllocError>
+pub fn stream_text(
+    alloc: Global,
+    many: bool,
+    place: usize,
+    stream: u32,
+) -> Result<String, AllocError>
     ensures { IfOk result (λ text. string_bytes text ≡ stream_text many place stream) }
 {
     let mut text = String::new(alloc);
@@ -115,7 +125,7 @@ pub fn push_denied(
         Denied::AlreadyDown => push_word(out, "denied 1 AlreadyDown"),
         Denied::Engaged { stream } => {
             let place = place_of_number(places, stream.plan);
-            let text = stream_text(alloc, many, place, stream.stream)?;
+            let text = stream_text(alloc, many, place as usize, stream.stream)?;
             push_engaged(out, text.as_str())
         }
         Denied::GlobalCap => push_word(out, "denied 3 GlobalCap"),

@@ -16,6 +16,7 @@ use crate::command::Command;
 use crate::early::Early;
 use crate::input::{InputFault, take_input};
 use crate::made::Made;
+use crate::plays::report_play;
 use crate::status::Status;
 use sm_plan_text::{Document, TextFault, read_document};
 use sm_verifier::{finds_fault, finds_holding, one_fault, one_holding};
@@ -64,6 +65,7 @@ fn report_document(alloc: Global, command: Command, mut document: Document) -> R
     match command {
         Command::Calls => report_calls(alloc, &mut document),
         Command::Check => report_check(alloc, &mut document),
+        Command::Play => report_play(alloc, &mut document),
     }
 }
 

@@ -7,13 +7,15 @@ fn knows_the_commands(rt: HostRuntime) {
     assert!(rt; word.is_ok_and(|word| word == Word::Report(Command::Calls)));
     let word = command_of(rt.alloc(), &["check"]);
     assert!(rt; word.is_ok_and(|word| word == Word::Report(Command::Check)));
+    let word = command_of(rt.alloc(), &["play"]);
+    assert!(rt; word.is_ok_and(|word| word == Word::Report(Command::Play)));
 }
 
 static BAD: [&[&str]; 12] = [
     &[],
     &["chat"],
     &["calls", "check"],
-    &["play"],
+    &["play", "play"],
     &["plan"],
     &["run"],
     &["calls", "calls"],

@@ -1,0 +1,190 @@
+-- Turns of events, as a player makes them.
+use Rattle.std.proofs.Common.{◌≡◌, ◌<◌, ◌≤◌, ◌+◌, ◌^◌, ◌++◌, ◌∷◌, [], ℕ, Bool, List, Result, Ok, Err, Option, Some, None, length, map, refl, sym, ap, ◌∙◌, subst, arith, append_assoc}
+use Rattle.std.specs.Prelude.{All, slice_index_or, slice_set, option_map, OnOk}
+use Rattle.std.proofs.lemmas.List.{map-set, length-append}
+use Rattle.sm_placement.specs.Setup.{Setup, Sizes, sizes_of}
+use Rattle.sm_verifier.specs.Checked.{CheckedModel}
+use Rattle.sm_plan_text.specs.declared.event.EventText.{EventText}
+use Rattle.sm_plan_text.specs.declared.event.EventText.TheVariants as text
+use Rattle.sm_plan_text.specs.Events.{IsKnownEvent}
+use Rattle.sm_protocol.specs.declared.event.BeginFault.{BeginFault}
+use Rattle.sm_protocol.specs.declared.event.Played.{Played}
+use Rattle.sm_protocol.specs.declared.event.Played.TheVariants as played
+use Rattle.sm_protocol.specs.State.{State, stream_id, stream_parts, progress_of}
+use Rattle.sm_protocol.specs.Steps.{Outcome, Answered}
+use Rattle.sm_protocol.specs.Ticket.{Ticket}
+use Rattle.sm_protocol.specs.Happens.{Happening, PassOn, Begin, happens}
+use Rattle.sm_machine.specs.Machine.{MachineModel}
+use Rattle.sm_machine.specs.State.{state_of}
+use Rattle.sm_machine.specs.Hand.{hand_plan, AreFor}
+use Rattle.sm_machine.specs.Director.{IsDirected, IsDirectedIf}
+use Rattle.sm_machine.proofs.Directed.{IsNoStart, same_plans, begun_is_there, one_more}
+use Rattle.sm_machine.proofs.FirstPlaces.{left_there}
+use Rattle.sm_machine.proofs.HandPlays.{sizes_are, same_sizes}
+use Rattle.sm_machine.proofs.HandStarts.{plan_there, number_fits}
+use Rattle.sm_report.specs.declared.player.Player.{Player}
+use Rattle.sm_report.specs.PlayLines.{stream_text, progress_line_of, progress_line, event_front, played_line, outcome_line}
+use Rattle.sm_report.specs.Playing.{Scene, pass_at, asked_by, after_event, event_turn, event_turn_by}
+use Rattle.sm_report.specs.Player.{scene_of, IsSetUp, IsEventPlayed}
+
+-- there is nothing that the event speaks of
+pub nothing_asked : (p : Player) (e : EventText) → IsSetUp p → asked_by (scene_of p) e ≡ None → IsEventPlayed p e played.Unknown p
+nothing_asked p e r n = record {
+  turn = ap (event_turn_by (scene_of p) e) n;
+  running = λ h. cc;
+  begun = λ number h. absurd (cc);
+  ready = r;
+  setup = refl;
+}
+
+-- what is answered that has begun is there
+begun_there : (m n : MachineModel) (h : Happening) (a : Played) → IsDirected m h a n → (number : ℕ) → a ≡ played.Begun number → number < length (state_of n).plans
+begun_there m n h a d number is =
+    subst (λ (w : State). number < length w.plans) (ap (λ o. o.1) d.event)
+    (begun_is_there (state_of m) h number (ap (λ o. o.0) d.event ∙ ap Answered is))
+
+-- an event that starts no plan leads from one scene to the next by its state
+pub asked_so : (p q : Player) (e : EventText) (h : Happening) (a : Played) → IsSetUp p → asked_by (scene_of p) e ≡ Some h → IsNoStart h → ((x : Scene) (o : Outcome) → after_event x e o ≡ x) →
+    IsDirected p.director h a q.director → q.waiting ≡ p.waiting → q.places ≡ p.places → IsEventPlayed p e a q
+asked_so p q e h a r is starts_none after d waiting places = record {
+  turn = ap (event_turn_by (scene_of p) e) is ∙ outcome ∙ ap (λ x. (Answered a, x)) scene_is;
+  running = d.running;
+  begun = begun_there p.director q.director h a d;
+  ready = record {
+    places = ap (λ ps. length ps.items) places ∙ r.places ∙ ap length (sym plans);
+    few = subst (λ ps. length ps.items ≤ 2 ^ 32) (sym places) r.few;
+    checked = subst (λ s. AreFor s q.waiting.items) (sym d.setup) (subst (λ ps. AreFor p.director.placement.setup ps.items) (sym waiting) r.checked);
+  };
+  setup = d.setup;
+}
+  where
+    x : Scene
+    x = scene_of p
+
+    outcome : event_turn_by x e (Some h) ≡ (Answered a, record x { state = state_of q.director })
+    outcome =
+        ap (λ o. (o.0, after_event (record x { state = o.1 }) e o.0)) d.event
+        ∙ ap (λ y. (Answered a, y)) (after (record x { state = state_of q.director }) (Answered a))
+
+    scene_is : (let y : Scene = record x { state = state_of q.director } in y) ≡ scene_of q
+    scene_is = let a = waiting in let b = places in cc
+
+    plans : (state_of q.director).plans ≡ (state_of p.director).plans
+    plans = ap (λ o. o.1.plans) (sym d.event) ∙ same_plans (state_of p.director) h starts_none
+
+-- the request of a pass that is recorded, where there is one
+pub passed_so : (p : Player) (d : MachineModel) (place : ℕ) (t : Option Ticket) (a : Played) → IsSetUp p → pass_at (state_of p.director) place ≡ t → IsDirectedIf p.director (option_map PassOn t) a d →
+    IsEventPlayed p (text.PassOn place) a (record { director = d; waiting = p.waiting; places = p.places })
+passed_so p d place None a r is h =
+    subst (λ b. IsEventPlayed p (text.PassOn place) b (record { director = d; waiting = p.waiting; places = p.places })) (sym h.0)
+    (subst (λ (m : MachineModel). IsEventPlayed p (text.PassOn place) played.Unknown (record { director = m; waiting = p.waiting; places = p.places })) (sym h.1)
+    (nothing_asked p (text.PassOn place) r (ap (option_map PassOn) is)))
+passed_so p d place (Some t) a r is h =
+    asked_so p (record { director = d; waiting = p.waiting; places = p.places }) (text.PassOn place) (PassOn t) a r (ap (option_map PassOn) is) tt (λ x o. refl) h refl refl
+
+module _ (p : Player) (place : ℕ) (c : CheckedModel) (r : IsSetUp p) (there : slice_index_or p.waiting.items place None ≡ Some c) where
+  plan_asked : asked_by (scene_of p) (text.Begin place) ≡ Some (Begin c.plan)
+  plan_asked = ap (option_map Begin) (plan_there p.waiting.items place ∙ ap hand_plan there)
+
+  -- the plan has begun
+  pub begun_so : (q : Player) (number : ℕ) → IsDirected p.director (Begin c.plan) (played.Begun number) q.director → q.waiting.items ≡ slice_set p.waiting.items place None →
+      q.places.items ≡ p.places.items ++ place ∷ [] → IsEventPlayed p (text.Begin place) (played.Begun number) q
+  begun_so q number d waiting places = record {
+    turn = ap (event_turn_by (scene_of p) (text.Begin place)) plan_asked ∙ outcome ∙ ap (λ x. (Answered (played.Begun number), x)) scene_is;
+    running = d.running;
+    begun = begun_there p.director q.director (Begin c.plan) (played.Begun number) d;
+    ready = record {
+      places = let a = r.places in let b = longer in let c = more in omega arith;
+      few = let a = r.places in let b = longer in let c = fits in omega arith;
+      checked = λ k at e. r.checked k at (left_there p.waiting.items place k at (subst (λ ps. slice_index_or ps k None ≡ Some at) waiting e)) ∙ sym d.setup;
+    };
+    setup = d.setup;
+  }
+    where
+      x : Scene
+      x = scene_of p
+
+      answer : (happens (state_of p.director) (Begin c.plan)).0 ≡ Answered (played.Begun number)
+      answer = ap (λ o. o.0) d.event
+
+      next : Scene
+      next = record { state = state_of q.director; waiting = slice_set x.waiting place None; places = x.places ++ place ∷ [] }
+
+      outcome : event_turn_by x (text.Begin place) (Some (Begin c.plan)) ≡ (Answered (played.Begun number), next)
+      outcome = ap (λ o. (o.0, after_event (record x { state = o.1 }) (text.Begin place) o.0)) d.event
+
+      waits : map hand_plan q.waiting.items ≡ slice_set x.waiting place None
+      waits = ap (map hand_plan) waiting ∙ map-set hand_plan p.waiting.items place None
+
+      scene_is : next ≡ scene_of q
+      scene_is = let a = waits in let b = places in cc
+
+      longer : length q.places.items ≡ length p.places.items + 1
+      longer = ap length places ∙ length-append p.places.items (place ∷ [])
+
+      more : length (state_of q.director).plans ≡ length (state_of p.director).plans + 1
+      more = ap (λ o. length o.1.plans) (sym d.event) ∙ one_more (state_of p.director) c.plan number answer
+
+      fits : length (state_of p.director).plans < 2 ^ 32
+      fits = number_fits (state_of p.director) c.plan number answer
+
+  -- the plan does not start, and is back in its place
+  pub not_begun_so : (q : Player) (why : BeginFault) → IsDirected p.director (Begin c.plan) (played.NotBegun why) q.director → q.director ≡ p.director → q.waiting.items ≡ p.waiting.items →
+      q.places.items ≡ p.places.items → IsEventPlayed p (text.Begin place) (played.NotBegun why) q
+  not_begun_so q why d same waiting places = record {
+    turn = ap (event_turn_by (scene_of p) (text.Begin place)) plan_asked ∙ outcome ∙ ap (λ x. (Answered (played.NotBegun why), x)) scene_is;
+    running = d.running;
+    begun = begun_there p.director q.director (Begin c.plan) (played.NotBegun why) d;
+    ready = record {
+      places = ap length places ∙ r.places ∙ ap (λ m. length (state_of m).plans) (sym same);
+      few = subst (λ ps. length ps ≤ 2 ^ 32) (sym places) r.few;
+      checked = subst (λ s. AreFor s q.waiting.items) (sym d.setup) (subst (AreFor p.director.placement.setup) (sym waiting) r.checked);
+    };
+    setup = d.setup;
+  }
+    where
+      x : Scene
+      x = scene_of p
+
+      next : Scene
+      next = record x { state = state_of q.director }
+
+      outcome : event_turn_by x (text.Begin place) (Some (Begin c.plan)) ≡ (Answered (played.NotBegun why), next)
+      outcome = ap (λ o. (o.0, after_event (record x { state = o.1 }) (text.Begin place) o.0)) d.event
+
+      waits : map hand_plan q.waiting.items ≡ x.waiting
+      waits = ap (map hand_plan) waiting
+
+      scene_is : next ≡ scene_of q
+      scene_is = let a = waits in let b = places in cc
+
+-- ---- the line of an event
+
+-- the answer behind the event's front is the line of what the event led to
+pub line_of : {A E : Type 0} (setup : Setup) (many : Bool) (i : ℕ) (p q : Player) (e : EventText) (a : Played) → IsEventPlayed p e a q → (r : Result A E) (old front new : List ℕ) →
+    front ≡ old ++ event_front i → OnOk r (new ≡ front ++ played_line setup many (scene_of q) a) →
+    OnOk r (new ≡ old ++ outcome_line setup many i (event_turn (scene_of p) e).1 (event_turn (scene_of p) e).0)
+line_of setup many i p q e a t (Err error) old front new is added = tt
+line_of setup many i p q e a t (Ok done) old front new is added =
+    added
+    ∙ ap (λ text. text ++ played_line setup many (scene_of q) a) is
+    ∙ append_assoc old (event_front i) (played_line setup many (scene_of q) a)
+    ∙ ap (λ o. old ++ outcome_line setup many i o.1 o.0) (sym t.turn)
+
+-- the line of a stream by its name and the length of its code
+pub stream_added : (many : Bool) (place : ℕ) (w : State) (number i : ℕ) (out name new : List ℕ) (long : ℕ) → name ≡ stream_text many place i → long ≡ length (stream_parts w (stream_id number i)).code →
+    new ≡ out ++ progress_line_of name long (progress_of w (stream_id number i)) → new ≡ out ++ progress_line many place w (stream_id number i)
+stream_added many place w number i out name new long named length_is added =
+    added
+    ∙ ap (λ text. out ++ progress_line_of text long (progress_of w (stream_id number i))) named
+    ∙ ap (λ n. out ++ progress_line_of (stream_text many place i) n (progress_of w (stream_id number i))) length_is
+
+-- ---- the names that events know
+
+pub events_known : (m : MachineModel) (setup : Setup) (events : List EventText) → m.placement.setup ≡ setup → All (IsKnownEvent (length setup.shards) (length setup.servers)) events →
+    All (IsKnownEvent (state_of m).sizes.shards (state_of m).sizes.servers) events
+events_known m setup events e known = subst (λ (c : Sizes). All (IsKnownEvent c.shards c.servers) events) (sym (sizes_are m ∙ ap sizes_of e)) known
+
+pub events_still_known : (m n : MachineModel) (events : List EventText) → n.placement.setup ≡ m.placement.setup → All (IsKnownEvent (state_of m).sizes.shards (state_of m).sizes.servers) events →
+    All (IsKnownEvent (state_of n).sizes.shards (state_of n).sizes.servers) events
+events_still_known m n events e known = subst (λ (c : Sizes). All (IsKnownEvent c.shards c.servers) events) (sym (same_sizes m n e)) known

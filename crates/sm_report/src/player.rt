@@ -1,0 +1,260 @@
+//! Who plays events on a machine.
+ghost use Rattle.std.specs.Prelude.{◌≡◌, ◌≤◌, ◌<◌, ◌^◌, [], IfOk, OnOk, None, length, map, option_map, slice_index_or, slice_set, Some};
+ghost use Rattle.sm_placement.specs.Setup.{sizes_of};
+ghost use Rattle.sm_placement.specs.Place.{down_count};
+ghost use Rattle.sm_placement.specs.Layout.{place_of};
+ghost use Rattle.sm_placement.specs.Lead.{IsSettled};
+ghost use Rattle.sm_plan_text.specs.declared.event.EventText.TheVariants as text;
+ghost use Rattle.sm_plan_text.specs.Events.{IsKnownEvent};
+ghost use Rattle.sm_protocol.specs.State.{opened};
+ghost use Rattle.sm_machine.specs.Hand.{AreFor, hand_plan};
+ghost use Rattle.sm_machine.specs.State.{state_of};
+ghost use Rattle.sm_report.specs.Playing.{start_number, named_stream};
+ghost use Rattle.sm_report.specs.Player.{scene_of, IsSetUp, IsEventPlayed};
+
+use sm_machine::{Director, Machine, OpenFault, make_ready};
+use sm_placement::Placement;
+use sm_plan_text::EventText;
+use sm_protocol::Played;
+use sm_reservation::StreamId;
+use sm_server::{ServerId, ShardId};
+use sm_verifier::Checked;
+use std::alloc::{AllocError, Global};
+
+/// Who plays the events of a document: a machine with all its rights, and the document's plans.
+pub struct Player {
+    director: Director,
+    /// The plans by their places in the document, none once they have begun.
+    waiting: Vec<Option<Checked>>,
+    /// The places of the plans that have begun, by their numbers.
+    places: Vec<u32>,
+}
+
+/// The number of the plan at this place of the document, once it has begun.
+fn start_number(places: &[u32], place: usize) -> Option<u32>
+    requires { length places.now ≤ 2 ^ 32 }
+    ensures { result ≡ start_number places.now place }
+{
+    for (number, begun) in places.iter().enumerate() {
+        if *begun as usize == place {
+            return Some(number as u32);
+        }
+    }
+    None
+}
+
+/// Puts a plan back into its place, which is empty.
+fn put_back(waiting: &mut Vec<Option<Checked>>, at: usize, checked: Checked)
+    requires { at < length waiting.old.items }
+    ensures { waiting.new.items ≡ slice_set waiting.old.items at (Some checked) }
+{
+    waiting[at] = Some(checked);
+}
+
+impl Player {
+    /// Opens a machine over a settled placement, whose log has room for the restarts under way, for the plans of a document.
+    pub fn open(
+        alloc: Global,
+        placement: Placement,
+        log: u32,
+        waiting: Vec<Option<Checked>>,
+    ) -> Result<Player, AllocError>
+        requires settled { IsSettled (sizes_of placement.setup) (place_of placement) }
+        requires room { down_count (sizes_of placement.setup) (place_of placement) ≤ log }
+        requires most { log ≤ 1048576 }
+        requires checked { AreFor placement.setup waiting.items }
+        ensures state { IfOk result (λ p. (scene_of p).state ≡ opened (sizes_of placement.setup) (place_of placement) log) }
+        ensures waiting { IfOk result (λ p. (scene_of p).waiting ≡ map hand_plan waiting.items) }
+        ensures places { IfOk result (λ p. (scene_of p).places ≡ []) }
+        ensures setup { IfOk result (λ p. p.director.placement.setup ≡ placement.setup) }
+        ensures ready { IfOk result IsSetUp }
+    {
+        match Director::open(alloc, placement, log) {
+            Ok(director) => Ok(Player {
+                director,
+                waiting,
+                places: Vec::new(alloc),
+            }),
+            Err((_, OpenFault::NoMemory)) => Err(AllocError),
+            Err((_, OpenFault::LogFull)) => unreachable!(),
+        }
+    }
+
+    /// The machine.
+    pub fn machine(&self) -> &Machine
+        ensures { result.now ≡ self.now.director }
+    {
+        self.director.machine()
+    }
+
+    /// How many plans the document has.
+    pub fn plan_count(&self) -> usize
+        ensures { result ≡ length self.now.waiting.items }
+    {
+        self.waiting.len()
+    }
+
+    /// The places of the plans that have begun, by their numbers.
+    pub fn places(&self) -> &[u32]
+        ensures { result.now ≡ self.now.places.items }
+    {
+        self.places.as_slice()
+    }
+
+    /// The plan at a place of the document that waits.
+    pub fn waiting(&self, place: usize) -> Option<&Checked>
+        ensures { option_map (λ checked. checked.now) result ≡ slice_index_or self.now.waiting.items place None }
+    {
+        match self.waiting.get(place) {
+            Some(Some(checked)) => Some(checked),
+            _ => None,
+        }
+    }
+
+    /// The number of the plan at a place of the document, once it has begun.
+    pub fn number_of(&self, place: usize) -> Option<u32>
+        requires { IsSetUp self.now }
+        ensures { result ≡ start_number self.now.places.items place }
+    {
+        start_number(self.places.as_slice(), place)
+    }
+
+    /// A stream by its plan's place in the document and its own place in the plan, if it has begun.
+    fn named_stream(&self, place: u32, stream: u32) -> Option<StreamId>
+        requires { IsSetUp self.now }
+        ensures { result ≡ named_stream (scene_of self.now) place stream }
+    {
+        let plan = self.number_of(place as usize)?;
+        let id = StreamId { plan, stream };
+        if self.machine().is_begun(id) {
+            Some(id)
+        } else {
+            None
+        }
+    }
+
+    fn step(&mut self, place: u32, stream: u32) -> Played
+        requires { IsSetUp self.old }
+        ensures { IsEventPlayed self.old (text.Step place stream) result self.new }
+    {
+        match self.named_stream(place, stream) {
+            Some(id) => self.director.step(id),
+            None => Played::Unknown,
+        }
+    }
+
+    fn lose(&mut self, place: u32, stream: u32, after: bool) -> Played
+        requires { IsSetUp self.old }
+        ensures { IsEventPlayed self.old (text.Lose place stream after) result self.new }
+    {
+        match self.named_stream(place, stream) {
+            Some(id) => self.director.lose(id, after),
+            None => Played::Unknown,
+        }
+    }
+
+    fn refill(&mut self, place: u32, stream: u32, more: u32) -> Played
+        requires ready { IsSetUp self.old }
+        requires more { more ≤ 262144 }
+        ensures { IsEventPlayed self.old (text.Refill place stream more) result self.new }
+    {
+        match self.named_stream(place, stream) {
+            Some(id) => self.director.refill(id, more),
+            None => Played::Unknown,
+        }
+    }
+
+    fn request(&mut self, shard: ShardId, server: ServerId) -> Played
+        requires ready { IsSetUp self.old }
+        requires shard { shard < (state_of self.old.director).sizes.shards }
+        requires server { server < (state_of self.old.director).sizes.servers }
+        ensures { IsEventPlayed self.old (text.Request shard server) result self.new }
+    {
+        self.director.arrive(shard, server)
+    }
+
+    fn pass_on(&mut self, place: u32) -> Played
+        requires { IsSetUp self.old }
+        ensures { IsEventPlayed self.old (text.PassOn place) result self.new }
+    {
+        self.director.pass_on(place)
+    }
+
+    fn approve(&mut self, server: ServerId) -> Played
+        requires ready { IsSetUp self.old }
+        requires server { server < (state_of self.old.director).sizes.servers }
+        ensures { IsEventPlayed self.old (text.Approve server) result self.new }
+    {
+        self.director.approve(server)
+    }
+
+    fn done(&mut self, server: ServerId) -> Played
+        requires { IsSetUp self.old }
+        ensures { IsEventPlayed self.old (text.Done server) result self.new }
+    {
+        self.director.done(server)
+    }
+
+    fn begin(&mut self, alloc: Global, place: u32) -> Result<Played, AllocError>
+        requires { IsSetUp self.old }
+        ensures { IfOk result (λ answer. IsEventPlayed self.old (text.Begin place) answer self.new) }
+    {
+        let at = place as usize;
+        if at >= self.waiting.len() {
+            return Ok(Played::Unknown);
+        }
+        self.places.reserve(1)?;
+        let Some(checked) = self.waiting[at].take() else {
+            return Ok(Played::Unknown);
+        };
+        let ready = match make_ready(alloc, checked) {
+            Ok(ready) => ready,
+            Err(_) => return Err(AllocError),
+        };
+        match self.director.start(ready) {
+            Ok(number) => {
+                self.places.push_reserved(place);
+                Ok(Played::Begun { number })
+            }
+            Err((ready, why)) => {
+                put_back(&mut self.waiting, at, ready.back());
+                Ok(Played::NotBegun(why))
+            }
+        }
+    }
+
+    /// Plays an event.
+    pub fn play(&mut self, alloc: Global, event: EventText) -> Result<Played, AllocError>
+        requires ready { IsSetUp self.old }
+        requires known { IsKnownEvent (state_of self.old.director).sizes.shards (state_of self.old.director).sizes.servers event }
+        ensures { IfOk result (λ answer. IsEventPlayed self.old event answer self.new) }
+    {
+        match event {
+            EventText::Step { plan, stream } => Ok(self.step(plan, stream)),
+            EventText::Lose {
+                plan,
+                stream,
+                after,
+            } => Ok(self.lose(plan, stream, after)),
+            EventText::Refill { plan, stream, more } => Ok(self.refill(plan, stream, more)),
+            EventText::Request { shard, server } => Ok(self.request(shard, server)),
+            EventText::PassOn { ticket } => Ok(self.pass_on(ticket)),
+            EventText::Approve { server } => Ok(self.approve(server)),
+            EventText::Done { server } => Ok(self.done(server)),
+            EventText::Begin { plan } => self.begin(alloc, plan),
+        }
+    }
+
+    /// Ends the machine with all rights, and answers its placement as it stands.
+    pub fn close(self) -> Placement
+        ensures place { place_of result ≡ (scene_of self).state.place }
+        ensures setup { result.setup ≡ self.director.placement.setup }
+    {
+        let Player {
+            director,
+            waiting: _,
+            places: _,
+        } = self;
+        director.give_up()
+    }
+}

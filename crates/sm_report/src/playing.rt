@@ -1,0 +1,199 @@
+//! The lines of what a player is answered, and of how far its plans have come.
+ghost use Rattle.std.specs.Prelude.{◌≡◌, ◌≢◌, ◌<◌, ◌++◌, All, OnOk, length, string_bytes, true};
+ghost use Rattle.sm_plan_text.specs.Events.{IsKnownEvent};
+ghost use Rattle.sm_protocol.specs.declared.event.Played.TheVariants as played;
+ghost use Rattle.sm_protocol.specs.State.{is_begun, plan_at, progress_of};
+ghost use Rattle.sm_machine.specs.State.{state_of};
+ghost use Rattle.sm_report.specs.Playing.{event_turn, scene_after};
+ghost use Rattle.sm_report.specs.PlayLines.{begun_line, played_line, outcome_line, event_lines, progress_line_of, progress_lines, plan_lines, all_plan_lines};
+ghost use Rattle.sm_report.specs.Player.{scene_of, IsSetUp, IsBegunThere};
+
+use crate::names::server_name;
+use crate::play_lines::{
+    push_begun, push_blocked, push_denied, push_event_front, push_executed, push_not_begun,
+    push_passed, push_refill_fault, push_stream_at, push_stream_done, push_waiting, push_word,
+    stream_text,
+};
+use crate::player::Player;
+use crate::verdict::call_count;
+use sm_placement::Config;
+use sm_plan_code::{Plan, Stream};
+use sm_plan_text::EventText;
+use sm_protocol::Played;
+use sm_reservation::StreamId;
+use std::alloc::{AllocError, Global};
+
+/// Adds the line of a plan that has begun.
+fn push_begun_plan(out: &mut String, plan: &Plan) -> Result<(), AllocError>
+    ensures { OnOk result (string_bytes out.new ≡ string_bytes out.old ++ begun_line plan.now) }
+{
+    push_begun(out, call_count(plan), plan.streams().len())
+}
+
+/// Adds the line of an answer.
+fn push_answer(
+    alloc: Global,
+    out: &mut String,
+    config: &Config,
+    many: bool,
+    player: &Player,
+    answer: Played,
+) -> Result<(), AllocError>
+    requires running { answer ≢ played.Halted }
+    requires begun { IsBegunThere (scene_of player.now) answer }
+    ensures { OnOk result (string_bytes out.new ≡ string_bytes out.old ++ played_line config.now many (scene_of player.now) answer) }
+{
+    match answer {
+        Played::Moved => push_word(out, "moved"),
+        Played::Blocked { signal } => push_blocked(out, signal),
+        Played::Done => push_word(out, "done"),
+        Played::Halted => unreachable!(),
+        Played::Lost => push_word(out, "lost"),
+        Played::Spent => push_word(out, "spent"),
+        Played::Refilled => push_word(out, "refilled"),
+        Played::RefillRefused(fault) => push_refill_fault(out, fault),
+        Played::Executed { server } => push_executed(out, server_name(config, server)),
+        Played::Passed { to, number, place } => {
+            push_passed(out, server_name(config, to), number, place)
+        }
+        Played::NotOwner => push_word(out, "not owner"),
+        Played::Unavailable => push_word(out, "unavailable"),
+        Played::LogFull => push_word(out, "log full"),
+        Played::Approved => push_word(out, "approved"),
+        Played::Denied(denied) => push_denied(alloc, out, config, many, player.places(), denied),
+        Played::Up => push_word(out, "up"),
+        Played::Begun { number } => push_begun_plan(out, player.machine().plan(number)),
+        Played::NotBegun(fault) => push_not_begun(out, config, fault),
+        Played::Unknown => push_word(out, "unknown"),
+    }
+}
+
+/// Plays an event, and adds its line.
+fn play_event(
+    alloc: Global,
+    out: &mut String,
+    config: &Config,
+    many: bool,
+    player: &mut Player,
+    i: usize,
+    event: EventText,
+) -> Result<(), AllocError>
+    requires ready { IsSetUp player.old }
+    requires known { IsKnownEvent (state_of player.old.director).sizes.shards (state_of player.old.director).sizes.servers event }
+    ensures line { OnOk result (string_bytes out.new ≡ string_bytes out.old ++ outcome_line config.now many i (event_turn (scene_of player.old) event).1 (event_turn (scene_of player.old) event).0) }
+    ensures scene { OnOk result (scene_of player.new ≡ (event_turn (scene_of player.old) event).1) }
+    ensures setup { OnOk result (player.new.director.placement.setup ≡ player.old.director.placement.setup) }
+    ensures ready { OnOk result (IsSetUp player.new) }
+{
+    push_event_front(out, i)?;
+    match player.play(alloc, event) {
+        Ok(answer) => push_answer(alloc, out, config, many, player, answer),
+        Err(error) => Err(error),
+    }
+}
+
+/// Plays events one after the other, and adds their lines.
+pub fn play_events(
+    alloc: Global,
+    out: &mut String,
+    config: &Config,
+    many: bool,
+    player: &mut Player,
+    events: &[EventText],
+) -> Result<(), AllocError>
+    requires ready { IsSetUp player.old }
+    requires known { All (IsKnownEvent (state_of player.old.director).sizes.shards (state_of player.old.director).sizes.servers) events.now }
+    ensures lines { OnOk result (string_bytes out.new ≡ string_bytes out.old ++ event_lines config.now many (scene_of player.old) 0 events.now) }
+    ensures scene { OnOk result (scene_of player.new ≡ scene_after events.now (scene_of player.old)) }
+    ensures setup { OnOk result (player.new.director.placement.setup ≡ player.old.director.placement.setup) }
+    ensures ready { OnOk result (IsSetUp player.new) }
+{
+    for (i, event) in events.iter().enumerate() {
+        play_event(alloc, out, config, many, player, i, *event)?;
+    }
+    Ok(())
+}
+
+/// Adds the line of how far a stream has come, which is named so and whose code has this length.
+fn push_stream(
+    out: &mut String,
+    player: &Player,
+    id: StreamId,
+    name: &str,
+    length: usize,
+) -> Result<(), AllocError>
+    requires { is_begun (state_of player.now.director) id ≡ true }
+    ensures { OnOk result (string_bytes out.new ≡ string_bytes out.old ++ progress_line_of name.now length (progress_of (state_of player.now.director) id)) }
+{
+    let machine = player.machine();
+    if machine.is_done(id) {
+        push_stream_done(out, name)
+    } else {
+        push_stream_at(out, name, machine.position(id), length)
+    }
+}
+
+/// How many instructions a stream has.
+fn code_length(stream: &Stream) -> usize
+    ensures { result ≡ length stream.now.code }
+{
+    stream.code.len()
+}
+
+/// Adds the lines of the streams of a plan that has begun with a number.
+fn push_streams(
+    alloc: Global,
+    out: &mut String,
+    many: bool,
+    player: &Player,
+    place: usize,
+    number: u32,
+) -> Result<(), AllocError>
+    requires { number < length (state_of player.now.director).plans }
+    ensures { OnOk result (string_bytes out.new ≡ string_bytes out.old ++ progress_lines many place (state_of player.now.director) number) }
+{
+    let streams = player.machine().plan(number).streams();
+    for (i, parts) in streams.iter().enumerate() {
+        let stream = i as u32;
+        let name = stream_text(alloc, many, place, stream)?;
+        let id = StreamId {
+            plan: number,
+            stream,
+        };
+        push_stream(out, player, id, name.as_str(), code_length(parts))?;
+    }
+    Ok(())
+}
+
+/// Adds the lines of the plan at a place.
+fn push_plan(
+    alloc: Global,
+    out: &mut String,
+    many: bool,
+    player: &Player,
+    place: usize,
+) -> Result<(), AllocError>
+    requires { IsSetUp player.now }
+    ensures { OnOk result (string_bytes out.new ≡ string_bytes out.old ++ plan_lines many (scene_of player.now) place) }
+{
+    match player.number_of(place) {
+        Some(number) => push_streams(alloc, out, many, player, place, number),
+        None => push_waiting(out, place),
+    }
+}
+
+/// Adds the lines of all plans.
+pub fn push_plans(
+    alloc: Global,
+    out: &mut String,
+    many: bool,
+    player: &Player,
+) -> Result<(), AllocError>
+    requires { IsSetUp player.now }
+    ensures { OnOk result (string_bytes out.new ≡ string_bytes out.old ++ all_plan_lines many (scene_of player.now)) }
+{
+    for place in 0..player.plan_count() {
+        push_plan(alloc, out, many, player, place)?;
+    }
+    Ok(())
+}

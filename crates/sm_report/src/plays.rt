@@ -1,0 +1,311 @@
+//! The report of a document's events.
+ghost use Rattle.std.specs.Prelude.{◌≡◌, ◌≤◌, ◌++◌, All, Err, IfErr, IfOk, Ok, OnOk, Some, [], ◌∷◌, length, map, string_bytes, false};
+ghost use Rattle.sm_placement.specs.Setup.{sizes_of};
+ghost use Rattle.sm_placement.specs.Place.{down_count};
+ghost use Rattle.sm_placement.specs.Layout.{place_of};
+ghost use Rattle.sm_placement.specs.Lead.{IsSettled};
+ghost use Rattle.sm_plan_code.specs.Plan.{IsKnownPlan};
+ghost use Rattle.sm_verifier.specs.Plan.{IsSound};
+ghost use Rattle.sm_plan_text.specs.Documents.{IsDocument};
+ghost use Rattle.sm_plan_text.specs.Events.{IsKnownEvent};
+ghost use Rattle.sm_plan_text.specs.Reading.{rows_of};
+ghost use Rattle.sm_machine.specs.Hand.{AreFor, hand_plan};
+ghost use Rattle.sm_machine.specs.State.{state_of};
+ghost use Rattle.sm_report.specs.Checking.{accepted_line};
+ghost use Rattle.sm_report.specs.Early.{IfEnded, IfMade};
+ghost use Rattle.sm_report.specs.Player.{scene_of, IsSetUp};
+ghost use Rattle.sm_report.specs.Playing.{opened_scene, scene_after};
+ghost use Rattle.sm_report.specs.PlayLines.{plan_front, event_lines, all_plan_lines};
+ghost use Rattle.sm_report.specs.Report.{Output};
+ghost use Rattle.sm_report.specs.Stages.{AtChecks, IsFaultReport, Then, begin_stage};
+ghost use Rattle.sm_report.specs.Output.{played_output, IsBegunForPlay, IsLoggedForPlay, IsPlacedForPlay, IsOpenedForPlay, IsAloneForPlay, IsPlayReport, IsPlayedOutput};
+
+use crate::early::Early;
+use crate::ending::push_ending;
+use crate::made::Made;
+use crate::play_lines::push_plan_front;
+use crate::player::Player;
+use crate::playing::{play_events, push_plans};
+use crate::stages::{alone, checked, has_log, member, placement};
+use crate::verdict::push_accepted;
+use sm_placement::{Config, Placement};
+use sm_plan_code::Plan;
+use sm_plan_text::{Document, EventText, Member};
+use sm_protocol::Played;
+use sm_verifier::Checked;
+use std::alloc::{AllocError, Global};
+
+/// The plan at a place of the document, once it has passed the check; else the report ends.
+fn check_at(
+    alloc: Global,
+    many: bool,
+    place: usize,
+    placement: &Placement,
+    plan: Plan,
+) -> Result<Checked, Early>
+    requires { IsKnownPlan (length placement.now.setup.shards) (length placement.now.setup.servers) plan }
+    ensures setup { IfOk result (λ checked. checked.setup ≡ placement.now.setup) }
+    ensures plan { IfOk result (λ checked. checked.plan ≡ plan) }
+    ensures sound { OnOk result (IsSound (sizes_of placement.now.setup) plan) }
+    ensures ends { IfErr result (λ early. IfEnded early (IsFaultReport (sizes_of placement.now.setup) (plan_front many place) plan)) }
+{
+    let mut front = String::new(alloc);
+    push_plan_front(&mut front, many, place)?;
+    checked(alloc, front.as_str(), placement, plan)
+}
+
+/// The plans of a document, once each has passed the check; else the report ends with the first that does not.
+fn all_checked(
+    alloc: Global,
+    many: bool,
+    placement: &Placement,
+    plans: Vec<Plan>,
+) -> Result<Vec<Option<Checked>>, Early>
+    requires { All (IsKnownPlan (length placement.now.setup.shards) (length placement.now.setup.servers)) plans.items }
+    ensures waiting { IfOk result (λ waiting. map hand_plan waiting.items ≡ map (λ plan. Some plan) plans.items) }
+    ensures checked { IfOk result (λ waiting. AreFor placement.now.setup waiting.items) }
+    ensures passed { OnOk result ((output : Output) → AtChecks (sizes_of placement.now.setup) many 0 plans.items (λ other. other ≡ output) output) }
+    ensures ends { IfErr result (λ early. IfEnded early (AtChecks (sizes_of placement.now.setup) many 0 plans.items (λ other. ⊥))) }
+{
+    let mut left = plans;
+    let mut waiting = Vec::with_capacity(alloc, left.len())?;
+    for place in 0..left.len() {
+        let plan = left.remove(0);
+        let checked = check_at(alloc, many, place, placement, plan)?;
+        waiting.push_reserved(Some(checked));
+    }
+    Ok(waiting)
+}
+
+/// Who plays the events of a document, once each of its plans has passed the check.
+fn open_player(
+    alloc: Global,
+    many: bool,
+    placement: Placement,
+    log: u32,
+    plans: Vec<Plan>,
+) -> Result<Player, Early>
+    requires settled { IsSettled (sizes_of placement.setup) (place_of placement) }
+    requires room { down_count (sizes_of placement.setup) (place_of placement) ≤ log }
+    requires most { log ≤ 1048576 }
+    requires known { All (IsKnownPlan (length placement.setup.shards) (length placement.setup.servers)) plans.items }
+    ensures scene { IfOk result (λ p. scene_of p ≡ opened_scene (sizes_of placement.setup) (place_of placement) log plans.items) }
+    ensures setup { IfOk result (λ p. p.director.placement.setup ≡ placement.setup) }
+    ensures ready { IfOk result IsSetUp }
+    ensures passed { OnOk result ((output : Output) → AtChecks (sizes_of placement.setup) many 0 plans.items (λ other. other ≡ output) output) }
+    ensures ends { IfErr result (λ early. IfEnded early (AtChecks (sizes_of placement.setup) many 0 plans.items (λ other. ⊥))) }
+{
+    let waiting = all_checked(alloc, many, &placement, plans)?;
+    Ok(Player::open(alloc, placement, log, waiting)?)
+}
+
+/// Plays the events, and adds their lines and those of the plans after them.
+fn play_all(
+    alloc: Global,
+    text: &mut String,
+    config: &Config,
+    many: bool,
+    player: &mut Player,
+    events: &[EventText],
+) -> Result<(), AllocError>
+    requires ready { IsSetUp player.old }
+    requires known { All (IsKnownEvent (state_of player.old.director).sizes.shards (state_of player.old.director).sizes.servers) events.now }
+    ensures text { OnOk result (string_bytes text.new ≡ string_bytes text.old ++ event_lines config.now many (scene_of player.old) 0 events.now ++ all_plan_lines many (scene_after events.now (scene_of player.old))) }
+    ensures scene { OnOk result (scene_of player.new ≡ scene_after events.now (scene_of player.old)) }
+    ensures setup { OnOk result (player.new.director.placement.setup ≡ player.old.director.placement.setup) }
+{
+    play_events(alloc, text, config, many, player, events)?;
+    push_plans(alloc, text, many, player)
+}
+
+/// The report of events that a player plays, behind a front.
+fn report_played(
+    alloc: Global,
+    config: &Config,
+    front: String,
+    many: bool,
+    mut player: Player,
+    events: &[EventText],
+) -> Result<Made, AllocError>
+    requires ready { IsSetUp player }
+    requires known { All (IsKnownEvent (state_of player.director).sizes.shards (state_of player.director).sizes.servers) events.now }
+    requires setup { player.director.placement.setup ≡ config.now }
+    ensures { IfOk result (λ made. made ≡ played_output config.now many (string_bytes front) events.now (scene_of player)) }
+{
+    let mut text = front;
+    let told = play_all(alloc, &mut text, config, many, &mut player, events);
+    let placement = player.close();
+    told?;
+    push_ending(&mut text, &placement)?;
+    Ok(Made::done(text))
+}
+
+/// The report of the events of a document whose plans are begun by events.
+fn report_list(
+    alloc: Global,
+    config: &Config,
+    many: bool,
+    placement: Placement,
+    log: u32,
+    plans: Vec<Plan>,
+    events: &[EventText],
+) -> Result<Made, Early>
+    requires setup { placement.setup ≡ config.now }
+    requires settled { IsSettled (sizes_of placement.setup) (place_of placement) }
+    requires room { down_count (sizes_of placement.setup) (place_of placement) ≤ log }
+    requires most { log ≤ 1048576 }
+    requires known { All (IsKnownPlan (length placement.setup.shards) (length placement.setup.servers)) plans.items }
+    requires events { All (IsKnownEvent (length placement.setup.shards) (length placement.setup.servers)) events.now }
+    ensures { IfMade result (AtChecks (sizes_of config.now) many 0 plans.items
+        (IsPlayedOutput config.now many [] events.now (opened_scene (sizes_of config.now) (place_of placement) log plans.items))) }
+{
+    let player = open_player(alloc, many, placement, log, plans)?;
+    Ok(report_played(alloc, config, String::new(alloc), many, player, events)?)
+}
+
+/// The plan at the first place begins before any event; else the report ends.
+fn begin_alone(alloc: Global, config: &Config, player: &mut Player) -> Result<(), Early>
+    requires { IsSetUp player.old }
+    ensures ok { OnOk result (begin_stage config.now (scene_of player.old) ≡ Ok (scene_of player.new)) }
+    ensures ready { OnOk result (IsSetUp player.new) }
+    ensures setup { OnOk result (player.new.director.placement.setup ≡ player.old.director.placement.setup) }
+    ensures ends { IfErr result (λ early. IfEnded early (λ made. begin_stage config.now (scene_of player.old) ≡ Err made)) }
+{
+    match player.play(alloc, EventText::Begin { plan: 0 }) {
+        Ok(Played::NotBegun(why)) => Err(Early::Report(Made::not_begun(alloc, config, why)?)),
+        Ok(_) => Ok(()),
+        Err(_) => Err(Early::NoMemory),
+    }
+}
+
+/// The report of a player's one plan and of its events, behind a front.
+fn report_begun(
+    alloc: Global,
+    config: &Config,
+    front: String,
+    mut player: Player,
+    events: &[EventText],
+) -> Result<Made, Early>
+    requires ready { IsSetUp player }
+    requires known { All (IsKnownEvent (state_of player.director).sizes.shards (state_of player.director).sizes.servers) events.now }
+    requires setup { player.director.placement.setup ≡ config.now }
+    ensures { IfMade result (Then (begin_stage config.now (scene_of player)) (IsPlayedOutput config.now false (string_bytes front) events.now)) }
+{
+    match begin_alone(alloc, config, &mut player) {
+        Ok(()) => Ok(report_played(alloc, config, front, false, player, events)?),
+        Err(early) => {
+            let _ = player.close();
+            Err(early)
+        }
+    }
+}
+
+/// The report of the events of a document that has one plan, which begins before them.
+fn report_one(
+    alloc: Global,
+    config: &Config,
+    placement: Placement,
+    log: u32,
+    plan: Plan,
+    events: &[EventText],
+) -> Result<Made, Early>
+    requires setup { placement.setup ≡ config.now }
+    requires settled { IsSettled (sizes_of placement.setup) (place_of placement) }
+    requires room { down_count (sizes_of placement.setup) (place_of placement) ≤ log }
+    requires most { log ≤ 1048576 }
+    requires known { IsKnownPlan (length placement.setup.shards) (length placement.setup.servers) plan }
+    requires events { All (IsKnownEvent (length placement.setup.shards) (length placement.setup.servers)) events.now }
+    ensures { IfMade result (AtChecks (sizes_of config.now) false 0 (plan ∷ [])
+        (Then (begin_stage config.now (opened_scene (sizes_of config.now) (place_of placement) log (plan ∷ []))) (IsPlayedOutput config.now false (accepted_line plan) events.now))) }
+{
+    let mut front = String::new(alloc);
+    push_accepted(&mut front, &plan)?;
+    let mut plans = Vec::with_capacity(alloc, 1)?;
+    plans.push_reserved(plan);
+    let player = open_player(alloc, false, placement, log, plans)?;
+    report_begun(alloc, config, front, player, events)
+}
+
+/// The report of a document's events at its placement, whose log has room. The plans are taken out of the document.
+fn report_logged(
+    alloc: Global,
+    document: &mut Document,
+    placement: Placement,
+    events: &[EventText],
+) -> Result<Made, Early>
+    requires document { IsDocument (rows_of document.old) }
+    requires setup { placement.setup ≡ (rows_of document.old).setup }
+    requires settled { IsSettled (sizes_of placement.setup) (place_of placement) }
+    requires room { down_count (sizes_of placement.setup) (place_of placement) ≤ document.old.log }
+    requires events { All (IsKnownEvent (length placement.setup.shards) (length placement.setup.servers)) events.now }
+    ensures { IfMade result (IsLoggedForPlay (rows_of document.old) events.now (place_of placement) tt) }
+{
+    let log = document.log;
+    let plan = document.plan.take();
+    let plans = document.plans.take();
+    let config = &document.config;
+    match (plan, plans) {
+        (_, Some(plans)) => report_list(alloc, config, true, placement, log, plans, events),
+        (Some(plan), None) => report_one(alloc, config, placement, log, plan, events),
+        (None, None) => {
+            report_list(
+                alloc,
+                config,
+                false,
+                placement,
+                log,
+                Vec::new(alloc),
+                events,
+            )
+        }
+    }
+}
+
+/// The report of a document's events at its placement.
+fn report_placed(
+    alloc: Global,
+    document: &mut Document,
+    placement: Placement,
+    events: &[EventText],
+) -> Result<Made, Early>
+    requires document { IsDocument (rows_of document.old) }
+    requires setup { placement.setup ≡ (rows_of document.old).setup }
+    requires settled { IsSettled (sizes_of placement.setup) (place_of placement) }
+    requires events { All (IsKnownEvent (length placement.setup.shards) (length placement.setup.servers)) events.now }
+    ensures { IfMade result (IsPlacedForPlay (rows_of document.old) events.now (place_of placement)) }
+{
+    has_log(alloc, document, &placement)?;
+    report_logged(alloc, document, placement, events)
+}
+
+/// The report of a document's events, which were taken out of it.
+fn report_events(
+    alloc: Global,
+    document: &mut Document,
+    events: &[EventText],
+) -> Result<Made, Early>
+    requires document { IsDocument (rows_of document.old) }
+    requires events { All (IsKnownEvent (length (rows_of document.old).setup.shards) (length (rows_of document.old).setup.servers)) events.now }
+    ensures { IfMade result (IsOpenedForPlay (rows_of document.old) events.now) }
+{
+    let placement = placement(alloc, document)?;
+    report_placed(alloc, document, placement, events)
+}
+
+/// The report of the events of a document that has one plan at most, or a list of plans.
+fn report_alone(alloc: Global, document: &mut Document) -> Result<Made, Early>
+    requires { IsDocument (rows_of document.old) }
+    ensures { IfMade result (IsAloneForPlay (rows_of document.old) tt) }
+{
+    let events = member(alloc, Member::Events, document.events.take())?;
+    report_events(alloc, document, events.as_slice())
+}
+
+/// The report of a document's events, which are taken out of it with its plans.
+pub fn report_play(alloc: Global, document: &mut Document) -> Result<Made, Early>
+    requires { IsDocument (rows_of document.old) }
+    ensures { IfMade result (IsPlayReport (rows_of document.old)) }
+{
+    alone(alloc, document)?;
+    report_alone(alloc, document)
+}
