@@ -38,3 +38,4 @@ edits:
 bench: build
 	scripts/bench
 	scripts/bench-map
+	scripts/bench-machine

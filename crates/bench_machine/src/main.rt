@@ -1,0 +1,61 @@
+//! What an event of a machine costs.
+//!
+//! It prints the time of an event among 1,000,000 steps and requests, and that of a step where 64 streams of 4,096
+//! instructions run beside one where 4 streams of 64 do, and ends with status 1 where the former takes more than four times
+//! as long. With the argument `check` it prints no times, only whether all streams of small plans come to their end.
+#![tactic(auto)]
+
+mod counted;
+mod setting;
+
+use counted::{Counted, events_of, steps_of};
+use setting::{CHECKED, FEW, MANY, Setting};
+use std::process::ExitCode;
+use std::rt::Env;
+use std::{env, io};
+
+/// How many plans of few streams run one after another.
+const PLANS: u32 = 200;
+
+/// How long an event takes on the average.
+fn nanoseconds(counted: Counted) -> u128 {
+    counted.time.as_nanos() / u128::from(counted.events.max(1))
+}
+
+fn is_check(rt: &(impl Alloc + Env)) -> io::Result<bool> {
+    let mut args = env::args(rt)?;
+    let _program = args.next();
+    Ok(match args.next() {
+        Some(word) => word.as_str() == "check",
+        None => false,
+    })
+}
+
+fn main(rt: HostRuntime) -> io::Result<ExitCode> {
+    if is_check(&rt)? {
+        let few = steps_of(&rt, rt.alloc(), &CHECKED, 2)?;
+        println!(rt; "all streams end: {}", few.ended == 8)?;
+        return Ok(ExitCode::SUCCESS);
+    }
+    let all = events_of(&rt, rt.alloc(), &MANY)?;
+    println!(rt;
+        "{} events, steps and requests: {} ns each",
+        all.events,
+        nanoseconds(all)
+    )?;
+    let many = steps_of(&rt, rt.alloc(), &MANY, 3)?;
+    let few = steps_of(&rt, rt.alloc(), &FEW, PLANS)?;
+    println!(rt;
+        "64 streams of 4,096 instructions: {} ns a step",
+        nanoseconds(many)
+    )?;
+    println!(rt;
+        "4 streams of 64 instructions: {} ns a step",
+        nanoseconds(few)
+    )?;
+    if nanoseconds(many).div_ceil(4) > nanoseconds(few) {
+        println!(rt; "a step of many long streams takes more than four times as long")?;
+        return Ok(ExitCode::FAILURE);
+    }
+    Ok(ExitCode::SUCCESS)
+}

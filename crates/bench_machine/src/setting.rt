@@ -1,0 +1,148 @@
+//! Placements, and plans whose streams add a replica and drop it again.
+use sm_placement::{Config, Placement, Server, Shard};
+use sm_plan_code::{Instr, Parts, Plan, Stream};
+use sm_reservation::{CellRight, Lists, Parcel, PlainCell, Room};
+use sm_server::{Cell, Role, ServerId, ShardId};
+use sm_verifier::{Checked, check};
+use std::alloc::{AllocError, Global};
+
+/// How large a machine and its plans are.
+#[derive(Clone, Copy)]
+pub(crate) struct Setting {
+    pub servers: u32,
+    pub shards: u32,
+    pub streams: u32,
+    /// How many instructions a stream has.
+    pub length: u32,
+}
+
+pub(crate) const MANY: Setting = Setting {
+    servers: 1_024,
+    shards: 4_096,
+    streams: 64,
+    length: 4_096,
+};
+
+pub(crate) const FEW: Setting = Setting {
+    servers: 1_024,
+    shards: 4_096,
+    streams: 4,
+    length: 64,
+};
+
+/// Small enough to be run where nothing is measured.
+pub(crate) const CHECKED: Setting = Setting {
+    servers: 16,
+    shards: 32,
+    streams: 4,
+    length: 8,
+};
+
+/// How many shards the streams touch, whatever their number is.
+const TOUCHED: u32 = 4;
+
+/// The servers and shards: each shard has one replica of load 1.
+pub(crate) fn config_of(alloc: Global, setting: &Setting) -> Result<Config, AllocError> {
+    let mut servers = Vec::new(alloc);
+    for number in 0..setting.servers {
+        servers.push(Server {
+            name: format!(in alloc; "server-{number}")?,
+            region: String::from_str(alloc, "region")?,
+            room: 100,
+        })?;
+    }
+    let mut shards = Vec::new(alloc);
+    for number in 0..setting.shards {
+        shards.push(Shard {
+            name: format!(in alloc; "shard-{number}")?,
+            load: 1,
+            want: 1,
+            cap: 0,
+            spread: 1,
+        })?;
+    }
+    Config::new(alloc, &servers, &shards).map_err(|_| AllocError)
+}
+
+/// The server of a shard's primary.
+pub(crate) fn home_of(setting: &Setting, shard: u32) -> ServerId {
+    ServerId::new(shard % setting.servers.max(1))
+}
+
+/// The placement of a configuration, by its setting.
+pub(crate) fn placement_of(
+    alloc: Global,
+    config: &Config,
+    setting: &Setting,
+) -> Result<Placement, AllocError> {
+    let mut cells = Vec::new(alloc);
+    let mut listed = Vec::new(alloc);
+    for shard in 0..setting.shards {
+        let home = home_of(setting, shard);
+        cells.push((ShardId::new(shard), home, Cell::Primary))?;
+        listed.push(Some(home))?;
+    }
+    Placement::open(alloc, config, &cells, &listed, &[], 1).map_err(|_| AllocError)
+}
+
+/// The right to an absent cell, and the room that a replica takes there.
+fn holds_of(alloc: Global, shard: ShardId, server: ServerId) -> Result<Parcel, AllocError> {
+    let cell = CellRight {
+        shard,
+        server,
+        state: PlainCell::Absent,
+    };
+    let lists = Lists {
+        cells: Vec::from_array(alloc, [cell])?,
+        crowns: Vec::new(alloc),
+        room: Vec::from_array(alloc, [Room { server, amount: 1 }])?,
+        spare: Vec::new(alloc),
+    };
+    Parcel::new(alloc, lists).map_err(|_| AllocError)
+}
+
+/// A stream that adds a replica and drops it again, so many times.
+fn stream_of(alloc: Global, stream: u32, length: u32) -> Result<Stream, AllocError> {
+    let shard = ShardId::new(stream % TOUCHED);
+    let server = ServerId::new((stream % 1_000) + TOUCHED);
+    let mut code = Vec::with_capacity(alloc, length as usize)?;
+    for at in 0..length {
+        code.push(if at % 2 == 0 {
+            Instr::Add {
+                shard,
+                server,
+                role: Role::Secondary,
+            }
+        } else {
+            Instr::Drop { shard, server }
+        })?;
+    }
+    Ok(Stream {
+        budget: length,
+        retries: 0,
+        holds: holds_of(alloc, shard, server)?,
+        code,
+    })
+}
+
+/// The plan of a setting, which passes its check.
+pub(crate) fn plan_of(
+    alloc: Global,
+    config: &Config,
+    setting: &Setting,
+) -> Result<Checked, AllocError> {
+    let mut streams = Vec::new(alloc);
+    for stream in 0..setting.streams {
+        streams.push(stream_of(alloc, stream, setting.length)?)?;
+    }
+    let parts = Parts {
+        budget: setting.streams.min(64) * setting.length.min(4_096),
+        streams,
+        signals: Vec::new(alloc),
+    };
+    let plan = Plan::new(parts).map_err(|_| AllocError)?;
+    if !plan.fits(config) {
+        return Err(AllocError);
+    }
+    check(alloc, config, plan).map_err(|_| AllocError)
+}
