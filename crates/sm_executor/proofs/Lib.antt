@@ -3,3 +3,4 @@ pub mod Keeps
 pub mod Ranges
 pub mod Starting
 pub mod StillRunning
+pub mod PlanCount

@@ -1,7 +1,7 @@
 -- All streams that have not made their ends.
 use Rattle.std.proofs.Common.{ap, arith, length}
 use Rattle.sm_machine.specs.State.{state_of}
-use Rattle.sm_machine.proofs.Engaged.{few_plans}
+use Rattle.sm_executor.proofs.PlanCount.{few_plans}
 use Rattle.sm_executor.proofs.StillRunning.{most_so_far}
 use Rattle.sm_executor.proofs.unfinished.list_unfinished.Goals as goal
 
