@@ -8,4 +8,6 @@ pub mod Streams
 pub mod Signalling
 pub mod Refusing
 pub mod Departing
+pub mod Keys
+pub mod Answering
 pub mod law

@@ -36,6 +36,10 @@ pub record IsUsable (b : Basis) (plan : PlanModel) : Type 0 where
   pub checked : IsCheckedPlan (sizes_of b.setup) plan
   pub free : first_holding (sizes_of b.setup) b.place b.pool plan ≡ None
 
+-- the placement is of the configuration, and the pool is true of it
+abbrev pub HasScene : Basis → Type 0
+HasScene b = (leads : ℕ → Lead) × (numbers : ℕ → ℕ) × IsScene (sizes_of b.setup) b.place leads numbers b.pool
+
 -- so it is of the rule's plan of moves of the configuration, at a pool that is true of the placement
 abbrev pub PlansAreUsable : Type 0
 PlansAreUsable = (b : Basis) (leads : ℕ → Lead) (numbers : ℕ → ℕ) (moves : List Move) (plan : PlanModel) →

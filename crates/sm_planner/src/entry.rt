@@ -1,6 +1,7 @@
 //! Plans for a machine as it stands.
 ghost use Rattle.std.specs.Prelude.{◌≡◌, ◌<◌, All, IfOk, IfErr, length};
 ghost use Rattle.sm_protocol.specs.State.{pool};
+ghost use Rattle.sm_plan_code.specs.Plan.{PlanModel};
 ghost use Rattle.sm_verifier.specs.Admission.{IsAdmitted};
 ghost use Rattle.sm_machine.specs.State.{state_of};
 ghost use Rattle.sm_planner.specs.Basis.{basis, IsMoveOf};
@@ -15,27 +16,28 @@ use sm_verifier::Checked;
 use std::alloc::Global;
 
 /// A plan that makes the moves, for the machine as it stands: it may start beside the plans that run.
-///
-/// Memory counts as short also where the plan does not pass the check, or is not admitted.
+/// Where the rule refuses nothing, only memory may be short.
 pub fn moves(alloc: Global, machine: &Machine, moves: &[Move]) -> Result<Checked, NoPlan>
     requires { All (IsMoveOf machine.now.placement.setup) moves.now }
     ensures setup { IfOk result (λ checked. checked.setup ≡ machine.now.placement.setup) }
     ensures admitted { IfOk result (λ checked. IsAdmitted (state_of machine.now).sizes (state_of machine.now).place (pool (state_of machine.now)) checked.plan) }
     ensures plan { IfOk result (λ checked. IsPlanOf (basis machine.now.placement.setup (state_of machine.now).place (pool (state_of machine.now))) moves.now checked.plan) }
     ensures refused { IfErr result (IsNoPlanFor (basis machine.now.placement.setup (state_of machine.now).place (pool (state_of machine.now))) moves.now) }
+    ensures memory { (plan : PlanModel) → IsPlanOf (basis machine.now.placement.setup (state_of machine.now).place (pool (state_of machine.now))) moves.now plan → IfErr result (λ why. why ≡ NoPlan.NoMemory) }
 {
+    machine.is_reached();
     moves_at(alloc, machine.placement(), machine.pool(), moves)
 }
 
-/// A plan that empties a server, for the machine as it stands.
-///
-/// Memory counts as short as for `moves`.
+/// A plan that empties a server, for the machine as it stands. Where the rule refuses nothing, only memory may be short.
 pub fn drain(alloc: Global, machine: &Machine, server: ServerId) -> Result<Checked, NoPlan>
     requires { server < length machine.now.placement.setup.servers }
     ensures setup { IfOk result (λ checked. checked.setup ≡ machine.now.placement.setup) }
     ensures admitted { IfOk result (λ checked. IsAdmitted (state_of machine.now).sizes (state_of machine.now).place (pool (state_of machine.now)) checked.plan) }
     ensures plan { IfOk result (λ checked. IsDrainPlan (basis machine.now.placement.setup (state_of machine.now).place (pool (state_of machine.now))) server checked.plan) }
     ensures refused { IfErr result (IsNoDrainFor (basis machine.now.placement.setup (state_of machine.now).place (pool (state_of machine.now))) server) }
+    ensures memory { (plan : PlanModel) → IsDrainPlan (basis machine.now.placement.setup (state_of machine.now).place (pool (state_of machine.now))) server plan → IfErr result (λ why. why ≡ NoPlan.NoMemory) }
 {
+    machine.is_reached();
     drain_at(alloc, machine.placement(), machine.pool(), server)
 }

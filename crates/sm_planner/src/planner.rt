@@ -2,9 +2,10 @@
 ghost use Rattle.std.specs.Prelude.{◌≡◌, ◌<◌, All, IfOk, IfErr, None, length};
 ghost use Rattle.sm_placement.specs.Setup.{sizes_of};
 ghost use Rattle.sm_placement.specs.Layout.{place_of};
-ghost use Rattle.sm_reservation.specs.Pool.{pool_hold, HasSize};
+ghost use Rattle.sm_reservation.specs.Pool.{pool_hold};
 ghost use Rattle.sm_verifier.specs.Admission.{IsAdmitted};
 ghost use Rattle.sm_planner.specs.Basis.{basis_of, IsMoveOf};
+ghost use Rattle.sm_planner.specs.Laws.{IsUsable, HasScene};
 ghost use Rattle.sm_planner.specs.Refusal.{first_refused, IsPlanOf, IsNoPlanFor};
 ghost use Rattle.sm_planner.specs.Draft.{IsDraftOf};
 ghost use Rattle.sm_planner.specs.Drain.{IsDrainPlan, IsNoDrainFor};
@@ -20,7 +21,7 @@ use sm_placement::Placement;
 use sm_plan_code::{MOST_SIGNALS, Plan};
 use sm_reservation::Pool;
 use sm_server::ServerId;
-use sm_verifier::{Checked, admit, check};
+use sm_verifier::{Checked, Fault, check};
 use std::alloc::Global;
 
 /// Places moves that are not refused one by one, and finds what they pay.
@@ -55,29 +56,18 @@ fn draft(alloc: Global, placement: &Placement, pool: &Pool, moves: &[Move]) -> R
     })
 }
 
-/// A plan that is checked, and admitted at the placement with its pool.
-fn accepted(
-    alloc: Global,
-    placement: &Placement,
-    pool: &Pool,
-    plan: Plan,
-) -> Result<Checked, NoPlan>
-    requires { HasSize (sizes_of placement.now.setup) pool.now }
+/// The plan, checked for the configuration of the placement. It passes the check, and is admitted.
+fn checked(alloc: Global, placement: &Placement, pool: &Pool, plan: Plan) -> Result<Checked, NoPlan>
+    requires { IsUsable (basis_of placement.now pool.now) plan }
     ensures plan { IfOk result (λ checked. checked.plan ≡ plan) }
     ensures setup { IfOk result (λ checked. checked.setup ≡ placement.now.setup) }
     ensures admitted { IfOk result (λ checked. IsAdmitted (sizes_of placement.now.setup) (place_of placement.now) (pool_hold pool.now) checked.plan) }
     ensures memory { IfErr result (λ why. why ≡ NoPlan.NoMemory) }
 {
-    if !plan.fits(placement.config()) {
-        return Err(NoPlan::NoMemory);
-    }
-    let checked = match check(alloc, placement.config(), plan) {
-        Ok(checked) => checked,
-        Err(_) => return Err(NoPlan::NoMemory),
-    };
-    match admit(&checked, pool, placement) {
-        Ok(()) => Ok(checked),
-        Err(_) => Err(NoPlan::NoMemory),
+    match check(alloc, placement.config(), plan) {
+        Ok(checked) => Ok(checked),
+        Err((_, Fault::NoMemory)) => Err(NoPlan::NoMemory),
+        Err(_) => unreachable!(),
     }
 }
 
@@ -88,7 +78,7 @@ pub(crate) fn moves_at(
     pool: &Pool,
     moves: &[Move],
 ) -> Result<Checked, NoPlan>
-    requires size { HasSize (sizes_of placement.now.setup) pool.now }
+    requires scene { HasScene (basis_of placement.now pool.now) }
     requires known { All (IsMoveOf placement.now.setup) moves.now }
     ensures setup { IfOk result (λ checked. checked.setup ≡ placement.now.setup) }
     ensures admitted { IfOk result (λ checked. IsAdmitted (sizes_of placement.now.setup) (place_of placement.now) (pool_hold pool.now) checked.plan) }
@@ -100,7 +90,7 @@ pub(crate) fn moves_at(
     }
     let draft = draft(alloc, placement, pool, moves)?;
     let plan = write(alloc, placement, pool, &draft)?;
-    accepted(alloc, placement, pool, plan)
+    checked(alloc, placement, pool, plan)
 }
 
 /// A plan that empties a server, at a placement with its pool.
@@ -111,7 +101,7 @@ pub(crate) fn drain_at(
     pool: &Pool,
     server: ServerId,
 ) -> Result<Checked, NoPlan>
-    requires size { HasSize (sizes_of placement.now.setup) pool.now }
+    requires scene { HasScene (basis_of placement.now pool.now) }
     requires server { server < length placement.now.setup.servers }
     ensures setup { IfOk result (λ checked. checked.setup ≡ placement.now.setup) }
     ensures admitted { IfOk result (λ checked. IsAdmitted (sizes_of placement.now.setup) (place_of placement.now) (pool_hold pool.now) checked.plan) }

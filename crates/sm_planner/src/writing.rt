@@ -3,14 +3,16 @@ ghost use Rattle.std.specs.Prelude.{◌≡◌, ◌<◌, ◌≤◌, ◌==◌, ◌
 ghost use Rattle.std.specs.List.{flat_map, range_with_len};
 ghost use Rattle.sm_placement.specs.Layout.{place_of};
 ghost use Rattle.sm_reservation.specs.InOrder.{in_order};
+ghost use Rattle.sm_reservation.specs.Key.{IsOnce};
 ghost use Rattle.sm_reservation.specs.Lists.{rights_of};
 ghost use Rattle.sm_plan_code.specs.Instr.{is_call};
 ghost use Rattle.sm_plan_code.specs.Parts.{parts_of};
+ghost use Rattle.sm_plan_code.specs.Plan.{IsPlan};
 ghost use Rattle.sm_planner.specs.Basis.{basis_of, IsMoveOf, move_at};
 ghost use Rattle.sm_planner.specs.Payment.{stream_of};
 ghost use Rattle.sm_planner.specs.Stretches.{IsGiven};
 ghost use Rattle.sm_planner.specs.Plan.{handing_over, copying, instructions, waits_of, posts_of, cells_needed, crowns_of, stream as stream_of_moves, handed_parcel, planned};
-ghost use Rattle.sm_planner.specs.Draft.{IsDraft, ArePayments, drafted_code, room_by, holds_by};
+ghost use Rattle.sm_planner.specs.Draft.{IsDraft, ArePayments, drafted_code, room_by, needs_by, holds_by};
 
 use crate::held::is_primary;
 use crate::marks::Amounts;
@@ -300,13 +302,16 @@ fn rooms_of(
     Ok(rooms)
 }
 
-/// Four lists in the order of their keys, without amounts of 0. In each of them a key stands once.
+/// Four lists in the order of their keys, without amounts of 0.
+#[tactic(auto, using(crate::proofs::Keys::no_double))]
 fn parcel(alloc: Global, lists: Lists) -> Result<Parcel, AllocError>
+    requires { IsOnce (rights_of lists) }
     ensures { IfOk result (λ parcel. parcel ≡ in_order (rights_of lists)) }
 {
     match Parcel::new(alloc, lists) {
         Ok(parcel) => Ok(parcel),
-        Err((_, ParcelFault::NoMemory)) | Err((_, ParcelFault::Double { .. })) => Err(AllocError),
+        Err((_, ParcelFault::NoMemory)) => Err(AllocError),
+        Err((_, ParcelFault::Double { .. })) => unreachable!(),
     }
 }
 
@@ -335,6 +340,7 @@ fn holds_of(
     requires places { All (λ k. k < length draft.now.moves.items) numbers.now }
     requires few { length numbers.now ≤ MOST_MOVES }
     requires drafted { IsDraft (basis_of placement.now pool.now) draft.now }
+    requires once { IsOnce (needs_by (basis_of placement.now pool.now) draft.now.moves.items numbers.now) }
     ensures { IfOk result (λ parcel. parcel ≡ holds_by (basis_of placement.now pool.now) draft.now.moves.items numbers.now) }
 {
     let lists = Lists {
@@ -437,19 +443,21 @@ fn parts(
     })
 }
 
-/// The plan of placed moves.
+/// The plan of placed moves, which is within the limits of plans.
+#[tactic(auto, using(crate::proofs::Keys::no_fault))]
 pub(crate) fn write(
     alloc: Global,
     placement: &Placement,
     pool: &Pool,
     draft: &Draft,
 ) -> Result<Plan, NoPlan>
-    requires { IsDraft (basis_of placement.now pool.now) draft.now }
+    requires drafted { IsDraft (basis_of placement.now pool.now) draft.now }
+    requires limits { IsPlan (planned (basis_of placement.now pool.now) draft.now.moves.items) }
     ensures plan { IfOk result (λ plan. plan ≡ planned (basis_of placement.now pool.now) draft.now.moves.items) }
     ensures memory { IfErr result (λ why. why ≡ NoPlan.NoMemory) }
 {
     match Plan::new(parts(alloc, placement, pool, draft)?) {
         Ok(plan) => Ok(plan),
-        Err(_) => Err(NoPlan::NoMemory),
+        Err(_) => unreachable!(),
     }
 }

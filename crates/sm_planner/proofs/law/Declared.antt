@@ -171,7 +171,7 @@ module _ (b : Basis) (order : List Move) (apart : AreAllApart b order) (opened :
     rooms_once : IsKeyedOnce key_of_room rooms
     rooms_once = rows_once (sizes_of b.setup).servers
 
-    lists_once : IsOnce lists
+    pub lists_once : IsOnce lists
     lists_once (key.CellRight s v) = cells_once (s, v)
     lists_once (key.Crown s) = crowns_once (s, 0)
     lists_once (key.Room v) = rooms_once (v, 0)

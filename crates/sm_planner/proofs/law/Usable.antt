@@ -1,11 +1,13 @@
 -- The rule's plan of moves of the configuration is sound and admitted.
-use Rattle.std.proofs.Common.{◌≡◌, ℕ, ◌<◌, ◌≤◌, None, inl, inr, ap, List, length, get_or, sym, arith, subst}
+use Rattle.std.proofs.Common.{◌≡◌, ℕ, ◌<◌, ◌≤◌, None, inl, inr, ap, List, length, get_or, sym, arith, subst, ◌∙◌}
 use Rattle.std.specs.Prelude.{All}
 use Rattle.std.proofs.lemmas.List.Elements.{All-get_or}
 use Rattle.sm_placement.specs.declared.lead.Lead.{Lead}
+use Rattle.sm_placement.specs.Place.{Place}
 use Rattle.sm_placement.specs.Setup.{Setup, ServerRow, IsSetup, sizes_of, no_server}
 use Rattle.sm_plan_code.specs.Plan.{PlanModel, IsPlan}
 use Rattle.sm_plan_code.specs.Effects.{IsScene}
+use Rattle.sm_verifier.specs.Admission.{IsAdmitted}
 use Rattle.sm_verifier.specs.Plan.{IsSound}
 use Rattle.sm_verifier.proofs.Holdings.{finds_holding}
 use Rattle.sm_verifier.proofs.WithinPool.{within_admitted}
@@ -14,7 +16,9 @@ use Rattle.sm_planner.specs.Basis.{Basis, basis, IsMoveOf, move_at, no_move}
 use Rattle.sm_planner.specs.Placing.{IsPlacing}
 use Rattle.sm_planner.specs.Plan.{move_code, planned}
 use Rattle.sm_planner.specs.Refusal.{in_placed_order, refusal, IsPlanOf}
-use Rattle.sm_planner.specs.Laws.{IsUsable}
+use Rattle.sm_planner.specs.Draft.{IsDraftOf}
+use Rattle.sm_planner.specs.declared.writing.Draft.{Draft}
+use Rattle.sm_planner.specs.Laws.{IsUsable, HasScene}
 use Rattle.sm_planner.proofs.law.Orders.{has_order}
 use Rattle.sm_planner.proofs.law.Signals.{is_of_parts}
 use Rattle.sm_planner.proofs.law.Uses.{used_once, keeps_budget, knows_signals}
@@ -27,6 +31,7 @@ use Rattle.sm_protocol.proofs.Whole.{reached_keeps}
 use Rattle.sm_planner.specs.Payment.{signals_of, stream_of}
 use Rattle.sm_placement.specs.declared.limits.TheConstants.{MOST_LOAD}
 use Rattle.sm_plan_code.specs.declared.limits.TheConstants.{MOST_AMOUNT}
+use Rattle.sm_reservation.specs.Hold.{Hold}
 use Rattle.sm_reservation.specs.Truth.{IsTrueOf}
 use Rattle.sm_reservation.specs.Amounts.{OfRoom}
 use Rattle.std.proofs.lemmas.Bool.{cases_lt}
@@ -117,3 +122,21 @@ pub plan_is_usable_at : (setup : Setup) (w : State) (moves : List Move) (plan : 
 plan_is_usable_at setup w moves plan reached all by =
     let scene = pool_scene setup w reached in
     plan_is_usable (basis setup w.place (pool w)) scene.0 w.numbers moves plan reached.opening.rows scene.1 all by
+
+-- so it is where a configuration has the state's sizes
+pub scene_at : (setup own : Setup) (w : State) (place : Place) (free : Hold) → IsReached setup w → sizes_of own ≡ w.sizes → place ≡ w.place → free ≡ pool w → HasScene (basis own place free)
+scene_at setup own w place free reached sizes there is =
+    let scene = pool_scene setup w reached in
+    let same = sizes ∙ (reached_keeps setup w reached).1 in
+    let sized = subst (λ c. IsScene c w.place scene.0 w.numbers (pool w)) (sym same) scene.1 in
+    let placed = subst (λ p. IsScene (sizes_of own) p scene.0 w.numbers (pool w)) (sym there) sized in
+    (scene.0, w.numbers, subst (λ h. IsScene (sizes_of own) place scene.0 w.numbers h) (sym is) placed)
+
+-- ---- plans that are drafted
+
+pub draft_is_usable : (b : Basis) (moves : List Move) (draft : Draft) → HasScene b → All (IsMoveOf b.setup) moves → IsDraftOf b moves draft → IsUsable b (planned b draft.moves.items)
+draft_is_usable b moves draft scene all by =
+    subst (λ order. IsUsable b (planned b order)) (sym by.3) (is_usable b scene.0 scene.1 moves by.0 by.4.setup scene.2 all by.1 by.2)
+
+pub usable_is_admitted : (b : Basis) (plan : PlanModel) → IsUsable b plan → IsAdmitted (sizes_of b.setup) b.place b.pool plan
+usable_is_admitted b plan is = (finds_holding (sizes_of b.setup) b.place b.pool plan is.checked.parts.parcels is.checked.fits).none.0 is.free

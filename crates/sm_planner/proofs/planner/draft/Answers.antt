@@ -1,4 +1,4 @@
-use Rattle.std.proofs.Common.{◌≡◌, ◌∙◌, None, List, sym, ap, subst, inr, length, map, arith}
+use Rattle.std.proofs.Common.{ℕ, ◌≡◌, ◌∙◌, None, List, sym, ap, subst, inr, length, map, arith}
 use Rattle.std.specs.Prelude.{All}
 use Rattle.std.specs.List.{range_with_len}
 use Rattle.std.proofs.lemmas.List.{length-map, get_or_default}
@@ -10,6 +10,12 @@ use Rattle.sm_planner.specs.Payment.{signals_of}
 use Rattle.sm_planner.specs.Stretches.{stretch, IsGiven}
 use Rattle.sm_planner.proofs.Refusing.{refused_room, refused_signals, refused_not}
 use Rattle.sm_planner.proofs.Signalling.{ordered_known, signals_are, signals_given}
+use Rattle.sm_reservation.specs.Key.{IsOnce}
+use Rattle.sm_planner.specs.Refusal.{refusal, in_placed_order}
+use Rattle.sm_planner.specs.Plan.{moves_of}
+use Rattle.sm_planner.specs.Draft.{needs_by}
+use Rattle.sm_planner.proofs.Keys.{declared_once}
+use Rattle.sm_planner.proofs.law.Opened.{order_apart, order_opened}
 use Rattle.sm_planner.proofs.planner.draft.Goals as goal
 use Rattle.sm_planner.proofs.planner.draft.Goals.{In_ok-order, In_ok-signals}
 
@@ -57,10 +63,12 @@ returns-clause-drafted c =
     let n = c.len.ensures in let o = c.in_ok-signals.signals.ok in let p = o.0 in let t = c.if-len-gt-MOST_SIGNALS.false in
     let u = c.if-moves-gt-MOST_MOVES.false in
     let w = c.in_ok-placing.ensures.few in
-    let l = ap length c.in_ok-order.ensures ∙ length-map placed (move_at moves) in (
+    let l = ap length c.in_ok-order.ensures ∙ length-map placed (move_at moves) in
+    let is = c.in_ok-placing.ensures.placing in
+    let none : refusal b moves placed ≡ None = refused_not b moves placed c.requires.open (left_none at.In_ok-order) (apart at.In_ok-order) (omega arith) (omega arith) in (
       placed,
-      c.in_ok-placing.ensures.placing,
-      refused_not b moves placed c.requires.open (left_none at.In_ok-order) (apart at.In_ok-order) (omega arith) (omega arith),
+      is,
+      none,
       c.in_ok-order.ensures,
       record {
         setup = c.in_ok-placed.ensures.setup;
@@ -70,5 +78,7 @@ returns-clause-drafted c =
         signals = s;
         signal_count = omega arith;
         given = subst (All (IsGiven b c.in_ok-order.order.items)) (sym s) (signals_given b c.in_ok-order.order.items);
+        once = subst (λ (order : List Move). (i : ℕ) → IsOnce (needs_by b order (moves_of order i))) (sym c.in_ok-order.ensures)
+            (declared_once b (in_placed_order moves placed) (order_apart b moves placed is none) (order_opened b moves placed is none));
       },
     )

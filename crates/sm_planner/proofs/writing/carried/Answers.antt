@@ -4,6 +4,7 @@ use Rattle.sm_reservation.specs.declared.right.Room.{Room}
 use Rattle.sm_reservation.specs.Rights.{Rights}
 use Rattle.sm_planner.specs.Basis.{basis_of}
 use Rattle.sm_planner.proofs.Drafting.{placed_count}
+use Rattle.sm_planner.proofs.Keys.{carried_once}
 use Rattle.sm_planner.proofs.Streams.{handed_is, carried_is}
 use Rattle.sm_planner.proofs.writing.carried.Goals as goal
 
@@ -23,6 +24,11 @@ index-requires c =
     let e = placed_count (basis_of c.args.placement.now c.args.pool.now) d c.requires.drafted in
     let o = d.placed.ok in let p = o.0 in let l = c.requires.given.payer in let m = c.requires.given.source in
     omega arith
+
+pub parcel-requires : goal.parcel-requires
+parcel-requires c =
+    carried_once c.index-payer.result.now.wanted.to c.from_move.result c.new.result.items c.new-2.result.items c.push.new.self.items c.new-3.result.items
+    c.new.ensures.items c.new-2.ensures.items (c.in_ok-push.ensures.items ∙ ap (λ (x : List Room). x ++ room c.index-payer.result.now.wanted.to c.from_move.result ∷ []) c.new-room.ensures.items) c.new-3.ensures.items
 
 pub returns : goal.returns
 returns c =

@@ -3,11 +3,12 @@ use Rattle.std.specs.Prelude.{All, count_by, ◌==◌}
 use Rattle.std.specs.List.{flat_map, range_with_len}
 use Rattle.std.proofs.lemmas.List.Sums.{count_by-le-length}
 use Rattle.sm_placement.specs.Layout.{place_of}
+use Rattle.sm_reservation.specs.Key.{IsOnce}
 use Rattle.sm_plan_code.specs.Instr.{is_call}
 use Rattle.sm_planner.specs.Basis.{basis_of}
 use Rattle.sm_planner.specs.Payment.{stream_of}
 use Rattle.sm_planner.specs.Plan.{moves_of}
-use Rattle.sm_planner.specs.Draft.{drafted_code, holds_by}
+use Rattle.sm_planner.specs.Draft.{drafted_code, needs_by, holds_by}
 use Rattle.sm_planner.proofs.Streams.{passed_known, passed_few, code_small, stream_is}
 use Rattle.sm_planner.proofs.writing.stream.Goals as goal
 use Rattle.sm_planner.proofs.writing.stream.Goals.{In_ok-numbers, In_ok-code}
@@ -35,6 +36,11 @@ holds_of-requires-clause-places c = known (goal.at.holds_of-requires-clause-plac
 
 pub holds_of-requires-clause-few : goal.holds_of-requires-clause-few
 holds_of-requires-clause-few c = few (goal.at.holds_of-requires-clause-few c).In_ok-numbers c.deref-3.result.now c.deref-3.ensures.value
+
+pub holds_of-requires-clause-once : goal.holds_of-requires-clause-once
+holds_of-requires-clause-once c =
+    let order = c.args.draft.now.moves.items in
+    subst (λ (ns : List ℕ). IsOnce (needs_by (basis_of c.args.placement.now c.args.pool.now) order ns)) (sym (c.deref-3.ensures.value ∙ numbers_are (goal.at.holds_of-requires-clause-once c).In_ok-numbers)) (c.requires.once c.args.number)
 
 small : (c : In_ok-code) → length c.in_ok-code.code.items ≤ 2 ^ 22
 small c = code_small (place_of c.args.placement.now) c.args.draft.now.moves.items c.args.draft.now.signals.items c.deref.result.now c.in_ok-code.code.items c.requires.signal_count

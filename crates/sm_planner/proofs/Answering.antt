@@ -1,0 +1,83 @@
+-- Where the rule has a plan it has no reason why not.
+use Rattle.std.proofs.Common.{◌≡◌, ◌<◌, ◌∙◌, ◌++◌, ◌∷◌, [], ℕ, zero, suc, Option, List, Result, Ok, Err, inl, inr, refl, sym, ap, subst, arith}
+use Rattle.std.specs.Prelude.{IfErr}
+use Rattle.std.specs.Option.{option_or}
+use Rattle.std.proofs.lemmas.Bool.{cases_Bool, cases_eq, both_ways}
+use Rattle.sm_server.specs.Cell.{is_absent}
+use Rattle.sm_placement.specs.Place.{Place}
+use Rattle.sm_placement.specs.Setup.{Setup, sizes_of}
+use Rattle.sm_reservation.specs.Hold.{Hold}
+use Rattle.sm_plan_code.specs.Plan.{PlanModel}
+use Rattle.sm_planner.specs.declared.moving.Move.{Move}
+use Rattle.sm_planner.specs.declared.moving.NoPlan.{NoPlan}
+use Rattle.sm_planner.specs.declared.moving.NoPlan.TheVariants.{NoMemory}
+use Rattle.sm_planner.specs.Basis.{Basis, basis}
+use Rattle.sm_planner.specs.Refusal.{no_room, no_spread, too_many, HasReason, IsPlanOf, IsNoPlanFor}
+use Rattle.sm_planner.specs.Drain.{may_take, leaving, IsTarget, AreLeaving, IsStuck, IsDrainPlan, IsNoDrainFor}
+use Rattle.sm_planner.proofs.law.Existing.{rule_answers}
+
+pub same_basis : (s t : Setup) (p q : Place) (h k : Hold) → s ≡ t → p ≡ q → h ≡ k → basis s p h ≡ basis t q k
+same_basis s t p q h k e f g = rw (e, f, g) refl
+
+no_reason : (b : Basis) (moves : List Move) (plan : PlanModel) (why : NoPlan) → IsPlanOf b moves plan → HasReason b moves why → ⊥
+no_reason b moves plan why by reason = elim reason [
+  | inl alone ↦
+      let wrong = sym by.2 ∙ ap (λ (x : Option NoPlan). option_or x (option_or (no_room moves by.0) (option_or (no_spread b moves) (too_many b moves by.0)))) alone in
+      cc
+  | inr refused ↦ (rule_answers b moves).not_both plan why by refused
+]
+
+pub memory_alone : {T : Type 0} (b : Basis) (moves : List Move) (r : Result T NoPlan) → IfErr r (IsNoPlanFor b moves) → (plan : PlanModel) → IsPlanOf b moves plan → IfErr r (λ why. why ≡ NoMemory)
+memory_alone b moves (Ok x) said plan by = tt
+memory_alone b moves (Err why) said plan by = elim said [ inl short ↦ short | inr reason ↦ absurd (no_reason b moves plan why by reason) ]
+
+-- ---- drains
+
+module _ (b : Basis) (v : ℕ) where
+  one_target : (moves : List Move) (s u w : ℕ) → IsTarget b v moves s u → IsTarget b v moves s w → u ≡ w
+  one_target moves s u w one two = elim (one.most w two.known two.takes) [
+    | inl less ↦ elim (two.most u one.known one.takes) [ inl more ↦ absurd (omega arith) | inr same ↦ (let e = same.0 in absurd (omega arith)) ]
+    | inr even ↦ elim (two.most u one.known one.takes) [ inl more ↦ (let e = even.0 in absurd (omega arith)) | inr same ↦ (let l = even.1 in let m = same.1 in omega arith) ]
+  ]
+
+  same_leaving : (n : ℕ) (ms ns : List Move) → AreLeaving b v n ms → AreLeaving b v n ns → ms ≡ ns
+  same_leaving zero ms ns one two = one ∙ sym two
+  same_leaving (suc s) ms ns one two = elim (cases_Bool (is_absent (b.place.cells s v))) [
+    | inl gone ↦ same_leaving s ms ns (one.0 gone) (two.0 gone)
+    | inr there ↦
+        let x = one.1 there in
+        let y = two.1 there in
+        let front : x.0 ≡ y.0 = same_leaving s x.0 y.0 x.2 y.2 in
+        let target : x.1 ≡ y.1 = one_target y.0 s x.1 y.1 (subst (λ e. IsTarget b v e s x.1) front x.3) y.3 in
+        x.4 ∙ ap (λ (e : List Move). e ++ leaving v s x.1 ∷ []) front ∙ ap (λ (u : ℕ). y.0 ++ leaving v s u ∷ []) target ∙ sym y.4
+  ]
+
+  not_stuck : (n s : ℕ) (ms before : List Move) → s < n → AreLeaving b v n ms → IsStuck b v s before → ⊥
+  not_stuck zero s ms before l leave stuck = omega arith
+  not_stuck (suc n) s ms before l leave stuck = elim (cases_eq s n) [
+    | inl same ↦
+        let is : IsStuck b v n before = subst (λ t. IsStuck b v t before) same stuck in
+        let x = leave.1 is.stands in
+        let front : before ≡ x.0 = same_leaving n before x.0 is.before x.2 in
+        let target : IsTarget b v before n x.1 = subst (λ e. IsTarget b v e n x.1) (sym front) x.3 in
+        both_ways (may_take b v before n x.1) (is.placeless x.1 target.known) target.takes
+    | inr other ↦ elim (cases_Bool (is_absent (b.place.cells n v))) [
+      | inl gone ↦ not_stuck n s ms before (omega arith) (leave.0 gone) stuck
+      | inr there ↦ (let x = leave.1 there in not_stuck n s x.0 before (omega arith) x.2 stuck)
+    ]
+  ]
+
+  pub memory_alone_drained : {T : Type 0} (r : Result T NoPlan) → IfErr r (IsNoDrainFor b v) → (plan : PlanModel) → IsDrainPlan b v plan → IfErr r (λ why. why ≡ NoMemory)
+  memory_alone_drained (Ok x) said plan by = tt
+  memory_alone_drained (Err why) said plan by = elim said [
+    | inl short ↦ short
+    | inr refused ↦ elim refused [
+      | inl own ↦ absurd (let wrong = sym by.1.0 ∙ own in cc)
+      | inr more ↦ elim more [
+        | inl stuck ↦ absurd (not_stuck (sizes_of b.setup).shards stuck.0 by.0 stuck.1 stuck.3.known by.1.1 stuck.3)
+        | inr reason ↦
+            let same : reason.0 ≡ by.0 = same_leaving (sizes_of b.setup).shards reason.0 by.0 reason.1.1 by.1.1 in
+            absurd (no_reason b by.0 plan why by.2 (subst (λ ms. HasReason b ms why) same reason.2))
+      ]
+    ]
+  ]
