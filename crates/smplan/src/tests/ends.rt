@@ -1,5 +1,5 @@
 //! Readers and writers that go wrong.
-use super::documents::{REFUSED_CALLS, Row, TWO_STREAMS};
+use super::documents::{PLAYED_HANDOVER, REFUSED_CALLS, Row, TWO_STREAMS};
 use sm_report::{Command, Status, report};
 use std::alloc::Global;
 use std::io::{self, ErrorKind, Read, Write};
@@ -104,6 +104,7 @@ fn reads_again(rt: &(impl AllocGlobal + std::process::Abort), command: Command, 
 fn reads_again_where_it_is_interrupted(rt: HostRuntime) {
     reads_again(&rt, Command::Calls, &REFUSED_CALLS);
     reads_again(&rt, Command::Check, &TWO_STREAMS);
+    reads_again(&rt, Command::Play, &PLAYED_HANDOVER);
 }
 
 /// Each read fails in turn, and nothing is written.
@@ -126,6 +127,7 @@ fn writes_nothing(rt: &(impl AllocGlobal + std::process::Abort), command: Comman
 fn writes_nothing_after_a_failed_read(rt: HostRuntime) {
     writes_nothing(&rt, Command::Calls, &REFUSED_CALLS);
     writes_nothing(&rt, Command::Check, &TWO_STREAMS);
+    writes_nothing(&rt, Command::Play, &PLAYED_HANDOVER);
 }
 
 /// A writer of one byte at a time gets the whole report.
@@ -141,6 +143,7 @@ fn writes_all(rt: &(impl AllocGlobal + std::process::Abort), command: Command, r
 fn writes_byte_by_byte(rt: HostRuntime) {
     writes_all(&rt, Command::Calls, &REFUSED_CALLS);
     writes_all(&rt, Command::Check, &TWO_STREAMS);
+    writes_all(&rt, Command::Play, &PLAYED_HANDOVER);
 }
 
 /// Each write of a report goes wrong in turn, and a front of it is written.
@@ -164,6 +167,7 @@ fn writes_fronts(
 fn ends_at_each_write(rt: &(impl AllocGlobal + std::process::Abort), fault: Fault) {
     writes_fronts(rt, Command::Calls, &REFUSED_CALLS, fault);
     writes_fronts(rt, Command::Check, &TWO_STREAMS, fault);
+    writes_fronts(rt, Command::Play, &PLAYED_HANDOVER, fault);
 }
 
 #[test]

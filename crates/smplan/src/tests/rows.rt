@@ -1,5 +1,5 @@
 //! A report over memory.
-use super::documents::{REFUSED_CALLS, Row, TWO_STREAMS};
+use super::documents::{PLAYED_HANDOVER, REFUSED_CALLS, Row, TWO_STREAMS};
 use sm_report::{Command, Status, one_report, report};
 use std::process::Abort;
 
@@ -20,6 +20,11 @@ fn reports_calls(rt: HostRuntime) {
 #[test]
 fn reports_plans(rt: HostRuntime) {
     assert_reported(&rt, Command::Check, &TWO_STREAMS);
+}
+
+#[test]
+fn reports_plays(rt: HostRuntime) {
+    assert_reported(&rt, Command::Play, &PLAYED_HANDOVER);
 }
 
 #[test]
