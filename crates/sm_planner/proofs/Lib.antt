@@ -1,1 +1,9 @@
 pub mod Firsts
+pub mod Ranges
+pub mod Accounting
+pub mod Stretching
+pub mod Drafting
+pub mod Regions
+pub mod Streams
+pub mod Signalling
+pub mod Refusing

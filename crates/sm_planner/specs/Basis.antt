@@ -4,7 +4,9 @@ use Rattle.sm_server.specs.declared.call.Cell.{Cell}
 use Rattle.sm_server.specs.Cell.{is_primary, is_secondary}
 use Rattle.sm_placement.specs.Setup.{Setup, sizes_of}
 use Rattle.sm_placement.specs.Place.{Place}
+use Rattle.sm_placement.specs.Layout.{PlacementModel, place_of}
 use Rattle.sm_reservation.specs.Hold.{Hold}
+use Rattle.sm_reservation.specs.Pool.{PoolModel, pool_hold}
 use Rattle.sm_planner.specs.declared.moving.Move.{Move}
 
 -- a configuration, a placement of it, and the rights that nobody has
@@ -15,6 +17,10 @@ pub record Basis : Type 0 where
 
 abbrev pub basis : Setup → Place → Hold → Basis
 basis setup place pool = record { setup = setup; place = place; pool = pool }
+
+-- what a plan is made from that is to be admitted at a placement with its pool
+abbrev pub basis_of : PlacementModel → PoolModel → Basis
+basis_of placement pool = basis placement.setup (place_of placement) (pool_hold pool)
 
 abbrev pub no_move : Move
 no_move = record { shard = 0; from = 0; to = 0 }

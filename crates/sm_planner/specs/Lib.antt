@@ -1,8 +1,11 @@
 pub mod Basis
 pub mod Rights
 pub mod Placing
+pub mod Accounts
 pub mod Spread
 pub mod Payment
+pub mod Stretches
 pub mod Plan
 pub mod Refusal
+pub mod Draft
 pub mod Drain

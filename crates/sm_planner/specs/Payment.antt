@@ -5,6 +5,7 @@ use Rattle.std.specs.Prelude.{ℕ, ◌+◌, ◌-◌, ◌%◌, ◌&&◌, ◌==◌
 use Rattle.std.specs.List.{flat_map}
 use Rattle.std.specs.List.{range_with_len}
 use Rattle.sm_planner.specs.declared.moving.Move.{Move}
+use Rattle.sm_planner.specs.declared.payment.Handed as code
 use Rattle.sm_plan_code.specs.declared.limits.TheConstants.{MOST_STREAMS}
 use Rattle.sm_planner.specs.Basis.{Basis, move_at, move_load}
 use Rattle.sm_planner.specs.Placing.{taken_by, freed_by}
@@ -36,10 +37,9 @@ from_move b order k j =
 abbrev pub stream_of : ℕ → ℕ
 stream_of k = k % MOST_STREAMS
 
--- Room that one placed move hands on to another by a signal.
-pub record Handed : Type 0 where
-  pub payer : ℕ
-  pub source : ℕ
+-- Room that one placed move hands on to another by a signal: who pays with it, and whose it was.
+abbrev pub Handed : Type 0
+Handed = code.Handed
 
 abbrev pub handed : ℕ → ℕ → Handed
 handed k j = record { payer = k; source = j }

@@ -29,13 +29,18 @@ abbrev pub publication : Option ℕ → ℕ → List Instr
 publication None s = []
 publication (Some v) s = Publish s ∷ []
 
--- a primary is handed over; a secondary is added at the new server, then dropped at the old one
+-- a primary is handed over
+abbrev pub handing_over : Option ℕ → Move → List Instr
+handing_over listed m =
+    PrepareAdd m.shard m.to m.from ∷ PrepareDrop m.shard m.from m.to ∷ Add m.shard m.to role.Primary
+    ∷ (publication listed m.shard ++ Drop m.shard m.from ∷ [])
+
+-- a secondary is added at the new server, then dropped at the old one
+abbrev pub copying : Move → List Instr
+copying m = Add m.shard m.to role.Secondary ∷ Drop m.shard m.from ∷ []
+
 abbrev pub instructions : Place → Move → List Instr
-instructions p m =
-    if is_primary (left_cell p m)
-    then PrepareAdd m.shard m.to m.from ∷ PrepareDrop m.shard m.from m.to ∷ Add m.shard m.to role.Primary
-    ∷ (publication (p.listed m.shard) m.shard ++ Drop m.shard m.from ∷ [])
-    else Add m.shard m.to role.Secondary ∷ Drop m.shard m.from ∷ []
+instructions p m = if is_primary (left_cell p m) then handing_over (p.listed m.shard) m else copying m
 
 abbrev pub signal_at : List Handed → ℕ → Handed
 signal_at signals q = slice_index_or signals q (handed 0 0)

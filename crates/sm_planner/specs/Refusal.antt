@@ -1,5 +1,5 @@
 -- Which moves are refused, and why: the refusals go by their numbers, and of one number by the move's place in the list.
-use Rattle.std.specs.Prelude.{◌≡◌, ℕ, ◌&&◌, ◌||◌, not, nat_lt, Bool, Option, Some, None, option_map, find, List, length, take, map, if◌then◌else◌}
+use Rattle.std.specs.Prelude.{◌≡◌, ◌⊎◌, ℕ, ◌&&◌, ◌||◌, not, nat_lt, Bool, Option, Some, None, option_map, find, List, length, take, map, if◌then◌else◌}
 use Rattle.std.specs.Option.{option_or}
 use Rattle.sm_server.specs.Cell.{is_absent}
 use Rattle.sm_placement.specs.Opening.{first_below}
@@ -48,19 +48,6 @@ first_down p moves = option_map (λ m. ServerDown (end_down p m)) (find (λ m. p
 abbrev pub first_refused : Basis → List Move → Option NoPlan
 first_refused b moves = option_or (first_not_there b.place moves) (option_or (first_held b moves) (first_down b.place moves))
 
--- a reason that is found over all moves together
-abbrev pub IsOfAll : NoPlan → Type 0
-IsOfAll NoMemory = Unit {0}
-IsOfAll (NoRoom v) = Unit {0}
-IsOfAll (Spread s) = Unit {0}
-IsOfAll TooMany = Unit {0}
-IsOfAll _ = ⊥
-
--- moves are refused for the reason that one of them gives, where one does, and else for one that they give together
-abbrev pub IsMovesRefusal : Option NoPlan → NoPlan → Type 0
-IsMovesRefusal (Some own) why = why ≡ own
-IsMovesRefusal None why = IsOfAll why
-
 -- ---- moves that are refused together
 
 -- the server to which the first move goes that is not placed
@@ -87,9 +74,14 @@ refusal b moves placed =
     (option_or (no_spread b moves)
     (too_many b moves placed)))
 
--- the rule refuses the moves for this reason
+-- the rule refuses the moves for this reason: one of them alone gives it, or they give it together
 abbrev pub IsRefused : Basis → List Move → NoPlan → Type 0
-IsRefused b moves why = (placed : List ℕ) × IsPlacing b moves placed × (refusal b moves placed ≡ Some why)
+IsRefused b moves why =
+    (first_refused b moves ≡ Some why) ⊎ ((placed : List ℕ) × IsPlacing b moves placed × (refusal b moves placed ≡ Some why))
+
+-- memory was short, or the rule refuses the moves for this reason
+abbrev pub IsNoPlanFor : Basis → List Move → NoPlan → Type 0
+IsNoPlanFor b moves why = (why ≡ NoMemory) ⊎ IsRefused b moves why
 
 -- the plan is the rule's
 abbrev pub IsPlanOf : Basis → List Move → PlanModel → Type 0

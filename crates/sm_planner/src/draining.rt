@@ -1,17 +1,17 @@
 //! To which servers the replicas of a server go that is to be emptied.
-ghost use Rattle.std.specs.Prelude.{◌≡◌, ◌<◌, ◌⊎◌, All, IfSome, IfOk, IfErr, OnOk, None, Some, length};
+ghost use Rattle.std.specs.Prelude.{◌≡◌, ◌<◌, ◌≤◌, ◌⊎◌, ◌&&◌, ◌||◌, ◌==◌, ℕ, not, nat_le, true, false, All, IfSome, IfOk, IfErr, OnOk, None, Some, length, slice_index, slice_index_or};
 ghost use Rattle.sm_placement.specs.Layout.{place_of};
+ghost use Rattle.sm_placement.specs.Setup.{sizes_of};
+ghost use Rattle.sm_reservation.specs.Amounts.{is_cell};
 ghost use Rattle.sm_reservation.specs.Pool.{pool_hold};
-ghost use Rattle.sm_planner.specs.Basis.{basis, IsMoveOf};
+ghost use Rattle.sm_planner.specs.Basis.{basis_of, is_replica, IsMoveOf};
+ghost use Rattle.sm_planner.specs.Spread.{region_count, spread_of};
 ghost use Rattle.sm_planner.specs.Drain.{may_leave, first_stuck, drain_refusal, IsDrainRefusal};
 
-use crate::held::{
-    has_absent, has_crown, has_secondary, is_absent, is_primary, is_replica, is_secondary,
-};
-use crate::marks::{amount_at, is_marked, mark, take};
+use crate::held::{has_absent, has_crown, has_secondary, is_absent, is_primary, is_secondary};
+use crate::marks::{Amounts, mark};
 use crate::moving::{Move, NoPlan};
-use crate::placing::room_of;
-use crate::spread::regions_of;
+use crate::spread::{mark_replicas, region_count};
 use sm_placement::Placement;
 use sm_reservation::Pool;
 use sm_server::{ServerId, ShardId};
@@ -21,7 +21,7 @@ use std::alloc::{AllocError, Global};
 fn may_leave(placement: &Placement, pool: &Pool, server: ServerId, shard: ShardId) -> bool
     requires shard { shard < length placement.now.setup.shards }
     requires server { server < length placement.now.setup.servers }
-    ensures { result ≡ may_leave (basis placement.now.setup (place_of placement.now) (pool_hold pool.now)) server shard }
+    ensures { result ≡ may_leave (basis_of placement.now pool.now) server shard }
 {
     is_absent(placement, shard, server)
         || ((is_primary(placement, shard, server) && has_crown(placement, pool, shard, server))
@@ -32,7 +32,7 @@ fn may_leave(placement: &Placement, pool: &Pool, server: ServerId, shard: ShardI
 #[tactic(auto, using(sm_placement::proofs::Searches::find_range_more))]
 fn first_stuck(placement: &Placement, pool: &Pool, server: ServerId) -> Option<ShardId>
     requires { server < length placement.now.setup.servers }
-    ensures { result ≡ first_stuck (basis placement.now.setup (place_of placement.now) (pool_hold pool.now)) server }
+    ensures { result ≡ first_stuck (basis_of placement.now pool.now) server }
 {
     for number in 0..placement.config().shard_count() {
         let shard = ShardId::new(number);
@@ -43,157 +43,117 @@ fn first_stuck(placement: &Placement, pool: &Pool, server: ServerId) -> Option<S
     None
 }
 
-/// The room of each server that is left, and the regions of one shard's replicas at a time.
-#[derive(Drop)]
-struct Targets {
-    room: Vec<u128>,
-    /// The region of each server.
-    regions: Vec<u32>,
-    /// The regions of the replicas that stay, and how many these are.
-    taken: Vec<bool>,
-    count: u32,
+/// The servers whose replica of a shard stays.
+fn staying(
+    alloc: Global,
+    placement: &Placement,
+    shard: ShardId,
+    from: ServerId,
+) -> Result<Vec<bool>, AllocError>
+    requires shard { shard < length placement.now.setup.shards }
+    requires from { from < length placement.now.setup.servers }
+    ensures { IfOk result (λ has. (w : ℕ) → w < length placement.now.setup.servers → slice_index_or has.items w false ≡ (is_replica ((place_of placement.now).cells shard w) && not (w == from))) }
+{
+    let mut has = vec![in alloc; false; placement.config().server_count() as usize]?;
+    mark_replicas(placement, shard, &mut has);
+    mark(&mut has, from.number() as usize, false);
+    Ok(has)
 }
 
-impl Targets {
-    /// Before any move.
-    fn new(alloc: Global, placement: &Placement, pool: &Pool) -> Result<Targets, AllocError> {
-        let config = placement.config();
-        Ok(Targets {
-            room: room_of(alloc, config, pool)?,
-            regions: regions_of(alloc, config)?,
-            taken: vec![in alloc; false; config.server_count() as usize]?,
-            count: 0,
-        })
-    }
+/// With a replica at the target beside those that stay, the shard's replicas lie in enough regions.
+fn is_spread(
+    alloc: Global,
+    placement: &Placement,
+    staying: &[bool],
+    shard: ShardId,
+    target: ServerId,
+) -> Result<bool, AllocError>
+    requires shard { shard < length placement.now.setup.shards }
+{
+    let config = placement.config();
+    let mut has = Vec::from_slice(alloc, staying)?;
+    mark(&mut has, target.number() as usize, true);
+    Ok(config.shard(shard).spread <= region_count(config, &has))
+}
 
-    /// The region of a server.
-    fn region(&self, server: ServerId) -> usize {
-        let number = server.number() as usize;
-        self.regions.get(number).copied().unwrap_or(0) as usize
-    }
+/// The server may take the shard.
+fn may_take(
+    alloc: Global,
+    placement: &Placement,
+    pool: &Pool,
+    room: &Amounts,
+    staying: &[bool],
+    leaving: &Move,
+) -> Result<bool, AllocError>
+    requires { IsMoveOf placement.now.setup leaving.now }
+{
+    let Move { shard, from, to } = *leaving;
+    let is_open = to != from
+        && !placement.is_down(to)
+        && is_absent(placement, shard, to)
+        && has_absent(pool, shard, to)
+        && u128::from(placement.config().load(shard)) <= room.at(to);
+    Ok(is_open && is_spread(alloc, placement, staying, shard, to)?)
+}
 
-    /// Marks the regions of the replicas of a shard that stay.
-    fn mark_staying(&mut self, placement: &Placement, server: ServerId, shard: ShardId)
-        requires { shard < length placement.now.setup.shards }
-    {
-        self.taken.fill(false);
-        self.count = 0;
-        for number in 0..placement.config().server_count() {
-            let other = ServerId::new(number);
-            let region = self.region(other);
-            if other != server
-                && is_replica(placement, shard, other)
-                && !is_marked(&self.taken, region)
-            {
-                mark(&mut self.taken, region, true);
-                self.count = self.count.saturating_add(1);
-            }
-        }
-    }
-
-    /// The replicas lie in enough regions with one at this server too.
-    fn is_spread(&self, placement: &Placement, shard: ShardId, target: ServerId) -> bool
-        requires { shard < length placement.now.setup.shards }
-    {
-        let more = if is_marked(&self.taken, self.region(target)) {
-            0u32
-        } else {
-            1u32
-        };
-        placement.config().shard(shard).spread <= self.count.saturating_add(more)
-    }
-
-    /// The server may take the shard.
-    fn may_take(&self, placement: &Placement, pool: &Pool, leaving: &Move) -> bool
-        requires { IsMoveOf placement.now.setup leaving.now }
-    {
-        let Move { shard, from, to } = *leaving;
-        to != from
-            && !placement.is_down(to)
-            && is_absent(placement, shard, to)
-            && has_absent(pool, shard, to)
-            && u128::from(placement.config().load(shard)) <= amount_at(&self.room, to)
-            && self.is_spread(placement, shard, to)
-    }
-
-    /// The better one of two targets: the one with more room left, of equals the first.
-    fn better(&self, best: Option<ServerId>, to: ServerId) -> ServerId
-        ensures { (result ≡ to) ⊎ (best ≡ Some result) }
-    {
-        match best {
-            Some(best) => {
-                if amount_at(&self.room, best) < amount_at(&self.room, to) {
-                    to
-                } else {
-                    best
-                }
-            }
-            None => to,
-        }
-    }
-
-    /// The server that takes the shard: the one with the most room left, of equals the lowest.
-    fn best(
-        &self,
-        placement: &Placement,
-        pool: &Pool,
-        shard: ShardId,
-        from: ServerId,
-    ) -> Option<ServerId>
-        requires shard { shard < length placement.now.setup.shards }
-        requires from { from < length placement.now.setup.servers }
-        ensures { IfSome result (λ to. to < length placement.now.setup.servers) }
-    {
-        let mut best = None;
-        for number in 0..placement.config().server_count() {
-            let to = ServerId::new(number);
-            if self.may_take(placement, pool, &Move { shard, from, to }) {
-                best = Some(self.better(best, to));
-            }
-        }
-        best
-    }
-
-    /// The move of a shard to its target, whose room it takes.
-    fn leave(
-        &mut self,
-        placement: &Placement,
-        pool: &Pool,
-        shard: ShardId,
-        from: ServerId,
-    ) -> Option<Move>
-        requires shard { shard < length placement.now.setup.shards }
-        requires from { from < length placement.now.setup.servers }
-        ensures { IfSome result (IsMoveOf placement.now.setup) }
-    {
-        self.mark_staying(placement, from, shard);
-        let to = self.best(placement, pool, shard, from)?;
-        let load = u128::from(placement.config().load(shard));
-        take(&mut self.room, to, load);
-        Some(Move { shard, from, to })
+/// The better one of two targets: the one with more room left, of equals the first.
+fn better(room: &Amounts, best: Option<ServerId>, to: ServerId) -> ServerId
+    ensures { (result ≡ to) ⊎ (best ≡ Some result) }
+{
+    match best {
+        Some(best) if room.at(to) <= room.at(best) => best,
+        _ => to,
     }
 }
 
-/// Puts the move of a shard behind the others, where the server has a replica of it. False where it has no target.
+/// The server that takes the shard: the one with the most room left, of equals the lowest.
+fn target(
+    alloc: Global,
+    placement: &Placement,
+    pool: &Pool,
+    room: &Amounts,
+    shard: ShardId,
+    from: ServerId,
+) -> Result<Option<ServerId>, AllocError>
+    requires shard { shard < length placement.now.setup.shards }
+    requires from { from < length placement.now.setup.servers }
+    ensures { IfOk result (λ target. IfSome target (λ to. to < length placement.now.setup.servers)) }
+{
+    let staying = staying(alloc, placement, shard, from)?;
+    let mut best = None;
+    for number in 0..placement.config().server_count() {
+        let to = ServerId::new(number);
+        let leaving = Move { shard, from, to };
+        if may_take(alloc, placement, pool, room, &staying, &leaving)? {
+            best = Some(better(room, best, to));
+        }
+    }
+    Ok(best)
+}
+
+/// Puts the move of a shard behind the others, where the server has a replica of it, and takes the room of its target.
+/// False where it has none.
 fn put_departure(
-    targets: &mut Targets,
+    room: &mut Amounts,
     placement: &Placement,
     pool: &Pool,
     leaving: (ShardId, ServerId),
     moves: &mut Vec<Move>,
+    alloc: Global,
 ) -> Result<bool, AllocError>
     requires shard { leaving.0 < length placement.now.setup.shards }
     requires server { leaving.1 < length placement.now.setup.servers }
     requires known { All (IsMoveOf placement.now.setup) moves.old.items }
     ensures { OnOk result (All (IsMoveOf placement.now.setup) moves.new.items) }
 {
-    let (shard, server) = leaving;
-    if is_absent(placement, shard, server) {
+    let (shard, from) = leaving;
+    if is_absent(placement, shard, from) {
         return Ok(true);
     }
-    match targets.leave(placement, pool, shard, server) {
-        Some(leaving) => {
-            moves.push(leaving)?;
+    match target(alloc, placement, pool, room, shard, from)? {
+        Some(to) => {
+            moves.push(Move { shard, from, to })?;
+            room.take(to, u128::from(placement.config().load(shard)));
             Ok(true)
         }
         None => Ok(false),
@@ -217,12 +177,12 @@ fn targets_of(
     requires { server < length placement.now.setup.servers }
     ensures { IfOk result (λ leaving. All (IsMoveOf placement.now.setup) leaving.moves.items) }
 {
-    let mut targets = Targets::new(alloc, placement, pool)?;
+    let mut room = Amounts::of_pool(alloc, placement.config(), pool)?;
     let mut moves = Vec::new(alloc);
     for number in 0..placement.config().shard_count() {
         let shard = ShardId::new(number);
         let leaving = (shard, server);
-        if !put_departure(&mut targets, placement, pool, leaving, &mut moves)? {
+        if !put_departure(&mut room, placement, pool, leaving, &mut moves, alloc)? {
             let stuck = Some(shard);
             return Ok(Departures { moves, stuck });
         }
@@ -239,8 +199,8 @@ pub(crate) fn leaving(
 ) -> Result<Vec<Move>, NoPlan>
     requires { server < length placement.now.setup.servers }
     ensures known { IfOk result (λ moves. All (IsMoveOf placement.now.setup) moves.items) }
-    ensures refused { IfErr result (IsDrainRefusal (drain_refusal (basis placement.now.setup (place_of placement.now) (pool_hold pool.now)) server)) }
-    ensures open { OnOk result (drain_refusal (basis placement.now.setup (place_of placement.now) (pool_hold pool.now)) server ≡ None) }
+    ensures refused { IfErr result (IsDrainRefusal (drain_refusal (basis_of placement.now pool.now) server)) }
+    ensures open { OnOk result (drain_refusal (basis_of placement.now pool.now) server ≡ None) }
 {
     if let Some(shard) = first_stuck(placement, pool, server) {
         return Err(NoPlan::Held { shard, server });

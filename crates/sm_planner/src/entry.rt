@@ -4,7 +4,7 @@ ghost use Rattle.sm_protocol.specs.State.{pool};
 ghost use Rattle.sm_verifier.specs.Admission.{IsAdmitted};
 ghost use Rattle.sm_machine.specs.State.{state_of};
 ghost use Rattle.sm_planner.specs.Basis.{basis, IsMoveOf};
-ghost use Rattle.sm_planner.specs.Refusal.{first_refused, IsMovesRefusal};
+ghost use Rattle.sm_planner.specs.Refusal.{IsPlanOf, IsNoPlanFor};
 ghost use Rattle.sm_planner.specs.Drain.{drain_refusal};
 ghost use Rattle.sm_planner.specs.declared.moving.NoPlan.{NoPlan};
 
@@ -22,8 +22,8 @@ pub fn moves(alloc: Global, machine: &Machine, moves: &[Move]) -> Result<Checked
     requires { All (IsMoveOf machine.now.placement.setup) moves.now }
     ensures setup { IfOk result (λ checked. checked.setup ≡ machine.now.placement.setup) }
     ensures admitted { IfOk result (λ checked. IsAdmitted (state_of machine.now).sizes (state_of machine.now).place (pool (state_of machine.now)) checked.plan) }
-    ensures refused { IfErr result (IsMovesRefusal (first_refused (basis machine.now.placement.setup (state_of machine.now).place (pool (state_of machine.now))) moves.now)) }
-    ensures open { OnOk result (first_refused (basis machine.now.placement.setup (state_of machine.now).place (pool (state_of machine.now))) moves.now ≡ None) }
+    ensures plan { IfOk result (λ checked. IsPlanOf (basis machine.now.placement.setup (state_of machine.now).place (pool (state_of machine.now))) moves.now checked.plan) }
+    ensures refused { IfErr result (IsNoPlanFor (basis machine.now.placement.setup (state_of machine.now).place (pool (state_of machine.now))) moves.now) }
 {
     moves_at(alloc, machine.placement(), machine.pool(), moves)
 }

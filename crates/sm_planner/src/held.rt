@@ -4,7 +4,7 @@ ghost use Rattle.sm_server.specs.Cell.{is_absent, is_primary, is_secondary};
 ghost use Rattle.sm_placement.specs.Layout.{place_of};
 ghost use Rattle.sm_reservation.specs.Amounts.{is_cell};
 ghost use Rattle.sm_reservation.specs.Pool.{pool_hold};
-ghost use Rattle.sm_planner.specs.Basis.{basis, is_replica, IsMoveOf};
+ghost use Rattle.sm_planner.specs.Basis.{basis_of, is_replica, IsMoveOf};
 ghost use Rattle.sm_planner.specs.Rights.{has_crown_at, has_rights, needs_cell, shares_right, is_forestalled};
 ghost use Rattle.sm_planner.specs.Refusal.{is_open, first_not_there, first_held, first_down, end_down, first_refused};
 
@@ -71,7 +71,7 @@ pub(crate) fn has_crown(
     server: ServerId,
 ) -> bool
     requires { shard < length placement.now.setup.shards }
-    ensures { result ≡ has_crown_at (basis placement.now.setup (place_of placement.now) (pool_hold pool.now)) shard server }
+    ensures { result ≡ has_crown_at (basis_of placement.now pool.now) shard server }
 {
     match pool.crown(shard) {
         Some((lead, listed)) => lead == Lead::At(server) && listed == placement.listed(shard),
@@ -82,7 +82,7 @@ pub(crate) fn has_crown(
 /// The pool has the rights that a move needs.
 fn has_rights(placement: &Placement, pool: &Pool, wanted: &Move) -> bool
     requires { IsMoveOf placement.now.setup wanted.now }
-    ensures { result ≡ has_rights (basis placement.now.setup (place_of placement.now) (pool_hold pool.now)) wanted.now }
+    ensures { result ≡ has_rights (basis_of placement.now pool.now) wanted.now }
 {
     let Move { shard, from, to } = *wanted;
     has_absent(pool, shard, to)
@@ -130,7 +130,7 @@ fn is_forestalled(placement: &Placement, earlier: &[Move], wanted: &Move) -> boo
 fn is_open(placement: &Placement, pool: &Pool, earlier: &[Move], wanted: &Move) -> bool
     requires wanted { IsMoveOf placement.now.setup wanted.now }
     requires earlier { All (IsMoveOf placement.now.setup) earlier.now }
-    ensures { result ≡ is_open (basis placement.now.setup (place_of placement.now) (pool_hold pool.now)) earlier.now wanted.now }
+    ensures { result ≡ is_open (basis_of placement.now pool.now) earlier.now wanted.now }
 {
     is_absent(placement, wanted.shard, wanted.to)
         && has_rights(placement, pool, wanted)
@@ -156,7 +156,7 @@ pub(crate) fn first_not_there(placement: &Placement, moves: &[Move]) -> Option<N
 /// The first move whose rights are not free.
 pub(crate) fn first_held(placement: &Placement, pool: &Pool, moves: &[Move]) -> Option<NoPlan>
     requires { All (IsMoveOf placement.now.setup) moves.now }
-    ensures { result ≡ first_held (basis placement.now.setup (place_of placement.now) (pool_hold pool.now)) moves.now }
+    ensures { result ≡ first_held (basis_of placement.now pool.now) moves.now }
 {
     for (i, wanted) in moves.iter().enumerate() {
         if !is_open(placement, pool, &moves[..i], wanted) {
@@ -199,7 +199,7 @@ fn down_of(placement: &Placement, wanted: &Move) -> ServerId
 /// Why moves are refused one by one: the first reason, and of one reason the first move.
 pub(crate) fn first_refused(placement: &Placement, pool: &Pool, moves: &[Move]) -> Option<NoPlan>
     requires { All (IsMoveOf placement.now.setup) moves.now }
-    ensures { result ≡ first_refused (basis placement.now.setup (place_of placement.now) (pool_hold pool.now)) moves.now }
+    ensures { result ≡ first_refused (basis_of placement.now pool.now) moves.now }
 {
     if let Some(why) = first_not_there(placement, moves) {
         return Some(why);

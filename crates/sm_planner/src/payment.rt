@@ -1,28 +1,25 @@
 //! Who pays for the room that moves take.
-ghost use Rattle.std.specs.Prelude.{◌≡◌, ◌-◌, ◌≤◌, ◌<◌, All, min, max};
-ghost use Rattle.sm_planner.specs.Basis.{IsMoveOf};
+ghost use Rattle.std.specs.Prelude.{◌≡◌, ◌≤◌, ◌<◌, All, IfOk, OnOk, length, map, ◌++◌};
+ghost use Rattle.std.specs.List.{flat_map, range_with_len};
+ghost use Rattle.sm_placement.specs.Setup.{IsSetup};
+ghost use Rattle.sm_planner.specs.Basis.{basis_of, IsMoveOf};
+ghost use Rattle.sm_planner.specs.Payment.{overlap};
+ghost use Rattle.sm_planner.specs.Stretches.{stretch, paid_from, is_paid_by, handed_to};
 
-use crate::held::is_primary;
-use crate::marks::{amount_at, put};
+use crate::marks::Amounts;
 use crate::moving::Move;
-use crate::placing::room_of;
 use sm_placement::Placement;
-use sm_plan_code::{MOST_SIGNALS, MOST_STREAMS};
+use sm_plan_code::MOST_STREAMS;
 use sm_reservation::Pool;
-use sm_server::ServerId;
 use std::alloc::{AllocError, Global};
 
 /// A placed move, with the stretches of room that it takes and frees.
 #[derive(Clone, Copy, Debug, PartialEq, Eq)]
 pub(crate) struct Placed {
     pub(crate) wanted: Move,
-    /// The replica is a primary.
-    pub(crate) is_primary: bool,
-    /// What the published map says of the shard.
-    pub(crate) listed: Option<ServerId>,
-    load: u128,
+    load: u64,
     /// The pool's room of the server to which it goes.
-    pool: u128,
+    pool: u64,
     /// Where the stretches begin.
     takes_from: u128,
     frees_from: u128,
@@ -31,31 +28,39 @@ pub(crate) struct Placed {
 /// Room that one placed move hands on to another by a signal.
 #[derive(Clone, Copy, Debug, PartialEq, Eq)]
 pub(crate) struct Handed {
-    /// The signal.
-    pub(crate) number: u32,
-    /// The place in the order of the move that pays with it, and of the one that freed it.
+    /// The place in the order of the move that pays with it.
     pub(crate) payer: usize,
+    /// The place of the move that freed it.
     pub(crate) source: usize,
-    /// Where it is, and how much.
-    pub(crate) server: ServerId,
-    pub(crate) amount: u64,
 }
 
 /// How much of a stretch of `n` from `a` on lies in a stretch of `m` from `b` on.
-fn overlap(a: u128, n: u128, b: u128, m: u128) -> u64 {
-    let start = a.max(b);
-    let end = a.saturating_add(n).min(b.saturating_add(m));
-    u64::try_from(end.saturating_sub(start)).unwrap_or(u64::MAX)
+fn overlap(a: u128, n: u64, b: u128, m: u64) -> u64
+    ensures value { result ≡ overlap a n b m }
+    ensures within { result ≤ n }
+{
+    let n = u128::from(n);
+    let m = u128::from(m);
+    if a <= b {
+        n.saturating_sub(b - a).min(m) as u64
+    } else {
+        m.saturating_sub(a - b).min(n) as u64
+    }
 }
 
 impl Placed {
     /// What the move pays from the pool.
-    pub(crate) fn from_pool(&self) -> u64 {
+    pub(crate) fn from_pool(&self) -> u64
+        ensures value { result ≡ overlap self.now.takes_from self.now.load 0 self.now.pool }
+        ensures within { result ≤ self.now.load }
+    {
         overlap(self.takes_from, self.load, 0, self.pool)
     }
 
     /// What it pays from the room that an earlier one freed.
-    fn from_move(&self, source: &Placed) -> u64 {
+    pub(crate) fn from_move(&self, source: &Placed) -> u64
+        ensures { result ≡ paid_from self.now source.now }
+    {
         if source.wanted.from != self.wanted.to {
             return 0;
         }
@@ -71,57 +76,60 @@ pub(crate) fn stretches(
     order: &[Move],
 ) -> Result<Vec<Placed>, AllocError>
     requires { All (IsMoveOf placement.now.setup) order.now }
+    ensures setup { OnOk result (IsSetup placement.now.setup) }
+    ensures placed { IfOk result (λ placed. placed.items ≡ map (stretch (basis_of placement.now pool.now) order.now) (range_with_len 0 (length order.now))) }
 {
     let config = placement.config();
-    let mut taken = vec![in alloc; 0u128; config.server_count() as usize]?;
-    let mut freed = room_of(alloc, config, pool)?;
+    let mut taken = Amounts::none(alloc, config)?;
+    let mut freed = Amounts::of_pool(alloc, config, pool)?;
     let mut stretches = Vec::with_capacity(alloc, order.len())?;
     for wanted in order {
-        let Move { shard, from, to } = *wanted;
-        let load = u128::from(config.load(shard));
+        let load = config.load(wanted.shard);
         stretches.push(Placed {
             wanted: *wanted,
-            is_primary: is_primary(placement, shard, from),
-            listed: placement.listed(shard),
             load,
-            pool: u128::from(pool.room(to)),
-            takes_from: amount_at(&taken, to),
-            frees_from: amount_at(&freed, from),
+            pool: pool.room(wanted.to),
+            takes_from: taken.at(wanted.to),
+            frees_from: freed.at(wanted.from),
         })?;
-        put(&mut taken, to, load);
-        put(&mut freed, from, load);
+        taken.put(wanted.to, u128::from(load));
+        freed.put(wanted.from, u128::from(load));
     }
     Ok(stretches)
 }
 
-/// Puts the room that is handed on to the last of these moves behind the signals so far, one more than there may be at most.
-fn put_handed(
-    order: &[Placed],
-    payer: &Placed,
-    k: usize,
-    signals: &mut Vec<Handed>,
-) -> Result<(), AllocError> {
-    for (j, source) in order.iter().enumerate() {
-        let amount = payer.from_move(source);
-        let number = signals.len();
-        if j < k && amount > 0 && k % MOST_STREAMS != j % MOST_STREAMS && number <= MOST_SIGNALS {
+/// The k-th placed move pays with room of the j-th, which is of another stream.
+fn is_paid_by(order: &[Placed], k: usize, j: usize) -> bool
+    requires payer { k < length order.now }
+    requires source { j < length order.now }
+    ensures { result ≡ is_paid_by order.now k j }
+{
+    order[k].from_move(&order[j]) > 0 && k % MOST_STREAMS != j % MOST_STREAMS
+}
+
+/// Puts the room that is handed on to a placed move behind the signals so far.
+fn put_handed(order: &[Placed], k: usize, signals: &mut Vec<Handed>) -> Result<(), AllocError>
+    requires { k < length order.now }
+    ensures { OnOk result (signals.new.items ≡ signals.old.items ++ handed_to order.now k) }
+{
+    for j in 0..k {
+        if is_paid_by(order, k, j) {
             signals.push(Handed {
-                number: number as u32,
                 payer: k,
                 source: j,
-                server: payer.wanted.to,
-                amount,
             })?;
         }
     }
     Ok(())
 }
 
-/// The signals in their order; where there are more than there may be, one more.
-pub(crate) fn signals(alloc: Global, order: &[Placed]) -> Result<Vec<Handed>, AllocError> {
+/// The signals in their order.
+pub(crate) fn signals(alloc: Global, order: &[Placed]) -> Result<Vec<Handed>, AllocError>
+    ensures { IfOk result (λ signals. signals.items ≡ flat_map (handed_to order.now) (range_with_len 0 (length order.now))) }
+{
     let mut signals = Vec::new(alloc);
-    for (k, payer) in order.iter().enumerate() {
-        put_handed(order, payer, k, &mut signals)?;
+    for k in 0..order.len() {
+        put_handed(order, k, &mut signals)?;
     }
     Ok(signals)
 }

@@ -1,105 +1,116 @@
 //! The order in which moves are placed.
-ghost use Rattle.std.specs.Prelude.{◌≡◌, All, IfSome, OnOk, IfOk};
-ghost use Rattle.sm_planner.specs.Basis.{IsMoveOf};
+ghost use Rattle.std.specs.Prelude.{◌≡◌, ◌<◌, ◌≤◌, ◌+◌, ◌^◌, ◌&&◌, ℕ, true, nat_le, All, IfOk, OnOk, IfSome, length, ◌++◌, ◌∷◌, [], slice_index, slice_set};
+ghost use Rattle.sm_placement.specs.Opening.{first_below};
+ghost use Rattle.sm_planner.specs.Basis.{basis_of, IsMoveOf, move_at, move_load};
+ghost use Rattle.sm_planner.specs.Placing.{IsPlacing, first_left};
+ghost use Rattle.sm_planner.specs.Accounts.{is_next, is_left, room_after};
+ghost use Rattle.sm_planner.specs.Refusal.{in_placed_order};
 
-use crate::marks::{amount_at, is_marked, mark, put, take};
+use crate::marks::{Amounts, is_marked, mark};
 use crate::moving::Move;
-use sm_placement::Config;
+use sm_placement::{Config, Placement};
 use sm_reservation::Pool;
-use sm_server::ServerId;
 use std::alloc::{AllocError, Global};
 
 /// Moves that are placed one after another.
 #[derive(Drop)]
 pub(crate) struct Placing {
-    /// The placed moves, the first placed first.
-    pub(crate) order: Vec<Move>,
+    /// The places in the list of the moves that are placed, the first placed first.
+    pub(crate) placed: Vec<usize>,
     /// Which moves of the list are placed.
-    placed: Vec<bool>,
+    pub(crate) marks: Vec<bool>,
     /// How much room of each server is left.
-    room: Vec<u128>,
-}
-
-/// The room of each server that the pool has.
-pub(crate) fn room_of(
-    alloc: Global,
-    config: &Config,
-    pool: &Pool,
-) -> Result<Vec<u128>, AllocError> {
-    let mut room = Vec::with_capacity(alloc, config.server_count() as usize)?;
-    for number in 0..config.server_count() {
-        room.push(u128::from(pool.room(ServerId::new(number))))?;
-    }
-    Ok(room)
+    room: Amounts,
 }
 
 impl Placing {
-    /// Before any move is placed.
-    fn new(alloc: Global, config: &Config, pool: &Pool, count: usize) -> Result<Placing, AllocError>
-        ensures { IfOk result (λ placing. All (IsMoveOf config.now) placing.order.items) }
+    /// The move at a place of the list is not placed, and its load fits.
+    fn is_next(&self, config: &Config, i: usize, wanted: &Move) -> bool
+        requires { IsMoveOf config.now wanted.now }
+        ensures { result ≡ (is_left self.now.marks.items i && nat_le (move_load config.now wanted.now) (slice_index self.now.room wanted.now.to)) }
     {
-        let room = room_of(alloc, config, pool)?;
-        Ok(Placing {
-            order: Vec::new(alloc),
-            placed: vec![in alloc; false; count]?,
-            room,
-        })
+        let load = u128::from(config.load(wanted.shard));
+        !is_marked(&self.marks, i) && load <= self.room.at(wanted.to)
     }
 
     /// The first move that is not placed and whose load fits.
-    fn first_fit(&self, config: &Config, moves: &[Move]) -> Option<(usize, Move)>
+    fn first_fit(&self, config: &Config, moves: &[Move]) -> Option<usize>
         requires { All (IsMoveOf config.now) moves.now }
-        ensures { IfSome result (λ r. IsMoveOf config.now r.1) }
+        ensures { result ≡ first_below (length moves.now) (is_next config.now moves.now self.now.marks.items self.now.room) }
     {
         for (i, wanted) in moves.iter().enumerate() {
-            let load = u128::from(config.load(wanted.shard));
-            if !is_marked(&self.placed, i) && load <= amount_at(&self.room, wanted.to) {
-                return Some((i, *wanted));
+            if self.is_next(config, i, wanted) {
+                return Some(i);
             }
         }
         None
     }
 
     /// Places a move: it takes room where it goes, and then frees room where it comes from.
-    fn place(&mut self, config: &Config, i: usize, wanted: Move) -> Result<(), AllocError>
-        requires known { All (IsMoveOf config.now) self.old.order.items }
-        requires wanted { IsMoveOf config.now wanted }
-        ensures { OnOk result (All (IsMoveOf config.now) self.new.order.items) }
+    fn place(&mut self, config: &Config, i: usize, moves: &[Move]) -> Result<(), AllocError>
+        requires known { All (IsMoveOf config.now) moves.now }
+        requires within { i < length moves.now }
+        requires fits { (v : ℕ) → slice_index self.old.room v + 2 ^ 32 < 2 ^ 128 }
+        ensures placed { OnOk result (self.new.placed.items ≡ self.old.placed.items ++ i ∷ []) }
+        ensures marks { self.new.marks.items ≡ slice_set self.old.marks.items i true }
+        ensures room { self.new.room ≡ room_after config.now (move_at moves.now i) self.old.room }
+        ensures load { move_load config.now (move_at moves.now i) < 2 ^ 32 }
     {
-        let load = u128::from(config.load(wanted.shard));
-        take(&mut self.room, wanted.to, load);
-        put(&mut self.room, wanted.from, load);
-        mark(&mut self.placed, i, true);
-        Ok(self.order.push(wanted)?)
+        let Move { shard, from, to } = moves[i];
+        let load = u128::from(config.load(shard));
+        self.room.take(to, load);
+        self.room.put(from, load);
+        mark(&mut self.marks, i, true);
+        Ok(self.placed.push(i)?)
     }
 
     /// The first move that is not placed.
-    pub(crate) fn first_left(&self, moves: &[Move]) -> Option<Move> {
-        for (i, wanted) in moves.iter().enumerate() {
-            if !is_marked(&self.placed, i) {
-                return Some(*wanted);
+    pub(crate) fn first_left(&self, moves: &[Move]) -> Option<usize>
+        ensures first { result ≡ first_below (length moves.now) (is_left self.now.marks.items) }
+        ensures within { IfSome result (λ i. i < length moves.now) }
+    {
+        for i in 0..moves.len() {
+            if !is_marked(&self.marks, i) {
+                return Some(i);
             }
         }
         None
+    }
+
+    /// The placed moves in their order.
+    pub(crate) fn in_order(&self, alloc: Global, moves: &[Move]) -> Result<Vec<Move>, AllocError>
+        requires { All (λ i. i < length moves.now) self.now.placed.items }
+        ensures { IfOk result (λ order. order.items ≡ in_placed_order moves.now self.now.placed.items) }
+    {
+        let mut order = Vec::with_capacity(alloc, self.placed.len())?;
+        for i in self.placed.iter() {
+            order.push(moves[*i])?;
+        }
+        Ok(order)
     }
 }
 
 /// Places moves as long as one fits.
 pub(crate) fn place_all(
     alloc: Global,
-    config: &Config,
+    placement: &Placement,
     pool: &Pool,
     moves: &[Move],
 ) -> Result<Placing, AllocError>
-    requires { All (IsMoveOf config.now) moves.now }
-    ensures { IfOk result (λ placing. All (IsMoveOf config.now) placing.order.items) }
+    requires { All (IsMoveOf placement.now.setup) moves.now }
+    ensures placing { IfOk result (λ placing. IsPlacing (basis_of placement.now pool.now) moves.now placing.placed.items) }
+    ensures left { IfOk result (λ placing. first_below (length moves.now) (is_left placing.marks.items) ≡ first_left moves.now placing.placed.items) }
+    ensures few { IfOk result (λ placing. length placing.placed.items ≤ length moves.now) }
+    ensures known { IfOk result (λ placing. All (λ i. i < length moves.now) placing.placed.items) }
 {
-    let mut placing = Placing::new(alloc, config, pool, moves.len())?;
-    for _ in 0..moves.len() {
-        let Some((i, wanted)) = placing.first_fit(config, moves) else {
-            return Ok(placing);
-        };
-        placing.place(config, i, wanted)?;
+    let config = placement.config();
+    let mut placing = Placing {
+        placed: Vec::new(alloc),
+        marks: vec![in alloc; false; moves.len()]?,
+        room: Amounts::of_pool(alloc, config, pool)?,
+    };
+    while let Some(i) = placing.first_fit(config, moves) {
+        placing.place(config, i, moves)?;
     }
     Ok(placing)
 }

@@ -1,11 +1,12 @@
 //! Plans from moves, and from a server that is to be emptied, at a placement with its pool.
-ghost use Rattle.std.specs.Prelude.{◌≡◌, ◌≢◌, ◌<◌, All, IfOk, IfErr, OnOk, None, Some, length};
+ghost use Rattle.std.specs.Prelude.{◌≡◌, ◌<◌, All, IfOk, IfErr, OnOk, None, Some, length};
 ghost use Rattle.sm_placement.specs.Setup.{sizes_of};
 ghost use Rattle.sm_placement.specs.Layout.{place_of};
 ghost use Rattle.sm_reservation.specs.Pool.{pool_hold, HasSize};
 ghost use Rattle.sm_verifier.specs.Admission.{IsAdmitted};
-ghost use Rattle.sm_planner.specs.Basis.{basis, IsMoveOf};
-ghost use Rattle.sm_planner.specs.Refusal.{first_refused, IsOfAll, IsMovesRefusal};
+ghost use Rattle.sm_planner.specs.Basis.{basis_of, IsMoveOf};
+ghost use Rattle.sm_planner.specs.Refusal.{first_refused, IsPlanOf, IsNoPlanFor};
+ghost use Rattle.sm_planner.specs.Draft.{IsDraftOf};
 ghost use Rattle.sm_planner.specs.Drain.{drain_refusal};
 ghost use Rattle.sm_planner.specs.declared.moving.NoPlan.{NoPlan};
 
@@ -25,12 +26,16 @@ use std::alloc::Global;
 
 /// Places moves that are not refused one by one, and finds what they pay.
 fn draft(alloc: Global, placement: &Placement, pool: &Pool, moves: &[Move]) -> Result<Draft, NoPlan>
-    requires { All (IsMoveOf placement.now.setup) moves.now }
-    ensures { IfErr result IsOfAll }
+    requires known { All (IsMoveOf placement.now.setup) moves.now }
+    requires open { first_refused (basis_of placement.now pool.now) moves.now ≡ None }
+    ensures drafted { IfOk result (IsDraftOf (basis_of placement.now pool.now) moves.now) }
+    ensures refused { IfErr result (IsNoPlanFor (basis_of placement.now pool.now) moves.now) }
 {
-    let placing = place_all(alloc, placement.config(), pool, moves)?;
-    if let Some(wanted) = placing.first_left(moves) {
-        return Err(NoPlan::NoRoom { server: wanted.to });
+    let placing = place_all(alloc, placement, pool, moves)?;
+    if let Some(i) = placing.first_left(moves) {
+        return Err(NoPlan::NoRoom {
+            server: moves[i].to,
+        });
     }
     if let Some(shard) = first_too_close(alloc, placement, moves)? {
         return Err(NoPlan::Spread { shard });
@@ -38,12 +43,17 @@ fn draft(alloc: Global, placement: &Placement, pool: &Pool, moves: &[Move]) -> R
     if moves.len() > MOST_MOVES {
         return Err(NoPlan::TooMany);
     }
-    let order = stretches(alloc, placement, pool, &placing.order)?;
-    let signals = signals(alloc, &order)?;
+    let order = placing.in_order(alloc, moves)?;
+    let placed = stretches(alloc, placement, pool, &order)?;
+    let signals = signals(alloc, &placed)?;
     if signals.len() > MOST_SIGNALS {
         return Err(NoPlan::TooMany);
     }
-    Ok(Draft { order, signals })
+    Ok(Draft {
+        moves: order,
+        placed,
+        signals,
+    })
 }
 
 /// A plan that is checked, and admitted at the placement with its pool.
@@ -54,6 +64,7 @@ fn accepted(
     plan: Plan,
 ) -> Result<Checked, NoPlan>
     requires { HasSize (sizes_of placement.now.setup) pool.now }
+    ensures plan { IfOk result (λ checked. checked.plan ≡ plan) }
     ensures setup { IfOk result (λ checked. checked.setup ≡ placement.now.setup) }
     ensures admitted { IfOk result (λ checked. IsAdmitted (sizes_of placement.now.setup) (place_of placement.now) (pool_hold pool.now) checked.plan) }
     ensures memory { IfErr result (λ why. why ≡ NoPlan.NoMemory) }
@@ -82,14 +93,14 @@ pub(crate) fn moves_at(
     requires known { All (IsMoveOf placement.now.setup) moves.now }
     ensures setup { IfOk result (λ checked. checked.setup ≡ placement.now.setup) }
     ensures admitted { IfOk result (λ checked. IsAdmitted (sizes_of placement.now.setup) (place_of placement.now) (pool_hold pool.now) checked.plan) }
-    ensures refused { IfErr result (IsMovesRefusal (first_refused (basis placement.now.setup (place_of placement.now) (pool_hold pool.now)) moves.now)) }
-    ensures open { OnOk result (first_refused (basis placement.now.setup (place_of placement.now) (pool_hold pool.now)) moves.now ≡ None) }
+    ensures plan { IfOk result (λ checked. IsPlanOf (basis_of placement.now pool.now) moves.now checked.plan) }
+    ensures refused { IfErr result (IsNoPlanFor (basis_of placement.now pool.now) moves.now) }
 {
     if let Some(why) = first_refused(placement, pool, moves) {
         return Err(why);
     }
     let draft = draft(alloc, placement, pool, moves)?;
-    let plan = write(alloc, &draft)?;
+    let plan = write(alloc, placement, pool, &draft)?;
     accepted(alloc, placement, pool, plan)
 }
 
@@ -104,8 +115,8 @@ pub(crate) fn drain_at(
     requires server { server < length placement.now.setup.servers }
     ensures setup { IfOk result (λ checked. checked.setup ≡ placement.now.setup) }
     ensures admitted { IfOk result (λ checked. IsAdmitted (sizes_of placement.now.setup) (place_of placement.now) (pool_hold pool.now) checked.plan) }
-    ensures refused { IfErr result (λ why. (own : NoPlan) → drain_refusal (basis placement.now.setup (place_of placement.now) (pool_hold pool.now)) server ≡ Some own → why ≡ own) }
-    ensures open { OnOk result (drain_refusal (basis placement.now.setup (place_of placement.now) (pool_hold pool.now)) server ≡ None) }
+    ensures refused { IfErr result (λ why. (own : NoPlan) → drain_refusal (basis_of placement.now pool.now) server ≡ Some own → why ≡ own) }
+    ensures open { OnOk result (drain_refusal (basis_of placement.now pool.now) server ≡ None) }
 {
     let moves = leaving(alloc, placement, pool, server)?;
     moves_at(alloc, placement, pool, &moves)

@@ -1,6 +1,11 @@
 //! In how many regions replicas lie.
-ghost use Rattle.std.specs.Prelude.{◌≡◌, ◌<◌, ◌≤◌, All, length, IfOk, IfSome};
-ghost use Rattle.sm_planner.specs.Basis.{IsMoveOf};
+ghost use Rattle.std.specs.Prelude.{◌≡◌, ◌<◌, ◌≤◌, ◌&&◌, ◌||◌, ◌==◌, ℕ, not, false, All, length, IfOk, slice_index_or};
+ghost use Rattle.std.specs.List.{list_any};
+ghost use Rattle.sm_placement.specs.Sums.{any_below};
+ghost use Rattle.sm_placement.specs.Opening.{first_below};
+ghost use Rattle.sm_placement.specs.Layout.{place_of};
+ghost use Rattle.sm_planner.specs.Basis.{IsMoveOf, is_replica};
+ghost use Rattle.sm_planner.specs.Spread.{same_region, region_count, has_after, is_too_close};
 
 use crate::held::is_replica;
 use crate::marks::{is_marked, mark};
@@ -9,55 +14,89 @@ use sm_placement::{Config, Placement};
 use sm_server::{ServerId, ShardId};
 use std::alloc::{AllocError, Global};
 
-/// The number of each server's region: the lowest server of it.
-pub(crate) fn regions_of(alloc: Global, config: &Config) -> Result<Vec<u32>, AllocError> {
-    let mut regions = Vec::with_capacity(alloc, config.server_count() as usize)?;
-    for number in 0..config.server_count() {
-        regions.push(first_of_region(config, ServerId::new(number)).number())?;
-    }
-    Ok(regions)
+/// Two servers stand in one region.
+fn same_region(config: &Config, one: ServerId, other: ServerId) -> bool
+    requires one { one < length config.now.servers }
+    requires other { other < length config.now.servers }
+    ensures { result ≡ same_region config.now one other }
+{
+    config.server(one).region == config.server(other).region
 }
 
-/// The lowest server in the region of a server.
-fn first_of_region(config: &Config, server: ServerId) -> ServerId
+/// The server is marked, and stands in the region of the other one.
+fn is_twin(config: &Config, has: &[bool], lower: ServerId, server: ServerId) -> bool
+    requires lower { lower < length config.now.servers }
+    requires server { server < length config.now.servers }
+    ensures { result ≡ (slice_index_or has.now lower false && same_region config.now lower server) }
+{
+    is_marked(has, lower.number() as usize) && same_region(config, lower, server)
+}
+
+/// A lower server that is marked stands in the region of a server.
+#[tactic(auto, using(crate::proofs::Regions::any_next))]
+fn has_twin(config: &Config, has: &[bool], server: ServerId) -> bool
     requires { server < length config.now.servers }
+    ensures { result ≡ any_below server (λ u. slice_index_or has.now u false && same_region config.now u server) }
 {
     for number in 0..server.number() {
-        let lower = ServerId::new(number);
-        if config.server(lower).region == config.server(server).region {
-            return lower;
+        if is_twin(config, has, ServerId::new(number), server) {
+            return true;
         }
     }
-    server
+    false
+}
+
+/// The server is the lowest of its region that is marked.
+fn is_lowest(config: &Config, has: &[bool], server: ServerId) -> bool
+    requires { server < length config.now.servers }
+    ensures { result ≡ (slice_index_or has.now server false && not (any_below server (λ u. slice_index_or has.now u false && same_region config.now u server))) }
+{
+    is_marked(has, server.number() as usize) && !has_twin(config, has, server)
 }
 
 /// In how many regions the servers lie that are marked.
-fn region_count(regions: &[u32], has: &[bool], seen: &mut [bool]) -> u32 {
-    seen.fill(false);
+#[tactic(auto, using(crate::proofs::Regions::count_next))]
+pub(crate) fn region_count(config: &Config, has: &[bool]) -> u32
+    ensures { result ≡ region_count config.now (λ v. slice_index_or has.now v false) }
+{
     let mut count = 0u32;
-    for (server, region) in regions.iter().enumerate() {
-        let region = *region as usize;
-        if is_marked(has, server) && !is_marked(seen, region) {
-            mark(seen, region, true);
-            count = count.saturating_add(1);
+    for number in 0..config.server_count() {
+        if is_lowest(config, has, ServerId::new(number)) {
+            count += 1;
         }
     }
     count
 }
 
-/// Marks the servers that have a replica of a shard once all moves are made.
-fn mark_after(placement: &Placement, moves: &[Move], shard: ShardId, has: &mut [bool])
-    requires { shard < length placement.now.setup.shards }
+/// Marks the servers that have a replica of a shard.
+pub(crate) fn mark_replicas(placement: &Placement, shard: ShardId, has: &mut [bool])
+    requires shard { shard < length placement.now.setup.shards }
+    requires wide { length has.old ≡ length placement.now.setup.servers }
+    ensures { (v : ℕ) → v < length placement.now.setup.servers → slice_index_or has.new v false ≡ is_replica ((place_of placement.now).cells shard v) }
 {
     for number in 0..placement.config().server_count() {
         let stands = is_replica(placement, shard, ServerId::new(number));
         mark(has, number as usize, stands);
     }
+}
+
+/// Takes the marks of the servers away that a shard leaves.
+fn unmark_left(moves: &[Move], shard: ShardId, has: &mut [bool])
+    requires { All (λ m. m.from < length has.old) moves.now }
+    ensures { (v : ℕ) → slice_index_or has.new v false ≡ (slice_index_or has.old v false && not (list_any (λ m. (m.shard == shard) && (m.from == v)) moves.now)) }
+{
     for wanted in moves {
         if wanted.shard == shard {
             mark(has, wanted.from.number() as usize, false);
         }
     }
+}
+
+/// Marks the servers to which a shard goes.
+fn mark_gained(moves: &[Move], shard: ShardId, has: &mut [bool])
+    requires { All (λ m. m.to < length has.old) moves.now }
+    ensures { (v : ℕ) → slice_index_or has.new v false ≡ (list_any (λ m. (m.shard == shard) && (m.to == v)) moves.now || slice_index_or has.old v false) }
+{
     for wanted in moves {
         if wanted.shard == shard {
             mark(has, wanted.to.number() as usize, true);
@@ -65,13 +104,63 @@ fn mark_after(placement: &Placement, moves: &[Move], shard: ShardId, has: &mut [
     }
 }
 
-/// Marks the shards that are moved.
-fn moved_shards(alloc: Global, config: &Config, moves: &[Move]) -> Result<Vec<bool>, AllocError> {
-    let mut moved = vec![in alloc; false; config.shard_count() as usize]?;
+/// Marks the servers that have a replica of a shard once all moves are made.
+fn mark_after(placement: &Placement, moves: &[Move], shard: ShardId, has: &mut [bool])
+    requires shard { shard < length placement.now.setup.shards }
+    requires known { All (IsMoveOf placement.now.setup) moves.now }
+    requires wide { length has.old ≡ length placement.now.setup.servers }
+    ensures { (v : ℕ) → v < length placement.now.setup.servers → slice_index_or has.new v false ≡ has_after (place_of placement.now) moves.now shard v }
+{
+    mark_replicas(placement, shard, has);
+    unmark_left(moves, shard, has);
+    mark_gained(moves, shard, has);
+}
+
+/// The shard is moved.
+fn is_moved(moves: &[Move], shard: ShardId) -> bool
+    ensures { result ≡ list_any (λ m. m.shard == shard) moves.now }
+{
     for wanted in moves {
-        mark(&mut moved, wanted.shard.number() as usize, true);
+        if wanted.shard == shard {
+            return true;
+        }
     }
-    Ok(moved)
+    false
+}
+
+/// The servers that have a replica of a shard once all moves are made.
+fn holders_after(
+    alloc: Global,
+    placement: &Placement,
+    moves: &[Move],
+    shard: ShardId,
+) -> Result<Vec<bool>, AllocError>
+    requires shard { shard < length placement.now.setup.shards }
+    requires known { All (IsMoveOf placement.now.setup) moves.now }
+    ensures { IfOk result (λ has. (v : ℕ) → v < length placement.now.setup.servers → slice_index_or has.items v false ≡ has_after (place_of placement.now) moves.now shard v) }
+{
+    let mut has = vec![in alloc; false; placement.config().server_count() as usize]?;
+    mark_after(placement, moves, shard, &mut has);
+    Ok(has)
+}
+
+/// The shard is moved, and its replicas then lie in fewer regions than its spread.
+fn is_too_close(
+    alloc: Global,
+    placement: &Placement,
+    moves: &[Move],
+    shard: ShardId,
+) -> Result<bool, AllocError>
+    requires shard { shard < length placement.now.setup.shards }
+    requires known { All (IsMoveOf placement.now.setup) moves.now }
+    ensures { IfOk result (λ close. close ≡ is_too_close placement.now.setup (place_of placement.now) moves.now shard) }
+{
+    if !is_moved(moves, shard) {
+        return Ok(false);
+    }
+    let has = holders_after(alloc, placement, moves, shard)?;
+    let config = placement.config();
+    Ok(region_count(config, &has) < config.shard(shard).spread)
 }
 
 /// The lowest shard that is moved and whose replicas then lie in fewer regions than its spread.
@@ -79,20 +168,14 @@ pub(crate) fn first_too_close(
     alloc: Global,
     placement: &Placement,
     moves: &[Move],
-) -> Result<Option<ShardId>, AllocError> {
-    let config = placement.config();
-    let servers = config.server_count() as usize;
-    let regions = regions_of(alloc, config)?;
-    let moved = moved_shards(alloc, config, moves)?;
-    let mut has = vec![in alloc; false; servers]?;
-    let mut seen = vec![in alloc; false; servers]?;
-    for number in 0..config.shard_count() {
+) -> Result<Option<ShardId>, AllocError>
+    requires { All (IsMoveOf placement.now.setup) moves.now }
+    ensures { IfOk result (λ shard. shard ≡ first_below (length placement.now.setup.shards) (is_too_close placement.now.setup (place_of placement.now) moves.now)) }
+{
+    for number in 0..placement.config().shard_count() {
         let shard = ShardId::new(number);
-        if is_marked(&moved, number as usize) {
-            mark_after(placement, moves, shard, &mut has);
-            if region_count(&regions, &has, &mut seen) < config.shard(shard).spread {
-                return Ok(Some(shard));
-            }
+        if is_too_close(alloc, placement, moves, shard)? {
+            return Ok(Some(shard));
         }
     }
     Ok(None)

@@ -1,24 +1,45 @@
 //! The plan of moves that are placed in an order.
-ghost use Rattle.std.specs.Prelude.{◌≡◌, IfErr};
+ghost use Rattle.std.specs.Prelude.{◌≡◌, ◌<◌, ◌≤◌, ◌==◌, ◌^◌, ◌++◌, All, IfOk, OnOk, IfErr, length, map, filter, count_by};
+ghost use Rattle.std.specs.List.{flat_map, range_with_len};
+ghost use Rattle.sm_placement.specs.Layout.{place_of};
+ghost use Rattle.sm_reservation.specs.InOrder.{in_order};
+ghost use Rattle.sm_reservation.specs.Lists.{rights_of};
+ghost use Rattle.sm_plan_code.specs.Instr.{is_call};
+ghost use Rattle.sm_plan_code.specs.Parts.{parts_of};
+ghost use Rattle.sm_planner.specs.Basis.{basis_of, IsMoveOf, move_at};
+ghost use Rattle.sm_planner.specs.Payment.{stream_of};
+ghost use Rattle.sm_planner.specs.Stretches.{IsGiven};
+ghost use Rattle.sm_planner.specs.Plan.{handing_over, copying, instructions, waits_of, posts_of, cells_needed, crowns_of, stream as stream_of_moves, handed_parcel, planned};
+ghost use Rattle.sm_planner.specs.Draft.{IsDraft, ArePayments, drafted_code, room_by, holds_by};
 
-use crate::moving::{Move, NoPlan};
+use crate::held::is_primary;
+use crate::marks::Amounts;
+use crate::moving::{MOST_MOVES, Move, NoPlan};
 use crate::payment::{Handed, Placed};
-use sm_placement::Lead;
-use sm_plan_code::{Instr, MOST_STREAMS, Parts, Plan, Stream, is_call};
-use sm_reservation::{CellRight, Crown, Lists, Parcel, ParcelFault, PlainCell, Room};
-use sm_server::Role;
+use sm_placement::{Lead, Placement};
+use sm_plan_code::{Instr, MOST_SIGNALS, MOST_STREAMS, Parts, Plan, Stream, is_call};
+use sm_reservation::{CellRight, Crown, Lists, Parcel, ParcelFault, PlainCell, Pool, Room};
+use sm_server::{Role, ServerId};
 use std::alloc::{AllocError, Global};
 
-/// Placed moves, and the room that they hand on.
+/// Moves in the order in which they are placed, the stretches of room that they take and free, and the room that they hand on.
 #[derive(Drop)]
 pub(crate) struct Draft {
-    pub(crate) order: Vec<Placed>,
+    pub(crate) moves: Vec<Move>,
+    pub(crate) placed: Vec<Placed>,
     pub(crate) signals: Vec<Handed>,
 }
 
 /// The instructions that hand a primary over.
-fn put_handover(placed: &Placed, code: &mut Vec<Instr>) -> Result<(), AllocError> {
-    let Move { shard, from, to } = placed.wanted;
+fn put_handover(
+    placement: &Placement,
+    wanted: &Move,
+    code: &mut Vec<Instr>,
+) -> Result<(), AllocError>
+    requires { IsMoveOf placement.now.setup wanted.now }
+    ensures { OnOk result (code.new.items ≡ code.old.items ++ handing_over ((place_of placement.now).listed wanted.now.shard) wanted.now) }
+{
+    let Move { shard, from, to } = *wanted;
     code.push(Instr::PrepareAdd {
         shard,
         server: to,
@@ -34,7 +55,7 @@ fn put_handover(placed: &Placed, code: &mut Vec<Instr>) -> Result<(), AllocError
         server: to,
         role: Role::Primary,
     })?;
-    if placed.listed.is_some() {
+    if placement.listed(shard).is_some() {
         code.push(Instr::Publish { shard })?;
     }
     Ok(code.push(Instr::Drop {
@@ -44,8 +65,10 @@ fn put_handover(placed: &Placed, code: &mut Vec<Instr>) -> Result<(), AllocError
 }
 
 /// The instructions that bring a secondary to another server.
-fn put_copy(placed: &Placed, code: &mut Vec<Instr>) -> Result<(), AllocError> {
-    let Move { shard, from, to } = placed.wanted;
+fn put_copy(wanted: &Move, code: &mut Vec<Instr>) -> Result<(), AllocError>
+    ensures { OnOk result (code.new.items ≡ code.old.items ++ copying wanted.now) }
+{
+    let Move { shard, from, to } = *wanted;
     code.push(Instr::Add {
         shard,
         server: to,
@@ -57,80 +80,230 @@ fn put_copy(placed: &Placed, code: &mut Vec<Instr>) -> Result<(), AllocError> {
     })?)
 }
 
-/// The instructions of a placed move: it waits for the room that it is handed, moves, and hands on what it freed.
-fn put_code(
-    placed: &Placed,
-    signals: &[Handed],
-    k: usize,
+/// The instructions of a move.
+fn put_instructions(
+    placement: &Placement,
+    wanted: &Move,
     code: &mut Vec<Instr>,
-) -> Result<(), AllocError> {
-    for handed in signals {
+) -> Result<(), AllocError>
+    requires { IsMoveOf placement.now.setup wanted.now }
+    ensures { OnOk result (code.new.items ≡ code.old.items ++ instructions (place_of placement.now) wanted.now) }
+{
+    if is_primary(placement, wanted.shard, wanted.from) {
+        put_handover(placement, wanted, code)
+    } else {
+        put_copy(wanted, code)
+    }
+}
+
+/// A placed move waits for the room that it is handed.
+fn put_waits(signals: &[Handed], k: usize, code: &mut Vec<Instr>) -> Result<(), AllocError>
+    requires { length signals.now ≤ MOST_SIGNALS }
+    ensures { OnOk result (code.new.items ≡ code.old.items ++ waits_of signals.now k) }
+{
+    for (number, handed) in signals.iter().enumerate() {
         if handed.payer == k {
-            let signal = handed.number;
+            let signal = number as u32;
             code.push(Instr::Wait { signal })?;
         }
     }
-    if placed.is_primary {
-        put_handover(placed, code)?;
-    } else {
-        put_copy(placed, code)?;
-    }
-    for handed in signals {
+    Ok(())
+}
+
+/// It hands on what it freed.
+fn put_posts(signals: &[Handed], k: usize, code: &mut Vec<Instr>) -> Result<(), AllocError>
+    requires { length signals.now ≤ MOST_SIGNALS }
+    ensures { OnOk result (code.new.items ≡ code.old.items ++ posts_of signals.now k) }
+{
+    for (number, handed) in signals.iter().enumerate() {
         if handed.source == k {
-            let signal = handed.number;
+            let signal = number as u32;
             code.push(Instr::Signal { signal })?;
         }
     }
     Ok(())
 }
 
-/// The rights to cells, and the crown, that a move needs.
-fn put_rights(placed: &Placed, lists: &mut Lists) -> Result<(), AllocError> {
-    let Move { shard, from, to } = placed.wanted;
-    lists.cells.push(CellRight {
+/// The instructions of a placed move: it waits for the room that it is handed, moves, and hands on what it freed.
+fn put_code(
+    placement: &Placement,
+    draft: &Draft,
+    k: usize,
+    code: &mut Vec<Instr>,
+) -> Result<(), AllocError>
+    requires place { k < length draft.now.moves.items }
+    requires known { All (IsMoveOf placement.now.setup) draft.now.moves.items }
+    requires few { length draft.now.signals.items ≤ MOST_SIGNALS }
+    ensures { OnOk result (code.new.items ≡ code.old.items ++ drafted_code (place_of placement.now) draft.now.moves.items draft.now.signals.items k) }
+{
+    put_waits(&draft.signals, k, code)?;
+    put_instructions(placement, &draft.moves[k], code)?;
+    put_posts(&draft.signals, k, code)
+}
+
+/// The rights to cells that a move needs.
+fn put_cells(
+    placement: &Placement,
+    wanted: &Move,
+    cells: &mut Vec<CellRight>,
+) -> Result<(), AllocError>
+    requires { IsMoveOf placement.now.setup wanted.now }
+    ensures { OnOk result (cells.new.items ≡ cells.old.items ++ cells_needed (place_of placement.now) wanted.now) }
+{
+    let Move { shard, from, to } = *wanted;
+    cells.push(CellRight {
         shard,
         server: to,
         state: PlainCell::Absent,
     })?;
-    if placed.is_primary {
-        lists.crowns.push(Crown {
-            shard,
-            lead: Lead::At(from),
-            listed: placed.listed,
-        })?;
-    } else {
-        lists.cells.push(CellRight {
-            shard,
-            server: from,
-            state: PlainCell::Secondary,
-        })?;
+    if is_primary(placement, shard, from) {
+        return Ok(());
     }
-    Ok(())
+    Ok(cells.push(CellRight {
+        shard,
+        server: from,
+        state: PlainCell::Secondary,
+    })?)
 }
 
-/// Adds room of a server to a list of room, in which each server stands once.
-fn put_room(rooms: &mut Vec<Room>, more: Room) -> Result<(), AllocError> {
-    match rooms.iter().position(|room| room.server == more.server) {
-        Some(i) => {
-            rooms[i].amount = rooms[i].amount.saturating_add(more.amount);
-            Ok(())
+/// The crown that a move needs.
+fn put_crowns(
+    placement: &Placement,
+    wanted: &Move,
+    crowns: &mut Vec<Crown>,
+) -> Result<(), AllocError>
+    requires { IsMoveOf placement.now.setup wanted.now }
+    ensures { OnOk result (crowns.new.items ≡ crowns.old.items ++ crowns_of (place_of placement.now) wanted.now) }
+{
+    let Move { shard, from, .. } = *wanted;
+    if !is_primary(placement, shard, from) {
+        return Ok(());
+    }
+    Ok(crowns.push(Crown {
+        shard,
+        lead: Lead::At(from),
+        listed: placement.listed(shard),
+    })?)
+}
+
+/// The numbers of the placed moves of a stream.
+fn moves_of(alloc: Global, count: usize, stream: usize) -> Result<Vec<usize>, AllocError>
+    ensures { IfOk result (λ numbers. numbers.items ≡ filter (λ k. stream_of k == stream) (range_with_len 0 count)) }
+{
+    let mut numbers = Vec::new(alloc);
+    for k in 0..count {
+        if k % MOST_STREAMS == stream {
+            numbers.push(k)?;
         }
-        None => Ok(rooms.push(more)?),
     }
+    Ok(numbers)
 }
 
-/// Four lists with nothing in them.
-fn no_lists(alloc: Global) -> Lists {
-    Lists {
-        cells: Vec::new(alloc),
-        crowns: Vec::new(alloc),
-        room: Vec::new(alloc),
-        spare: Vec::new(alloc),
+/// The instructions of the placed moves of a stream, one after another.
+fn code_of(
+    alloc: Global,
+    placement: &Placement,
+    draft: &Draft,
+    numbers: &[usize],
+) -> Result<Vec<Instr>, AllocError>
+    requires places { All (λ k. k < length draft.now.moves.items) numbers.now }
+    requires known { All (IsMoveOf placement.now.setup) draft.now.moves.items }
+    requires few { length draft.now.signals.items ≤ MOST_SIGNALS }
+    ensures { IfOk result (λ code. code.items ≡ flat_map (drafted_code (place_of placement.now) draft.now.moves.items draft.now.signals.items) numbers.now) }
+{
+    let mut code = Vec::new(alloc);
+    for k in numbers {
+        put_code(placement, draft, *k, &mut code)?;
     }
+    Ok(code)
 }
 
-/// The parcel of lists in which each key stands once.
-fn parcel(alloc: Global, lists: Lists) -> Result<Parcel, AllocError> {
+/// The rights to cells that the placed moves of a stream need.
+fn cells_of(
+    alloc: Global,
+    placement: &Placement,
+    draft: &Draft,
+    numbers: &[usize],
+) -> Result<Vec<CellRight>, AllocError>
+    requires places { All (λ k. k < length draft.now.moves.items) numbers.now }
+    requires known { All (IsMoveOf placement.now.setup) draft.now.moves.items }
+    ensures { IfOk result (λ cells. cells.items ≡ flat_map (λ k. cells_needed (place_of placement.now) (move_at draft.now.moves.items k)) numbers.now) }
+{
+    let mut cells = Vec::new(alloc);
+    for k in numbers {
+        put_cells(placement, &draft.moves[*k], &mut cells)?;
+    }
+    Ok(cells)
+}
+
+/// The crowns that they need.
+fn crowns_of(
+    alloc: Global,
+    placement: &Placement,
+    draft: &Draft,
+    numbers: &[usize],
+) -> Result<Vec<Crown>, AllocError>
+    requires places { All (λ k. k < length draft.now.moves.items) numbers.now }
+    requires known { All (IsMoveOf placement.now.setup) draft.now.moves.items }
+    ensures { IfOk result (λ crowns. crowns.items ≡ flat_map (λ k. crowns_of (place_of placement.now) (move_at draft.now.moves.items k)) numbers.now) }
+{
+    let mut crowns = Vec::new(alloc);
+    for k in numbers {
+        put_crowns(placement, &draft.moves[*k], &mut crowns)?;
+    }
+    Ok(crowns)
+}
+
+/// What the placed moves of a stream pay from the pool, by server.
+fn payments(
+    alloc: Global,
+    placement: &Placement,
+    pool: &Pool,
+    draft: &Draft,
+    numbers: &[usize],
+) -> Result<Amounts, AllocError>
+    requires places { All (λ k. k < length draft.now.moves.items) numbers.now }
+    requires few { length numbers.now ≤ MOST_MOVES }
+    requires drafted { IsDraft (basis_of placement.now pool.now) draft.now }
+    ensures { IfOk result (λ paid. ArePayments (basis_of placement.now pool.now) draft.now.moves.items numbers.now paid) }
+{
+    let mut paid = Amounts::none(alloc, placement.config())?;
+    for k in numbers {
+        let placed = &draft.placed[*k];
+        paid.put(placed.wanted.to, u128::from(placed.from_pool()));
+    }
+    Ok(paid)
+}
+
+/// The room that the placed moves of a stream pay from the pool.
+fn rooms_of(
+    alloc: Global,
+    placement: &Placement,
+    pool: &Pool,
+    draft: &Draft,
+    numbers: &[usize],
+) -> Result<Vec<Room>, AllocError>
+    requires places { All (λ k. k < length draft.now.moves.items) numbers.now }
+    requires few { length numbers.now ≤ MOST_MOVES }
+    requires drafted { IsDraft (basis_of placement.now pool.now) draft.now }
+    ensures { IfOk result (λ rooms. rooms.items ≡ map (room_by (basis_of placement.now pool.now) draft.now.moves.items numbers.now) (range_with_len 0 (length placement.now.setup.servers))) }
+{
+    let paid = payments(alloc, placement, pool, draft, numbers)?;
+    let mut rooms = Vec::new(alloc);
+    for number in 0..placement.config().server_count() {
+        let server = ServerId::new(number);
+        rooms.push(Room {
+            server,
+            amount: paid.at(server) as u64,
+        })?;
+    }
+    Ok(rooms)
+}
+
+/// Four lists in the order of their keys, without amounts of 0. In each of them a key stands once.
+fn parcel(alloc: Global, lists: Lists) -> Result<Parcel, AllocError>
+    ensures { IfOk result (λ parcel. parcel ≡ in_order (rights_of lists)) }
+{
     match Parcel::new(alloc, lists) {
         Ok(parcel) => Ok(parcel),
         Err((_, ParcelFault::NoMemory)) | Err((_, ParcelFault::Double { .. })) => Err(AllocError),
@@ -138,75 +311,144 @@ fn parcel(alloc: Global, lists: Lists) -> Result<Parcel, AllocError> {
 }
 
 /// How many calls instructions have.
-fn call_count(code: &[Instr]) -> u32 {
+fn call_count(code: &[Instr]) -> u32
+    requires { length code.now < 2 ^ 32 }
+    ensures { result ≡ count_by is_call code.now }
+{
     let mut count = 0u32;
     for instr in code {
         if is_call(instr) {
-            count = count.saturating_add(1);
+            count += 1;
         }
     }
     count
 }
 
+/// What a stream of these placed moves declares: the rights that they need, and what they pay from the pool.
+fn holds_of(
+    alloc: Global,
+    placement: &Placement,
+    pool: &Pool,
+    draft: &Draft,
+    numbers: &[usize],
+) -> Result<Parcel, AllocError>
+    requires places { All (λ k. k < length draft.now.moves.items) numbers.now }
+    requires few { length numbers.now ≤ MOST_MOVES }
+    requires drafted { IsDraft (basis_of placement.now pool.now) draft.now }
+    ensures { IfOk result (λ parcel. parcel ≡ holds_by (basis_of placement.now pool.now) draft.now.moves.items numbers.now) }
+{
+    let lists = Lists {
+        cells: cells_of(alloc, placement, draft, numbers)?,
+        crowns: crowns_of(alloc, placement, draft, numbers)?,
+        room: rooms_of(alloc, placement, pool, draft, numbers)?,
+        spare: Vec::new(alloc),
+    };
+    parcel(alloc, lists)
+}
+
 /// A stream: the placed moves whose number is the stream's modulo 64, one after another.
-fn stream(alloc: Global, draft: &Draft, number: usize) -> Result<Stream, AllocError> {
-    let mut lists = no_lists(alloc);
-    let mut code = Vec::new(alloc);
-    for (k, placed) in draft.order.iter().enumerate() {
-        if k % MOST_STREAMS == number {
-            put_rights(placed, &mut lists)?;
-            let more = Room {
-                server: placed.wanted.to,
-                amount: placed.from_pool(),
-            };
-            put_room(&mut lists.room, more)?;
-            put_code(placed, &draft.signals, k, &mut code)?;
-        }
-    }
+fn stream(
+    alloc: Global,
+    placement: &Placement,
+    pool: &Pool,
+    draft: &Draft,
+    number: usize,
+) -> Result<Stream, AllocError>
+    requires { IsDraft (basis_of placement.now pool.now) draft.now }
+    ensures value { IfOk result (λ stream. stream ≡ stream_of_moves (basis_of placement.now pool.now) draft.now.moves.items number) }
+    ensures small { IfOk result (λ stream. stream.budget ≤ 2 ^ 22) }
+{
+    let numbers = moves_of(alloc, draft.moves.len(), number)?;
+    let code = code_of(alloc, placement, draft, &numbers)?;
     Ok(Stream {
         budget: call_count(&code),
         retries: 0,
-        holds: parcel(alloc, lists)?,
+        holds: holds_of(alloc, placement, pool, draft, &numbers)?,
         code,
     })
 }
 
-/// What a signal carries: the room that is handed on.
-fn carried(alloc: Global, handed: &Handed) -> Result<Parcel, AllocError> {
-    let mut lists = no_lists(alloc);
-    lists.room.push(Room {
-        server: handed.server,
-        amount: handed.amount,
+/// What a signal carries: the room that is handed on, and nothing else.
+fn carried(
+    alloc: Global,
+    placement: &Placement,
+    pool: &Pool,
+    draft: &Draft,
+    handed: &Handed,
+) -> Result<Parcel, AllocError>
+    requires drafted { IsDraft (basis_of placement.now pool.now) draft.now }
+    requires given { IsGiven (basis_of placement.now pool.now) draft.now.moves.items handed.now }
+    ensures { IfOk result (λ parcel. parcel ≡ handed_parcel (basis_of placement.now pool.now) draft.now.moves.items handed.now) }
+{
+    let payer = &draft.placed[handed.payer];
+    let mut room = Vec::new(alloc);
+    room.push(Room {
+        server: payer.wanted.to,
+        amount: payer.from_move(&draft.placed[handed.source]),
     })?;
+    let lists = Lists {
+        cells: Vec::new(alloc),
+        crowns: Vec::new(alloc),
+        room,
+        spare: Vec::new(alloc),
+    };
     parcel(alloc, lists)
 }
 
+/// What the signals carry.
+fn signals_of(
+    alloc: Global,
+    placement: &Placement,
+    pool: &Pool,
+    draft: &Draft,
+) -> Result<Vec<Parcel>, AllocError>
+    requires { IsDraft (basis_of placement.now pool.now) draft.now }
+    ensures { IfOk result (λ parcels. parcels.items ≡ map (handed_parcel (basis_of placement.now pool.now) draft.now.moves.items) draft.now.signals.items) }
+{
+    let mut parcels = Vec::with_capacity(alloc, draft.signals.len())?;
+    for handed in draft.signals.iter() {
+        parcels.push(carried(alloc, placement, pool, draft, handed)?)?;
+    }
+    Ok(parcels)
+}
+
 /// The parts of the plan of placed moves.
-fn parts(alloc: Global, draft: &Draft) -> Result<Parts, AllocError> {
-    let count = draft.order.len().min(MOST_STREAMS);
+fn parts(
+    alloc: Global,
+    placement: &Placement,
+    pool: &Pool,
+    draft: &Draft,
+) -> Result<Parts, AllocError>
+    requires { IsDraft (basis_of placement.now pool.now) draft.now }
+    ensures { IfOk result (λ parts. parts_of parts ≡ planned (basis_of placement.now pool.now) draft.now.moves.items) }
+{
+    let count = draft.moves.len().min(MOST_STREAMS);
     let mut streams = Vec::with_capacity(alloc, count)?;
     let mut budget = 0u32;
     for number in 0..count {
-        let stream = stream(alloc, draft, number)?;
-        budget = budget.saturating_add(stream.budget);
+        let stream = stream(alloc, placement, pool, draft, number)?;
+        budget += stream.budget;
         streams.push(stream)?;
-    }
-    let mut signals = Vec::with_capacity(alloc, draft.signals.len())?;
-    for handed in draft.signals.iter() {
-        signals.push(carried(alloc, handed)?)?;
     }
     Ok(Parts {
         budget,
         streams,
-        signals,
+        signals: signals_of(alloc, placement, pool, draft)?,
     })
 }
 
 /// The plan of placed moves.
-pub(crate) fn write(alloc: Global, draft: &Draft) -> Result<Plan, NoPlan>
-    ensures { IfErr result (λ why. why ≡ NoPlan.NoMemory) }
+pub(crate) fn write(
+    alloc: Global,
+    placement: &Placement,
+    pool: &Pool,
+    draft: &Draft,
+) -> Result<Plan, NoPlan>
+    requires { IsDraft (basis_of placement.now pool.now) draft.now }
+    ensures plan { IfOk result (λ plan. plan ≡ planned (basis_of placement.now pool.now) draft.now.moves.items) }
+    ensures memory { IfErr result (λ why. why ≡ NoPlan.NoMemory) }
 {
-    match Plan::new(parts(alloc, draft)?) {
+    match Plan::new(parts(alloc, placement, pool, draft)?) {
         Ok(plan) => Ok(plan),
         Err(_) => Err(NoPlan::NoMemory),
     }

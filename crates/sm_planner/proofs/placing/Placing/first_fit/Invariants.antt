@@ -1,0 +1,8 @@
+use Rattle.std.proofs.Common.{length}
+use Rattle.sm_planner.specs.Accounts.{is_next}
+use Rattle.sm_planner.proofs.Firsts.{IsLeft}
+use Rattle.sm_planner.proofs.placing.Placing.first_fit.Given as goal
+
+-- the first one is among those still to come
+abbrev pub invariant-loop-i : goal.invariant-loop-i
+invariant-loop-i l = IsLeft (is_next l.config l.moves l.self.marks.items l.self.room) l.i (length l.moves)

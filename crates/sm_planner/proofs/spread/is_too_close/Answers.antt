@@ -1,0 +1,23 @@
+use Rattle.std.proofs.Common.{◌≡◌, ◌∙◌, sym, ap, false, ℕ, get_or}
+use Rattle.std.specs.Prelude.{nat_lt, ◌==◌}
+use Rattle.std.specs.List.{list_any}
+use Rattle.sm_placement.specs.Setup.{Setup, ShardRow}
+use Rattle.sm_placement.specs.Layout.{place_of}
+use Rattle.sm_planner.specs.Spread.{region_count, spread_of, has_after}
+use Rattle.sm_planner.proofs.Regions.{same_regions, both_is}
+use Rattle.sm_planner.proofs.spread.is_too_close.Goals as goal
+
+pub returns : goal.returns
+returns c =
+    let p = c.args.placement.now in
+    let s = c.args.shard in
+    let moves = c.args.moves.now in
+    let after = has_after (place_of p) moves s in
+    let count : c.region_count.result ≡ region_count p.setup after =
+    c.region_count.ensures
+    ∙ ap (λ (x : Setup). region_count x (λ v. get_or c.deref.result.now v false)) c.config-config.ensures.setup
+    ∙ same_regions p.setup (λ v. get_or c.deref.result.now v false) after (λ v l. rw c.deref.ensures.value (c.in_ok-has.ensures v l)) in
+    let spread : c.shard.result.now.spread ≡ spread_of p.setup s = ap (λ (r : ShardRow). r.spread) c.shard.ensures.row ∙ ap (λ (x : Setup). spread_of x s) c.config-config.ensures.setup in
+    ap (λ (x : ℕ). nat_lt x c.shard.result.now.spread) count
+    ∙ ap (λ (x : ℕ). nat_lt (region_count p.setup after) x) spread
+    ∙ both_is (list_any (λ m. m.shard == s) moves) (nat_lt (region_count p.setup after) (spread_of p.setup s)) (sym c.is_moved.ensures ∙ c.if-not-is_moved.false)

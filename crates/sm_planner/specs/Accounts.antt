@@ -1,0 +1,27 @@
+-- How placed moves are kept account of: by marks, and by the amounts of room that are left.
+use Rattle.std.specs.Prelude.{ℕ, ◌+◌, ◌-◌, ◌&&◌, not, nat_le, Bool, false, List, map, slice_index, slice_index_or, slice_set}
+use Rattle.std.specs.List.{range_with_len}
+use Rattle.sm_placement.specs.Setup.{Setup}
+use Rattle.sm_planner.specs.declared.moving.Move.{Move}
+use Rattle.sm_planner.specs.Basis.{move_at, move_load}
+
+-- nothing of any of so many servers
+abbrev pub no_amounts : ℕ → List ℕ
+no_amounts n = map (λ v. 0) (range_with_len 0 n)
+
+-- the move at a place isn't marked
+abbrev pub is_left : List Bool → ℕ → Bool
+is_left marks i = not (slice_index_or marks i false)
+
+-- nor is its load above the room where it goes
+abbrev pub is_next : Setup → List Move → List Bool → List ℕ → ℕ → Bool
+is_next setup moves marks room i =
+    is_left marks i && nat_le (move_load setup (move_at moves i)) (slice_index room (move_at moves i).to)
+
+-- the room once a move takes its load where it goes, and then frees it where it comes from
+abbrev pub room_freed : List ℕ → ℕ → ℕ → List ℕ
+room_freed room v amount = slice_set room v (slice_index room v + amount)
+
+abbrev pub room_after : Setup → Move → List ℕ → List ℕ
+room_after setup m room =
+    room_freed (slice_set room m.to (slice_index room m.to - move_load setup m)) m.from (move_load setup m)
