@@ -7,3 +7,4 @@ pub mod Regions
 pub mod Streams
 pub mod Signalling
 pub mod Refusing
+pub mod Departing

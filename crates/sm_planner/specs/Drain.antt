@@ -1,5 +1,5 @@
 -- To which servers the replicas of a server go that is to be emptied.
-use Rattle.std.specs.Prelude.{◌≡◌, ◌<◌, ◌≤◌, ◌⊎◌, ℕ, zero, suc, ◌-◌, ◌&&◌, ◌||◌, ◌==◌, not, nat_le, Bool, true, false, Option, Some, None, option_map, List, [], ◌∷◌, ◌++◌, sum_by, if◌then◌else◌}
+use Rattle.std.specs.Prelude.{◌≡◌, ◌<◌, ◌≤◌, ◌⊎◌, ℕ, zero, suc, ◌-◌, ◌&&◌, ◌||◌, ◌==◌, not, nat_le, Bool, true, false, Option, Some, None, option_map, MatchOption, length, slice_index, List, [], ◌∷◌, ◌++◌, sum_by, if◌then◌else◌}
 use Rattle.std.specs.Option.{option_or}
 use Rattle.sm_server.specs.Cell.{is_absent, is_primary, is_secondary}
 use Rattle.sm_placement.specs.Opening.{first_below}
@@ -13,6 +13,8 @@ use Rattle.sm_planner.specs.Basis.{Basis, is_replica}
 use Rattle.sm_planner.specs.Rights.{has_crown_at}
 use Rattle.sm_planner.specs.Placing.{taken_by}
 use Rattle.sm_planner.specs.Spread.{region_count, spread_of}
+use Rattle.sm_planner.specs.Refusal.{HasReason, IsPlanOf}
+use Rattle.sm_plan_code.specs.Plan.{PlanModel}
 
 -- the server has nothing of the shard, or a replica that may leave it: a primary with its crown in the pool, or a secondary
 -- with the right to its cell there
@@ -35,16 +37,35 @@ drain_refusal b v =
 abbrev pub room_beside : Basis → List Move → ℕ → ℕ
 room_beside b moves u = b.pool.room u - sum_by (taken_by b.setup u) moves
 
--- A server that a shard may go to from v, besides these moves: another one, up, with nothing of the shard and the right to
--- its cell in the pool, with room for the load, and in whose place the replicas lie in enough regions.
-abbrev pub may_take : Basis → ℕ → List Move → ℕ → ℕ → Bool
-may_take b v moves s u =
+-- A server that a shard may go to from v, where so much room is left of each: another one, up, with nothing of the shard
+-- and the right to its cell in the pool, with room for the load, and in whose place the replicas lie in enough regions.
+abbrev pub has_place : Basis → ℕ → (ℕ → ℕ) → ℕ → ℕ → Bool
+has_place b v room s u =
     not (u == v)
     && (not (b.place.down u)
     && (is_absent (b.place.cells s u)
     && (is_cell Absent (b.pool.cells s u)
-    && (nat_le ((sizes_of b.setup).load s) (room_beside b moves u)
+    && (nat_le ((sizes_of b.setup).load s) (room u)
     && nat_le (spread_of b.setup s) (region_count b.setup (λ w. (w == u) || (is_replica (b.place.cells s w) && not (w == v))))))))
+
+-- so it is besides these moves
+abbrev pub may_take : Basis → ℕ → List Move → ℕ → ℕ → Bool
+may_take b v moves s u = has_place b v (room_beside b moves) s u
+
+-- of the first n servers that pass, one with the most room, of equals the lowest
+pub record IsMost (has : ℕ → Bool) (room : ℕ → ℕ) (n u : ℕ) : Type 0 where
+  pub known : u < n
+  pub passes : has u ≡ true
+  pub most : (w : ℕ) → w < n → has w ≡ true → (room w < room u) ⊎ ((room w ≡ room u) × (u ≤ w))
+
+-- it, or None where none of them passes
+abbrev pub IsBestOf : (ℕ → Bool) → (ℕ → ℕ) → ℕ → Option ℕ → Type 0
+IsBestOf has room n o = MatchOption o ((w : ℕ) → w < n → has w ≡ false) (IsMost has room n)
+
+-- the room of each server that is left besides these moves
+pub record IsRoomBeside (b : Basis) (moves : List Move) (room : List ℕ) : Type 0 where
+  pub wide : length room ≡ length b.setup.servers
+  pub left : (w : ℕ) → w < length b.setup.servers → slice_index room w ≡ room_beside b moves w
 
 -- the target of a shard: of the servers that may take it the one with the most room left, of equals the lowest
 pub record IsTarget (b : Basis) (v : ℕ) (moves : List Move) (s u : ℕ) : Type 0 where
@@ -69,13 +90,29 @@ AreLeaving b v (suc s) moves =
 abbrev pub HasNoPlace : Basis → ℕ → List Move → ℕ → Type 0
 HasNoPlace b v moves s = (u : ℕ) → u < (sizes_of b.setup).servers → may_take b v moves s u ≡ false
 
--- a reason of all moves together: a shard has no target, or memory is short
-abbrev pub IsOfTargets : NoPlan → Type 0
-IsOfTargets NoMemory = Unit {0}
-IsOfTargets (NoPlace s) = Unit {0}
-IsOfTargets _ = ⊥
+-- the shard is the first that has to leave the server and has no target
+pub record IsStuck (b : Basis) (v s : ℕ) (moves : List Move) : Type 0 where
+  pub known : s < (sizes_of b.setup).shards
+  pub before : AreLeaving b v s moves
+  pub stands : is_absent (b.place.cells s v) ≡ false
+  pub placeless : HasNoPlace b v moves s
 
--- a server is not emptied for its own reason, where it has one, and else for one that is found with the targets
-abbrev pub IsDrainRefusal : Option NoPlan → NoPlan → Type 0
-IsDrainRefusal (Some own) why = why ≡ own
-IsDrainRefusal None why = IsOfTargets why
+-- the moves that empty the server
+abbrev pub AreDepartures : Basis → ℕ → List Move → Type 0
+AreDepartures b v moves = (drain_refusal b v ≡ None) × AreLeaving b v (sizes_of b.setup).shards moves
+
+-- the plan is the rule's for emptying the server
+abbrev pub IsDrainPlan : Basis → ℕ → PlanModel → Type 0
+IsDrainPlan b v plan = (moves : List Move) × AreDepartures b v moves × IsPlanOf b moves plan
+
+-- Why the rule doesn't empty a server: for the server's own reason, for a shard that has no target, or for a reason of the
+-- moves to the targets.
+abbrev pub IsDrainRefused : Basis → ℕ → NoPlan → Type 0
+IsDrainRefused b v why =
+    (drain_refusal b v ≡ Some why)
+    ⊎ (((s : ℕ) × (moves : List Move) × (drain_refusal b v ≡ None) × IsStuck b v s moves × (why ≡ NoPlace s))
+    ⊎ ((moves : List Move) × AreDepartures b v moves × HasReason b moves why))
+
+-- memory was short, or the rule doesn't empty the server for this reason
+abbrev pub IsNoDrainFor : Basis → ℕ → NoPlan → Type 0
+IsNoDrainFor b v why = (why ≡ NoMemory) ⊎ IsDrainRefused b v why

@@ -1,19 +1,20 @@
 //! To which servers the replicas of a server go that is to be emptied.
-ghost use Rattle.std.specs.Prelude.{◌≡◌, ◌<◌, ◌≤◌, ◌⊎◌, ◌&&◌, ◌||◌, ◌==◌, ℕ, not, nat_le, true, false, All, IfSome, IfOk, IfErr, OnOk, None, Some, length, slice_index, slice_index_or};
+ghost use Rattle.std.specs.Prelude.{◌≡◌, ◌<◌, ◌+◌, ◌&&◌, ◌||◌, ◌==◌, ℕ, not, nat_le, true, false, if◌then◌else◌, All, MatchOption, IfOk, IfErr, OnOk, length, slice_index, slice_index_or, slice_set};
+ghost use Rattle.std.specs.Bool.{MatchBool};
+ghost use Rattle.sm_server.specs.Cell.{is_absent};
 ghost use Rattle.sm_placement.specs.Layout.{place_of};
-ghost use Rattle.sm_placement.specs.Setup.{sizes_of};
 ghost use Rattle.sm_reservation.specs.Amounts.{is_cell};
 ghost use Rattle.sm_reservation.specs.Pool.{pool_hold};
-ghost use Rattle.sm_planner.specs.Basis.{basis_of, is_replica, IsMoveOf};
+ghost use Rattle.sm_planner.specs.Basis.{basis_of, is_replica, move_load, IsMoveOf};
 ghost use Rattle.sm_planner.specs.Spread.{region_count, spread_of};
-ghost use Rattle.sm_planner.specs.Drain.{may_leave, first_stuck, drain_refusal, IsDrainRefusal};
+ghost use Rattle.sm_planner.specs.Drain.{may_leave, first_stuck, has_place, IsBestOf, IsRoomBeside, AreLeaving, IsStuck, AreDepartures, IsNoDrainFor};
 
 use crate::held::{has_absent, has_crown, has_secondary, is_absent, is_primary, is_secondary};
 use crate::marks::{Amounts, mark};
 use crate::moving::{Move, NoPlan};
 use crate::spread::{mark_replicas, region_count};
 use sm_placement::Placement;
-use sm_reservation::Pool;
+use sm_reservation::{PlainCell, Pool};
 use sm_server::{ServerId, ShardId};
 use std::alloc::{AllocError, Global};
 
@@ -52,11 +53,21 @@ fn staying(
 ) -> Result<Vec<bool>, AllocError>
     requires shard { shard < length placement.now.setup.shards }
     requires from { from < length placement.now.setup.servers }
-    ensures { IfOk result (λ has. (w : ℕ) → w < length placement.now.setup.servers → slice_index_or has.items w false ≡ (is_replica ((place_of placement.now).cells shard w) && not (w == from))) }
+    ensures wide { IfOk result (λ has. length has.items ≡ length placement.now.setup.servers) }
+    ensures staying { IfOk result (λ has. (w : ℕ) → w < length placement.now.setup.servers → slice_index_or has.items w false ≡ (is_replica ((place_of placement.now).cells shard w) && not (w == from))) }
 {
     let mut has = vec![in alloc; false; placement.config().server_count() as usize]?;
     mark_replicas(placement, shard, &mut has);
     mark(&mut has, from.number() as usize, false);
+    Ok(has)
+}
+
+/// These marks, with the target's.
+fn with_target(alloc: Global, staying: &[bool], target: ServerId) -> Result<Vec<bool>, AllocError>
+    ensures { IfOk result (λ has. has.items ≡ slice_set staying.now target true) }
+{
+    let mut has = Vec::from_slice(alloc, staying)?;
+    mark(&mut has, target.number() as usize, true);
     Ok(has)
 }
 
@@ -65,15 +76,30 @@ fn is_spread(
     alloc: Global,
     placement: &Placement,
     staying: &[bool],
-    shard: ShardId,
-    target: ServerId,
+    leaving: &Move,
 ) -> Result<bool, AllocError>
-    requires shard { shard < length placement.now.setup.shards }
+    requires leaving { IsMoveOf placement.now.setup leaving.now }
+    requires wide { length staying.now ≡ length placement.now.setup.servers }
+    requires staying { (w : ℕ) → w < length placement.now.setup.servers → slice_index_or staying.now w false ≡ (is_replica ((place_of placement.now).cells leaving.now.shard w) && not (w == leaving.now.from)) }
+    ensures { IfOk result (λ spread. spread ≡ nat_le (spread_of placement.now.setup leaving.now.shard) (region_count placement.now.setup (λ w. (w == leaving.now.to) || (is_replica ((place_of placement.now).cells leaving.now.shard w) && not (w == leaving.now.from))))) }
 {
+    let has = with_target(alloc, staying, leaving.to)?;
     let config = placement.config();
-    let mut has = Vec::from_slice(alloc, staying)?;
-    mark(&mut has, target.number() as usize, true);
-    Ok(config.shard(shard).spread <= region_count(config, &has))
+    let count = region_count(config, &has);
+    Ok(config.shard(leaving.shard).spread <= count)
+}
+
+/// The server is another one, up, with nothing of the shard and the right to its cell in the pool, and has room for it.
+fn is_open(placement: &Placement, pool: &Pool, room: &Amounts, leaving: &Move) -> bool
+    requires { IsMoveOf placement.now.setup leaving.now }
+    ensures { result ≡ (not (leaving.now.to == leaving.now.from) && (not ((place_of placement.now).down leaving.now.to) && (is_absent ((place_of placement.now).cells leaving.now.shard leaving.now.to) && (is_cell PlainCell.Absent ((pool_hold pool.now).cells leaving.now.shard leaving.now.to) && nat_le (move_load placement.now.setup leaving.now) (slice_index room.now leaving.now.to))))) }
+{
+    let Move { shard, from, to } = *leaving;
+    to != from
+        && !placement.is_down(to)
+        && is_absent(placement, shard, to)
+        && has_absent(pool, shard, to)
+        && u128::from(placement.config().load(shard)) <= room.at(to)
 }
 
 /// The server may take the shard.
@@ -85,24 +111,30 @@ fn may_take(
     staying: &[bool],
     leaving: &Move,
 ) -> Result<bool, AllocError>
-    requires { IsMoveOf placement.now.setup leaving.now }
+    requires leaving { IsMoveOf placement.now.setup leaving.now }
+    requires wide { length staying.now ≡ length placement.now.setup.servers }
+    requires staying { (w : ℕ) → w < length placement.now.setup.servers → slice_index_or staying.now w false ≡ (is_replica ((place_of placement.now).cells leaving.now.shard w) && not (w == leaving.now.from)) }
+    ensures { IfOk result (λ takes. takes ≡ has_place (basis_of placement.now pool.now) leaving.now.from (slice_index room.now) leaving.now.shard leaving.now.to) }
 {
-    let Move { shard, from, to } = *leaving;
-    let is_open = to != from
-        && !placement.is_down(to)
-        && is_absent(placement, shard, to)
-        && has_absent(pool, shard, to)
-        && u128::from(placement.config().load(shard)) <= room.at(to);
-    Ok(is_open && is_spread(alloc, placement, staying, shard, to)?)
+    if !is_open(placement, pool, room, leaving) {
+        return Ok(false);
+    }
+    is_spread(alloc, placement, staying, leaving)
 }
 
 /// The better one of two targets: the one with more room left, of equals the first.
 fn better(room: &Amounts, best: Option<ServerId>, to: ServerId) -> ServerId
-    ensures { (result ≡ to) ⊎ (best ≡ Some result) }
+    ensures { MatchOption best (result ≡ to) (λ u. result ≡ (if nat_le (slice_index room.now to) (slice_index room.now u) then u else to)) }
 {
     match best {
-        Some(best) if room.at(to) <= room.at(best) => best,
-        _ => to,
+        Some(best) => {
+            if room.at(to) <= room.at(best) {
+                best
+            } else {
+                to
+            }
+        }
+        None => to,
     }
 }
 
@@ -117,7 +149,7 @@ fn target(
 ) -> Result<Option<ServerId>, AllocError>
     requires shard { shard < length placement.now.setup.shards }
     requires from { from < length placement.now.setup.servers }
-    ensures { IfOk result (λ target. IfSome target (λ to. to < length placement.now.setup.servers)) }
+    ensures { IfOk result (IsBestOf (has_place (basis_of placement.now pool.now) from (slice_index room.now) shard) (slice_index room.now) (length placement.now.setup.servers)) }
 {
     let staying = staying(alloc, placement, shard, from)?;
     let mut best = None;
@@ -131,20 +163,24 @@ fn target(
     Ok(best)
 }
 
-/// Puts the move of a shard behind the others, where the server has a replica of it, and takes the room of its target.
-/// False where it has none.
+/// Puts the move of a shard behind those of the lower ones, where the server has a replica of it, and takes the room of its
+/// target. False where it has none.
 fn put_departure(
-    room: &mut Amounts,
+    alloc: Global,
     placement: &Placement,
     pool: &Pool,
     leaving: (ShardId, ServerId),
+    room: &mut Amounts,
     moves: &mut Vec<Move>,
-    alloc: Global,
 ) -> Result<bool, AllocError>
     requires shard { leaving.0 < length placement.now.setup.shards }
     requires server { leaving.1 < length placement.now.setup.servers }
     requires known { All (IsMoveOf placement.now.setup) moves.old.items }
-    ensures { OnOk result (All (IsMoveOf placement.now.setup) moves.new.items) }
+    requires before { AreLeaving (basis_of placement.now pool.now) leaving.1 leaving.0 moves.old.items }
+    requires room { IsRoomBeside (basis_of placement.now pool.now) moves.old.items room.old }
+    ensures known { OnOk result (All (IsMoveOf placement.now.setup) moves.new.items) }
+    ensures room { OnOk result (IsRoomBeside (basis_of placement.now pool.now) moves.new.items room.new) }
+    ensures left { IfOk result (λ goes. MatchBool goes (AreLeaving (basis_of placement.now pool.now) leaving.1 (leaving.0 + 1) moves.new.items) (IsStuck (basis_of placement.now pool.now) leaving.1 leaving.0 moves.new.items)) }
 {
     let (shard, from) = leaving;
     if is_absent(placement, shard, from) {
@@ -175,14 +211,15 @@ fn targets_of(
     server: ServerId,
 ) -> Result<Departures, AllocError>
     requires { server < length placement.now.setup.servers }
-    ensures { IfOk result (λ leaving. All (IsMoveOf placement.now.setup) leaving.moves.items) }
+    ensures known { IfOk result (λ leaving. All (IsMoveOf placement.now.setup) leaving.moves.items) }
+    ensures leaving { IfOk result (λ leaving. MatchOption leaving.stuck (AreLeaving (basis_of placement.now pool.now) server (length placement.now.setup.shards) leaving.moves.items) (λ s. IsStuck (basis_of placement.now pool.now) server s leaving.moves.items)) }
 {
     let mut room = Amounts::of_pool(alloc, placement.config(), pool)?;
     let mut moves = Vec::new(alloc);
     for number in 0..placement.config().shard_count() {
         let shard = ShardId::new(number);
         let leaving = (shard, server);
-        if !put_departure(&mut room, placement, pool, leaving, &mut moves, alloc)? {
+        if !put_departure(alloc, placement, pool, leaving, &mut room, &mut moves)? {
             let stuck = Some(shard);
             return Ok(Departures { moves, stuck });
         }
@@ -199,8 +236,8 @@ pub(crate) fn leaving(
 ) -> Result<Vec<Move>, NoPlan>
     requires { server < length placement.now.setup.servers }
     ensures known { IfOk result (λ moves. All (IsMoveOf placement.now.setup) moves.items) }
-    ensures refused { IfErr result (IsDrainRefusal (drain_refusal (basis_of placement.now pool.now) server)) }
-    ensures open { OnOk result (drain_refusal (basis_of placement.now pool.now) server ≡ None) }
+    ensures leaving { IfOk result (λ moves. AreDepartures (basis_of placement.now pool.now) server moves.items) }
+    ensures refused { IfErr result (IsNoDrainFor (basis_of placement.now pool.now) server) }
 {
     if let Some(shard) = first_stuck(placement, pool, server) {
         return Err(NoPlan::Held { shard, server });

@@ -1,12 +1,11 @@
 //! Plans for a machine as it stands.
-ghost use Rattle.std.specs.Prelude.{◌≡◌, ◌<◌, All, IfOk, IfErr, OnOk, None, Some, length};
+ghost use Rattle.std.specs.Prelude.{◌≡◌, ◌<◌, All, IfOk, IfErr, length};
 ghost use Rattle.sm_protocol.specs.State.{pool};
 ghost use Rattle.sm_verifier.specs.Admission.{IsAdmitted};
 ghost use Rattle.sm_machine.specs.State.{state_of};
 ghost use Rattle.sm_planner.specs.Basis.{basis, IsMoveOf};
 ghost use Rattle.sm_planner.specs.Refusal.{IsPlanOf, IsNoPlanFor};
-ghost use Rattle.sm_planner.specs.Drain.{drain_refusal};
-ghost use Rattle.sm_planner.specs.declared.moving.NoPlan.{NoPlan};
+ghost use Rattle.sm_planner.specs.Drain.{IsDrainPlan, IsNoDrainFor};
 
 use crate::moving::{Move, NoPlan};
 use crate::planner::{drain_at, moves_at};
@@ -35,8 +34,8 @@ pub fn drain(alloc: Global, machine: &Machine, server: ServerId) -> Result<Check
     requires { server < length machine.now.placement.setup.servers }
     ensures setup { IfOk result (λ checked. checked.setup ≡ machine.now.placement.setup) }
     ensures admitted { IfOk result (λ checked. IsAdmitted (state_of machine.now).sizes (state_of machine.now).place (pool (state_of machine.now)) checked.plan) }
-    ensures refused { IfErr result (λ why. (own : NoPlan) → drain_refusal (basis machine.now.placement.setup (state_of machine.now).place (pool (state_of machine.now))) server ≡ Some own → why ≡ own) }
-    ensures open { OnOk result (drain_refusal (basis machine.now.placement.setup (state_of machine.now).place (pool (state_of machine.now))) server ≡ None) }
+    ensures plan { IfOk result (λ checked. IsDrainPlan (basis machine.now.placement.setup (state_of machine.now).place (pool (state_of machine.now))) server checked.plan) }
+    ensures refused { IfErr result (IsNoDrainFor (basis machine.now.placement.setup (state_of machine.now).place (pool (state_of machine.now))) server) }
 {
     drain_at(alloc, machine.placement(), machine.pool(), server)
 }

@@ -1,5 +1,5 @@
 //! Plans from moves, and from a server that is to be emptied, at a placement with its pool.
-ghost use Rattle.std.specs.Prelude.{◌≡◌, ◌<◌, All, IfOk, IfErr, OnOk, None, Some, length};
+ghost use Rattle.std.specs.Prelude.{◌≡◌, ◌<◌, All, IfOk, IfErr, None, length};
 ghost use Rattle.sm_placement.specs.Setup.{sizes_of};
 ghost use Rattle.sm_placement.specs.Layout.{place_of};
 ghost use Rattle.sm_reservation.specs.Pool.{pool_hold, HasSize};
@@ -7,8 +7,7 @@ ghost use Rattle.sm_verifier.specs.Admission.{IsAdmitted};
 ghost use Rattle.sm_planner.specs.Basis.{basis_of, IsMoveOf};
 ghost use Rattle.sm_planner.specs.Refusal.{first_refused, IsPlanOf, IsNoPlanFor};
 ghost use Rattle.sm_planner.specs.Draft.{IsDraftOf};
-ghost use Rattle.sm_planner.specs.Drain.{drain_refusal};
-ghost use Rattle.sm_planner.specs.declared.moving.NoPlan.{NoPlan};
+ghost use Rattle.sm_planner.specs.Drain.{IsDrainPlan, IsNoDrainFor};
 
 use crate::draining::leaving;
 use crate::held::first_refused;
@@ -105,6 +104,7 @@ pub(crate) fn moves_at(
 }
 
 /// A plan that empties a server, at a placement with its pool.
+#[tactic(auto, using(crate::proofs::Departing::drain_planned, crate::proofs::Departing::drain_refused))]
 pub(crate) fn drain_at(
     alloc: Global,
     placement: &Placement,
@@ -115,8 +115,8 @@ pub(crate) fn drain_at(
     requires server { server < length placement.now.setup.servers }
     ensures setup { IfOk result (λ checked. checked.setup ≡ placement.now.setup) }
     ensures admitted { IfOk result (λ checked. IsAdmitted (sizes_of placement.now.setup) (place_of placement.now) (pool_hold pool.now) checked.plan) }
-    ensures refused { IfErr result (λ why. (own : NoPlan) → drain_refusal (basis_of placement.now pool.now) server ≡ Some own → why ≡ own) }
-    ensures open { OnOk result (drain_refusal (basis_of placement.now pool.now) server ≡ None) }
+    ensures plan { IfOk result (λ checked. IsDrainPlan (basis_of placement.now pool.now) server checked.plan) }
+    ensures refused { IfErr result (IsNoDrainFor (basis_of placement.now pool.now) server) }
 {
     let moves = leaving(alloc, placement, pool, server)?;
     moves_at(alloc, placement, pool, &moves)

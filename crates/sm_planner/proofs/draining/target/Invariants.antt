@@ -1,6 +1,7 @@
-use Rattle.std.proofs.Common.{◌<◌, length}
-use Rattle.std.specs.Prelude.{IfSome}
+use Rattle.std.proofs.Common.{get_or}
+use Rattle.sm_planner.specs.Basis.{basis_of}
+use Rattle.sm_planner.specs.Drain.{has_place, IsBestOf}
 use Rattle.sm_planner.proofs.draining.target.Given as goal
 
 abbrev pub invariant-loop-number : goal.invariant-loop-number
-invariant-loop-number l = IfSome l.best (λ to. to < length l.placement.setup.servers)
+invariant-loop-number l = IsBestOf (has_place (basis_of l.placement l.pool) l.from (λ w. get_or l.room w 0) l.shard) (λ w. get_or l.room w 0) l.number l.best
