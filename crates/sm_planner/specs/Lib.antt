@@ -6,3 +6,4 @@ pub mod Payment
 pub mod Plan
 pub mod Refusal
 pub mod Drain
+pub mod Laws
