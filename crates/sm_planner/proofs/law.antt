@@ -18,3 +18,5 @@ pub mod Knowns
 pub mod Admitted
 pub mod Accepted
 pub mod Usable
+pub mod Existing
+pub mod Ended

@@ -34,7 +34,7 @@ use Rattle.sm_planner.proofs.law.Owing.{sum_each}
 use Rattle.sm_reservation.proofs.Places.{same_here}
 
 -- what is counted by classes is counted
-sum_of_classes : (class : ℕ → ℕ) (f : ℕ → ℕ) (wide n : ℕ) → ((k : ℕ) → k < n → class k < wide) → sum_below wide (λ i. sum_below n (λ k. cond (class k == i) (f k) 0)) ≡ sum_below n f
+pub sum_of_classes : (class : ℕ → ℕ) (f : ℕ → ℕ) (wide n : ℕ) → ((k : ℕ) → k < n → class k < wide) → sum_below wide (λ i. sum_below n (λ k. cond (class k == i) (f k) 0)) ≡ sum_below n f
 sum_of_classes class f wide zero known = sum_zero wide (λ i. 0) (λ i. refl)
 sum_of_classes class f wide (suc n) known =
     let low = sum_of_classes class f wide n (λ k l. known k (omega arith)) in

@@ -210,17 +210,17 @@ module _ (b : Basis) (moves : List Move) (placed : List ℕ) (is : IsPlacing b m
 
   pub order_opened : (k : ℕ) → k < length order → IsOpened b (move_at order k)
   order_opened k l =
-      let count = count_is b moves placed is in
-      subst (λ m. IsOpened b m) (sym (move_is b moves placed is k (omega arith))) (is_opened b moves first.0 (get_or placed k 0) (place_known b moves placed is k (omega arith)))
+      let count = count_is b moves placed is.greedy in
+      subst (λ m. IsOpened b m) (sym (move_is b moves placed is.greedy k (omega arith))) (is_opened b moves first.0 (get_or placed k 0) (place_known b moves placed is.greedy k (omega arith)))
 
   pub order_apart : AreAllApart b order
   order_apart j k l m apart same =
-      let count = count_is b moves placed is in
-      let one = move_is b moves placed is j (omega arith) in
-      let two = move_is b moves placed is k (omega arith) in
+      let count = count_is b moves placed is.greedy in
+      let one = move_is b moves placed is.greedy j (omega arith) in
+      let two = move_is b moves placed is.greedy k (omega arith) in
       let a : ApartMoves b.place (move_at moves (get_or placed j 0)) (move_at moves (get_or placed k 0)) =
-      (moves_apart b moves first.0 (get_or placed j 0) (get_or placed k 0) (place_known b moves placed is j (omega arith)) (place_known b moves placed is k (omega arith))
-      (λ e. apart (placed_once b moves placed is j k (omega arith) (omega arith) e))
+      (moves_apart b moves first.0 (get_or placed j 0) (get_or placed k 0) (place_known b moves placed is.greedy j (omega arith)) (place_known b moves placed is.greedy k (omega arith))
+      (λ e. apart (placed_once b moves placed is.greedy j k (omega arith) (omega arith) e))
       (ap (λ (x : Move). x.shard) (sym one) ∙ same ∙ ap (λ (x : Move). x.shard) two)) in
       let there : ApartMoves b.place (move_at order j) (move_at order k) = subst (λ x. ApartMoves b.place x (move_at order k)) (sym one) (subst (λ x. ApartMoves b.place (move_at moves (get_or placed j 0)) x) (sym two) a) in
       record { to_to = there.to_to; to_from = there.to_from; from_to = there.from_to; from_from = there.from_from; crowns = there.crowns }

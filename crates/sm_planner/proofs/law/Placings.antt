@@ -1,5 +1,5 @@
 -- Moves that are placed as the rule says: each once, each where its load fits, and none left.
-use Rattle.std.proofs.Common.{◌≡◌, ◌≢◌, ℕ, zero, suc, ◌+◌, ◌-◌, ◌<◌, ◌≤◌, true, false, None, List, [], ◌∷◌, length, get_or, take, refl, sym, ap, ◌∙◌, arith, inl, inr, subst}
+use Rattle.std.proofs.Common.{◌≡◌, ◌≢◌, ℕ, zero, suc, ◌+◌, ◌-◌, ◌<◌, ◌≤◌, true, false, None, Some, List, [], ◌∷◌, length, get_or, take, refl, sym, ap, ◌∙◌, arith, inl, inr, subst}
 use Rattle.std.specs.Prelude.{◌==◌, not, nat_le, sum_by, map}
 use Rattle.std.proofs.lemmas.Bool.{cases_Bool, cases_eq, cases_lt, eq-eqb, ne_eqb, eqb-true, leb-true, and_parts, not-true, not-false, both_ways}
 use Rattle.std.proofs.lemmas.List.{length-map, get_or-map, take-map, get_or-take, length-take-le}
@@ -7,7 +7,7 @@ use Rattle.std.proofs.lemmas.List.Sums.{sum_by-cons, sum_by_more}
 use Rattle.sm_placement.proofs.Searches.{first_some, first_none}
 use Rattle.sm_planner.specs.declared.moving.Move.{Move}
 use Rattle.sm_planner.specs.Basis.{Basis, move_at, move_load, no_move}
-use Rattle.sm_planner.specs.Placing.{taken_by, freed_by, room_left, is_placed, fits, IsPlacing, first_left}
+use Rattle.sm_planner.specs.Placing.{taken_by, freed_by, room_left, is_placed, fits, first_fit, first_left}
 use Rattle.sm_planner.specs.Refusal.{in_placed_order}
 use Rattle.sm_planner.proofs.law.Payments.{IsAffordable, load, to, taken, freed}
 
@@ -36,7 +36,11 @@ sum_of_map f g (x ∷ xs) =
     let low = sum_of_map f g xs in
     omega arith
 
-module _ (b : Basis) (moves : List Move) (placed : List ℕ) (is : IsPlacing b moves placed) where
+-- each placed move is the first that fits once those before it are placed
+abbrev pub IsGreedy : Basis → List Move → List ℕ → Type 0
+IsGreedy b moves placed = (k : ℕ) → k < length placed → first_fit b moves (take k placed) ≡ Some (get_or placed k 0)
+
+module _ (b : Basis) (moves : List Move) (placed : List ℕ) (greedy : IsGreedy b moves placed) where
   abbrev order : List Move
   order = in_placed_order moves placed
 
@@ -57,7 +61,7 @@ module _ (b : Basis) (moves : List Move) (placed : List ℕ) (is : IsPlacing b m
 
   placed_at : (k : ℕ) → k < length placed → IsPlacedAt k
   placed_at k l =
-      let found = first_some (length moves) (fits b moves (take k placed)) (place_of k) (is.greedy k l) in
+      let found = first_some (length moves) (fits b moves (take k placed)) (place_of k) (greedy k l) in
       let i : ℕ = place_of k in
       let both = and_parts (not (is_placed (take k placed) i)) (nat_le (move_load b.setup (move_at moves i)) (room_left b moves (take k placed) (move_at moves i).to)) found.1 in
       record {

@@ -29,8 +29,8 @@ use Rattle.sm_planner.proofs.law.Accepted.{are_up, parcels_ordered}
 -- placed moves are of the configuration where all are
 pub order_known : (b : Basis) (moves : List Move) (placed : List ℕ) → IsPlacing b moves placed → All (IsMoveOf b.setup) moves → (k : ℕ) → k < length (in_placed_order moves placed) → IsMoveOf b.setup (move_at (in_placed_order moves placed) k)
 order_known b moves placed is all k l =
-    let count = count_is b moves placed is in
-    subst (λ m. IsMoveOf b.setup m) (sym (move_is b moves placed is k (omega arith))) (All-get_or (IsMoveOf b.setup) moves (get_or placed k 0) no_move (place_known b moves placed is k (omega arith)) all)
+    let count = count_is b moves placed is.greedy in
+    subst (λ m. IsMoveOf b.setup m) (sym (move_is b moves placed is.greedy k (omega arith))) (All-get_or (IsMoveOf b.setup) moves (get_or placed k 0) no_move (place_known b moves placed is.greedy k (omega arith)) all)
 
 module _ (b : Basis) (leads : ℕ → Lead) (numbers : ℕ → ℕ) (moves : List Move) (placed : List ℕ) (scene : IsScene (sizes_of b.setup) b.place leads numbers b.pool) (all : All (IsMoveOf b.setup) moves) (is : IsPlacing b moves placed) (none : refusal b moves placed ≡ None) where
   abbrev order : List Move
@@ -43,7 +43,7 @@ module _ (b : Basis) (leads : ℕ → Lead) (numbers : ℕ → ℕ) (moves : Lis
   is_sound = record {
     budget = keeps_budget b order;
     signals = used_once b order;
-    streams = are_good b order (order_apart b moves placed is none) (order_opened b moves placed is none) (λ k l. (known k l).to) (affordable b moves placed is);
+    streams = are_good b order (order_apart b moves placed is none) (order_opened b moves placed is none) (λ k l. (known k l).to) (affordable b moves placed is.greedy);
     order = has_order (planned b order) stream_of (move_code b order) (length order) (is_of_parts b order);
   }
 
