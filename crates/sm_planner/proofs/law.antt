@@ -20,3 +20,4 @@ pub mod Accepted
 pub mod Usable
 pub mod Existing
 pub mod Ended
+pub mod Small

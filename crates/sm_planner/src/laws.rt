@@ -1,5 +1,5 @@
 //! Laws of the rule's plans.
-ghost use Rattle.sm_planner.specs.Laws.{PlansAreOrderly, PlansAreUsable, PlansMove, MovesArePlaced};
+ghost use Rattle.sm_planner.specs.Laws.{PlansAreOrderly, PlansAreUsable, PlansAreUsableAt, PlansMove, RuleAnswersOnce};
 
 /// The plan of moves in any order keeps its budget, uses each signal once, and has an order of its steps: a signal goes
 /// from a move to one that is placed later.
@@ -7,9 +7,11 @@ pub fn plans_are_orderly()
     ensures { PlansAreOrderly }
 {}
 
-/// The plan of moves that the rule refuses nothing of is sound, and admitted at the placement with its pool.
+/// The plan of moves that the rule refuses nothing of is sound, and admitted at the placement with its pool; so at each state
+/// that events lead to.
 pub fn plans_are_usable()
-    ensures { PlansAreUsable }
+    ensures scene { PlansAreUsable }
+    ensures reached { PlansAreUsableAt }
 {}
 
 /// At the end of the plan each moved replica stands at its new server as it stood at the old one, and all else is as before.
@@ -17,7 +19,7 @@ pub fn plans_move()
     ensures { PlansMove }
 {}
 
-/// Any moves are placed: so the rule gives them a plan, or a reason why not.
-pub fn moves_are_placed()
-    ensures { MovesArePlaced }
+/// The rule has one plan for any moves, or one reason why not.
+pub fn rule_answers_once()
+    ensures { RuleAnswersOnce }
 {}

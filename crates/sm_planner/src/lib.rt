@@ -14,5 +14,5 @@ mod spread;
 mod writing;
 
 pub use entry::{drain, moves};
-pub use laws::{moves_are_placed, plans_are_orderly, plans_are_usable, plans_move};
+pub use laws::{plans_are_orderly, plans_are_usable, plans_move, rule_answers_once};
 pub use moving::{MOST_MOVES, Move, NoPlan};

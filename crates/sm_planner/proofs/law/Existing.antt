@@ -1,8 +1,8 @@
 -- Any moves are placed: the first that fits is placed for as long as one fits, and each move once.
-use Rattle.std.proofs.Common.{◌≡◌, ℕ, zero, suc, ◌+◌, ◌<◌, ◌≤◌, Bool, true, false, cond, Some, List, [], ◌∷◌, ◌++◌, length, get_or, refl, sym, ap, ◌∙◌, arith, inl, inr, length-append}
+use Rattle.std.proofs.Common.{◌≡◌, ℕ, zero, suc, ◌+◌, ◌<◌, ◌≤◌, Bool, true, false, cond, Some, List, [], ◌∷◌, ◌++◌, length, get_or, take, refl, sym, ap, ◌∙◌, arith, inl, inr, length-append}
 use Rattle.std.specs.Prelude.{◌==◌}
 use Rattle.std.proofs.lemmas.Bool.{cases_lt, eqb-true}
-use Rattle.std.proofs.lemmas.List.{take-append-le, take_at, get_or_append_left, get_or_at}
+use Rattle.std.proofs.lemmas.List.{take_more, take-append-le, take_at, get_or_append_left, get_or_at}
 use Rattle.sm_placement.specs.Sums.{sum_below}
 use Rattle.sm_placement.proofs.Sums.{sum-le}
 use Rattle.sm_placement.proofs.Searches.{cases_Option}
@@ -10,6 +10,11 @@ use Rattle.sm_verifier.proofs.SumLemmas.{sum_once}
 use Rattle.sm_planner.specs.declared.moving.Move.{Move}
 use Rattle.sm_planner.specs.Basis.{Basis}
 use Rattle.sm_planner.specs.Placing.{first_fit, IsPlacing}
+use Rattle.sm_planner.specs.Plan.{planned}
+use Rattle.sm_planner.specs.Refusal.{in_placed_order, refusal}
+use Rattle.sm_planner.specs.Laws.{AnswersOnce}
+use Rattle.std.proofs.Math.Seq.{take-length}
+use Rattle.std.proofs.lemmas.Option.{same_Some}
 use Rattle.sm_planner.proofs.law.Placings.{IsGreedy, place_known, placed_once}
 use Rattle.sm_planner.proofs.law.Admitted.{sum_of_classes}
 
@@ -61,3 +66,42 @@ place_rest b moves (suc fuel) placed l greedy = elim (cases_Option (first_fit b 
 
 pub are_placed : (b : Basis) (moves : List Move) → (placed : List ℕ) × IsPlacing b moves placed
 are_placed b moves = place_rest b moves (suc (length moves)) [] (omega arith) (λ k l. absurd (omega arith))
+
+-- ---- one order alone
+
+same_front : (b : Basis) (moves : List Move) (xs ys : List ℕ) → IsGreedy b moves xs → IsGreedy b moves ys → (k : ℕ) → k ≤ length xs → k ≤ length ys → take k xs ≡ take k ys
+same_front b moves xs ys one two zero l m = refl
+same_front b moves xs ys one two (suc k) l m =
+    let low = same_front b moves xs ys one two k (omega arith) (omega arith) in
+    let same : get_or xs k 0 ≡ get_or ys k 0 = same_Some (get_or xs k 0) (get_or ys k 0) (sym (one k (omega arith)) ∙ ap (first_fit b moves) low ∙ two k (omega arith)) in
+    let next : suc k ≡ k + 1 = omega arith in
+    ap (λ n. take n xs) next ∙ take_more xs k 0 (omega arith) ∙ ap (λ (zs : List ℕ). zs ++ get_or xs k 0 ∷ []) low ∙ ap (λ n. take k ys ++ n ∷ []) same ∙ sym (ap (λ n. take n ys) next ∙ take_more ys k 0 (omega arith))
+
+-- where nothing more fits, nothing more is placed
+not_longer : (b : Basis) (moves : List Move) (xs ys : List ℕ) → IsPlacing b moves xs → IsPlacing b moves ys → length ys ≤ length xs
+not_longer b moves xs ys one two = elim (cases_lt (length xs) (length ys)) [
+  | inl less ↦
+      let front : take (length xs) ys ≡ xs = sym (same_front b moves xs ys one.greedy two.greedy (length xs) (omega arith) (omega arith)) ∙ take-length xs in
+      absurd (let wrong = sym one.complete ∙ ap (first_fit b moves) (sym front) ∙ two.greedy (length xs) less in cc)
+  | inr most ↦ most
+]
+
+one_placing : (b : Basis) (moves : List Move) (xs ys : List ℕ) → IsPlacing b moves xs → IsPlacing b moves ys → xs ≡ ys
+one_placing b moves xs ys one two =
+    let most = not_longer b moves xs ys one two in
+    let least = not_longer b moves ys xs two one in
+    let same : length xs ≡ length ys = omega arith in
+    sym (take-length xs) ∙ same_front b moves xs ys one.greedy two.greedy (length xs) (omega arith) (omega arith) ∙ ap (λ n. take n ys) same ∙ take-length ys
+
+pub rule_answers : (b : Basis) (moves : List Move) → AnswersOnce b moves
+rule_answers b moves = record {
+  some =
+      let all = are_placed b moves in
+      elim (cases_Option (refusal b moves all.0)) [
+        | inl none ↦ inl (planned b (in_placed_order moves all.0), (all.0, all.1, none, refl))
+        | inr why ↦ inr (why.0, (all.0, all.1, why.1))
+      ];
+  one_plan = λ p q one two. one.3 ∙ ap (λ placed. planned b (in_placed_order moves placed)) (one_placing b moves one.0 two.0 one.1 two.1) ∙ sym two.3;
+  one_reason = λ why other one two. same_Some why other (sym one.2 ∙ ap (refusal b moves) (one_placing b moves one.0 two.0 one.1 two.1) ∙ two.2);
+  not_both = λ plan why one two. absurd (let wrong = sym one.2 ∙ ap (refusal b moves) (one_placing b moves one.0 two.0 one.1 two.1) ∙ two.2 in cc);
+}

@@ -28,7 +28,7 @@ there_any i (x ∷ xs) e = elim (cases_Bool (x == i)) [
   | inr apart ↦ (let more = there_any i xs (rw apart at e) in let l = more.1 in (suc more.0, omega arith, more.2))
 ]
 
-sum_of_map : {X Y : Type 0} (f : Y → ℕ) (g : X → Y) (xs : List X) → sum_by f (map g xs) ≡ sum_by (λ x. f (g x)) xs
+pub sum_of_map : {X Y : Type 0} (f : Y → ℕ) (g : X → Y) (xs : List X) → sum_by f (map g xs) ≡ sum_by (λ x. f (g x)) xs
 sum_of_map f g [] = refl
 sum_of_map f g (x ∷ xs) =
     let a = sum_by-cons f (g x) (map g xs) in
