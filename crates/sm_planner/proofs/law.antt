@@ -21,3 +21,4 @@ pub mod Usable
 pub mod Existing
 pub mod Ended
 pub mod Small
+pub mod Drained

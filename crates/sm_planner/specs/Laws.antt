@@ -16,6 +16,7 @@ use Rattle.sm_planner.specs.declared.moving.Move.{Move}
 use Rattle.sm_planner.specs.declared.moving.NoPlan.{NoPlan}
 use Rattle.sm_planner.specs.Basis.{Basis, basis, IsMoveOf, move_at, left_cell}
 use Rattle.sm_planner.specs.Plan.{planned}
+use Rattle.sm_planner.specs.Drain.{AreLeaving}
 use Rattle.sm_planner.specs.Refusal.{IsRefused, IsPlanOf}
 
 -- The streams' budgets add up to the plan's at most, each signal is of the plan, posted once and awaited once, and there is
@@ -67,3 +68,12 @@ pub record AnswersOnce (b : Basis) (moves : List Move) : Type 0 where
 
 abbrev pub RuleAnswersOnce : Type 0
 RuleAnswersOnce = (b : Basis) (moves : List Move) → AnswersOnce b moves
+
+-- At the end of the plan of a drain's moves the server has nothing of any shard, and the plan is as good as any of the rule's.
+pub record IsDrained (b : Basis) (v : ℕ) (plan : PlanModel) : Type 0 where
+  pub empty : (s : ℕ) → s < (sizes_of b.setup).shards → (end_of (sizes_of b.setup) plan b.place).cells s v ≡ cell.Absent
+  pub usable : (leads : ℕ → Lead) (numbers : ℕ → ℕ) → IsSetup b.setup → IsScene (sizes_of b.setup) b.place leads numbers b.pool → IsUsable b plan
+
+abbrev pub DrainsEmpty : Type 0
+DrainsEmpty = (b : Basis) (v : ℕ) (moves : List Move) (plan : PlanModel) →
+    v < (sizes_of b.setup).servers → AreLeaving b v (sizes_of b.setup).shards moves → IsPlanOf b moves plan → IsDrained b v plan

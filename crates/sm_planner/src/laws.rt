@@ -1,5 +1,5 @@
 //! Laws of the rule's plans.
-ghost use Rattle.sm_planner.specs.Laws.{PlansAreOrderly, PlansAreUsable, PlansAreUsableAt, PlansMove, RuleAnswersOnce};
+ghost use Rattle.sm_planner.specs.Laws.{PlansAreOrderly, PlansAreUsable, PlansAreUsableAt, PlansMove, RuleAnswersOnce, DrainsEmpty};
 
 /// The plan of moves in any order keeps its budget, uses each signal once, and has an order of its steps: a signal goes
 /// from a move to one that is placed later.
@@ -22,4 +22,9 @@ pub fn plans_move()
 /// The rule has one plan for any moves, or one reason why not.
 pub fn rule_answers_once()
     ensures { RuleAnswersOnce }
+{}
+
+/// At the end of the plan of a drain the server has nothing; and the plan is sound and admitted.
+pub fn drains_empty()
+    ensures { DrainsEmpty }
 {}

@@ -14,5 +14,5 @@ mod spread;
 mod writing;
 
 pub use entry::{drain, moves};
-pub use laws::{plans_are_orderly, plans_are_usable, plans_move, rule_answers_once};
+pub use laws::{drains_empty, plans_are_orderly, plans_are_usable, plans_move, rule_answers_once};
 pub use moving::{MOST_MOVES, Move, NoPlan};
