@@ -8,3 +8,4 @@ pub mod Streams
 pub mod Signalling
 pub mod Refusing
 pub mod Departing
+pub mod law

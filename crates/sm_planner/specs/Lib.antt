@@ -9,3 +9,4 @@ pub mod Plan
 pub mod Refusal
 pub mod Draft
 pub mod Drain
+pub mod Laws

@@ -4,6 +4,7 @@
 mod draining;
 mod entry;
 mod held;
+mod laws;
 mod marks;
 mod moving;
 mod payment;
@@ -13,4 +14,5 @@ mod spread;
 mod writing;
 
 pub use entry::{drain, moves};
+pub use laws::{drains_empty, plans_are_orderly, plans_are_usable, plans_move, rule_answers_once};
 pub use moving::{MOST_MOVES, Move, NoPlan};

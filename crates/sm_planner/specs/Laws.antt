@@ -1,0 +1,79 @@
+-- Laws of the rule's plans.
+use Rattle.std.specs.Prelude.{◌≡◌, ◌≢◌, ◌⊎◌, ◌<◌, ℕ, None, List, All, length}
+use Rattle.sm_server.specs.declared.call.Cell.TheVariants as cell
+use Rattle.sm_placement.specs.declared.lead.Lead.{Lead}
+use Rattle.sm_placement.specs.Setup.{Setup, IsSetup, sizes_of}
+use Rattle.sm_placement.specs.Place.{Place}
+use Rattle.sm_plan_code.specs.Plan.{PlanModel, KnowsSignals}
+use Rattle.sm_plan_code.specs.Effects.{IsScene}
+use Rattle.sm_verifier.specs.FirstHolding.{first_holding}
+use Rattle.sm_verifier.specs.Order.{HasOrder}
+use Rattle.sm_verifier.specs.Plan.{KeepsBudget, AreUsedOnce}
+use Rattle.sm_verifier.specs.PlanEnd.{end_of}
+use Rattle.sm_protocol.specs.State.{State, pool}
+use Rattle.sm_protocol.specs.Laws.{IsCheckedPlan, IsReached}
+use Rattle.sm_planner.specs.declared.moving.Move.{Move}
+use Rattle.sm_planner.specs.declared.moving.NoPlan.{NoPlan}
+use Rattle.sm_planner.specs.Basis.{Basis, basis, IsMoveOf, move_at, left_cell}
+use Rattle.sm_planner.specs.Plan.{planned}
+use Rattle.sm_planner.specs.Drain.{AreLeaving}
+use Rattle.sm_planner.specs.Refusal.{IsRefused, IsPlanOf}
+
+-- The streams' budgets add up to the plan's at most, each signal is of the plan, posted once and awaited once, and there is
+-- an order of all steps.
+pub record IsOrderly (plan : PlanModel) : Type 0 where
+  pub budget : KeepsBudget plan
+  pub known : KnowsSignals plan
+  pub signals : AreUsedOnce plan (length plan.signals)
+  pub order : HasOrder plan
+
+-- so is the plan of any moves in any order
+abbrev pub PlansAreOrderly : Type 0
+PlansAreOrderly = (b : Basis) (order : List Move) → IsOrderly (planned b order)
+
+-- the plan would pass the check, and nothing holds it up at the placement with its pool
+pub record IsUsable (b : Basis) (plan : PlanModel) : Type 0 where
+  pub checked : IsCheckedPlan (sizes_of b.setup) plan
+  pub free : first_holding (sizes_of b.setup) b.place b.pool plan ≡ None
+
+-- so it is of the rule's plan of moves of the configuration, at a pool that is true of the placement
+abbrev pub PlansAreUsable : Type 0
+PlansAreUsable = (b : Basis) (leads : ℕ → Lead) (numbers : ℕ → ℕ) (moves : List Move) (plan : PlanModel) →
+    IsSetup b.setup → IsScene (sizes_of b.setup) b.place leads numbers b.pool → All (IsMoveOf b.setup) moves → IsPlanOf b moves plan → IsUsable b plan
+
+-- and at each state that events lead to, with the rights that no stream has there
+abbrev pub PlansAreUsableAt : Type 0
+PlansAreUsableAt = (setup : Setup) (w : State) (moves : List Move) (plan : PlanModel) →
+    IsReached setup w → All (IsMoveOf setup) moves → IsPlanOf (basis setup w.place (pool w)) moves plan → IsUsable (basis setup w.place (pool w)) plan
+
+-- Each replica that is moved has left its server, and stands at the new one as it stood at the old one; where nothing is
+-- moved to or from, all is as before.
+pub record HasMoved (old new : Place) (moves : List Move) : Type 0 where
+  pub left : (i : ℕ) → i < length moves → new.cells (move_at moves i).shard (move_at moves i).from ≡ cell.Absent
+  pub come : (i : ℕ) → i < length moves → new.cells (move_at moves i).shard (move_at moves i).to ≡ left_cell old (move_at moves i)
+  pub others : (s v : ℕ) →
+      ((i : ℕ) → i < length moves → (move_at moves i).shard ≡ s → ((move_at moves i).to ≢ v) × ((move_at moves i).from ≢ v)) → new.cells s v ≡ old.cells s v
+
+-- so it is at the end of the rule's plan
+abbrev pub PlansMove : Type 0
+PlansMove = (b : Basis) (moves : List Move) (plan : PlanModel) →
+    All (IsMoveOf b.setup) moves → IsPlanOf b moves plan → HasMoved b.place (end_of (sizes_of b.setup) plan b.place) moves
+
+-- the rule has a plan for the moves or a reason why not, never both, and never two of either
+pub record AnswersOnce (b : Basis) (moves : List Move) : Type 0 where
+  pub some : ((plan : PlanModel) × IsPlanOf b moves plan) ⊎ ((why : NoPlan) × IsRefused b moves why)
+  pub one_plan : (plan other : PlanModel) → IsPlanOf b moves plan → IsPlanOf b moves other → plan ≡ other
+  pub one_reason : (why other : NoPlan) → IsRefused b moves why → IsRefused b moves other → why ≡ other
+  pub not_both : (plan : PlanModel) (why : NoPlan) → IsPlanOf b moves plan → IsRefused b moves why → ⊥
+
+abbrev pub RuleAnswersOnce : Type 0
+RuleAnswersOnce = (b : Basis) (moves : List Move) → AnswersOnce b moves
+
+-- At the end of the plan of a drain's moves the server has nothing of any shard, and the plan is as good as any of the rule's.
+pub record IsDrained (b : Basis) (v : ℕ) (plan : PlanModel) : Type 0 where
+  pub empty : (s : ℕ) → s < (sizes_of b.setup).shards → (end_of (sizes_of b.setup) plan b.place).cells s v ≡ cell.Absent
+  pub usable : (leads : ℕ → Lead) (numbers : ℕ → ℕ) → IsSetup b.setup → IsScene (sizes_of b.setup) b.place leads numbers b.pool → IsUsable b plan
+
+abbrev pub DrainsEmpty : Type 0
+DrainsEmpty = (b : Basis) (v : ℕ) (moves : List Move) (plan : PlanModel) →
+    v < (sizes_of b.setup).servers → AreLeaving b v (sizes_of b.setup).shards moves → IsPlanOf b moves plan → IsDrained b v plan

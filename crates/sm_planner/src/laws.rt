@@ -1,0 +1,30 @@
+//! Laws of the rule's plans.
+ghost use Rattle.sm_planner.specs.Laws.{PlansAreOrderly, PlansAreUsable, PlansAreUsableAt, PlansMove, RuleAnswersOnce, DrainsEmpty};
+
+/// The plan of moves in any order keeps its budget, uses each signal once, and has an order of its steps: a signal goes
+/// from a move to one that is placed later.
+pub fn plans_are_orderly()
+    ensures { PlansAreOrderly }
+{}
+
+/// The plan of moves that the rule refuses nothing of is sound, and admitted at the placement with its pool; so at each state
+/// that events lead to.
+pub fn plans_are_usable()
+    ensures scene { PlansAreUsable }
+    ensures reached { PlansAreUsableAt }
+{}
+
+/// At the end of the plan each moved replica stands at its new server as it stood at the old one, and all else is as before.
+pub fn plans_move()
+    ensures { PlansMove }
+{}
+
+/// The rule has one plan for any moves, or one reason why not.
+pub fn rule_answers_once()
+    ensures { RuleAnswersOnce }
+{}
+
+/// At the end of the plan of a drain the server has nothing; and the plan is sound and admitted.
+pub fn drains_empty()
+    ensures { DrainsEmpty }
+{}
