@@ -2,6 +2,7 @@ pub mod CommandLine
 pub mod Onward
 pub mod Inputs
 pub mod Texts
+pub mod PlanAnswers
 pub mod OneReport
 pub mod SomeReport
 pub mod EventTurns
