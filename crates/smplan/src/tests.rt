@@ -3,4 +3,5 @@ mod documents;
 mod ends;
 mod input;
 mod line;
+mod plays;
 mod rows;

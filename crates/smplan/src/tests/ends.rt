@@ -43,7 +43,7 @@ impl Read for FailingReader<'_> {
 
 /// How a write goes wrong.
 #[derive(Clone, Copy)]
-enum Fault {
+pub enum Fault {
     Fails,
     TakesNothing,
     IsInterrupted,
@@ -89,7 +89,7 @@ fn failing_writer(alloc: Global, most: usize, fails_at: usize, fault: Fault) -> 
 }
 
 /// A reader that is interrupted before each read gives the whole report.
-fn reads_again(rt: &(impl AllocGlobal + std::process::Abort), command: Command, row: &Row) {
+pub fn reads_again(rt: &(impl AllocGlobal + std::process::Abort), command: Command, row: &Row) {
     let mut reader = InterruptedReader {
         left: row.document.as_bytes(),
         was_interrupted: false,
@@ -107,7 +107,7 @@ fn reads_again_where_it_is_interrupted(rt: HostRuntime) {
 }
 
 /// Each read fails in turn, and nothing is written.
-fn writes_nothing(rt: &(impl AllocGlobal + std::process::Abort), command: Command, row: &Row) {
+pub fn writes_nothing(rt: &(impl AllocGlobal + std::process::Abort), command: Command, row: &Row) {
     let reads = row.document.len() / 16 + 2;
     for fails_at in 1..=reads {
         let mut reader = FailingReader {
@@ -129,7 +129,7 @@ fn writes_nothing_after_a_failed_read(rt: HostRuntime) {
 }
 
 /// A writer of one byte at a time gets the whole report.
-fn writes_all(rt: &(impl AllocGlobal + std::process::Abort), command: Command, row: &Row) {
+pub fn writes_all(rt: &(impl AllocGlobal + std::process::Abort), command: Command, row: &Row) {
     let mut reader = row.document.as_bytes();
     let mut writer = failing_writer(rt.alloc(), 1, 0, Fault::Fails);
     let status = report(rt.alloc(), command, &mut reader, &mut writer);
@@ -144,7 +144,7 @@ fn writes_byte_by_byte(rt: HostRuntime) {
 }
 
 /// Each write of a report goes wrong in turn, and a front of it is written.
-fn writes_fronts(
+pub fn writes_fronts(
     rt: &(impl AllocGlobal + std::process::Abort),
     command: Command,
     row: &Row,

@@ -34,14 +34,16 @@ fn refuses_other_words(rt: HostRuntime) {
     }
 }
 
-static HELP: [&[&str]; 7] = [
+static HELP: [&[&str]; 9] = [
     &["--help"],
     &["-h"],
     &["help"],
     &["help", "calls"],
     &["help", "check"],
+    &["help", "play"],
     &["calls", "--help"],
     &["calls", "-h"],
+    &["play", "--help"],
 ];
 
 #[test]

@@ -4,7 +4,7 @@ use sm_report::{Command, Status, one_report, report};
 use std::process::Abort;
 
 /// Asserts that the row is what is reported of its document.
-fn assert_reported(rt: &(impl AllocGlobal + Abort), command: Command, row: &Row) {
+pub fn assert_reported(rt: &(impl AllocGlobal + Abort), command: Command, row: &Row) {
     let mut reader = row.document.as_bytes();
     let mut text = Vec::new(rt.alloc());
     let status = report(rt.alloc(), command, &mut reader, &mut text);
