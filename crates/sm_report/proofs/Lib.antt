@@ -2,6 +2,8 @@ pub mod CommandLine
 pub mod Onward
 pub mod Inputs
 pub mod Texts
+pub mod KnownMoves
+pub mod PlanAnswers
 pub mod OneReport
 pub mod SomeReport
 pub mod EventTurns

@@ -16,21 +16,25 @@ use Rattle.sm_verifier.specs.Verdict.{IsSameFault}
 use Rattle.sm_plan_text.specs.declared.member.Member.TheVariants as member
 use Rattle.sm_plan_text.specs.Documents.{DocumentModel}
 use Rattle.sm_report.specs.declared.command.Command.{Command}
-use Rattle.sm_report.specs.declared.command.Command.TheVariants.{Calls, Check, Play}
+use Rattle.sm_report.specs.declared.command.Command.TheVariants.{Calls, Check, Play, Plan}
 use Rattle.sm_report.specs.Report.{Output, refused}
 use Rattle.sm_report.specs.Checking.{stuck_line, fault_line, holding_line, accepted_line}
 use Rattle.sm_report.specs.Playing.{Scene}
 use Rattle.sm_report.specs.PlayLines.{plan_front}
 use Rattle.sm_plan_text.specs.declared.event.EventText.{EventText}
 use Rattle.sm_report.specs.Stages.{Then, read_stage, member_stage, alone_stage, placement_stage, log_stage, begin_stage, AtCheck, AtChecks, AtStart}
-use Rattle.sm_report.specs.Output.{IsCalled, IsOpenedForCalls, IsAcceptedReport, IsPlanReport, IsOpenedForCheck, plans_of, has_list, IsPlayedOutput, IsBegunForPlay, IsLoggedForPlay, IsPlacedForPlay, IsOpenedForPlay, IsAloneForPlay, IsPlayReport, IsDocumentReport, IsReport}
+use Rattle.sm_report.specs.Output.{IsCalled, IsOpenedForCalls, IsAcceptedReport, IsPlanReport, IsOpenedForCheck, plans_of, has_list, IsPlayedOutput, IsBegunForPlay, IsLoggedForPlay, IsPlacedForPlay, IsOpenedForPlay, IsAloneForPlay, IsPlayReport, IsLoggedForPlan, IsPlacedForPlan, IsOpenedForPlan, IsPlanningReport, IsDocumentReport, IsReport}
+use Rattle.sm_report.specs.Planning.{aim_stage, opened_basis}
+use Rattle.sm_planner.specs.Laws.{RuleAnswersOnce}
+use Rattle.sm_report.proofs.PlanAnswers.{answered_one}
 
--- the verdict on a plan is one
+-- the verdict on a plan is one, and so is the planner's answer
 pub record IsOneVerdict : Type 0 where
   pub fault : (c : Sizes) (plan : PlanModel) (f g : Fault) → IsFault c plan f → IsFault c plan g → f ≢ NoMemory → g ≢ NoMemory → IsSameFault f g
   pub sound : (c : Sizes) (plan : PlanModel) (f : Fault) → IsSound c plan → IsFault c plan f → f ≡ NoMemory
   pub holding : (c : Sizes) (p : Place) (pool : Hold) (plan : PlanModel) (h k : Holding) → IsHolding c p pool plan h → IsHolding c p pool plan k → h ≡ k
   pub admitted : (c : Sizes) (p : Place) (pool : Hold) (plan : PlanModel) (h : Holding) → IsAdmitted c p pool plan → ¬ IsHolding c p pool plan h
+  pub rule : RuleAnswersOnce
 
 -- there is one output at most of which this holds
 abbrev pub IsOne : (Output → Type 0) → Type 0
@@ -100,6 +104,13 @@ play_one verdict d =
     then_one (log_stage d p) (IsLoggedForPlay d events p) (λ room.
     checks_one verdict (sizes_of d.setup) (has_list d.plans) 0 (plans_of d.plan d.plans) _ (begun_one d.setup d.plan d.plans events _)))))
 
+planning_one : IsOneVerdict → (d : DocumentModel) → IsOne (IsPlanningReport d)
+planning_one verdict d =
+    then_one (aim_stage d.moves d.drain) (IsOpenedForPlan d) (λ aim.
+    then_one (placement_stage d) (IsPlacedForPlan d aim) (λ p.
+    then_one (log_stage d p) (IsLoggedForPlan d aim p) (λ room.
+    answered_one verdict.rule d.setup (opened_basis d.setup p d.log) aim)))
+
 document_one : IsOneVerdict → (command : Command) (d : DocumentModel) → IsOne (IsDocumentReport command d)
 document_one verdict Calls d =
     then_one (member_stage member.Calls d.calls) (IsOpenedForCalls d) (λ calls.
@@ -108,6 +119,7 @@ document_one verdict Check d =
     then_one (member_stage member.Plan d.plan) (IsOpenedForCheck d) (λ plan.
     then_one (placement_stage d) (IsPlanReport d.setup plan) (plan_one verdict d.setup plan))
 document_one verdict Play d = play_one verdict d
+document_one verdict Plan d = planning_one verdict d
 
 -- what a command reports of bytes is one output
 pub same_report : IsOneVerdict → (command : Command) (most : ℕ) (bytes : List ℕ) (a b : Output) → IsReport command most bytes a → IsReport command most bytes b → a ≡ b

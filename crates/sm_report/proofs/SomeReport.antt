@@ -16,20 +16,24 @@ use Rattle.sm_plan_text.specs.Documents.{DocumentModel}
 use Rattle.sm_plan_text.specs.Reading.{read}
 use Rattle.sm_plan_text.proofs.ReadPlans.{IsPlanOf, HasItsPlans, read_has_plan}
 use Rattle.sm_report.specs.declared.command.Command.{Command}
-use Rattle.sm_report.specs.declared.command.Command.TheVariants.{Calls, Check, Play}
+use Rattle.sm_report.specs.declared.command.Command.TheVariants.{Calls, Check, Play, Plan}
 use Rattle.sm_report.specs.Report.{Output, refused, done}
 use Rattle.sm_report.specs.Playing.{Scene}
 use Rattle.sm_plan_text.specs.declared.event.EventText.{EventText}
 use Rattle.sm_report.specs.Checking.{fault_line, holding_line, accepted_line}
 use Rattle.sm_report.specs.PlayLines.{plan_front}
 use Rattle.sm_report.specs.Stages.{Then, read_or_bad, read_stage, member_stage, alone_stage, placement_stage, log_stage, begin_stage, AtCheck, AtChecks, AtStart}
-use Rattle.sm_report.specs.Output.{calls_output, IsCalled, IsOpenedForCalls, IsAcceptedReport, IsPlanReport, IsOpenedForCheck, plans_of, has_list, played_output, IsPlayedOutput, IsBegunForPlay, IsLoggedForPlay, IsPlacedForPlay, IsOpenedForPlay, IsAloneForPlay, IsPlayReport, IsDocumentReport, IsReport}
+use Rattle.sm_report.specs.Output.{calls_output, IsCalled, IsOpenedForCalls, IsAcceptedReport, IsPlanReport, IsOpenedForCheck, plans_of, has_list, played_output, IsPlayedOutput, IsBegunForPlay, IsLoggedForPlay, IsPlacedForPlay, IsOpenedForPlay, IsAloneForPlay, IsPlayReport, IsLoggedForPlan, IsPlacedForPlan, IsOpenedForPlan, IsPlanningReport, IsDocumentReport, IsReport}
+use Rattle.sm_report.specs.Planning.{aim_stage, opened_basis}
+use Rattle.sm_planner.specs.Laws.{RuleAnswersOnce}
+use Rattle.sm_report.proofs.PlanAnswers.{answered_some}
 use Rattle.sm_report.proofs.Onward.{member_there}
 
--- each plan has its verdict
+-- each plan has its verdict, and the planner has its answer
 pub record HasVerdicts : Type 0 where
   pub fault : FindsFault
   pub holding : FindsHolding
+  pub rule : RuleAnswersOnce
 
 -- there is an output of which this holds
 abbrev pub IsMade : (Output → Type 0) → Type 0
@@ -95,6 +99,13 @@ play_some verdicts d has =
     checks_some verdicts.fault d.setup (has_list d.plans) 0 (plans_of d.plan d.plans) _ (all_plans d.setup d.plan d.plans has.plan has.plans)
     (begun_some d.setup d.plan d.plans events _)))))
 
+planning_some : HasVerdicts → (d : DocumentModel) → IsMade (IsPlanningReport d)
+planning_some verdicts d =
+    then_some (aim_stage d.moves d.drain) (IsOpenedForPlan d) (λ aim there.
+    then_some (placement_stage d) (IsPlacedForPlan d aim) (λ p opened.
+    then_some (log_stage d p) (IsLoggedForPlan d aim p) (λ room logged.
+    answered_some verdicts.rule d.setup (opened_basis d.setup p d.log) aim)))
+
 document_some : HasVerdicts → (command : Command) (d : DocumentModel) → HasItsPlans d → IsMade (IsDocumentReport command d)
 document_some verdicts Calls d has =
     then_some (member_stage member.Calls d.calls) (IsOpenedForCalls d) (λ calls there.
@@ -104,6 +115,7 @@ document_some verdicts Check d has =
     then_some (placement_stage d) (IsPlanReport d.setup plan) (λ p opened.
     plan_some verdicts d.setup plan p (member_there (IsPlanOf d.setup) member.Plan d.plan plan there has.plan)))
 document_some verdicts Play d has = play_some verdicts d has
+document_some verdicts Plan d has = planning_some verdicts d
 
 -- ---- what is read
 

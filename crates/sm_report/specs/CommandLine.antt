@@ -7,7 +7,7 @@ use Rattle.clap.specs.Kinds.{Kinds, IsAmong}
 use Rattle.clap.specs.declared.error.kind.ErrorKind.{ErrorKind}
 use Rattle.clap.specs.declared.error.kind.ErrorKind.TheVariants as kind
 use Rattle.sm_report.specs.declared.command.Command.{Command}
-use Rattle.sm_report.specs.declared.command.Command.TheVariants.{Calls, Check, Play}
+use Rattle.sm_report.specs.declared.command.Command.TheVariants.{Calls, Check, Play, Plan}
 use Rattle.sm_report.specs.declared.command.Word.{Word}
 use Rattle.sm_report.specs.declared.command.Word.TheVariants.{Report}
 use Rattle.sm_report.specs.declared.command.LineFault.{LineFault}
@@ -19,6 +19,7 @@ named name =
     if bytes_eq name (codes "calls") then Some Calls
     else if bytes_eq name (codes "check") then Some Check
     else if bytes_eq name (codes "play") then Some Play
+    else if bytes_eq name (codes "plan") then Some Plan
     else None
 
 -- what the words ask for: one word alone names a command
@@ -35,7 +36,7 @@ first_words =
 
 -- the program's command line, as clap reads it
 abbrev pub program : App
-program = with_subcommand first_words (new_app (codes "play")).top
+program = with_subcommand (with_subcommand first_words (new_app (codes "play")).top) (new_app (codes "plan")).top
 
 -- what is said of an error of this kind: help where help was asked for, unless memory ran out
 abbrev pub TellsKind : LineFault → ErrorKind → Type 0

@@ -12,4 +12,5 @@ pub mod Playing
 pub mod PlayLines
 pub mod Player
 pub mod Stages
+pub mod Planning
 pub mod Output

@@ -7,7 +7,7 @@ use Rattle.sm_plan_text.specs.declared.member.Member.TheVariants as member
 use Rattle.sm_plan_text.specs.Calls.{NamedCall}
 use Rattle.sm_plan_text.specs.Documents.{DocumentModel}
 use Rattle.sm_report.specs.declared.command.Command.{Command}
-use Rattle.sm_report.specs.declared.command.Command.TheVariants.{Calls, Check, Play}
+use Rattle.sm_report.specs.declared.command.Command.TheVariants.{Calls, Check, Play, Plan}
 use Rattle.sm_report.specs.Answers.{answer_lines, place_after_all}
 use Rattle.sm_report.specs.Checking.{accepted_line}
 use Rattle.sm_report.specs.Ending.{ending}
@@ -15,6 +15,7 @@ use Rattle.sm_report.specs.Report.{Output, done}
 use Rattle.sm_report.specs.Stages.{Then, read_stage, member_stage, alone_stage, placement_stage, log_stage, begin_stage, AtCheck, AtChecks, AtStart}
 use Rattle.sm_report.specs.Playing.{Scene, opened_scene, scene_after}
 use Rattle.sm_report.specs.PlayLines.{event_lines, all_plan_lines}
+use Rattle.sm_report.specs.Planning.{Aim, aim_stage, opened_basis, IsAnswered}
 use Rattle.sm_plan_text.specs.declared.event.EventText.{EventText}
 
 -- ---- `calls`
@@ -95,12 +96,28 @@ IsAloneForPlay d _ = Then (member_stage member.Events d.events) (IsOpenedForPlay
 abbrev pub IsPlayReport : DocumentModel → Output → Type 0
 IsPlayReport d = Then (alone_stage d.plan d.plans) (IsAloneForPlay d)
 
+-- ---- `plan`
+
+-- a plan is made for a machine that is opened at a placement, whose log has room
+abbrev pub IsLoggedForPlan : DocumentModel → Aim → Place → Unit {0} → Output → Type 0
+IsLoggedForPlan d aim p _ = IsAnswered d.setup (opened_basis d.setup p d.log) aim
+
+abbrev pub IsPlacedForPlan : DocumentModel → Aim → Place → Output → Type 0
+IsPlacedForPlan d aim p = Then (log_stage d p) (IsLoggedForPlan d aim p)
+
+abbrev pub IsOpenedForPlan : DocumentModel → Aim → Output → Type 0
+IsOpenedForPlan d aim = Then (placement_stage d) (IsPlacedForPlan d aim)
+
+abbrev pub IsPlanningReport : DocumentModel → Output → Type 0
+IsPlanningReport d = Then (aim_stage d.moves d.drain) (IsOpenedForPlan d)
+
 -- ---- all commands
 
 abbrev pub IsDocumentReport : Command → DocumentModel → Output → Type 0
 IsDocumentReport Calls d = IsCallsReport d
 IsDocumentReport Check d = IsCheckReport d
 IsDocumentReport Play d = IsPlayReport d
+IsDocumentReport Plan d = IsPlanningReport d
 
 -- what a command reports of the bytes that are read, where there may be at most so many
 abbrev pub IsReport : Command → ℕ → List ℕ → Output → Type 0

@@ -17,6 +17,8 @@ pub enum Command {
     Check,
     /// The answers to the document's events, how far its plans have come, and the placement after them.
     Play,
+    /// The plan that makes the document's moves or empties a server, or why there is none.
+    Plan,
 }
 
 impl Command {
@@ -30,6 +32,8 @@ impl Command {
             Some(Command::Check)
         } else if name == "play" {
             Some(Command::Play)
+        } else if name == "plan" {
+            Some(Command::Plan)
         } else {
             None
         }
@@ -79,7 +83,10 @@ fn parser<'a>(alloc: Global) -> Result<Parser<'a>, AllocError>
     let play = Parser::new(alloc, "play").about(
         "Plays the document's events, and prints their answers, how far its plans have come, and the placement after them",
     );
-    first_words(alloc)?.subcommand(play)
+    let plan = Parser::new(alloc, "plan").about(
+        "Makes a plan for the document's moves, or one that empties a server, and prints it or why there is none",
+    );
+    first_words(alloc)?.subcommand(play)?.subcommand(plan)
 }
 
 /// What an error of the command line tells.

@@ -13,6 +13,8 @@ mod input;
 mod made;
 mod names;
 mod opening;
+mod plan_lines;
+mod planning;
 mod play_lines;
 mod player;
 mod playing;

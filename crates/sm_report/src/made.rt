@@ -1,23 +1,27 @@
 //! A report that is made and not yet written.
-ghost use Rattle.std.specs.Prelude.{◌≡◌, ◌≢◌, ◌<◌, ◌++◌, ℕ, take, IfOk, string_bytes};
+ghost use Rattle.std.specs.Prelude.{◌≡◌, ◌≢◌, ◌<◌, ◌++◌, ℕ, length, take, IfOk, string_bytes};
 ghost use Rattle.std.specs.Io.KnownBytes.{Appends};
 ghost use Rattle.sm_report.specs.BadInput.{text_fault_line, too_long_line};
 ghost use Rattle.sm_report.specs.Opening.{open_fault_line};
 ghost use Rattle.sm_report.specs.Checking.{accepted_line, fault_line, holding_line};
 ghost use Rattle.sm_report.specs.Stages.{log_refused_line};
 ghost use Rattle.sm_report.specs.PlayLines.{not_begun_line};
+ghost use Rattle.sm_plan_code.specs.Plan.{IsKnownPlan};
+ghost use Rattle.sm_report.specs.Planning.{made_line, no_plan_line};
 ghost use Rattle.sm_report.specs.Report.{bad_input, refused, done};
 ghost use Rattle.sm_report.specs.Status.{code_of};
 
 use crate::bad_input::{push_text_fault, push_too_long};
 use crate::delivery::deliver;
 use crate::opening::push_open_fault;
+use crate::plan_lines::push_no_plan;
 use crate::play_lines::{push_not_begun, push_word};
 use crate::status::Status;
 use crate::verdict::{push_accepted, push_fault, push_holding};
 use sm_placement::{Config, OpenFault};
 use sm_plan_code::Plan;
-use sm_plan_text::TextFault;
+use sm_plan_text::{TextFault, write_plan};
+use sm_planner::NoPlan;
 use sm_protocol::BeginFault;
 use sm_verifier::{Fault, Holding};
 use std::alloc::{AllocError, Global};
@@ -131,6 +135,28 @@ impl Made {
         let mut text = String::new(alloc);
         push_accepted(&mut text, plan)?;
         Ok(Made::done(text))
+    }
+
+    /// The report of a plan that was made.
+    pub fn planned(alloc: Global, config: &Config, plan: &Plan) -> Result<Self, AllocError>
+        requires { IsKnownPlan (length config.now.shards) (length config.now.servers) plan.now }
+        ensures { IfOk result (λ made. made ≡ done (made_line config.now plan.now)) }
+    {
+        let mut text = write_plan(alloc, config, plan)?;
+        text.push(b'\n')?;
+        Ok(Made {
+            text,
+            status: Status::Done,
+        })
+    }
+
+    /// The report of why no plan was made.
+    pub fn unplanned(alloc: Global, config: &Config, why: NoPlan) -> Result<Self, AllocError>
+        ensures { IfOk result (λ made. made ≡ refused (no_plan_line config.now why)) }
+    {
+        let mut text = String::new(alloc);
+        push_no_plan(&mut text, config, why)?;
+        Ok(Made::refused(text))
     }
 
     /// The report of a command that was carried out.

@@ -16,9 +16,11 @@ use crate::command::Command;
 use crate::early::Early;
 use crate::input::{InputFault, take_input};
 use crate::made::Made;
+use crate::planning::report_plan;
 use crate::plays::report_play;
 use crate::status::Status;
 use sm_plan_text::{Document, TextFault, read_document};
+use sm_planner::rule_answers_once;
 use sm_verifier::{finds_fault, finds_holding, one_fault, one_holding};
 use std::alloc::Global;
 use std::io::{Read, Write};
@@ -66,6 +68,7 @@ fn report_document(alloc: Global, command: Command, mut document: Document) -> R
         Command::Calls => report_calls(alloc, &mut document),
         Command::Check => report_check(alloc, &mut document),
         Command::Play => report_play(alloc, &mut document),
+        Command::Plan => report_plan(alloc, &document),
     }
 }
 
@@ -109,18 +112,20 @@ pub fn report<R: Read, W: Write>(
     }
 }
 
-/// What a command reports of an input is one report, since the verdict on a plan is one.
+/// What a command reports of an input is one report, since the verdict on a plan is one and the planner answers once.
 pub fn one_report()
     ensures { (command : Command) (most : ℕ) (bytes : List ℕ) (a b : Output) → IsReport command most bytes a → IsReport command most bytes b → a ≡ b }
 {
     one_fault();
     one_holding();
+    rule_answers_once();
 }
 
-/// Each input has a report, since each plan has a verdict.
+/// Each input has a report, since each plan has a verdict and the planner answers.
 pub fn some_report()
     ensures { (command : Command) (most : ℕ) (bytes : List ℕ) → (output : Output) × IsReport command most bytes output }
 {
     finds_fault();
     finds_holding();
+    rule_answers_once();
 }

@@ -7,4 +7,5 @@ returns c = same_report record {
   sound = c.one_fault.ensures.sound;
   holding = c.one_holding.ensures.same;
   admitted = c.one_holding.ensures.admitted;
+  rule = c.rule_answers_once.ensures;
 }

@@ -1,0 +1,244 @@
+-- The planner's rule has one answer, and the report of it is one.
+use Rattle.std.proofs.Common.{◌≡◌, ◌<◌, ◌≤◌, ◌∙◌, ◌++◌, ◌∷◌, [], ℕ, zero, suc, true, false, Option, Some, None, List, sym, ap, subst, refl, arith, inl, inr, ◌⊎◌}
+use Rattle.std.proofs.lemmas.Bool.{cases_Bool, cases_eq, cases_lt, both_ways}
+use Rattle.std.specs.Option.{option_or}
+use Rattle.std.proofs.lemmas.Option.{same_Some}
+use Rattle.sm_server.specs.Cell.{is_absent}
+use Rattle.sm_placement.specs.Setup.{Setup, sizes_of}
+use Rattle.sm_placement.proofs.Searches.{cases_Option}
+use Rattle.sm_plan_code.specs.Plan.{PlanModel}
+use Rattle.sm_planner.specs.declared.moving.Move.{Move}
+use Rattle.sm_planner.specs.declared.moving.NoPlan.{NoPlan}
+use Rattle.sm_planner.specs.declared.moving.NoPlan.TheVariants.{NoPlace}
+use Rattle.sm_planner.specs.Basis.{Basis}
+use Rattle.sm_planner.specs.Refusal.{first_refused, refusal, no_room, no_spread, too_many, IsRefused, HasReason, IsPlanOf}
+use Rattle.sm_planner.specs.Drain.{drain_refusal, room_beside, may_take, leaving, IsTarget, AreLeaving, IsStuck, AreDepartures, IsDrainPlan, IsDrainRefused}
+use Rattle.sm_planner.specs.Laws.{RuleAnswersOnce}
+use Rattle.sm_report.specs.Report.{Output, refused, done}
+use Rattle.sm_report.specs.Planning.{Aim, Moving, Emptying, IsPlanFor, IsRefusedFor, made_line, no_plan_line, IsAnswered}
+
+-- ---- moves
+
+-- what is refused first is refused, whatever comes after it
+refused_first : (b : Basis) (moves : List Move) (placed : List ℕ) (why : NoPlan) → first_refused b moves ≡ Some why → refusal b moves placed ≡ Some why
+refused_first b moves placed why is =
+    ap (λ (x : Option NoPlan). option_or x (option_or (no_room moves placed) (option_or (no_spread b moves) (too_many b moves placed)))) is
+
+-- a reason that one of the moves gives alone is the rule's reason
+reason_refuses : RuleAnswersOnce → (b : Basis) (moves : List Move) (why : NoPlan) → HasReason b moves why → IsRefused b moves why
+reason_refuses law b moves why (inr is) = is
+reason_refuses law b moves why (inl is) = elim (law b moves).some [
+  | inl made ↦ absurd (let a = made.1.2 in let e = refused_first b moves made.1.0 why is in let z : None ≡ Some why = sym a ∙ e in cc)
+  | inr other ↦ (other.1.0, other.1.1, refused_first b moves other.1.0 why is)
+]
+
+-- ---- the targets of a drain
+
+module _ (b : Basis) (v : ℕ) where
+  -- a shard has one target
+  one_target : (moves : List Move) (s u w : ℕ) → IsTarget b v moves s u → IsTarget b v moves s w → u ≡ w
+  one_target moves s u w x y =
+      elim (x.most w y.known y.takes) [
+        | inl less ↦ elim (y.most u x.known x.takes) [ inl more ↦ absurd (omega arith) | inr same ↦ absurd (let e = same.0 in omega arith) ]
+        | inr same ↦ elim (y.most u x.known x.takes) [
+          | inl more ↦ absurd (let e = same.0 in omega arith)
+          | inr again ↦ (let a = same.1 in let c = again.1 in omega arith)
+        ]
+      ]
+
+  -- the moves to the targets are the same ones
+  one_leaving : (n : ℕ) (xs ys : List Move) → AreLeaving b v n xs → AreLeaving b v n ys → xs ≡ ys
+  one_leaving zero xs ys x y = x ∙ sym y
+  one_leaving (suc n) xs ys x y = elim (cases_Bool (is_absent (b.place.cells n v))) [
+    | inl none ↦ one_leaving n xs ys (x.0 none) (y.0 none)
+    | inr some ↦
+        let p = x.1 some in
+        let q = y.1 some in
+        let before : p.0 ≡ q.0 = one_leaving n p.0 q.0 p.2 q.2 in
+        let same : p.1 ≡ q.1 = one_target q.0 n p.1 q.1 (subst (λ ms. IsTarget b v ms n p.1) before p.3) q.3 in
+        p.4 ∙ ap (λ (ms : List Move). ms ++ leaving v n p.1 ∷ []) before ∙ ap (λ u. q.0 ++ leaving v n u ∷ []) same ∙ sym q.4
+  ]
+
+  -- where more shards leave, those before have left
+  left_before : (n : ℕ) (moves : List Move) → AreLeaving b v n moves → (s : ℕ) → s < n → (before : List Move) × AreLeaving b v (suc s) before
+  left_before zero moves x s l = absurd (omega arith)
+  left_before (suc n) moves x s l = elim (cases_eq s n) [
+    | inl same ↦ (moves, subst (λ k. AreLeaving b v (suc k) moves) (sym same) x)
+    | inr other ↦ elim (cases_Bool (is_absent (b.place.cells n v))) [
+      | inl none ↦ left_before n moves (x.0 none) s (omega arith)
+      | inr some ↦ let p = x.1 some in left_before n p.0 p.2 s (omega arith)
+    ]
+  ]
+
+  -- a shard that has no target does not leave
+  stays : (n s : ℕ) (moves stuck : List Move) → AreLeaving b v n moves → s < n → IsStuck b v s stuck → ⊥
+  stays n s moves stuck x l is =
+      let before = left_before n moves x s l in
+      let p = before.1.1 is.stands in
+      let same : p.0 ≡ stuck = one_leaving s p.0 stuck p.2 is.before in
+      let target : IsTarget b v stuck s p.1 = subst (λ ms. IsTarget b v ms s p.1) same p.3 in
+      both_ways (may_take b v stuck s p.1) (is.placeless p.1 target.known) target.takes
+
+  -- one shard is the first that has no target
+  one_stuck : (s t : ℕ) (xs ys : List Move) → IsStuck b v s xs → IsStuck b v t ys → s ≡ t
+  one_stuck s t xs ys x y = elim (cases_eq s t) [
+    | inl same ↦ same
+    | inr other ↦ elim (cases_lt s t) [
+      | inl less ↦ absurd (stays t s ys xs y.before less x)
+      | inr more ↦ absurd (stays s t xs ys x.before (omega arith) y)
+    ]
+  ]
+
+  -- a server among the first n may take the shard and no other of them has more room, or none may
+  abbrev BestOf : List Move → ℕ → ℕ → Type 0
+  BestOf moves s n =
+      ((u : ℕ) → u < n → may_take b v moves s u ≡ false)
+      ⊎ ((u : ℕ) × (u < n) × (may_take b v moves s u ≡ true)
+      × ((w : ℕ) → w < n → may_take b v moves s w ≡ true → (room_beside b moves w < room_beside b moves u) ⊎ ((room_beside b moves w ≡ room_beside b moves u) × (u ≤ w))))
+
+  best_of : (moves : List Move) (s n : ℕ) → BestOf moves s n
+  best_of moves s zero = inl (λ u l. absurd (omega arith))
+  best_of moves s (suc n) = elim (cases_Bool (may_take b v moves s n)) [
+    | inl takes ↦ elim (best_of moves s n) [
+      | inl none ↦ inr (
+        n,
+        omega arith,
+        takes,
+        λ w l t. elim (cases_eq w n) [
+          | inl same ↦ inr (ap (room_beside b moves) same, omega arith)
+          | inr other ↦ absurd (both_ways (may_take b v moves s w) (none w (omega arith)) t)
+        ],
+      )
+      | inr best ↦ elim (cases_lt (room_beside b moves best.0) (room_beside b moves n)) [
+        | inl less ↦ inr (
+          n,
+          omega arith,
+          takes,
+          λ w l t. elim (cases_eq w n) [
+            | inl same ↦ inr (ap (room_beside b moves) same, omega arith)
+            | inr other ↦ elim (best.3 w (omega arith) t) [ inl x ↦ inl (omega arith) | inr x ↦ inl (let e = x.0 in omega arith) ]
+          ],
+        )
+        | inr more ↦ inr (
+          best.0,
+          (let l = best.1 in omega arith),
+          best.2,
+          λ w l t. elim (cases_eq w n) [
+            | inl same ↦ elim (cases_eq (room_beside b moves n) (room_beside b moves best.0)) [
+              | inl e ↦ inr (ap (room_beside b moves) same ∙ e, let k = best.1 in omega arith)
+              | inr e ↦ inl (let f = ap (room_beside b moves) same in omega arith)
+            ]
+            | inr other ↦ best.3 w (omega arith) t
+          ],
+        )
+      ]
+    ]
+    | inr not_this ↦ elim (best_of moves s n) [
+      | inl none ↦ inl (λ w l. elim (cases_eq w n) [ inl same ↦ ap (may_take b v moves s) same ∙ not_this | inr other ↦ none w (omega arith) ])
+      | inr best ↦ inr (
+        best.0,
+        (let l = best.1 in omega arith),
+        best.2,
+        λ w l t. elim (cases_eq w n) [
+          | inl same ↦ absurd (both_ways (may_take b v moves s w) (ap (may_take b v moves s) same ∙ not_this) t)
+          | inr other ↦ best.3 w (omega arith) t
+        ],
+      )
+    ]
+  ]
+
+  -- the first n shards have their targets, or one of them is the first that has none
+  some_leave : (n : ℕ) → (n ≤ (sizes_of b.setup).shards) → ((moves : List Move) × AreLeaving b v n moves) ⊎ ((s : ℕ) × (moves : List Move) × IsStuck b v s moves)
+  some_leave zero l = inl ([], refl)
+  some_leave (suc n) l = elim (some_leave n (omega arith)) [
+    | inr stuck ↦ inr stuck
+    | inl left ↦ elim (cases_Bool (is_absent (b.place.cells n v))) [
+      | inl none ↦ inl (left.0, (λ e. left.1, λ e. absurd (both_ways (is_absent (b.place.cells n v)) e none)))
+      | inr some ↦ elim (best_of left.0 n (sizes_of b.setup).servers) [
+        | inl placeless ↦ inr (n, left.0, record { known = omega arith; before = left.1; stands = some; placeless = placeless })
+        | inr best ↦ inl (left.0 ++ leaving v n best.0 ∷ [], (λ e. absurd (both_ways (is_absent (b.place.cells n v)) some e), λ e. (left.0, best.0, left.1, record { known = best.1; takes = best.2; most = best.3 }, refl)))
+      ]
+    ]
+  ]
+
+-- ---- the rule's answer to an aim
+
+-- the rule has a plan for this aim or a reason why not, never both, and never two of either
+record AnswersAim (b : Basis) (aim : Aim) : Type 0 where
+  some : ((plan : PlanModel) × IsPlanFor b aim plan) ⊎ ((why : NoPlan) × IsRefusedFor b aim why)
+  one_plan : (plan other : PlanModel) → IsPlanFor b aim plan → IsPlanFor b aim other → plan ≡ other
+  one_reason : (why other : NoPlan) → IsRefusedFor b aim why → IsRefusedFor b aim other → why ≡ other
+  not_both : (plan : PlanModel) (why : NoPlan) → IsPlanFor b aim plan → IsRefusedFor b aim why → ⊥
+
+module _ (law : RuleAnswersOnce) (b : Basis) where
+  answers_moves : (moves : List Move) → AnswersAim b (Moving moves)
+  answers_moves moves = record {
+    some = elim (law b moves).some [ inl made ↦ inl made | inr other ↦ inr (other.0, inr other.1) ];
+    one_plan = (law b moves).one_plan;
+    one_reason = λ why other x y. (law b moves).one_reason why other (reason_refuses law b moves why x) (reason_refuses law b moves other y);
+    not_both = λ plan why x y. (law b moves).not_both plan why x (reason_refuses law b moves why y);
+  }
+
+  module _ (v : ℕ) where
+    departed : (xs ys : List Move) → AreDepartures b v xs → AreDepartures b v ys → xs ≡ ys
+    departed xs ys x y = one_leaving b v (sizes_of b.setup).shards xs ys x.1 y.1
+
+    drain_none : (why : NoPlan) (moves : List Move) → AreDepartures b v moves → drain_refusal b v ≡ Some why → ⊥
+    drain_none why moves x is = let e = x.0 in let z : None ≡ Some why = sym e ∙ is in cc
+
+    drain_one_plan : (plan other : PlanModel) → IsDrainPlan b v plan → IsDrainPlan b v other → plan ≡ other
+    drain_one_plan plan other x y = (law b y.0).one_plan plan other (subst (λ ms. IsPlanOf b ms plan) (departed x.0 y.0 x.1 y.1) x.2) y.2
+
+    drain_not_both : (plan : PlanModel) (why : NoPlan) → IsDrainPlan b v plan → IsDrainRefused b v why → ⊥
+    drain_not_both plan why x (inl is) = drain_none why x.0 x.1 is
+    drain_not_both plan why x (inr (inl y)) = stays b v (sizes_of b.setup).shards y.0 x.0 y.1 x.1.1 y.3.known y.3
+    drain_not_both plan why x (inr (inr y)) = (law b y.0).not_both plan why (subst (λ ms. IsPlanOf b ms plan) (departed x.0 y.0 x.1 y.1) x.2) (reason_refuses law b y.0 why y.2)
+
+    drain_one_reason : (why other : NoPlan) → IsDrainRefused b v why → IsDrainRefused b v other → why ≡ other
+    drain_one_reason why other (inl x) (inl y) = same_Some why other (sym x ∙ y)
+    drain_one_reason why other (inl x) (inr (inl y)) = absurd (let e = y.2 in let z : None ≡ Some why = sym e ∙ x in cc)
+    drain_one_reason why other (inl x) (inr (inr y)) = absurd (drain_none why y.0 y.1 x)
+    drain_one_reason why other (inr (inl x)) (inl y) = absurd (let e = x.2 in let z : None ≡ Some other = sym e ∙ y in cc)
+    drain_one_reason why other (inr (inl x)) (inr (inl y)) = x.4 ∙ ap NoPlace (one_stuck b v x.0 y.0 x.1 y.1 x.3 y.3) ∙ sym y.4
+    drain_one_reason why other (inr (inl x)) (inr (inr y)) = absurd (stays b v (sizes_of b.setup).shards x.0 y.0 x.1 y.1.1 x.3.known x.3)
+    drain_one_reason why other (inr (inr x)) (inl y) = absurd (drain_none other x.0 x.1 y)
+    drain_one_reason why other (inr (inr x)) (inr (inl y)) = absurd (stays b v (sizes_of b.setup).shards y.0 x.0 y.1 x.1.1 y.3.known y.3)
+    drain_one_reason why other (inr (inr x)) (inr (inr y)) =
+        (law b y.0).one_reason why other
+        (reason_refuses law b y.0 why (subst (λ ms. HasReason b ms why) (departed x.0 y.0 x.1 y.1) x.2))
+        (reason_refuses law b y.0 other y.2)
+
+    drain_some : ((plan : PlanModel) × IsDrainPlan b v plan) ⊎ ((why : NoPlan) × IsDrainRefused b v why)
+    drain_some = elim (cases_Option (drain_refusal b v)) [
+      | inr why ↦ inr (why.0, inl why.1)
+      | inl none ↦ elim (some_leave b v (sizes_of b.setup).shards (omega arith)) [
+        | inr stuck ↦ inr (NoPlace stuck.0, inr (inl (stuck.0, stuck.1, none, stuck.2, refl)))
+        | inl left ↦ elim (law b left.0).some [
+          | inl made ↦ inl (made.0, (left.0, (none, left.1), made.1))
+          | inr other ↦ inr (other.0, inr (inr (left.0, (none, left.1), inr other.1)))
+        ]
+      ]
+    ]
+
+    answers_drain : AnswersAim b (Emptying v)
+    answers_drain = record { some = drain_some; one_plan = drain_one_plan; one_reason = drain_one_reason; not_both = drain_not_both }
+
+  answers_aim : (aim : Aim) → AnswersAim b aim
+  answers_aim (Moving moves) = answers_moves moves
+  answers_aim (Emptying server) = answers_drain server
+
+-- ---- the report of it
+
+-- what is told of the rule's answer is one output
+pub answered_one : RuleAnswersOnce → (setup : Setup) (b : Basis) (aim : Aim) (x y : Output) → IsAnswered setup b aim x → IsAnswered setup b aim y → x ≡ y
+answered_one law setup b aim x y (inl p) (inl q) = p.2 ∙ ap (λ plan. done (made_line setup plan)) ((answers_aim law b aim).one_plan p.0 q.0 p.1 q.1) ∙ sym q.2
+answered_one law setup b aim x y (inl p) (inr q) = absurd ((answers_aim law b aim).not_both p.0 q.0 p.1 q.1)
+answered_one law setup b aim x y (inr p) (inl q) = absurd ((answers_aim law b aim).not_both q.0 p.0 q.1 p.1)
+answered_one law setup b aim x y (inr p) (inr q) = p.2 ∙ ap (λ why. refused (no_plan_line setup why)) ((answers_aim law b aim).one_reason p.0 q.0 p.1 q.1) ∙ sym q.2
+
+-- and there is one
+pub answered_some : RuleAnswersOnce → (setup : Setup) (b : Basis) (aim : Aim) → (output : Output) × IsAnswered setup b aim output
+answered_some law setup b aim = elim (answers_aim law b aim).some [
+  | inl made ↦ (done (made_line setup made.0), inl (made.0, made.1, refl))
+  | inr other ↦ (refused (no_plan_line setup other.0), inr (other.0, other.1, refl))
+]

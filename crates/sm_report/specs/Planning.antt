@@ -1,0 +1,111 @@
+-- Plans that are made for a document: for its moves, or to empty a server.
+use Rattle.std.specs.Prelude.{◌≡◌, ◌⊎◌, ◌<◌, ℕ, List, [], ◌∷◌, All, codes, length, map, Option, Some, None, Result, Ok, Err}
+use Rattle.sm_placement.specs.Setup.{Setup, sizes_of, names_of_servers, names_of_shards}
+use Rattle.sm_placement.specs.Place.{Place}
+use Rattle.sm_plan_code.specs.Plan.{PlanModel}
+use Rattle.sm_protocol.specs.State.{State, opened, pool}
+use Rattle.sm_planner.specs.declared.moving.Move.{Move}
+use Rattle.sm_planner.specs.declared.moving.NoPlan.{NoPlan}
+use Rattle.sm_planner.specs.declared.moving.NoPlan.TheVariants as no_plan
+use Rattle.sm_planner.specs.Basis.{Basis, basis, IsMoveOf}
+use Rattle.sm_planner.specs.Refusal.{IsPlanOf, HasReason}
+use Rattle.sm_planner.specs.Drain.{IsDrainPlan, IsDrainRefused}
+use Rattle.sm_plan_text.specs.declared.fault.TextFault.TheVariants.{Shape}
+use Rattle.sm_plan_text.specs.declared.member.Member.TheVariants as members
+use Rattle.sm_plan_text.specs.declared.moves.MoveText.{MoveText}
+use Rattle.sm_plan_text.specs.PlanTexts.{plan_text}
+use Rattle.sm_report.specs.declared.planning.Wanted.{Wanted}
+use Rattle.sm_report.specs.declared.planning.Wanted.TheVariants as wanted
+use Rattle.sm_report.specs.Report.{Output, bad_input, refused, done}
+use Rattle.sm_report.specs.BadInput.{text_fault_line}
+use Rattle.sm_report.specs.Ending.{server_name, shard_name}
+use Rattle.sm_report.specs.Lines.{line}
+
+-- ---- what is asked for
+
+-- what a plan is to do: to make moves, or to empty a server
+pub data Aim : Type 0 where
+  Moving : (moves : List Move) → Aim
+  Emptying : (server : ℕ) → Aim
+
+-- a move of a document
+abbrev pub move_of : MoveText → Move
+move_of m = record { shard = m.shard; from = m.from; to = m.to }
+
+-- a document that a plan is made for has moves or a server to empty, and not both
+abbrev pub aim_stage : Option (List MoveText) → Option ℕ → Result Aim Output
+aim_stage (Some moves) None = Ok (Moving (map move_of moves))
+aim_stage None (Some server) = Ok (Emptying server)
+aim_stage (Some moves) (Some server) = Err (bad_input (text_fault_line (Shape members.Drain)))
+aim_stage None None = Err (bad_input (text_fault_line (Shape members.Moves)))
+
+-- what the code keeps of it
+abbrev pub aim_of : Wanted → Aim
+aim_of (wanted.Moves moves) = Moving moves.items
+aim_of (wanted.Drain server) = Emptying server
+
+-- it names shards and servers of the configuration
+abbrev pub IsAimOf : Setup → Aim → Type 0
+IsAimOf setup (Moving moves) = All (IsMoveOf setup) moves
+IsAimOf setup (Emptying server) = server < length setup.servers
+
+-- ---- what it is made from
+
+-- the placement at a state, and the rights that no stream has there
+abbrev pub basis_at : Setup → State → Basis
+basis_at setup w = basis setup w.place (pool w)
+
+-- so they are where a machine is opened over a placement
+abbrev pub opened_basis : Setup → Place → ℕ → Basis
+opened_basis setup p log = basis_at setup (opened (sizes_of setup) p log)
+
+-- ---- the answer
+
+-- the plan is the rule's for this
+abbrev pub IsPlanFor : Basis → Aim → PlanModel → Type 0
+IsPlanFor b (Moving moves) = IsPlanOf b moves
+IsPlanFor b (Emptying server) = IsDrainPlan b server
+
+-- the rule has no plan for it, for this reason
+abbrev pub IsRefusedFor : Basis → Aim → NoPlan → Type 0
+IsRefusedFor b (Moving moves) = HasReason b moves
+IsRefusedFor b (Emptying server) = IsDrainRefused b server
+
+-- a plan on a line of its own
+abbrev pub made_line : Setup → PlanModel → List ℕ
+made_line setup plan = line (plan_text (names_of_shards setup) (names_of_servers setup) plan ∷ [])
+
+abbrev pub no_plan_line_of : List ℕ → List ℕ
+no_plan_line_of what = line (codes "no plan: " ∷ what ∷ [])
+
+abbrev pub no_cell_line : List ℕ → List ℕ → List ℕ → List ℕ
+no_cell_line what shard server = line (codes "no plan: " ∷ what ∷ codes " shard " ∷ shard ∷ codes " server " ∷ server ∷ [])
+
+abbrev pub no_server_line : List ℕ → List ℕ → List ℕ
+no_server_line what server = line (codes "no plan: " ∷ what ∷ codes " server " ∷ server ∷ [])
+
+abbrev pub no_shard_line : List ℕ → List ℕ → List ℕ
+no_shard_line what shard = line (codes "no plan: " ∷ what ∷ codes " shard " ∷ shard ∷ [])
+
+-- Why there is no plan. The line of NoMemory is in no report: where memory is short, nothing is written.
+abbrev pub no_plan_line : Setup → NoPlan → List ℕ
+no_plan_line setup no_plan.NoMemory = no_plan_line_of (codes "1 NoMemory")
+no_plan_line setup (no_plan.NotThere s v) = no_cell_line (codes "2 NotThere") (shard_name setup s) (server_name setup v)
+no_plan_line setup (no_plan.Held s v) = no_cell_line (codes "3 Held") (shard_name setup s) (server_name setup v)
+no_plan_line setup (no_plan.ServerDown v) = no_server_line (codes "4 ServerDown") (server_name setup v)
+no_plan_line setup (no_plan.NoRoom v) = no_server_line (codes "5 NoRoom") (server_name setup v)
+no_plan_line setup (no_plan.NoPlace s) = no_shard_line (codes "6 NoPlace") (shard_name setup s)
+no_plan_line setup (no_plan.Spread s) = no_shard_line (codes "7 Spread") (shard_name setup s)
+no_plan_line setup no_plan.TooMany = no_plan_line_of (codes "8 TooMany")
+
+-- the rule's plan is told
+abbrev pub IsPlanTold : Setup → Basis → Aim → Output → Type 0
+IsPlanTold setup b aim output = (plan : PlanModel) × IsPlanFor b aim plan × (output ≡ done (made_line setup plan))
+
+-- why the rule has none is told
+abbrev pub IsRefusalTold : Setup → Basis → Aim → Output → Type 0
+IsRefusalTold setup b aim output = (why : NoPlan) × IsRefusedFor b aim why × (output ≡ refused (no_plan_line setup why))
+
+-- the rule's answer
+abbrev pub IsAnswered : Setup → Basis → Aim → Output → Type 0
+IsAnswered setup b aim output = IsPlanTold setup b aim output ⊎ IsRefusalTold setup b aim output

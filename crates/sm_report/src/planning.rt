@@ -1,0 +1,184 @@
+//! The report of a plan that is made for a document.
+ghost use Rattle.std.specs.Prelude.{◌≡◌, ◌≢◌, ◌≤◌, ◌<◌, All, Err, IfErr, IfOk, Ok, Some, length, map, option_map};
+ghost use Rattle.sm_placement.specs.Setup.{sizes_of};
+ghost use Rattle.sm_placement.specs.Place.{down_count};
+ghost use Rattle.sm_placement.specs.Layout.{place_of};
+ghost use Rattle.sm_placement.specs.Lead.{IsSettled};
+ghost use Rattle.sm_plan_code.specs.Plan.{IsKnownPlan};
+ghost use Rattle.sm_plan_text.specs.Documents.{IsDocument};
+ghost use Rattle.sm_plan_text.specs.Reading.{rows_of};
+ghost use Rattle.sm_protocol.specs.State.{opened};
+ghost use Rattle.sm_machine.specs.State.{state_of};
+ghost use Rattle.sm_report.specs.Early.{IfEnded, IfMade};
+ghost use Rattle.sm_report.specs.Planning.{move_of, aim_of, aim_stage, IsAimOf, basis_at, opened_basis, IsPlanFor, IsRefusedFor, IsAnswered, made_line, no_plan_line};
+ghost use Rattle.sm_report.specs.Report.{bad_input, refused, done};
+ghost use Rattle.sm_report.specs.BadInput.{text_fault_line};
+ghost use Rattle.sm_report.specs.Output.{IsLoggedForPlan, IsPlacedForPlan, IsOpenedForPlan, IsPlanningReport};
+
+use crate::early::Early;
+use crate::made::Made;
+use crate::stages::{has_log, placement};
+use sm_machine::{Director, Machine, OpenFault};
+use sm_placement::{Config, Placement};
+use sm_plan_text::{Document, Member, MoveText, TextFault};
+use sm_planner::{Move, NoPlan, drain, moves};
+use sm_server::ServerId;
+use sm_verifier::Checked;
+use std::alloc::{AllocError, Global};
+
+/// What a plan is wanted for.
+#[derive(Drop)]
+pub enum Wanted {
+    /// To make moves.
+    Moves(Vec<Move>),
+    /// To empty a server.
+    Drain(ServerId),
+}
+
+fn move_of(text: &MoveText) -> Move
+    ensures { result ≡ move_of text.now }
+{
+    Move {
+        shard: text.shard,
+        from: text.from,
+        to: text.to,
+    }
+}
+
+/// The moves of a document.
+fn moves_of(alloc: Global, texts: &[MoveText]) -> Result<Vec<Move>, AllocError>
+    ensures { IfOk result (λ moves. moves.items ≡ map move_of texts.now) }
+{
+    let mut moves = Vec::with_capacity(alloc, texts.len())?;
+    for text in texts {
+        moves.push(move_of(text))?;
+    }
+    Ok(moves)
+}
+
+/// How the report ends of a document that is not one for a plan.
+fn misfit(alloc: Global, member: Member) -> Early
+    ensures { IfEnded result (λ made. made ≡ bad_input (text_fault_line (TextFault.Shape member))) }
+{
+    match Made::bad_input(alloc, TextFault::Shape { member }) {
+        Ok(made) => Early::Report(made),
+        Err(_) => Early::NoMemory,
+    }
+}
+
+/// What a document wants a plan for: its moves, or a server that is to be emptied, and not both.
+fn wanted_of(alloc: Global, document: &Document) -> Result<Wanted, Early>
+    requires { IsDocument (rows_of document.now) }
+    ensures ok { IfOk result (λ wanted. aim_stage (rows_of document.now).moves (rows_of document.now).drain ≡ Ok (aim_of wanted)) }
+    ensures known { IfOk result (λ wanted. IsAimOf (rows_of document.now).setup (aim_of wanted)) }
+    ensures ends { IfErr result (λ early. IfEnded early (λ made. aim_stage (rows_of document.now).moves (rows_of document.now).drain ≡ Err made)) }
+{
+    match (&document.moves, document.drain) {
+        (Some(texts), None) => Ok(Wanted::Moves(moves_of(alloc, texts)?)),
+        (None, Some(server)) => Ok(Wanted::Drain(server)),
+        (Some(_), Some(_)) => Err(misfit(alloc, Member::Drain)),
+        (None, None) => Err(misfit(alloc, Member::Moves)),
+    }
+}
+
+/// The plan that is wanted, for the machine as it stands.
+fn plan(alloc: Global, machine: &Machine, wanted: &Wanted) -> Result<Checked, NoPlan>
+    requires { IsAimOf machine.now.placement.setup (aim_of wanted.now) }
+    ensures setup { IfOk result (λ checked. checked.setup ≡ machine.now.placement.setup) }
+    ensures plan { IfOk result (λ checked. IsPlanFor (basis_at machine.now.placement.setup (state_of machine.now)) (aim_of wanted.now) checked.plan) }
+    ensures refused { IfErr result (λ why. why ≢ NoPlan.NoMemory → IsRefusedFor (basis_at machine.now.placement.setup (state_of machine.now)) (aim_of wanted.now) why) }
+{
+    match wanted {
+        Wanted::Moves(list) => moves(alloc, machine, list.as_slice()),
+        Wanted::Drain(server) => drain(alloc, machine, *server),
+    }
+}
+
+/// The report of a machine's answer.
+fn report_answer(
+    alloc: Global,
+    config: &Config,
+    machine: &Machine,
+    wanted: &Wanted,
+) -> Result<Made, Early>
+    requires aim { IsAimOf machine.now.placement.setup (aim_of wanted.now) }
+    requires setup { machine.now.placement.setup ≡ config.now }
+    ensures { IfMade result (IsAnswered config.now (basis_at config.now (state_of machine.now)) (aim_of wanted.now)) }
+{
+    match plan(alloc, machine, wanted) {
+        Ok(checked) => Ok(Made::planned(alloc, config, checked.plan())?),
+        Err(NoPlan::NoMemory) => Err(Early::NoMemory),
+        Err(why) => Ok(Made::unplanned(alloc, config, why)?),
+    }
+}
+
+/// A machine over a settled placement, whose log has room for the restarts under way.
+fn open(alloc: Global, placement: Placement, log: u32) -> Result<Director, AllocError>
+    requires settled { IsSettled (sizes_of placement.setup) (place_of placement) }
+    requires room { down_count (sizes_of placement.setup) (place_of placement) ≤ log }
+    requires most { log ≤ 1048576 }
+    ensures state { IfOk result (λ d. state_of d ≡ opened (sizes_of placement.setup) (place_of placement) log) }
+    ensures setup { IfOk result (λ d. d.placement.setup ≡ placement.setup) }
+{
+    match Director::open(alloc, placement, log) {
+        Ok(director) => Ok(director),
+        Err((_, OpenFault::NoMemory)) => Err(AllocError),
+        Err((_, OpenFault::LogFull)) => unreachable!(),
+    }
+}
+
+/// The report of what is wanted, for a machine that is opened at the placement, whose log has room.
+fn report_logged(
+    alloc: Global,
+    document: &Document,
+    placement: Placement,
+    wanted: &Wanted,
+) -> Result<Made, Early>
+    requires document { IsDocument (rows_of document.now) }
+    requires setup { placement.setup ≡ (rows_of document.now).setup }
+    requires settled { IsSettled (sizes_of placement.setup) (place_of placement) }
+    requires room { down_count (sizes_of placement.setup) (place_of placement) ≤ document.now.log }
+    requires aim { IsAimOf (rows_of document.now).setup (aim_of wanted.now) }
+    ensures { IfMade result (IsLoggedForPlan (rows_of document.now) (aim_of wanted.now) (place_of placement) tt) }
+{
+    let director = open(alloc, placement, document.log)?;
+    let made = report_answer(alloc, &document.config, director.machine(), wanted);
+    let _ = director.give_up();
+    made
+}
+
+/// The report of what is wanted, at a placement that is opened.
+fn report_placed(
+    alloc: Global,
+    document: &Document,
+    placement: Placement,
+    wanted: &Wanted,
+) -> Result<Made, Early>
+    requires document { IsDocument (rows_of document.now) }
+    requires setup { placement.setup ≡ (rows_of document.now).setup }
+    requires settled { IsSettled (sizes_of placement.setup) (place_of placement) }
+    requires aim { IsAimOf (rows_of document.now).setup (aim_of wanted.now) }
+    ensures { IfMade result (IsPlacedForPlan (rows_of document.now) (aim_of wanted.now) (place_of placement)) }
+{
+    has_log(alloc, document, &placement)?;
+    report_logged(alloc, document, placement, wanted)
+}
+
+/// The report of what a document wants a plan for.
+fn report_wanted(alloc: Global, document: &Document, wanted: &Wanted) -> Result<Made, Early>
+    requires document { IsDocument (rows_of document.now) }
+    requires aim { IsAimOf (rows_of document.now).setup (aim_of wanted.now) }
+    ensures { IfMade result (IsOpenedForPlan (rows_of document.now) (aim_of wanted.now)) }
+{
+    let placement = placement(alloc, document)?;
+    report_placed(alloc, document, placement, wanted)
+}
+
+/// The report of a plan that is made for a document.
+pub fn report_plan(alloc: Global, document: &Document) -> Result<Made, Early>
+    requires { IsDocument (rows_of document.now) }
+    ensures { IfMade result (IsPlanningReport (rows_of document.now)) }
+{
+    let wanted = wanted_of(alloc, document)?;
+    report_wanted(alloc, document, &wanted)
+}
