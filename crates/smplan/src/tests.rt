@@ -3,5 +3,6 @@ mod documents;
 mod ends;
 mod input;
 mod line;
+mod making;
 mod plays;
 mod rows;

@@ -9,6 +9,8 @@ fn knows_the_commands(rt: HostRuntime) {
     assert!(rt; word.is_ok_and(|word| word == Word::Report(Command::Check)));
     let word = command_of(rt.alloc(), &["play"]);
     assert!(rt; word.is_ok_and(|word| word == Word::Report(Command::Play)));
+    let word = command_of(rt.alloc(), &["plan"]);
+    assert!(rt; word.is_ok_and(|word| word == Word::Report(Command::Plan)));
 }
 
 static BAD: [&[&str]; 12] = [
@@ -16,7 +18,7 @@ static BAD: [&[&str]; 12] = [
     &["chat"],
     &["calls", "check"],
     &["play", "play"],
-    &["plan"],
+    &["plan", "plan"],
     &["run"],
     &["calls", "calls"],
     &["calls", "--quiet"],
