@@ -19,6 +19,7 @@ test:
 	mkdir -p build
 	cp crates/smplan/out/smplan build/smplan
 	scripts/check-examples
+	scripts/check-plans
 	scripts/check-readme
 	scripts/check-documents
 	scripts/check-reports

@@ -1,0 +1,29 @@
+"""The cases of tests/documents/reports: a case puts new texts in the place of the first old ones in its base, a text of tests/documents/bases,
+or is a text of its own, in lines."""
+import json
+import pathlib
+import sys
+
+ROOT = pathlib.Path(__file__).resolve().parent.parent
+
+
+def text_of(case, base):
+    if set(case) == {"what", "text", "report", "status"}:
+        return "".join(case["text"])
+    if set(case) != {"what", "edits", "report", "status"} or base is None:
+        sys.exit(f"no case: {case}")
+    for old, new in case["edits"]:
+        if old not in base:
+            sys.exit(f"{old} is not in the base: {case['what']}")
+        base = base.replace(old, new, 1)
+    return base
+
+
+def written():
+    """The cases of the files: where each stands, its command, its text, its report and its status."""
+    for path in sorted((ROOT / "tests/documents/reports").glob("*.json")):
+        for group in json.loads(path.read_bytes())["groups"]:
+            base = (ROOT / "tests/documents/bases" / group["base"]).read_text() if "base" in group else None
+            for case in group["cases"]:
+                report = "".join(f"{line}\n" for line in case["report"])
+                yield f"{path.name}: {case['what']}", group["command"], text_of(case, base), report, case["status"]
