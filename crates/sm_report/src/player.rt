@@ -1,5 +1,5 @@
 //! Who plays events on a machine.
-ghost use Rattle.std.specs.Prelude.{◌≡◌, ◌≤◌, ◌<◌, ◌^◌, [], IfOk, OnOk, None, length, map, option_map, slice_index_or, slice_set, Some};
+ghost use Rattle.std.specs.Prelude.{◌≡◌, ◌≤◌, ◌<◌, ◌^◌, [], IfOk, OnOk, length, map, slice_set, Some};
 ghost use Rattle.sm_placement.specs.Setup.{sizes_of};
 ghost use Rattle.sm_placement.specs.Place.{down_count};
 ghost use Rattle.sm_placement.specs.Layout.{place_of};
@@ -99,16 +99,6 @@ impl Player {
         ensures { result.now ≡ self.now.places.items }
     {
         self.places.as_slice()
-    }
-
-    /// The plan at a place of the document that waits.
-    pub fn waiting(&self, place: usize) -> Option<&Checked>
-        ensures { option_map (λ checked. checked.now) result ≡ slice_index_or self.now.waiting.items place None }
-    {
-        match self.waiting.get(place) {
-            Some(Some(checked)) => Some(checked),
-            _ => None,
-        }
     }
 
     /// The number of the plan at a place of the document, once it has begun.
