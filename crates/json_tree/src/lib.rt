@@ -1,0 +1,12 @@
+//! JSON as a tree that borrows its text.
+//!
+//! What a text reads as is what `serde_json` reads of it. Its strings are not copied, and an object is a list of its members.
+#![tactic(auto)]
+
+mod number;
+mod read;
+mod tree;
+
+pub use json::Scratch;
+pub use read::ReadFault;
+pub use tree::Tree;
