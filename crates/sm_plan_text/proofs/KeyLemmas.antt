@@ -8,8 +8,8 @@ use Rattle.std.proofs.lemmas.List.{map_push, drop_more, length-map}
 use Rattle.std.proofs.lemmas.List.Folds.{list_any-append}
 use Rattle.indexmap.specs.IndexSet.{insert_key}
 use Rattle.serde_json.specs.Data.{Data}
-use Rattle.serde_json.specs.View.{view}
-use Rattle.serde_json.specs.declared.value.Value.{Value}
+use Rattle.json_tree.specs.View.{view}
+use Rattle.json_tree.specs.declared.tree.Tree.{Tree}
 use Rattle.sm_plan_text.specs.declared.member.Member.{Member}
 use Rattle.sm_plan_text.specs.Values.{found, entries_in, items_of}
 use Rattle.sm_plan_text.specs.Tables.{maybe, list, keyed, texts_eq, is_same_key, has_double_key, double_faults, found_faults, row_faults}
@@ -85,7 +85,7 @@ borrowed_texts (x ∷ xs) [] = refl
 borrowed_texts (x ∷ xs) (y ∷ ys) = ap (λ b. bytes_eq x.now y.now && b) (borrowed_texts xs ys)
 
 -- what is left of a list, from the entry that a loop has come to
-pub rest_at : {A : Type 0} (f : Data → A) (items : List Value) (i : ℕ) (item : Value) → i < length items → item ≡ get_or items i item → map f (drop i (map view items)) ≡ f (view item) ∷ map f (drop (i + 1) (map view items))
+pub rest_at : {A : Type 0} (f : Data → A) (items : List Tree) (i : ℕ) (item : Tree) → i < length items → item ≡ get_or items i item → map f (drop i (map view items)) ≡ f (view item) ∷ map f (drop (i + 1) (map view items))
 rest_at f items i item h is =
     ap (map f) (drop_more (map view items) i (view item) (subst (λ n. i < n) (sym (length-map items view)) h) ∙ ap (λ d. d ∷ drop (i + 1) (map view items)) (sym (entry_at items i item h is)))
 
@@ -123,7 +123,7 @@ module _ {K : Type 0} (texts : K → Texts) where
         ap (λ b. b || list_any (is_same_key (Some (texts key))) (held keys)) single ∙
         sym (held_any key keys) ∙ h
 
-    module _ (found : Data → Option Texts) (items : List Value) (i : ℕ) (item : Value) (keys : List K) (all : Bool) (here : i < length items) (at : item ≡ get_or items i item) (rest : has_double_key (held keys ++ map found (drop i (map view items))) ≡ all) where
+    module _ (found : Data → Option Texts) (items : List Tree) (i : ℕ) (item : Tree) (keys : List K) (all : Bool) (here : i < length items) (at : item ≡ get_or items i item) (rest : has_double_key (held keys ++ map found (drop i (map view items))) ≡ all) where
       -- a loop meets a key that the set holds
       pub met_again : (key : K) → Some (texts key) ≡ found (view item) → list_any (eq key) keys ≡ true → true ≡ all
       met_again key is_key h =

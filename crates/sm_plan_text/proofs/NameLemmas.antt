@@ -1,5 +1,5 @@
 -- Names as texts and as bytes.
-use Rattle.std.proofs.Common.{◌≡◌, ◌++◌, ◌+◌, ℕ, true, false, cond, ◌||◌, List, [], ◌∷◌, map, refl, ap, String, string_bytes}
+use Rattle.std.proofs.Common.{◌≡◌, ◌++◌, ℕ, true, false, cond, ◌||◌, List, [], ◌∷◌, map, refl, ap, String, string_bytes}
 use Rattle.std.specs.List.{list_any, position}
 use Rattle.std.specs.Str.{bytes_eq}
 use Rattle.std.specs.String.{string_eq}

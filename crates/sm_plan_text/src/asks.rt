@@ -1,7 +1,7 @@
 //! The shards that a document asks for.
 ghost use Rattle.std.specs.Prelude.{◌≡◌, map, unwrap_or, IfOk, OnOk};
 ghost use Rattle.std.specs.List.{flat_map};
-ghost use Rattle.serde_json.specs.View.{view};
+ghost use Rattle.json_tree.specs.View.{view};
 ghost use Rattle.sm_plan_text.specs.declared.member.Member.TheVariants as members;
 ghost use Rattle.sm_plan_text.specs.Faults.{noted};
 ghost use Rattle.sm_plan_text.specs.Values.{id_named, ids_in};
@@ -12,12 +12,12 @@ use crate::limits::MOST_ASKS;
 use crate::member::Member;
 use crate::names::Names;
 use crate::object::{known, list_or_empty};
-use serde_json::Value;
+use json_tree::Tree;
 use sm_server::ShardId;
 use std::alloc::{AllocError, Global};
 
 /// The shard that an entry names.
-fn read_ask(entry: &Value, shards: &Names, faults: &mut Faults) -> ShardId
+fn read_ask(entry: &Tree<'_>, shards: &Names, faults: &mut Faults) -> ShardId
     ensures shard { result ≡ unwrap_or (id_named shards.now (view entry.now)) 0 }
     ensures faults { faults.new.lowest ≡ noted faults.old.lowest (entry_faults members.Asks shards.now (view entry.now)) }
 {
@@ -30,7 +30,7 @@ fn read_ask(entry: &Value, shards: &Names, faults: &mut Faults) -> ShardId
 /// The shards that the entries of a list name.
 fn read_list(
     alloc: Global,
-    items: &[Value],
+    items: &[Tree<'_>],
     shards: &Names,
     faults: &mut Faults,
 ) -> Result<Vec<ShardId>, AllocError>
@@ -47,7 +47,7 @@ fn read_list(
 /// The shards that are asked for. What is wrong with an entry is a fault of the document itself.
 pub fn read_asks(
     alloc: Global,
-    document: &Value,
+    document: &Tree<'_>,
     shards: &Names,
     faults: &mut Faults,
 ) -> Result<Vec<ShardId>, AllocError>

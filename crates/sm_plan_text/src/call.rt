@@ -1,7 +1,7 @@
 //! The calls of a document.
 ghost use Rattle.std.specs.Prelude.{◌≡◌, ◌∷◌, [], ℕ, List, map, option_and_then, IfOk, OnOk, OnSome, IfNone};
 ghost use Rattle.std.specs.List.{flat_map};
-ghost use Rattle.serde_json.specs.View.{view};
+ghost use Rattle.json_tree.specs.View.{view};
 ghost use Rattle.sm_plan_text.specs.declared.member.Member.TheVariants as members;
 ghost use Rattle.sm_plan_text.specs.Members.{text_of};
 ghost use Rattle.sm_plan_text.specs.Faults.{noted};
@@ -13,7 +13,7 @@ use crate::fault::Faults;
 use crate::member::Member;
 use crate::names::Names;
 use crate::object::{note_unknown, note_unlisted, number, reference, role, text};
-use serde_json::Value;
+use json_tree::Tree;
 use sm_plan_code::MOST_NUMBER;
 use sm_server::{Call, ServerId, ShardId};
 use std::alloc::{AllocError, Global};
@@ -77,7 +77,7 @@ impl CallWord {
 }
 
 /// The word of a call.
-fn read_word(object: &Value, faults: &mut Faults) -> Option<CallWord>
+fn read_word(object: &Tree<'_>, faults: &mut Faults) -> Option<CallWord>
     ensures word { result ≡ option_and_then call_word (text_found members.Call (view object.now)) }
     ensures listed { OnSome result (faults.new.lowest ≡ faults.old.lowest) }
     ensures unlisted { IfNone result (faults.new.lowest ≡ noted faults.old.lowest (unlisted_faults members.Calls members.Call (view object.now))) }
@@ -95,7 +95,7 @@ fn read_word(object: &Value, faults: &mut Faults) -> Option<CallWord>
 
 /// What a call with this word is.
 #[tactic(auto, using(crate::proofs::WalkLemmas::noted_append))]
-fn read_rest(word: CallWord, object: &Value, servers: &Names, faults: &mut Faults) -> Call
+fn read_rest(word: CallWord, object: &Tree<'_>, servers: &Names, faults: &mut Faults) -> Call
     ensures call { result ≡ call_worded servers.now (view object.now) word }
     ensures faults { faults.new.lowest ≡ noted faults.old.lowest (flat_map (row_faults (view object.now)) (word_table servers.now word)) }
 {
@@ -128,7 +128,7 @@ fn read_rest(word: CallWord, object: &Value, servers: &Names, faults: &mut Fault
 
 /// One call.
 #[tactic(auto, using(crate::proofs::WalkLemmas::noted_append))]
-fn read_call(object: &Value, shards: &Names, servers: &Names, faults: &mut Faults) -> NamedCall
+fn read_call(object: &Tree<'_>, shards: &Names, servers: &Names, faults: &mut Faults) -> NamedCall
     ensures call { result ≡ call_in shards.now servers.now (view object.now) }
     ensures faults { faults.new.lowest ≡ noted faults.old.lowest (call_faults shards.now servers.now [] (view object.now)) }
 {
@@ -145,7 +145,7 @@ fn read_call(object: &Value, shards: &Names, servers: &Names, faults: &mut Fault
 /// The calls of a list.
 pub fn read_calls(
     alloc: Global,
-    items: &[Value],
+    items: &[Tree<'_>],
     shards: &Names,
     servers: &Names,
     faults: &mut Faults,

@@ -1,6 +1,6 @@
 //! A document, from its text.
 ghost use Rattle.std.specs.Prelude.{◌≡◌, ◌≢◌, ℕ, List, Some, None, Ok, Err, IfOk, IfErr, OnOk, [], option_map, option_and_then, unwrap_or, map};
-ghost use Rattle.serde_json.specs.View.{view};
+ghost use Rattle.json_tree.specs.View.{view};
 ghost use Rattle.sm_placement.specs.Config.{setup_of, config_fault};
 ghost use Rattle.sm_plan_text.specs.Faults.{noted};
 ghost use Rattle.sm_plan_text.specs.declared.member.Member.TheVariants as members;
@@ -25,7 +25,7 @@ use crate::object::{
 use crate::plan::{read_plan_where_there, read_plans};
 use crate::server::read_servers;
 use crate::shard::read_shards;
-use serde_json::Value;
+use json_tree::{ReadFault, Scratch, Tree};
 use sm_placement::{
     Config, ConfigFault, MOST_SERVERS, MOST_SHARDS, OpenFault, Placement, Server, Shard,
 };
@@ -111,7 +111,11 @@ struct Parts {
 
 /// The JSON value of the bytes.
 #[tactic(auto, using(crate::proofs::Texts::data_of_text, crate::proofs::Texts::data_of_none))]
-pub fn parse(alloc: Global, bytes: &[u8]) -> Result<Value, TextFault>
+pub fn parse<'a>(
+    alloc: Global,
+    bytes: &'a [u8],
+    scratch: &'a mut Scratch,
+) -> Result<Tree<'a>, TextFault>
     ensures ok { IfOk result (λ value. data_of bytes.now ≡ Some (view value)) }
     ensures fault { IfErr result (λ why. why ≢ TextFault.NoMemory → why ≡ TextFault.NotJson) }
     ensures none { IfErr result (λ why. why ≢ TextFault.NoMemory → data_of bytes.now ≡ None) }
@@ -119,22 +123,17 @@ pub fn parse(alloc: Global, bytes: &[u8]) -> Result<Value, TextFault>
     let Ok(text) = str::from_utf8(bytes) else {
         return Err(TextFault::NotJson);
     };
-    match Value::from_str(alloc, text) {
+    match Tree::read(alloc, text, scratch) {
         Ok(value) => Ok(value),
-        Err(e) => {
-            if e.is_memory() {
-                Err(TextFault::NoMemory)
-            } else {
-                Err(TextFault::NotJson)
-            }
-        }
+        Err(ReadFault::NoMemory) => Err(TextFault::NoMemory),
+        Err(ReadFault::NotJson) => Err(TextFault::NotJson),
     }
 }
 
 /// The calls of a list, where it stands.
 fn calls_of(
     alloc: Global,
-    items: Option<&[Value]>,
+    items: Option<&[Tree<'_>]>,
     shards: &Names,
     servers: &Names,
     faults: &mut Faults,
@@ -170,7 +169,7 @@ fn members() -> &'static [Member]
 }
 
 /// The server to empty.
-fn read_drain(document: &Value, servers: &Names, faults: &mut Faults) -> Option<ServerId>
+fn read_drain(document: &Tree<'_>, servers: &Names, faults: &mut Faults) -> Option<ServerId>
     ensures drain { result ≡ option_and_then (id_named servers.now) (found members.Drain (view document.now)) }
     ensures faults { faults.new.lowest ≡ noted faults.old.lowest (row_faults (view document.now) (maybe members.Drain (known servers.now))) }
 {
@@ -182,7 +181,7 @@ fn read_drain(document: &Value, servers: &Names, faults: &mut Faults) -> Option<
 
 /// The parts of a document.
 #[tactic(auto, using(crate::proofs::WalkLemmas::noted_append))]
-fn read_parts(alloc: Global, value: &Value, faults: &mut Faults) -> Result<Parts, AllocError>
+fn read_parts(alloc: Global, value: &Tree<'_>, faults: &mut Faults) -> Result<Parts, AllocError>
     ensures rows { IfOk result (λ parts. faults.new.lowest ≡ None → rows_of_parts parts ≡ rows_in (view value.now)) }
     ensures faults { OnOk result (faults.new.lowest ≡ noted faults.old.lowest (document_faults (view value.now))) }
 {
@@ -239,7 +238,7 @@ fn configuration(alloc: Global, servers: &[Server], shards: &[Shard]) -> Result<
 }
 
 /// The document that a JSON value is.
-fn from_value(alloc: Global, value: &Value) -> Result<Document, TextFault>
+fn from_value(alloc: Global, value: &Tree<'_>) -> Result<Document, TextFault>
     ensures ok { IfOk result (λ document. read_data (Some (view value.now)) ≡ Ok (rows_of document)) }
     ensures refused { IfErr result (λ why. why ≢ TextFault.NoMemory → read_data (Some (view value.now)) ≡ Err why) }
     ensures known { IfOk result (λ document. IsDocument (rows_of document)) }
@@ -273,6 +272,7 @@ pub fn read_document(alloc: Global, bytes: &[u8]) -> Result<Document, TextFault>
     ensures refused { IfErr result (λ why. why ≢ TextFault.NoMemory → read bytes.now ≡ Err why) }
     ensures known { IfOk result (λ document. IsDocument (rows_of document)) }
 {
-    let value = parse(alloc, bytes)?;
+    let mut scratch = Scratch::new(alloc);
+    let value = parse(alloc, bytes, &mut scratch)?;
     from_value(alloc, &value)
 }

@@ -1,7 +1,7 @@
 //! The events of a document.
 ghost use Rattle.std.specs.Prelude.{◌≡◌, ◌∷◌, [], ℕ, List, map, option_and_then, option_map, unwrap_or, IfOk, OnOk, OnSome, IfNone};
 ghost use Rattle.std.specs.List.{flat_map};
-ghost use Rattle.serde_json.specs.View.{view};
+ghost use Rattle.json_tree.specs.View.{view};
 ghost use Rattle.sm_plan_text.specs.declared.member.Member.TheVariants as members;
 ghost use Rattle.sm_plan_text.specs.Members.{text_of};
 ghost use Rattle.sm_plan_text.specs.Faults.{noted};
@@ -13,7 +13,7 @@ use crate::fault::Faults;
 use crate::member::Member;
 use crate::names::Names;
 use crate::object::{after, note_unknown, note_unlisted, number, number_or, reference, text};
-use serde_json::Value;
+use json_tree::Tree;
 use sm_plan_code::{MOST_CALLS, MOST_NUMBER};
 use sm_server::{ServerId, ShardId};
 use std::alloc::{AllocError, Global};
@@ -95,7 +95,7 @@ impl EventWord {
 }
 
 /// The word of an event.
-fn read_word(object: &Value, faults: &mut Faults) -> Option<EventWord>
+fn read_word(object: &Tree<'_>, faults: &mut Faults) -> Option<EventWord>
     ensures word { result ≡ option_and_then event_word (text_found members.Event (view object.now)) }
     ensures listed { OnSome result (faults.new.lowest ≡ faults.old.lowest) }
     ensures unlisted { IfNone result (faults.new.lowest ≡ noted faults.old.lowest (unlisted_faults members.Events members.Event (view object.now))) }
@@ -113,7 +113,7 @@ fn read_word(object: &Value, faults: &mut Faults) -> Option<EventWord>
 
 /// The plan and the stream that are meant.
 #[tactic(auto, using(crate::proofs::WalkLemmas::noted_append))]
-fn read_stream(object: &Value, faults: &mut Faults) -> (u32, u32)
+fn read_stream(object: &Tree<'_>, faults: &mut Faults) -> (u32, u32)
     ensures plan { result.0 ≡ plan_number_in (view object.now) }
     ensures stream { result.1 ≡ stream_number_in (view object.now) }
     ensures faults { faults.new.lowest ≡ noted (noted faults.old.lowest (row_faults (view object.now) (maybe members.Plan (whole MOST_NUMBER))))
@@ -128,7 +128,7 @@ fn read_stream(object: &Value, faults: &mut Faults) -> (u32, u32)
 #[tactic(auto, using(crate::proofs::WalkLemmas::noted_append))]
 fn read_rest(
     word: EventWord,
-    object: &Value,
+    object: &Tree<'_>,
     shards: &Names,
     servers: &Names,
     faults: &mut Faults,
@@ -177,7 +177,7 @@ fn read_rest(
 
 /// One event.
 #[tactic(auto, using(crate::proofs::WalkLemmas::noted_append))]
-fn read_event(object: &Value, shards: &Names, servers: &Names, faults: &mut Faults) -> EventText
+fn read_event(object: &Tree<'_>, shards: &Names, servers: &Names, faults: &mut Faults) -> EventText
     ensures event { result ≡ event_in shards.now servers.now (view object.now) }
     ensures faults { faults.new.lowest ≡ noted faults.old.lowest (event_faults shards.now servers.now [] (view object.now)) }
 {
@@ -191,7 +191,7 @@ fn read_event(object: &Value, shards: &Names, servers: &Names, faults: &mut Faul
 /// The events of a list.
 fn read_list(
     alloc: Global,
-    items: &[Value],
+    items: &[Tree<'_>],
     shards: &Names,
     servers: &Names,
     faults: &mut Faults,
@@ -209,7 +209,7 @@ fn read_list(
 /// The events of a list, where it stands.
 pub fn read_events(
     alloc: Global,
-    items: Option<&[Value]>,
+    items: Option<&[Tree<'_>]>,
     shards: &Names,
     servers: &Names,
     faults: &mut Faults,

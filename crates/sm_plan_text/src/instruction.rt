@@ -1,7 +1,7 @@
 //! The instructions of a plan.
 ghost use Rattle.std.specs.Prelude.{◌≡◌, ◌++◌, ◌∷◌, [], ℕ, List, map, option_and_then, IfOk, OnOk, OnSome, IfNone};
 ghost use Rattle.std.specs.List.{flat_map};
-ghost use Rattle.serde_json.specs.View.{view};
+ghost use Rattle.json_tree.specs.View.{view};
 ghost use Rattle.sm_plan_text.specs.declared.member.Member.TheVariants as members;
 ghost use Rattle.sm_plan_text.specs.Members.{text_of};
 ghost use Rattle.sm_plan_text.specs.Faults.{noted};
@@ -13,7 +13,7 @@ use crate::fault::Faults;
 use crate::member::Member;
 use crate::names::Names;
 use crate::object::{note_unknown, note_unlisted, number_below, reference, role, text};
-use serde_json::Value;
+use json_tree::Tree;
 use sm_plan_code::Instr;
 use sm_server::{ServerId, ShardId};
 use std::alloc::{AllocError, Global};
@@ -78,7 +78,7 @@ impl InstrWord {
 }
 
 /// The word of an instruction.
-fn read_word(object: &Value, faults: &mut Faults) -> Option<InstrWord>
+fn read_word(object: &Tree<'_>, faults: &mut Faults) -> Option<InstrWord>
     ensures word { result ≡ option_and_then instr_word (text_found members.Do (view object.now)) }
     ensures listed { OnSome result (faults.new.lowest ≡ faults.old.lowest) }
     ensures unlisted { IfNone result (faults.new.lowest ≡ noted faults.old.lowest (unlisted_faults members.Code members.Do (view object.now))) }
@@ -94,7 +94,7 @@ fn read_word(object: &Value, faults: &mut Faults) -> Option<InstrWord>
 }
 
 /// The shard that an instruction is for.
-fn read_shard(object: &Value, shards: &Names, faults: &mut Faults) -> ShardId
+fn read_shard(object: &Tree<'_>, shards: &Names, faults: &mut Faults) -> ShardId
     ensures shard { result ≡ id_in shards.now members.Shard (view object.now) }
     ensures faults { faults.new.lowest ≡ noted faults.old.lowest (row_faults (view object.now) (one members.Shard (known shards.now))) }
 {
@@ -102,7 +102,7 @@ fn read_shard(object: &Value, shards: &Names, faults: &mut Faults) -> ShardId
 }
 
 /// The server that an instruction is made at.
-fn read_server(object: &Value, servers: &Names, faults: &mut Faults) -> ServerId
+fn read_server(object: &Tree<'_>, servers: &Names, faults: &mut Faults) -> ServerId
     ensures server { result ≡ id_in servers.now members.Server (view object.now) }
     ensures faults { faults.new.lowest ≡ noted faults.old.lowest (row_faults (view object.now) (one members.Server (known servers.now))) }
 {
@@ -110,7 +110,7 @@ fn read_server(object: &Value, servers: &Names, faults: &mut Faults) -> ServerId
 }
 
 /// The other server of a handover.
-fn read_other(object: &Value, servers: &Names, faults: &mut Faults) -> ServerId
+fn read_other(object: &Tree<'_>, servers: &Names, faults: &mut Faults) -> ServerId
     ensures other { result ≡ id_in servers.now members.Other (view object.now) }
     ensures faults { faults.new.lowest ≡ noted faults.old.lowest (row_faults (view object.now) (one members.Other (known servers.now))) }
 {
@@ -121,7 +121,7 @@ fn read_other(object: &Value, servers: &Names, faults: &mut Faults) -> ServerId
 #[tactic(auto, using(crate::proofs::WalkLemmas::noted_append))]
 fn read_rest(
     word: InstrWord,
-    object: &Value,
+    object: &Tree<'_>,
     shards: &Names,
     servers: &Names,
     signals: usize,
@@ -190,7 +190,7 @@ fn read_rest(
 /// One instruction of a plan with so many signals.
 #[tactic(auto, using(crate::proofs::WalkLemmas::noted_append))]
 fn read_instr(
-    object: &Value,
+    object: &Tree<'_>,
     shards: &Names,
     servers: &Names,
     signals: usize,
@@ -209,7 +209,7 @@ fn read_instr(
 /// The instructions of a list, in a plan with so many signals.
 pub fn read_code(
     alloc: Global,
-    items: &[Value],
+    items: &[Tree<'_>],
     shards: &Names,
     servers: &Names,
     signals: usize,

@@ -1,6 +1,6 @@
 //! The moves of a document.
 ghost use Rattle.std.specs.Prelude.{◌≡◌, [], map, option_map, unwrap_or, IfOk, OnOk};
-ghost use Rattle.serde_json.specs.View.{view};
+ghost use Rattle.json_tree.specs.View.{view};
 ghost use Rattle.sm_plan_text.specs.Faults.{noted};
 ghost use Rattle.sm_plan_text.specs.Tables.{walked};
 ghost use Rattle.sm_plan_text.specs.Moves.{move_faults, move_in};
@@ -9,7 +9,7 @@ use crate::fault::Faults;
 use crate::member::Member;
 use crate::names::Names;
 use crate::object::{note_unknown, reference};
-use serde_json::Value;
+use json_tree::Tree;
 use sm_server::{ServerId, ShardId};
 use std::alloc::{AllocError, Global};
 
@@ -23,7 +23,7 @@ pub struct MoveText {
 
 /// One move.
 #[tactic(auto, using(crate::proofs::WalkLemmas::noted_append))]
-fn read_move(object: &Value, shards: &Names, servers: &Names, faults: &mut Faults) -> MoveText
+fn read_move(object: &Tree<'_>, shards: &Names, servers: &Names, faults: &mut Faults) -> MoveText
     ensures move_text { result ≡ move_in shards.now servers.now (view object.now) }
     ensures faults { faults.new.lowest ≡ noted faults.old.lowest (move_faults shards.now servers.now [] (view object.now)) }
 {
@@ -46,7 +46,7 @@ fn read_move(object: &Value, shards: &Names, servers: &Names, faults: &mut Fault
 /// The moves of a list.
 fn read_list(
     alloc: Global,
-    items: &[Value],
+    items: &[Tree<'_>],
     shards: &Names,
     servers: &Names,
     faults: &mut Faults,
@@ -64,7 +64,7 @@ fn read_list(
 /// The moves of a list, where it stands.
 pub fn read_moves(
     alloc: Global,
-    items: Option<&[Value]>,
+    items: Option<&[Tree<'_>]>,
     shards: &Names,
     servers: &Names,
     faults: &mut Faults,

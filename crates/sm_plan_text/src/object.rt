@@ -1,7 +1,7 @@
 //! The members of one JSON object, each read with its faults.
-ghost use Rattle.std.specs.Prelude.{◌≡◌, option_map, option_and_then, map, IfOk, OnOk, string_bytes};
+ghost use Rattle.std.specs.Prelude.{◌≡◌, [], option_map, option_and_then, map, IfOk, OnOk, string_bytes};
 ghost use Rattle.std.specs.List.{list_all};
-ghost use Rattle.serde_json.specs.View.{view, members_view};
+ghost use Rattle.json_tree.specs.View.{view, members_view};
 ghost use Rattle.sm_placement.specs.Names.{is_name_byte, is_name};
 ghost use Rattle.sm_plan_text.specs.Members.{text_of};
 ghost use Rattle.sm_plan_text.specs.Faults.{noted};
@@ -12,12 +12,12 @@ use crate::fault::{Faults, TextFault};
 use crate::key::has_double_key;
 use crate::member::Member;
 use crate::names::Names;
-use serde_json::{Map, Value};
+use json_tree::Tree;
 use sm_server::Role;
 use std::alloc::{AllocError, Global};
 
 /// The value of a member, where it stands.
-pub fn find(object: &Value, member: Member) -> Option<&Value>
+pub fn find<'a, 't>(object: &'a Tree<'t>, member: Member) -> Option<&'a Tree<'t>>
     ensures { option_map (λ v. view v.now) result ≡ found member (view object.now) }
 {
     object.get(member.text())
@@ -34,12 +34,11 @@ fn is_known(key: &str, known: &[Member]) -> bool
     false
 }
 
-#[tactic(auto, using(crate::proofs::ObjectLemmas::any_key))]
-fn has_unknown(members: &Map<String, Value>, known: &[Member]) -> bool
-    ensures { result ≡ has_unknown_member (map text_of known.now) (members_view members.now.entries) }
+fn has_unknown(members: &[(&str, Tree<'_>)], known: &[Member]) -> bool
+    ensures { result ≡ has_unknown_member (map text_of known.now) (members_view members.now) }
 {
-    for key in members.keys() {
-        if !is_known(key.as_str(), known) {
+    for member in members {
+        if !is_known(member.0, known) {
             return true;
         }
     }
@@ -47,7 +46,7 @@ fn has_unknown(members: &Map<String, Value>, known: &[Member]) -> bool
 }
 
 /// Notes that what stands in a member is no object, or has a member that it does not know.
-pub fn note_unknown(object: &Value, parent: Member, known: &[Member], faults: &mut Faults)
+pub fn note_unknown(object: &Tree<'_>, parent: Member, known: &[Member], faults: &mut Faults)
     ensures { faults.new.lowest ≡ noted faults.old.lowest (object_faults parent (map text_of known.now) (view object.now)) }
 {
     match object.as_object() {
@@ -61,7 +60,7 @@ pub fn note_unknown(object: &Value, parent: Member, known: &[Member], faults: &m
 }
 
 /// Notes that what stands in a member has a word that is not listed, or is no object.
-pub fn note_unlisted(object: &Value, parent: Member, word: Member, faults: &mut Faults)
+pub fn note_unlisted(object: &Tree<'_>, parent: Member, word: Member, faults: &mut Faults)
     ensures { faults.new.lowest ≡ noted faults.old.lowest (unlisted_faults parent word (view object.now)) }
 {
     if !object.is_object() {
@@ -71,7 +70,7 @@ pub fn note_unlisted(object: &Value, parent: Member, word: Member, faults: &mut 
 }
 
 /// The whole number that a member is.
-pub fn whole_number(object: &Value, member: Member) -> Option<u64>
+pub fn whole_number(object: &Tree<'_>, member: Member) -> Option<u64>
     ensures { result ≡ option_and_then whole_number_of (found member (view object.now)) }
 {
     match find(object, member) {
@@ -81,7 +80,7 @@ pub fn whole_number(object: &Value, member: Member) -> Option<u64>
 }
 
 /// The whole number that a value is, up to a limit.
-fn whole(value: &Value, member: Member, limit: u32, faults: &mut Faults) -> u32
+fn whole(value: &Tree<'_>, member: Member, limit: u32, faults: &mut Faults) -> u32
     ensures value { result ≡ limited limit (view value.now) }
     ensures faults { faults.new.lowest ≡ noted faults.old.lowest (value_faults member (whole limit) (view value.now)) }
 {
@@ -102,7 +101,7 @@ fn whole(value: &Value, member: Member, limit: u32, faults: &mut Faults) -> u32
 }
 
 /// A whole number up to a limit.
-pub fn number(object: &Value, member: Member, limit: u32, faults: &mut Faults) -> u32
+pub fn number(object: &Tree<'_>, member: Member, limit: u32, faults: &mut Faults) -> u32
     ensures value { result ≡ number_in member limit (view object.now) }
     ensures faults { faults.new.lowest ≡ noted faults.old.lowest (row_faults (view object.now) (one member (whole limit))) }
 {
@@ -117,7 +116,7 @@ pub fn number(object: &Value, member: Member, limit: u32, faults: &mut Faults) -
 
 /// A whole number up to a limit, or the default where the member is missing.
 pub fn number_or(
-    object: &Value,
+    object: &Tree<'_>,
     member: Member,
     default: u32,
     limit: u32,
@@ -133,7 +132,7 @@ pub fn number_or(
 }
 
 /// A whole number below a count, as an id.
-pub fn number_below(object: &Value, member: Member, count: usize, faults: &mut Faults) -> u32
+pub fn number_below(object: &Tree<'_>, member: Member, count: usize, faults: &mut Faults) -> u32
     ensures value { result ≡ number_below count member (view object.now) }
     ensures faults { faults.new.lowest ≡ noted faults.old.lowest (row_faults (view object.now) (one member (below count))) }
 {
@@ -154,7 +153,7 @@ pub fn number_below(object: &Value, member: Member, count: usize, faults: &mut F
 }
 
 /// Notes that a format is neither 1 nor 2, where it stands.
-pub fn note_format(object: &Value, member: Member, faults: &mut Faults)
+pub fn note_format(object: &Tree<'_>, member: Member, faults: &mut Faults)
     ensures { faults.new.lowest ≡ noted faults.old.lowest (row_faults (view object.now) (maybe member format)) }
 {
     let Some(value) = find(object, member) else {
@@ -168,7 +167,11 @@ pub fn note_format(object: &Value, member: Member, faults: &mut Faults)
 }
 
 /// The value of a member that is to be an object.
-pub fn inner<'a>(object: &'a Value, member: Member, faults: &mut Faults) -> Option<&'a Value>
+pub fn inner<'a, 't>(
+    object: &'a Tree<'t>,
+    member: Member,
+    faults: &mut Faults,
+) -> Option<&'a Tree<'t>>
     ensures value { option_map (λ v. view v.now) result ≡ found member (view object.now) }
     ensures faults { faults.new.lowest ≡ noted faults.old.lowest (row_faults (view object.now) (one member an_object)) }
 {
@@ -187,11 +190,11 @@ pub fn inner<'a>(object: &'a Value, member: Member, faults: &mut Faults) -> Opti
 }
 
 /// The value of a member that may be missing and is to be an object.
-pub fn inner_or_none<'a>(
-    object: &'a Value,
+pub fn inner_or_none<'a, 't>(
+    object: &'a Tree<'t>,
     member: Member,
     faults: &mut Faults,
-) -> Option<&'a Value>
+) -> Option<&'a Tree<'t>>
     ensures value { option_map (λ v. view v.now) result ≡ found member (view object.now) }
     ensures faults { faults.new.lowest ≡ noted faults.old.lowest (row_faults (view object.now) (maybe member an_object)) }
 {
@@ -207,7 +210,7 @@ pub fn inner_or_none<'a>(
 }
 
 /// True or false, and false where the member is missing.
-pub fn flag_or_false(object: &Value, member: Member, faults: &mut Faults) -> bool
+pub fn flag_or_false(object: &Tree<'_>, member: Member, faults: &mut Faults) -> bool
     ensures value { result ≡ flag_in member (view object.now) }
     ensures faults { faults.new.lowest ≡ noted faults.old.lowest (row_faults (view object.now) (maybe member flag)) }
 {
@@ -224,7 +227,7 @@ pub fn flag_or_false(object: &Value, member: Member, faults: &mut Faults) -> boo
 }
 
 /// The text of a member.
-pub fn text(object: &Value, member: Member) -> Option<&str>
+pub fn text<'t>(object: &Tree<'t>, member: Member) -> Option<&'t str>
     ensures { option_map (λ s. s.now) result ≡ text_found member (view object.now) }
 {
     match find(object, member) {
@@ -255,7 +258,7 @@ fn is_name(text: &str) -> bool
 /// A name.
 pub fn name(
     alloc: Global,
-    object: &Value,
+    object: &Tree<'_>,
     member: Member,
     faults: &mut Faults,
 ) -> Result<String, AllocError>
@@ -275,7 +278,7 @@ pub fn name(
 /// A name that is not among those that are taken.
 pub fn new_name(
     alloc: Global,
-    object: &Value,
+    object: &Tree<'_>,
     member: Member,
     taken: &Names,
     faults: &mut Faults,
@@ -304,7 +307,7 @@ pub fn id(n: usize) -> u32
 }
 
 /// The number of what a value names.
-pub fn known(value: &Value, member: Member, names: &Names, faults: &mut Faults) -> Option<u32>
+pub fn known(value: &Tree<'_>, member: Member, names: &Names, faults: &mut Faults) -> Option<u32>
     ensures value { result ≡ id_named names.now (view value.now) }
     ensures faults { faults.new.lowest ≡ noted faults.old.lowest (value_faults member (known names.now) (view value.now)) }
 {
@@ -322,7 +325,7 @@ pub fn known(value: &Value, member: Member, names: &Names, faults: &mut Faults) 
 }
 
 /// The number of what a member names.
-pub fn reference(object: &Value, member: Member, names: &Names, faults: &mut Faults) -> u32
+pub fn reference(object: &Tree<'_>, member: Member, names: &Names, faults: &mut Faults) -> u32
     ensures value { result ≡ id_in names.now member (view object.now) }
     ensures faults { faults.new.lowest ≡ noted faults.old.lowest (row_faults (view object.now) (one member (known names.now))) }
 {
@@ -338,7 +341,7 @@ pub fn reference(object: &Value, member: Member, names: &Names, faults: &mut Fau
 
 /// The number of what a member names, and none where it is null or missing.
 pub fn reference_or_none(
-    object: &Value,
+    object: &Tree<'_>,
     member: Member,
     names: &Names,
     faults: &mut Faults,
@@ -357,7 +360,7 @@ pub fn reference_or_none(
 
 /// The number of what a member names, and none where it is missing.
 pub fn reference_where_there(
-    object: &Value,
+    object: &Tree<'_>,
     member: Member,
     names: &Names,
     faults: &mut Faults,
@@ -384,7 +387,7 @@ fn role_of(text: &str) -> Option<Role>
 }
 
 /// A replica's role.
-pub fn role(object: &Value, member: Member, faults: &mut Faults) -> Role
+pub fn role(object: &Tree<'_>, member: Member, faults: &mut Faults) -> Role
     ensures value { result ≡ role_in member (view object.now) }
     ensures faults { faults.new.lowest ≡ noted faults.old.lowest (row_faults (view object.now) (one member role)) }
 {
@@ -414,7 +417,7 @@ fn after_of(text: &str) -> Option<bool>
 }
 
 /// A call is lost after it was made, and not before.
-pub fn after(object: &Value, member: Member, faults: &mut Faults) -> bool
+pub fn after(object: &Tree<'_>, member: Member, faults: &mut Faults) -> bool
     ensures value { result ≡ after_in member (view object.now) }
     ensures faults { faults.new.lowest ≡ noted faults.old.lowest (row_faults (view object.now) (one member when)) }
 {
@@ -440,26 +443,39 @@ fn note_count(count: usize, member: Member, limit: usize, faults: &mut Faults)
     }
 }
 
+/// The entries of what is no list.
+fn no_entries<'a, 't>() -> &'a [Tree<'t>]
+    ensures { result.now ≡ [] }
+{
+    &[]
+}
+
 /// The entries of a value that is a list of at most so many.
 #[tactic(auto, using(crate::proofs::ObjectLemmas::entries_view, crate::proofs::ObjectLemmas::length_entries))]
-fn entries<'a>(value: &'a Value, member: Member, limit: usize, faults: &mut Faults) -> &'a [Value]
+fn entries<'a, 't>(
+    value: &'a Tree<'t>,
+    member: Member,
+    limit: usize,
+    faults: &mut Faults,
+) -> &'a [Tree<'t>]
     ensures entries { map view result.now ≡ items_of (view value.now) }
     ensures faults { faults.new.lowest ≡ noted faults.old.lowest (value_faults member (list limit) (view value.now)) }
 {
-    match value.as_array() {
-        Some(items) => {
-            note_count(items.len(), member, limit, faults);
-            items.as_slice()
-        }
-        None => {
-            faults.note(TextFault::Shape { member });
-            &[]
-        }
-    }
+    let Some(items) = value.as_array() else {
+        faults.note(TextFault::Shape { member });
+        return no_entries();
+    };
+    note_count(items.len(), member, limit, faults);
+    items
 }
 
 /// The entries of a list that may have so many, and none where there is no list.
-pub fn list<'a>(object: &'a Value, member: Member, limit: usize, faults: &mut Faults) -> &'a [Value]
+pub fn list<'a, 't>(
+    object: &'a Tree<'t>,
+    member: Member,
+    limit: usize,
+    faults: &mut Faults,
+) -> &'a [Tree<'t>]
     ensures entries { map view result.now ≡ entries_in member (view object.now) }
     ensures faults { faults.new.lowest ≡ noted faults.old.lowest (row_faults (view object.now) (one member (list limit))) }
 {
@@ -467,18 +483,18 @@ pub fn list<'a>(object: &'a Value, member: Member, limit: usize, faults: &mut Fa
         Some(value) => entries(value, member, limit, faults),
         None => {
             faults.note(TextFault::Shape { member });
-            &[]
+            no_entries()
         }
     }
 }
 
 /// The entries of a list that may be missing.
-pub fn list_or_none<'a>(
-    object: &'a Value,
+pub fn list_or_none<'a, 't>(
+    object: &'a Tree<'t>,
     member: Member,
     limit: usize,
     faults: &mut Faults,
-) -> Option<&'a [Value]>
+) -> Option<&'a [Tree<'t>]>
     ensures entries { option_map (λ items. map view items.now) result ≡ list_in member (view object.now) }
     ensures faults { faults.new.lowest ≡ noted faults.old.lowest (row_faults (view object.now) (maybe member (list limit))) }
 {
@@ -489,30 +505,30 @@ pub fn list_or_none<'a>(
 }
 
 /// The entries of a list that may be missing, and none where there is no list.
-pub fn list_or_empty<'a>(
-    object: &'a Value,
+pub fn list_or_empty<'a, 't>(
+    object: &'a Tree<'t>,
     member: Member,
     limit: usize,
     faults: &mut Faults,
-) -> &'a [Value]
+) -> &'a [Tree<'t>]
     ensures entries { map view result.now ≡ entries_in member (view object.now) }
     ensures faults { faults.new.lowest ≡ noted faults.old.lowest (row_faults (view object.now) (maybe member (list limit))) }
 {
     match find(object, member) {
         Some(value) => entries(value, member, limit, faults),
-        None => &[],
+        None => no_entries(),
     }
 }
 
 /// The entries of a list that may be missing, no two of which are to have the same texts in the members of their key.
-pub fn keyed<'a>(
+pub fn keyed<'a, 't>(
     alloc: Global,
-    object: &'a Value,
+    object: &'a Tree<'t>,
     member: Member,
     limit: usize,
     key: &[Member],
     faults: &mut Faults,
-) -> Result<&'a [Value], AllocError>
+) -> Result<&'a [Tree<'t>], AllocError>
     ensures entries { IfOk result (λ items. map view items.now ≡ entries_in member (view object.now)) }
     ensures faults { OnOk result (faults.new.lowest ≡ noted faults.old.lowest (row_faults (view object.now) (maybe member (keyed limit key.now)))) }
 {

@@ -1,7 +1,7 @@
 //! The parcels of a plan.
 ghost use Rattle.std.specs.Prelude.{◌≡◌, ◌∷◌, ℕ, List, [], None, map, is_some, option_and_then, IfOk, OnOk, OnSome, IfNone};
 ghost use Rattle.std.specs.List.{flat_map};
-ghost use Rattle.serde_json.specs.View.{view};
+ghost use Rattle.json_tree.specs.View.{view};
 ghost use Rattle.sm_reservation.specs.Rights.{no_rights};
 ghost use Rattle.sm_reservation.specs.Key.{IsOnce};
 ghost use Rattle.sm_reservation.specs.InOrder.{in_order};
@@ -19,7 +19,7 @@ use crate::member::Member;
 use crate::names::Names;
 use crate::object::{keyed, note_unknown, number, reference, reference_or_none, text};
 use crate::shard::server_id;
-use serde_json::Value;
+use json_tree::Tree;
 use sm_placement::Lead;
 use sm_plan_code::MOST_RIGHTS;
 use sm_reservation::{CellRight, Crown, Lists, Parcel, ParcelFault, PlainCell, Room, Spare};
@@ -87,7 +87,7 @@ fn plain_cell(text: &str) -> Option<PlainCell>
 }
 
 /// What a cell is, to which there is a right.
-fn read_state(object: &Value, member: Member, faults: &mut Faults) -> PlainCell
+fn read_state(object: &Tree<'_>, member: Member, faults: &mut Faults) -> PlainCell
     ensures state { result ≡ plain_in member (view object.now) }
     ensures faults { faults.new.lowest ≡ noted faults.old.lowest (row_faults (view object.now) (one member (text_want (λ s. is_some (plain_named s))))) }
 {
@@ -106,7 +106,7 @@ fn read_state(object: &Value, member: Member, faults: &mut Faults) -> PlainCell
 
 /// One right to a cell.
 #[tactic(auto, using(crate::proofs::WalkLemmas::noted_append))]
-fn read_right(object: &Value, shards: &Names, servers: &Names, faults: &mut Faults) -> CellRight
+fn read_right(object: &Tree<'_>, shards: &Names, servers: &Names, faults: &mut Faults) -> CellRight
     ensures right { result ≡ right_in shards.now servers.now (view object.now) }
     ensures faults { faults.new.lowest ≡ noted faults.old.lowest (right_faults shards.now servers.now [] (view object.now)) }
 {
@@ -129,7 +129,7 @@ fn read_right(object: &Value, shards: &Names, servers: &Names, faults: &mut Faul
 /// The rights to cells of a list.
 fn read_rights(
     alloc: Global,
-    items: &[Value],
+    items: &[Tree<'_>],
     shards: &Names,
     servers: &Names,
     faults: &mut Faults,
@@ -145,7 +145,7 @@ fn read_rights(
 }
 
 /// The word of a crown.
-fn read_word(object: &Value, faults: &mut Faults) -> Option<LeadWord>
+fn read_word(object: &Tree<'_>, faults: &mut Faults) -> Option<LeadWord>
     ensures word { result ≡ option_and_then lead_word (text_found members.Lead (view object.now)) }
     ensures listed { OnSome result (faults.new.lowest ≡ faults.old.lowest) }
     ensures unlisted { IfNone result (faults.new.lowest ≡ noted faults.old.lowest (unlisted_faults members.Crowns members.Lead (view object.now))) }
@@ -170,7 +170,7 @@ fn read_word(object: &Value, faults: &mut Faults) -> Option<LeadWord>
 
 /// The servers that a lead goes from and to.
 #[tactic(auto, using(crate::proofs::WalkLemmas::noted_append))]
-fn read_ends(object: &Value, servers: &Names, faults: &mut Faults) -> (ServerId, ServerId)
+fn read_ends(object: &Tree<'_>, servers: &Names, faults: &mut Faults) -> (ServerId, ServerId)
     ensures ends { result ≡ (id_in servers.now members.From (view object.now), id_in servers.now members.To (view object.now)) }
     ensures faults { faults.new.lowest ≡ noted faults.old.lowest
         (flat_map (row_faults (view object.now)) (one members.From (known servers.now) ∷ one members.To (known servers.now) ∷ [])) }
@@ -181,7 +181,7 @@ fn read_ends(object: &Value, servers: &Names, faults: &mut Faults) -> (ServerId,
 }
 
 /// Where the primary stands, by the word of a crown.
-fn read_lead(word: LeadWord, object: &Value, servers: &Names, faults: &mut Faults) -> Lead
+fn read_lead(word: LeadWord, object: &Tree<'_>, servers: &Names, faults: &mut Faults) -> Lead
     ensures lead { result ≡ lead_worded servers.now (view object.now) word }
     ensures faults { faults.new.lowest ≡ noted faults.old.lowest (flat_map (row_faults (view object.now)) (lead_table servers.now word)) }
 {
@@ -208,7 +208,7 @@ fn read_lead(word: LeadWord, object: &Value, servers: &Names, faults: &mut Fault
 
 /// One crown.
 #[tactic(auto, using(crate::proofs::WalkLemmas::noted_append))]
-fn read_crown(object: &Value, shards: &Names, servers: &Names, faults: &mut Faults) -> Crown
+fn read_crown(object: &Tree<'_>, shards: &Names, servers: &Names, faults: &mut Faults) -> Crown
     ensures crown { result ≡ crown_in shards.now servers.now (view object.now) }
     ensures faults { faults.new.lowest ≡ noted faults.old.lowest (crown_faults shards.now servers.now [] (view object.now)) }
 {
@@ -233,7 +233,7 @@ fn read_crown(object: &Value, shards: &Names, servers: &Names, faults: &mut Faul
 /// The crowns of a list.
 fn read_crowns(
     alloc: Global,
-    items: &[Value],
+    items: &[Tree<'_>],
     shards: &Names,
     servers: &Names,
     faults: &mut Faults,
@@ -259,7 +259,7 @@ fn read_crowns(
 
 /// The room of one server.
 #[tactic(auto, using(crate::proofs::WalkLemmas::noted_append))]
-fn read_room(object: &Value, servers: &Names, faults: &mut Faults) -> Room
+fn read_room(object: &Tree<'_>, servers: &Names, faults: &mut Faults) -> Room
     ensures room { result ≡ room_in servers.now (view object.now) }
     ensures faults { faults.new.lowest ≡ noted faults.old.lowest (room_faults servers.now [] (view object.now)) }
 {
@@ -280,7 +280,7 @@ fn read_room(object: &Value, servers: &Names, faults: &mut Faults) -> Room
 /// The room of a list.
 fn read_rooms(
     alloc: Global,
-    items: &[Value],
+    items: &[Tree<'_>],
     servers: &Names,
     faults: &mut Faults,
 ) -> Result<Vec<Room>, AllocError>
@@ -296,7 +296,7 @@ fn read_rooms(
 
 /// The spare replicas of one shard.
 #[tactic(auto, using(crate::proofs::WalkLemmas::noted_append))]
-fn read_spare(object: &Value, shards: &Names, faults: &mut Faults) -> Spare
+fn read_spare(object: &Tree<'_>, shards: &Names, faults: &mut Faults) -> Spare
     ensures spare { result ≡ spare_in shards.now (view object.now) }
     ensures faults { faults.new.lowest ≡ noted faults.old.lowest (spare_faults shards.now [] (view object.now)) }
 {
@@ -317,7 +317,7 @@ fn read_spare(object: &Value, shards: &Names, faults: &mut Faults) -> Spare
 /// The spare replicas of a list.
 fn read_spares(
     alloc: Global,
-    items: &[Value],
+    items: &[Tree<'_>],
     shards: &Names,
     faults: &mut Faults,
 ) -> Result<Vec<Spare>, AllocError>
@@ -333,21 +333,21 @@ fn read_spares(
 
 /// The entries of the four lists of a parcel.
 #[derive(Clone, Copy)]
-struct Entries<'a> {
-    cells: &'a [Value],
-    crowns: &'a [Value],
-    room: &'a [Value],
-    spare: &'a [Value],
+struct Entries<'a, 't> {
+    cells: &'a [Tree<'t>],
+    crowns: &'a [Tree<'t>],
+    room: &'a [Tree<'t>],
+    spare: &'a [Tree<'t>],
 }
 
 /// The lists of a parcel.
 #[tactic(auto, using(crate::proofs::WalkLemmas::noted_append))]
-fn read_entries<'a>(
+fn read_entries<'a, 't>(
     alloc: Global,
-    object: &'a Value,
+    object: &'a Tree<'t>,
     parent: Member,
     faults: &mut Faults,
-) -> Result<Entries<'a>, AllocError>
+) -> Result<Entries<'a, 't>, AllocError>
     ensures cells { IfOk result (λ entries. map view entries.cells.now ≡ entries_in members.Cells (view object.now)) }
     ensures crowns { IfOk result (λ entries. map view entries.crowns.now ≡ entries_in members.Crowns (view object.now)) }
     ensures room { IfOk result (λ entries. map view entries.room.now ≡ entries_in members.Room (view object.now)) }
@@ -378,7 +378,7 @@ fn read_entries<'a>(
 /// The rights of a parcel as they are written.
 fn read_lists(
     alloc: Global,
-    object: &Value,
+    object: &Tree<'_>,
     parent: Member,
     shards: &Names,
     servers: &Names,
@@ -431,7 +431,7 @@ fn parcel_of(alloc: Global, lists: Lists) -> Result<Parcel, AllocError>
 /// The parcel that stands in a member. Where keys stand twice, which is noted, it is empty.
 pub fn read_parcel(
     alloc: Global,
-    object: &Value,
+    object: &Tree<'_>,
     parent: Member,
     shards: &Names,
     servers: &Names,

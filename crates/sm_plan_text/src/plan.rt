@@ -1,7 +1,7 @@
 //! Plans, of a document or of a text of their own.
 ghost use Rattle.std.specs.Prelude.{◌≡◌, ◌≤◌, ◌++◌, ◌∷◌, [], Some, None, length, map, option_map, unwrap_or, IfOk, OnOk, if◌then◌else◌};
 ghost use Rattle.std.specs.List.{flat_map, cons_option};
-ghost use Rattle.serde_json.specs.View.{view};
+ghost use Rattle.json_tree.specs.View.{view};
 ghost use Rattle.sm_reservation.specs.Rights.{no_rights};
 ghost use Rattle.sm_plan_code.specs.Parts.{parts_of};
 ghost use Rattle.sm_plan_code.specs.Plan.{IsPlan};
@@ -21,7 +21,7 @@ use crate::object::{
     find, inner, list, list_or_empty, note_format, note_unknown, number, number_or,
 };
 use crate::parcel::{empty_parcel, read_parcel};
-use serde_json::Value;
+use json_tree::Tree;
 use sm_plan_code::{
     MOST_CALLS, MOST_INSTRUCTIONS, MOST_SIGNALS, MOST_STREAMS, Parts, Plan, Stream,
 };
@@ -29,7 +29,7 @@ use sm_reservation::Parcel;
 use std::alloc::{AllocError, Global};
 
 /// The streams of a plan say how many retries they have: in each format but 1, which a plan is of that says nothing.
-fn knows_retries(plan: &Value) -> bool
+fn knows_retries(plan: &Tree<'_>) -> bool
     ensures { result ≡ knows_retries (view plan.now) }
 {
     match find(plan, Member::Format) {
@@ -50,7 +50,7 @@ fn stream_members(retries: bool) -> &'static [Member]
 }
 
 /// How many retries a stream has, where it may say so.
-fn read_retries(stream: &Value, retries: bool, faults: &mut Faults) -> u32
+fn read_retries(stream: &Tree<'_>, retries: bool, faults: &mut Faults) -> u32
     ensures value { result ≡ (if retries then number_or 0 members.Retries MOST_CALLS (view stream.now) else 0) }
     ensures faults { faults.new.lowest
         ≡ noted faults.old.lowest (flat_map (row_faults (view stream.now)) (if retries then maybe members.Retries (whole MOST_CALLS) ∷ [] else [])) }
@@ -65,7 +65,7 @@ fn read_retries(stream: &Value, retries: bool, faults: &mut Faults) -> u32
 /// What a stream holds at its start.
 fn read_holds(
     alloc: Global,
-    holds: Option<&Value>,
+    holds: Option<&Tree<'_>>,
     shards: &Names,
     servers: &Names,
     faults: &mut Faults,
@@ -85,7 +85,7 @@ fn read_holds(
 #[tactic(auto, using(crate::proofs::WalkLemmas::noted_append))]
 fn read_stream(
     alloc: Global,
-    object: &Value,
+    object: &Tree<'_>,
     shards: &Names,
     servers: &Names,
     signals: usize,
@@ -115,7 +115,7 @@ fn read_stream(
 /// The streams of a list, in a plan with so many signals.
 fn read_streams(
     alloc: Global,
-    items: &[Value],
+    items: &[Tree<'_>],
     shards: &Names,
     servers: &Names,
     signals: usize,
@@ -137,7 +137,7 @@ fn read_streams(
 /// What the signals of a list carry.
 fn read_signals(
     alloc: Global,
-    items: &[Value],
+    items: &[Tree<'_>],
     shards: &Names,
     servers: &Names,
     faults: &mut Faults,
@@ -157,7 +157,7 @@ fn read_signals(
 /// The parts of the plan that stands in a member.
 fn read_plan_object(
     alloc: Global,
-    object: &Value,
+    object: &Tree<'_>,
     parent: Member,
     shards: &Names,
     servers: &Names,
@@ -212,7 +212,7 @@ fn make_plan(parts: Parts) -> Option<Plan>
 /// The plan that stands in a member; where it has no faults it is one.
 pub fn read_plan_at(
     alloc: Global,
-    object: &Value,
+    object: &Tree<'_>,
     parent: Member,
     shards: &Names,
     servers: &Names,
@@ -229,7 +229,7 @@ pub fn read_plan_at(
 /// The plan of a document, where it stands.
 pub fn read_plan_where_there(
     alloc: Global,
-    object: Option<&Value>,
+    object: Option<&Tree<'_>>,
     shards: &Names,
     servers: &Names,
     faults: &mut Faults,
@@ -258,7 +258,7 @@ fn add_plan(plans: &mut Vec<Plan>, plan: Option<Plan>) -> Result<(), AllocError>
 /// The plans of a list.
 fn read_list(
     alloc: Global,
-    items: &[Value],
+    items: &[Tree<'_>],
     shards: &Names,
     servers: &Names,
     faults: &mut Faults,
@@ -278,7 +278,7 @@ fn read_list(
 /// The plans of a list, where it stands.
 pub fn read_plans(
     alloc: Global,
-    items: Option<&[Value]>,
+    items: Option<&[Tree<'_>]>,
     shards: &Names,
     servers: &Names,
     faults: &mut Faults,

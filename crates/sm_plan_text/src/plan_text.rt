@@ -2,7 +2,7 @@
 ghost use Rattle.std.specs.Prelude.{◌≡◌, ◌≢◌, Some, Ok, Err, IfOk, IfErr, OnOk, string_bytes, length};
 ghost use Rattle.std.specs.Str.{bytes_eq};
 ghost use Rattle.indexmap.specs.IndexSet.{insert_key};
-ghost use Rattle.serde_json.specs.View.{view};
+ghost use Rattle.json_tree.specs.View.{view};
 ghost use Rattle.sm_placement.specs.Setup.{IsSetup, names_of_servers, names_of_shards};
 ghost use Rattle.sm_plan_code.specs.Plan.{IsKnownPlan};
 ghost use Rattle.sm_plan_text.specs.Reading.{read_plan, read_plan_data};
@@ -12,7 +12,7 @@ use crate::fault::{Faults, TextFault};
 use crate::member::Member;
 use crate::names::Names;
 use crate::plan::read_plan_at;
-use serde_json::Value;
+use json_tree::{Scratch, Tree};
 use sm_placement::Config;
 use sm_plan_code::Plan;
 use sm_server::{ServerId, ShardId};
@@ -45,7 +45,7 @@ fn shard_names(alloc: Global, config: &Config) -> Result<Names, AllocError>
 }
 
 /// The plan that a JSON value is.
-fn from_value(alloc: Global, config: &Config, value: &Value) -> Result<Plan, TextFault>
+fn from_value(alloc: Global, config: &Config, value: &Tree<'_>) -> Result<Plan, TextFault>
     ensures ok { IfOk result (λ plan. read_plan_data (names_of_shards config.now) (names_of_servers config.now) (Some (view value.now)) ≡ Ok plan) }
     ensures refused { IfErr result (λ why. why ≢ TextFault.NoMemory
         → read_plan_data (names_of_shards config.now) (names_of_servers config.now) (Some (view value.now)) ≡ Err why) }
@@ -78,6 +78,7 @@ pub fn read_plan(alloc: Global, config: &Config, bytes: &[u8]) -> Result<Plan, T
         → read_plan (names_of_shards config.now) (names_of_servers config.now) bytes.now ≡ Err why) }
     ensures fits { IfOk result (λ plan. IsKnownPlan (length config.now.shards) (length config.now.servers) plan) }
 {
-    let value = parse(alloc, bytes)?;
+    let mut scratch = Scratch::new(alloc);
+    let value = parse(alloc, bytes, &mut scratch)?;
     from_value(alloc, config, &value)
 }

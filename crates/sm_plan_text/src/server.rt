@@ -2,7 +2,7 @@
 ghost use Rattle.std.specs.Prelude.{◌≡◌, ◌++◌, ◌∷◌, [], map, length, IfOk, OnOk, if◌then◌else◌};
 ghost use Rattle.std.specs.Str.{bytes_eq};
 ghost use Rattle.indexmap.specs.IndexSet.{insert_key};
-ghost use Rattle.serde_json.specs.View.{view};
+ghost use Rattle.json_tree.specs.View.{view};
 ghost use Rattle.sm_placement.specs.Config.{server_row};
 ghost use Rattle.sm_plan_text.specs.declared.member.Member.TheVariants as members;
 ghost use Rattle.sm_plan_text.specs.Faults.{noted};
@@ -15,7 +15,7 @@ use crate::limits::LOAD_LIMIT;
 use crate::member::Member;
 use crate::names::Names;
 use crate::object::{flag_or_false, id, name, new_name, note_unknown, number};
-use serde_json::Value;
+use json_tree::Tree;
 use sm_placement::Server;
 use sm_server::ServerId;
 use std::alloc::{AllocError, Global};
@@ -32,7 +32,7 @@ pub struct Servers {
 #[tactic(auto, using(crate::proofs::WalkLemmas::noted_append))]
 fn read_server(
     alloc: Global,
-    object: &Value,
+    object: &Tree<'_>,
     taken: &Names,
     faults: &mut Faults,
 ) -> Result<(Server, bool), AllocError>
@@ -73,7 +73,7 @@ fn add_down(down: &mut Vec<ServerId>, is_down: bool, index: usize) -> Result<(),
 #[tactic(auto, using(std::proofs::lemmas::List::map_push))]
 fn add_server(
     alloc: Global,
-    object: &Value,
+    object: &Tree<'_>,
     servers: &mut Servers,
     faults: &mut Faults,
 ) -> Result<(), AllocError>
@@ -95,7 +95,7 @@ fn add_server(
 /// The servers of a list.
 pub fn read_servers(
     alloc: Global,
-    items: &[Value],
+    items: &[Tree<'_>],
     faults: &mut Faults,
 ) -> Result<Servers, AllocError>
     ensures rows { IfOk result (λ servers. map server_row servers.rows.items ≡ map server_in (map view items.now)) }

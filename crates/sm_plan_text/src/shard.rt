@@ -2,7 +2,7 @@
 ghost use Rattle.std.specs.Prelude.{◌≡◌, ◌++◌, ◌∷◌, [], map, length, IfOk, OnOk};
 ghost use Rattle.std.specs.Str.{bytes_eq};
 ghost use Rattle.indexmap.specs.IndexSet.{insert_key};
-ghost use Rattle.serde_json.specs.View.{view};
+ghost use Rattle.json_tree.specs.View.{view};
 ghost use Rattle.sm_server.specs.Cell.{cell_in};
 ghost use Rattle.sm_placement.specs.Config.{shard_row};
 ghost use Rattle.sm_plan_text.specs.declared.member.Member.TheVariants as members;
@@ -18,7 +18,7 @@ use crate::names::Names;
 use crate::object::{
     id, list, new_name, note_unknown, number, reference, reference_or_none, role, whole_number,
 };
-use serde_json::Value;
+use json_tree::Tree;
 use sm_placement::{MOST_CELLS, MOST_REPLICAS, Shard};
 use sm_server::{Cell, Role, ServerId, ShardId};
 use std::alloc::{AllocError, Global};
@@ -36,7 +36,7 @@ pub struct Shards {
 }
 
 /// How many of a shard's replicas may be away at once at most.
-fn cap_limit(object: &Value) -> u32
+fn cap_limit(object: &Tree<'_>) -> u32
     ensures { result ≡ cap_limit (view object.now) }
 {
     match whole_number(object, Member::Want) {
@@ -47,14 +47,14 @@ fn cap_limit(object: &Value) -> u32
 
 /// What a shard says of itself, what the published map says of it, and its cells.
 #[tactic(auto, using(crate::proofs::WalkLemmas::noted_append))]
-fn read_shard<'a>(
+fn read_shard<'a, 't>(
     alloc: Global,
-    object: &'a Value,
+    object: &'a Tree<'t>,
     servers: &Names,
     taken: &Names,
     most_cells: usize,
     faults: &mut Faults,
-) -> Result<(Shard, Option<ServerId>, &'a [Value]), AllocError>
+) -> Result<(Shard, Option<ServerId>, &'a [Tree<'t>]), AllocError>
     ensures row { IfOk result (λ read. shard_row read.0 ≡ shard_in (view object.now)) }
     ensures listed { IfOk result (λ read. read.1 ≡ listed_in servers.now (view object.now)) }
     ensures cells { IfOk result (λ read. map view read.2.now ≡ entries_in members.Cells (view object.now)) }
@@ -114,7 +114,7 @@ fn cell_of(role: Role) -> Cell
 
 /// One cell of a shard.
 #[tactic(auto, using(crate::proofs::WalkLemmas::noted_append))]
-fn read_cell(object: &Value, shard: ShardId, servers: &Names, faults: &mut Faults) -> NamedCell
+fn read_cell(object: &Tree<'_>, shard: ShardId, servers: &Names, faults: &mut Faults) -> NamedCell
     ensures cell { result ≡ named_cell servers.now shard (view object.now) }
     ensures faults { faults.new.lowest ≡ noted faults.old.lowest (own_faults members.Cells (cell_table servers.now) (view object.now)) }
 {
@@ -131,7 +131,7 @@ fn read_cell(object: &Value, shard: ShardId, servers: &Names, faults: &mut Fault
 
 /// Reads the cells of a shard.
 fn add_cells(
-    items: &[Value],
+    items: &[Tree<'_>],
     shard: ShardId,
     servers: &Names,
     cells: &mut Vec<NamedCell>,
@@ -150,7 +150,7 @@ fn add_cells(
 #[tactic(auto, using(std::proofs::lemmas::List::map_push, crate::proofs::WalkLemmas::noted_append))]
 fn add_shard(
     alloc: Global,
-    object: &Value,
+    object: &Tree<'_>,
     servers: &Names,
     shards: &mut Shards,
     faults: &mut Faults,
@@ -183,7 +183,7 @@ fn add_shard(
 /// The shards of a list.
 pub fn read_shards(
     alloc: Global,
-    items: &[Value],
+    items: &[Tree<'_>],
     servers: &Names,
     faults: &mut Faults,
 ) -> Result<Shards, AllocError>

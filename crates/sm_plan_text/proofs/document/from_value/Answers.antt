@@ -1,6 +1,6 @@
 use Rattle.std.proofs.Common.{◌≡◌, ◌∙◌, [], ap, sym, subst}
 use Rattle.serde_json.specs.Data.{Data}
-use Rattle.serde_json.specs.View.{view}
+use Rattle.json_tree.specs.View.{view}
 use Rattle.sm_placement.specs.Setup.{Setup}
 use Rattle.sm_placement.specs.Config.{setup_of, config_fault}
 use Rattle.sm_plan_text.specs.Documents.{DocumentModel, document_faults, IsDocument}

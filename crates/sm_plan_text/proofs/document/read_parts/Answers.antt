@@ -1,6 +1,6 @@
 use Rattle.std.proofs.Common.{◌≡◌, subst, ◌∙◌, ◌++◌, ℕ, List, [], map, option_map, None, option_and_then, unwrap_or, ap, sym, append-nil, append_assoc}
 use Rattle.serde_json.specs.Data.{Data}
-use Rattle.serde_json.specs.View.{view}
+use Rattle.json_tree.specs.View.{view}
 use Rattle.sm_plan_text.specs.declared.fault.TextFault.{TextFault}
 use Rattle.sm_plan_text.specs.declared.member.Member.TheVariants as members
 use Rattle.sm_plan_text.specs.Members.{text_of}

@@ -2,7 +2,7 @@ use Rattle.std.proofs.Common.{◌≡◌, ◌∙◌, ◌++◌, ◌+◌, ℕ, Bool
 use Rattle.std.specs.List.{list_any}
 use Rattle.std.specs.Str.{bytes_eq}
 use Rattle.std.specs.Cmp.Lexicographic.{pointwise}
-use Rattle.serde_json.specs.View.{view}
+use Rattle.json_tree.specs.View.{view}
 use Rattle.sm_plan_text.specs.Tables.{texts_found, has_double_key}
 use Rattle.sm_plan_text.proofs.KeyLemmas.{Texts, held, borrowed_texts, met_again, met_new, met_none, held_single}
 use Rattle.sm_plan_text.proofs.key.has_double_key.Goals as goal

@@ -1,5 +1,5 @@
 use Rattle.std.proofs.Common.{◌≡◌, ◌++◌, false, drop, map}
-use Rattle.serde_json.specs.View.{view}
+use Rattle.json_tree.specs.View.{view}
 use Rattle.sm_plan_text.specs.Tables.{texts_found, has_double_key}
 use Rattle.sm_plan_text.proofs.KeyLemmas.{held}
 use Rattle.sm_plan_text.proofs.key.has_double_key.Given as goal

@@ -1,5 +1,5 @@
 use Rattle.std.proofs.Common.{◌≡◌, ◌++◌, drop, map, option_map}
-use Rattle.serde_json.specs.View.{view}
+use Rattle.json_tree.specs.View.{view}
 use Rattle.sm_plan_text.specs.Tables.{texts_found}
 use Rattle.sm_plan_text.proofs.key.key_of.Given as goal
 

@@ -1,7 +1,7 @@
 use Rattle.std.proofs.Common.{◌≡◌, ◌∙◌, List, [], None, ap, sym, subst}
 use Rattle.std.proofs.lemmas.Result.{IfOk-weaker}
 use Rattle.serde_json.specs.Data.{Data}
-use Rattle.serde_json.specs.View.{view}
+use Rattle.json_tree.specs.View.{view}
 use Rattle.sm_reservation.specs.Key.{IsOnce}
 use Rattle.sm_reservation.specs.InOrder.{in_order}
 use Rattle.sm_reservation.specs.Lists.{rights_of}

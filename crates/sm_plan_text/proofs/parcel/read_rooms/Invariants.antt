@@ -1,5 +1,5 @@
 use Rattle.std.proofs.Common.{◌≡◌, take, drop, map, []}
-use Rattle.serde_json.specs.View.{view}
+use Rattle.json_tree.specs.View.{view}
 use Rattle.sm_plan_text.specs.Faults.{noted}
 use Rattle.sm_plan_text.specs.Tables.{walked}
 use Rattle.sm_plan_text.specs.Parcels.{room_faults, room_in}

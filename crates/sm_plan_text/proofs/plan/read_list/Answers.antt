@@ -1,6 +1,6 @@
 use Rattle.std.proofs.Common.{◌++◌, [], ◌∙◌, ap}
 use Rattle.std.specs.List.{cons_option}
-use Rattle.serde_json.specs.View.{view}
+use Rattle.json_tree.specs.View.{view}
 use Rattle.sm_plan_text.specs.declared.member.Member.TheVariants as members
 use Rattle.sm_plan_text.specs.Plans.{plan_faults, plan_in}
 use Rattle.sm_plan_text.proofs.WalkLemmas.{mapped_step, walked_step}

@@ -1,6 +1,6 @@
 use Rattle.std.proofs.Common.{◌≡◌, ◌∙◌, ℕ, List, [], Some, ap, sym, subst}
 use Rattle.serde_json.specs.Data.{Data}
-use Rattle.serde_json.specs.View.{view}
+use Rattle.json_tree.specs.View.{view}
 use Rattle.sm_plan_code.specs.Plan.{IsPlan}
 use Rattle.sm_plan_text.specs.Plans.{plan_faults}
 use Rattle.sm_plan_text.proofs.PlanLemmas.{none_at_all}

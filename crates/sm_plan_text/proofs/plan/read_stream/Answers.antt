@@ -1,5 +1,5 @@
 use Rattle.std.proofs.Common.{◌∙◌, [], map, option_map, unwrap_or, ap}
-use Rattle.serde_json.specs.View.{view}
+use Rattle.json_tree.specs.View.{view}
 use Rattle.sm_reservation.specs.Rights.{no_rights}
 use Rattle.sm_plan_text.specs.Tables.{walked}
 use Rattle.sm_plan_text.specs.Parcels.{parcel_in}

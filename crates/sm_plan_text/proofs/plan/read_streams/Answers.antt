@@ -1,5 +1,5 @@
 use Rattle.std.proofs.Common.{◌++◌, ◌∷◌, [], ◌∙◌, ap}
-use Rattle.serde_json.specs.View.{view}
+use Rattle.json_tree.specs.View.{view}
 use Rattle.sm_plan_text.specs.Plans.{stream_faults, stream_in}
 use Rattle.sm_plan_text.proofs.WalkLemmas.{mapped_step, walked_step}
 use Rattle.sm_plan_text.proofs.PlanLemmas.{none_before}

@@ -1,7 +1,7 @@
 use Rattle.std.proofs.Common.{◌≡◌, ◌≤◌, ◌∙◌, ℕ, List, [], length, sym, subst, arith, IfSome}
 use Rattle.std.proofs.lemmas.List.{length-map}
 use Rattle.serde_json.specs.Data.{Data}
-use Rattle.serde_json.specs.View.{view}
+use Rattle.json_tree.specs.View.{view}
 use Rattle.sm_placement.specs.Setup.{Setup, IsSetup, ServerRow, ShardRow}
 use Rattle.sm_plan_code.specs.Plan.{IsKnownPlan}
 use Rattle.sm_plan_text.specs.declared.member.Member.TheVariants as members
