@@ -1,8 +1,8 @@
 -- The targets of the shards that leave a server, one further.
-use Rattle.std.proofs.Common.{◌≡◌, ◌<◌, ◌+◌, ◌-◌, ◌∙◌, inl, inr, ℕ, Bool, true, false, cond, leb, ◌&&◌, Option, Some, None, List, [], ◌∷◌, ◌++◌, length, get_or, set, map, sym, ap, subst, refl, arith, add-one}
+use Rattle.std.proofs.Common.{◌≡◌, ◌<◌, ◌+◌, ◌-◌, ◌∙◌, inl, inr, ℕ, Bool, true, false, ltb, ◌&&◌, Option, Some, None, List, [], ◌∷◌, ◌++◌, length, get_or, set, map, sym, ap, subst, refl, arith, add-one}
 use Rattle.std.specs.Prelude.{MatchOption}
 use Rattle.std.specs.List.{range_with_len}
-use Rattle.std.proofs.lemmas.Bool.{cases_Bool, cases_eq, cases_lt, eq-eqb, ne_eqb, leb-true, leb-false}
+use Rattle.std.proofs.lemmas.Bool.{cases_eq, cases_lt, eq-eqb, ne_eqb, ltb-true, ltb-false}
 use Rattle.std.proofs.lemmas.List.{length-set}
 use Rattle.std.proofs.lemmas.List.FromFn.{length-map-range_with_len, get_or-map-range_with_len}
 use Rattle.std.proofs.lemmas.List.Sums.{sum_by_push}
@@ -30,37 +30,40 @@ most_next has room n (Some u) best h = record {
   ];
 }
 
-pub most_here : (has : ℕ → Bool) (room : ℕ → ℕ) (n : ℕ) (o : Option ℕ) (r : ℕ) → IsBestOf has room n o → has n ≡ true →
-    MatchOption o (r ≡ n) (λ u. r ≡ cond (leb (room n) (room u)) u n) → IsBestOf has room (n + 1) (Some r)
-most_here has room n None r best h is = subst (IsMost has room (n + 1)) (sym is) (record {
+pub most_here : (has : ℕ → Bool) (room : ℕ → ℕ) (n : ℕ) (o : Option ℕ) → IsBestOf has room n o → has n ≡ true →
+    MatchOption o (true ≡ true) (λ u. true ≡ ltb (room u) (room n)) → IsBestOf has room (n + 1) (Some n)
+most_here has room n None best h is = record {
   known = omega arith;
   passes = h;
   most = λ w l p. elim (cases_eq w n) [
     | inl e ↦ inr (ap room e, omega arith)
     | inr e ↦ absurd (let q = best w (omega arith) in let z : true ≡ false = sym p ∙ q in cc)
   ];
-})
-most_here has room n (Some u) r best h is = elim (cases_Bool (leb (room n) (room u))) [
-  | inl e ↦ subst (IsMost has room (n + 1)) (sym (is ∙ ap (λ x. cond x u n) e)) (record {
-    known = (let k = best.known in omega arith);
-    passes = best.passes;
-    most = λ w l p. elim (cases_eq w n) [
-      | inl d ↦ elim (cases_lt (room n) (room u)) [
-        | inl a ↦ inl (subst (λ x. room x < room u) (sym d) a)
-        | inr a ↦ inr (let b = leb-true (room n) (room u) e in ap room d ∙ omega arith, let k = best.known in omega arith)
-      ]
-      | inr d ↦ best.most w (omega arith) p
-    ];
-  })
-  | inr e ↦ subst (IsMost has room (n + 1)) (sym (is ∙ ap (λ x. cond x u n) e)) (record {
-    known = omega arith;
-    passes = h;
-    most = λ w l p. elim (cases_eq w n) [
-      | inl d ↦ inr (ap room d, omega arith)
-      | inr d ↦ inl (let a = leb-false (room n) (room u) e in elim (best.most w (omega arith) p) [ inl x ↦ omega arith | inr x ↦ (let y = x.0 in omega arith) ])
-    ];
-  })
-]
+}
+most_here has room n (Some u) best h is = record {
+  known = omega arith;
+  passes = h;
+  most = λ w l p. elim (cases_eq w n) [
+    | inl d ↦ inr (ap room d, omega arith)
+    | inr d ↦ inl (let a = ltb-true (room u) (room n) (sym is) in elim (best.most w (omega arith) p) [ inl x ↦ omega arith | inr x ↦ (let y = x.0 in omega arith) ])
+  ];
+}
+
+-- a server that has no more room than the best one leaves it, whether it passes or not
+pub most_stays : (has : ℕ → Bool) (room : ℕ → ℕ) (n : ℕ) (o : Option ℕ) → IsBestOf has room n o →
+    MatchOption o (false ≡ true) (λ u. false ≡ ltb (room u) (room n)) → IsBestOf has room (n + 1) o
+most_stays has room n None best is = absurd (cc)
+most_stays has room n (Some u) best is = record {
+  known = (let k = best.known in omega arith);
+  passes = best.passes;
+  most = λ w l p. elim (cases_eq w n) [
+    | inl d ↦ elim (cases_lt (room n) (room u)) [
+      | inl a ↦ inl (subst (λ x. room x < room u) (sym d) a)
+      | inr a ↦ inr (let b = ltb-false (room u) (room n) (sym is) in ap room d ∙ omega arith, let k = best.known in omega arith)
+    ]
+    | inr d ↦ best.most w (omega arith) p
+  ];
+}
 
 -- ---- the room that is left
 

@@ -1,5 +1,5 @@
 //! To which servers the replicas of a server go that is to be emptied.
-ghost use Rattle.std.specs.Prelude.{◌≡◌, ◌<◌, ◌+◌, ◌&&◌, ◌||◌, ◌==◌, ℕ, not, nat_le, true, false, if◌then◌else◌, All, MatchOption, IfOk, IfErr, OnOk, length, slice_index, slice_index_or, slice_set};
+ghost use Rattle.std.specs.Prelude.{◌≡◌, ◌<◌, ◌+◌, ◌&&◌, ◌||◌, ◌==◌, ℕ, not, nat_le, nat_lt, true, false, All, MatchOption, IfOk, IfErr, OnOk, length, slice_index, slice_index_or, slice_set};
 ghost use Rattle.std.specs.Bool.{MatchBool};
 ghost use Rattle.sm_server.specs.Cell.{is_absent};
 ghost use Rattle.sm_placement.specs.Layout.{place_of};
@@ -122,19 +122,39 @@ fn may_take(
     is_spread(alloc, placement, staying, leaving)
 }
 
-/// The better one of two targets: the one with more room left, of equals the first.
-fn better(room: &Amounts, best: Option<ServerId>, to: ServerId) -> ServerId
-    ensures { MatchOption best (result ≡ to) (λ u. result ≡ (if nat_le (slice_index room.now to) (slice_index room.now u) then u else to)) }
+/// There is no target yet, or the server has more room left than it.
+fn is_better(room: &Amounts, best: &Option<ServerId>, to: ServerId) -> bool
+    ensures { MatchOption best.now (result ≡ true) (λ u. result ≡ nat_lt (slice_index room.now u) (slice_index room.now to)) }
 {
     match best {
-        Some(best) => {
-            if room.at(to) <= room.at(best) {
-                best
-            } else {
-                to
-            }
-        }
-        None => to,
+        Some(best) => room.at(*best) < room.at(to),
+        None => true,
+    }
+}
+
+/// The target of the servers up to this one, where that of the lower ones is known. Regions are counted for a server with more
+/// room alone.
+#[tactic(auto, using(crate::proofs::Departing::most_here, crate::proofs::Departing::most_next, crate::proofs::Departing::most_stays))]
+fn target_with(
+    alloc: Global,
+    placement: &Placement,
+    pool: &Pool,
+    room: &Amounts,
+    staying: &[bool],
+    leaving: &Move,
+    best: Option<ServerId>,
+) -> Result<Option<ServerId>, AllocError>
+    requires leaving { IsMoveOf placement.now.setup leaving.now }
+    requires wide { length staying.now ≡ length placement.now.setup.servers }
+    requires staying { (w : ℕ) → w < length placement.now.setup.servers → slice_index_or staying.now w false ≡ (is_replica ((place_of placement.now).cells leaving.now.shard w) && not (w == leaving.now.from)) }
+    requires best { IsBestOf (has_place (basis_of placement.now pool.now) leaving.now.from (slice_index room.now) leaving.now.shard) (slice_index room.now) leaving.now.to best }
+    ensures { IfOk result (IsBestOf (has_place (basis_of placement.now pool.now) leaving.now.from (slice_index room.now) leaving.now.shard) (slice_index room.now) (leaving.now.to + 1)) }
+{
+    let to = leaving.to;
+    if is_better(room, &best, to) && may_take(alloc, placement, pool, room, staying, leaving)? {
+        Ok(Some(to))
+    } else {
+        Ok(best)
     }
 }
 
@@ -156,9 +176,7 @@ fn target(
     for number in 0..placement.config().server_count() {
         let to = ServerId::new(number);
         let leaving = Move { shard, from, to };
-        if may_take(alloc, placement, pool, room, &staying, &leaving)? {
-            best = Some(better(room, best, to));
-        }
+        best = target_with(alloc, placement, pool, room, &staying, &leaving, best)?;
     }
     Ok(best)
 }
