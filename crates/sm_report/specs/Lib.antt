@@ -10,6 +10,7 @@ pub mod Report
 pub mod Early
 pub mod Playing
 pub mod PlayLines
+pub mod RunLines
 pub mod Player
 pub mod Stages
 pub mod Planning

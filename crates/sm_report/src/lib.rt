@@ -2,6 +2,7 @@
 #![tactic(auto)]
 
 mod answers;
+mod asking;
 mod bad_input;
 mod calls;
 mod checks;
@@ -20,6 +21,8 @@ mod player;
 mod playing;
 mod plays;
 mod reporting;
+mod run_lines;
+mod running;
 mod stages;
 mod status;
 mod verdict;
@@ -27,4 +30,5 @@ mod verdict;
 pub use command::{Command, LineFault, Word, command_of};
 pub use input::{InputFault, take_input};
 pub use reporting::{one_report, report, some_report};
+pub use running::report_run;
 pub use status::Status;

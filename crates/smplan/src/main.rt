@@ -6,7 +6,7 @@ ghost use Rattle.std.specs.Prelude.{◌≡◌, IfOk, map, string_bytes};
 #[cfg(test)]
 mod tests;
 
-use sm_report::{LineFault, Status, Word, command_of, report};
+use sm_report::{LineFault, Status, Word, command_of, report, report_run};
 use std::alloc::{AllocError, Global};
 use std::io::ErrorKind;
 use std::process::ExitCode;
@@ -32,43 +32,48 @@ fn texts_of<'a>(alloc: Global, words: &'a [String]) -> Result<Vec<&'a str>, Allo
     Ok(texts)
 }
 
-/// Prints what the words ask for, and says how it ends.
-fn answer(rt: &HostRuntime, words: &[&str]) -> Status {
+/// What the words ask for; where they ask for nothing, what is told of them, and how it ends.
+fn word_named(rt: &HostRuntime, words: &[&str]) -> Result<Word, Status> {
     match command_of(rt.alloc(), words) {
-        Ok(Word::Report(command)) => {
-            report(rt.alloc(), command, &mut rt.reader(), &mut io::writer(rt))
-        }
-        Ok(Word::Run) => unreachable!(),
-        Err(LineFault::NoMemory) => Status::NoMemory,
+        Ok(word) => Ok(word),
+        Err(LineFault::NoMemory) => Err(Status::NoMemory),
         Err(LineFault::Help { text }) => match rt.print(text.as_str()) {
-            Ok(()) => Status::Done,
-            Err(_) => Status::WriteFailed,
+            Ok(()) => Err(Status::Done),
+            Err(_) => Err(Status::WriteFailed),
         },
         Err(LineFault::Bad { text }) => {
             let _ = rt.eprint(text.as_str());
-            Status::BadInput
+            Err(Status::BadInput)
         }
     }
 }
 
-/// Prints what the command line asks for, and says how it ends.
-fn run(rt: &HostRuntime) -> Status {
+/// What the command line asks for; where it asks for nothing, what is told of it, and how it ends.
+fn word_of(rt: &HostRuntime) -> Result<Word, Status> {
     let words = match words_of(rt) {
         Ok(words) => words,
         Err(fault) => {
             if fault.kind() == ErrorKind::OutOfMemory {
-                return Status::NoMemory;
+                return Err(Status::NoMemory);
             }
             let _ = rt.eprintln("error: a word of the command line is not UTF-8");
-            return Status::BadInput;
+            return Err(Status::BadInput);
         }
     };
     match texts_of(rt.alloc(), words.as_slice()) {
-        Ok(texts) => answer(rt, texts.as_slice()),
-        Err(_) => Status::NoMemory,
+        Ok(texts) => word_named(rt, texts.as_slice()),
+        Err(_) => Err(Status::NoMemory),
     }
 }
 
 fn main(rt: HostRuntime) -> ExitCode {
-    ExitCode::from(run(&rt).code())
+    let alloc = rt.alloc();
+    let status = match word_of(&rt) {
+        Ok(Word::Report(command)) => {
+            report(alloc, command, &mut rt.reader(), &mut io::writer(&rt))
+        }
+        Ok(Word::Run) => report_run(&rt, alloc, &mut rt.reader(), &mut io::writer(&rt)),
+        Err(status) => status,
+    };
+    ExitCode::from(status.code())
 }
