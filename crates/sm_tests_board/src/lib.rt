@@ -4,4 +4,6 @@
 #[cfg(test)]
 mod day;
 #[cfg(test)]
+mod run;
+#[cfg(test)]
 mod world;
