@@ -4,3 +4,4 @@ pub mod Ranges
 pub mod Starting
 pub mod StillRunning
 pub mod PlanCount
+pub mod MachineSent

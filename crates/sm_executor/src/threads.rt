@@ -4,7 +4,6 @@
 //! thread did to its runner is not told to who joins it: the locked machine says of each runner whether its stream has made its end,
 //! and the ends are compared with the streams that were noted before.
 ghost use Rattle.std.specs.Prelude.{◌≡◌, ◌≤◌, ◌+◌, IfOk, length, map, true, vec_len, vec_capacity};
-ghost use Rattle.std.specs.Thread.{IsSend};
 ghost use Rattle.sm_executor.specs.Views.{streams_ended, streams_run};
 
 use crate::board::Board;
@@ -12,7 +11,6 @@ use crate::gate::{Gate, Starter, drive};
 use crate::names::{Naming, Side};
 use crate::runner::{Ended, Runner};
 use crate::sure::Sure;
-use sm_machine::Machine;
 use sm_reservation::StreamId;
 use std::alloc::{AllocError, Global};
 use std::sync::Wait;
@@ -59,11 +57,6 @@ fn outcome(all: bool, starter: Starter) -> Ran {
     }
 }
 
-/// A law: values of the type may go to another thread.
-fn goes_to_threads<T: Send>()
-    ensures { IsSend T.row }
-{}
-
 /// Makes the steps of each runner's stream in a thread of its own.
 fn run_all<
     A: Side + Send + Sync,
@@ -76,7 +69,6 @@ fn run_all<
     let starter = Starter::new();
     let start = &starter;
     let all = thread::scope(thread::scope_env(), rt, |scope| {
-        goes_to_threads::<Machine>();
         for runner in runners.iter_mut() {
             if scope
                 .spawn(move || {
