@@ -56,31 +56,9 @@ plans_send : IsSend Plans.the_row
 plans_send = view_send InPlans.the_row _ _ _ _ (recorded_send (InPlans.the_field).row _ _ (InPlans.the_type).to_one (struct_send (shape InPlans.the_type) (tree_send, (plain_send _ _ _ _ _, tt))))
 
 engine_send : IsSend Engine.the_row
-engine_send = view_send InEngine.the_row _ _ _ _ (recorded_send (InEngine.the_field).row _ _ (InEngine.the_type).to_one (struct_send (shape InEngine.the_type) (
-    opening_send,
-    (
-      placement_send,
-      (
-        pool_send,
-        (
-          search (crosses, sendable) depth 30,
-          (
-            search (crosses, sendable) depth 30,
-            (
-              plain_send _ _ _ _ _,
-              (
-                plans_send,
-                (
-                  begun_send,
-                  (journal_send, (plain_send _ _ _ _ _, (search (crosses, sendable) depth 30, (plain_send _ _ _ _ _, (plain_send _ _ _ _ _, tt))))),
-                ),
-              ),
-            ),
-          ),
-        ),
-      ),
-    ),
-  ))))
+engine_send = view_send InEngine.the_row _ _ _ _ (recorded_send (InEngine.the_field).row _ _ (InEngine.the_type).to_one (struct_send (shape InEngine.the_type)
+    (opening_send, (placement_send, (pool_send, (search (crosses, sendable) depth 30, (search (crosses, sendable) depth 30, (plain_send _ _ _ _ _, (plans_send, (begun_send, (journal_send,
+    (plain_send _ _ _ _ _, (search (crosses, sendable) depth 30, (plain_send _ _ _ _ _, (plain_send _ _ _ _ _, tt)))))))))))))))
 
 pub machine_send : IsSend Machine.the_row
 machine_send = view_send InMachine.the_row _ _ _ _ (recorded_send (InMachine.the_field).row _ _ (InMachine.the_type).to_one (struct_send (shape InMachine.the_type) (engine_send, tt)))
