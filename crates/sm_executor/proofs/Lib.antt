@@ -5,3 +5,4 @@ pub mod Starting
 pub mod StillRunning
 pub mod PlanCount
 pub mod MachineSent
+pub mod BoardSent

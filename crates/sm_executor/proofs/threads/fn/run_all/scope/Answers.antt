@@ -1,14 +1,11 @@
 -- What a thread captures may go to it.
+use denote.Param.{param}
 use denote.Param.Send.{sendable}
-use Rattle.std.proofs.Crossing.{crosses}
-use Rattle.std.proofs.sync.ledger.Book.TheSendSync.{the_send as book_send}
-use Rattle.std.proofs.sync.ledger.Share.TheSendSync.{the_send as share_send}
-use Rattle.sm_map.proofs.map.Publisher.TheSendSync.{the_send as publisher_send}
-use Rattle.sm_map.proofs.map.Words.TheSendSync.{the_sync as words_sync}
-use Rattle.sm_placement.proofs.config.Config.TheSendSync.{the_sync as config_sync}
-use Rattle.sm_executor.proofs.MachineSent.{machine_send}
+use Rattle.sm_executor.proofs.BoardSent.{board_sync, starter_sync}
 use Rattle.sm_executor.proofs.runner.Runner.TheSendSync.{the_send as runner_send}
 use Rattle.sm_executor.proofs.threads.fn.run_all.scope.Goals as goal
 
 pub spawn-requires-send-F : goal.spawn-requires-send-F
-spawn-requires-send-F g c = λ κs b. search (machine_send, runner_send, words_sync, config_sync, publisher_send, book_send, share_send, sendable, crosses) depth 60 fits 20000
+spawn-requires-send-F g c = λ κs b.
+    let board = board_sync (param 0 g.row.A) (param 1 g.row.B) (param 2 g.row.C) (param 3 g.row.N) g.A.Side g.B.Side g.C.Side g.N.Naming g.A.Ledger g.B.Ledger g.C.Ledger in
+    search (board, starter_sync, runner_send, sendable) depth 30
