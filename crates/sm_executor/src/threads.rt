@@ -11,6 +11,7 @@ use crate::gate::{Gate, Starter, drive};
 use crate::names::{Naming, Side};
 use crate::runner::{Ended, Runner};
 use crate::sure::Sure;
+use sm_machine::Link;
 use sm_reservation::StreamId;
 use std::alloc::{AllocError, Global};
 use std::sync::Wait;
@@ -57,24 +58,28 @@ fn outcome(all: bool, starter: Starter) -> Ran {
     }
 }
 
-/// Makes the steps of each runner's stream in a thread of its own.
+/// Makes the steps of each runner's stream over its link, in a thread of its own.
 fn run_all<
     A: Side + Send + Sync,
     B: Side + Send + Sync,
     C: Side + Send + Sync,
     N: Naming + Send + Sync,
+    L: Link + Send,
     R: Threads + Wait + Sync,
     G: Gate + Sync,
->(rt: &R, board: &Board<A, B, C, N>, runners: &mut [Runner<A>], gate: &G) -> Ran {
+>(
+    rt: &R,
+    board: &Board<A, B, C, N>,
+    runners: &mut [Runner<A>],
+    links: &mut [L],
+    gate: &G,
+) -> Ran {
     let starter = Starter::new();
     let start = &starter;
     let all = thread::scope(thread::scope_env(), rt, |scope| {
-        for runner in runners.iter_mut() {
+        for (runner, link) in runners.iter_mut().zip(links.iter_mut()) {
             if scope
-                .spawn(move || {
-                    let mut link = Sure;
-                    drive(rt, board, start, gate, runner, &mut link)
-                })
+                .spawn(move || drive(rt, board, start, gate, runner, link))
                 .is_err()
             {
                 start.tell(rt, false);
@@ -165,12 +170,14 @@ fn answer<A: Side, B: Side, C: Side, N: Naming, R: Wait>(
     }
 }
 
-/// Makes all steps of the runners' streams, each in a thread of its own. With Ok there is an end for each runner, in their order.
-pub fn run<
+/// Makes all steps of the runners' streams, each in a thread of its own and over the link in its runner's place. The links end with
+/// the run. With Ok there is an end for each runner, in their order.
+pub fn run_over<
     A: Side + Send + Sync,
     B: Side + Send + Sync,
     C: Side + Send + Sync,
     N: Naming + Send + Sync,
+    L: Link + Send + Drop,
     R: Threads + Wait + Sync,
     G: Gate + Sync,
 >(
@@ -179,7 +186,9 @@ pub fn run<
     board: &Board<A, B, C, N>,
     mut runners: Vec<Runner<A>>,
     gate: &G,
+    mut links: Vec<L>,
 ) -> Result<Vec<Ended<A>>, RunFault<A>>
+    requires { vec_len links ≡ vec_len runners }
     ensures { IfOk result (λ ended. streams_ended ended.items ≡ streams_run runners.items) }
 {
     let Ok(streams) = streams_of(alloc, runners.as_slice()) else {
@@ -192,11 +201,45 @@ pub fn run<
         ended.destroy_empty();
         return Err(RunFault::NoMemory(runners));
     };
-    let ran = run_all(rt, board, runners.as_mut_slice(), gate);
+    let ran = run_all(rt, board, runners.as_mut_slice(), links.as_mut_slice(), gate);
     if ran == Ran::NotAll {
         ended.destroy_empty();
         left.destroy_empty();
         return Err(RunFault::NoThread(runners));
     }
     answer(rt, board, runners, streams.as_slice(), ended, left, ran)
+}
+
+/// So many links that lose nothing.
+fn sure_links(alloc: Global, count: usize) -> Result<Vec<Sure>, AllocError>
+    ensures { IfOk result (λ links. vec_len links ≡ count) }
+{
+    let mut links = Vec::new(alloc);
+    for i in 0..count {
+        links.push(Sure)?;
+    }
+    Ok(links)
+}
+
+/// Makes all steps of the runners' streams, each in a thread of its own. With Ok there is an end for each runner, in their order.
+pub fn run<
+    A: Side + Send + Sync,
+    B: Side + Send + Sync,
+    C: Side + Send + Sync,
+    N: Naming + Send + Sync,
+    R: Threads + Wait + Sync,
+    G: Gate + Sync,
+>(
+    rt: &R,
+    alloc: Global,
+    board: &Board<A, B, C, N>,
+    runners: Vec<Runner<A>>,
+    gate: &G,
+) -> Result<Vec<Ended<A>>, RunFault<A>>
+    ensures { IfOk result (λ ended. streams_ended ended.items ≡ streams_run runners.items) }
+{
+    match sure_links(alloc, runners.len()) {
+        Ok(links) => run_over(rt, alloc, board, runners, gate, links),
+        Err(_) => Err(RunFault::NoMemory(runners)),
+    }
 }
