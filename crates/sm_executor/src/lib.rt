@@ -6,6 +6,7 @@ mod board;
 mod caller;
 mod closing;
 mod ground;
+mod guard_law;
 mod held;
 mod names;
 mod runner;
