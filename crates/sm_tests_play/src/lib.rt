@@ -3,20 +3,10 @@
 #![tactic(auto)]
 
 #[cfg(test)]
-mod events;
-#[cfg(test)]
-mod known;
-#[cfg(test)]
 mod memory;
 #[cfg(test)]
 mod playing;
 #[cfg(test)]
 mod random;
 #[cfg(test)]
-mod singles;
-#[cfg(test)]
 mod starting;
-#[cfg(test)]
-mod table;
-#[cfg(test)]
-mod worlds;

@@ -1,11 +1,11 @@
 //! Plans that are made ready and events that are played, or for which there is no memory. `scripts/check-memory-tests` runs each of
 //! these tests with its first allocation refused, then with its second, and so on.
-use super::events::{approve, arrive, begin, pass_on, step};
-use super::table::{Table, open};
-use super::worlds::{is_handover, plan_of, s_to_b};
 use sm_machine::make_ready;
 use sm_protocol::{Event, Played};
 use sm_server::{ServerId, ShardId};
+use sm_tests_worlds::events::{approve, arrive, begin, pass_on, step};
+use sm_tests_worlds::table::{Table, open};
+use sm_tests_worlds::worlds::{is_handover, plan_of, s_to_b};
 use sm_verifier::Checked;
 use std::alloc::Global;
 use std::process::Abort;

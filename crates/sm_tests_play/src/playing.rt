@@ -1,15 +1,15 @@
 //! Worked lists of events.
-use super::events::{
-    Turn, approve, arrive, begin, begun, done, executed, lose, pass_on, passed, refill, step,
-    stream,
-};
-use super::table::{Table, must_open};
-use super::worlds::{Move, assert_cells, s_to_b};
 use sm_machine::BeginFault;
 use sm_protocol::{Played, RefillFault};
 use sm_reservation::Key;
 use sm_server::{Cell, ServerId, ShardId};
 use sm_task_controller::Denied;
+use sm_tests_worlds::events::{
+    Turn, approve, arrive, begin, begun, done, executed, lose, pass_on, passed, refill, step,
+    stream,
+};
+use sm_tests_worlds::table::{Table, must_open};
+use sm_tests_worlds::worlds::{Move, assert_cells, s_to_b};
 use sm_verifier::Holding;
 use std::alloc::Global;
 use std::process::Abort;

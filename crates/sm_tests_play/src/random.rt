@@ -1,11 +1,11 @@
 //! Random events, made by single calls and then by one list.
 ghost use Rattle.std.specs.Prelude.{◌<◌};
 
-use super::events::{approve, arrive, begin, done, lose, pass_on, refill, step};
-use super::table::{Table, must_open, put};
-use super::worlds::{Move, server_id, shard_id};
 use sm_placement::Placement;
 use sm_protocol::{Event, Played};
+use sm_tests_worlds::events::{approve, arrive, begin, done, lose, pass_on, refill, step};
+use sm_tests_worlds::table::{Table, must_open, put};
+use sm_tests_worlds::worlds::{Move, server_id, shard_id};
 use std::alloc::Global;
 use std::process::Abort;
 

@@ -1,11 +1,11 @@
 //! Plans that are made ready and start by single calls, and tokens that are retired.
-use super::events::stream;
-use super::known::is_for;
-use super::table::{Table, must_open, put};
-use super::worlds::{is_handover, plan_of, s_to_b};
 use sm_machine::{BeginFault, ReadyPlan, Step, make_ready};
 use sm_reservation::Key;
 use sm_server::{ServerId, ShardId};
+use sm_tests_worlds::events::stream;
+use sm_tests_worlds::known::is_for;
+use sm_tests_worlds::table::{Table, must_open, put};
+use sm_tests_worlds::worlds::{is_handover, plan_of, s_to_b};
 use sm_verifier::Holding;
 use std::alloc::Global;
 use std::process::Abort;

@@ -12,7 +12,7 @@ use sm_protocol::Event;
 use sm_verifier::Checked;
 
 /// The event names known shards and servers, and a refill is within its limit.
-fn is_known(config: &Config, event: &Event) -> bool
+pub fn is_known(config: &Config, event: &Event) -> bool
     ensures { IsTrue result → NamesKnown (sizes_of config.now) event.now }
 {
     match *event {
@@ -33,7 +33,7 @@ fn is_known(config: &Config, event: &Event) -> bool
 }
 
 /// Each event names what is known to the machine.
-pub(crate) fn are_known(machine: &Machine, events: &[Event]) -> bool
+pub fn are_known(machine: &Machine, events: &[Event]) -> bool
     ensures { IsTrue result → AllByRecursion (NamesKnown (state_of machine.now).sizes) events.now }
 {
     let config = machine.config();
@@ -47,7 +47,7 @@ pub(crate) fn are_known(machine: &Machine, events: &[Event]) -> bool
 }
 
 /// The plan was checked for the machine's configuration.
-pub(crate) fn is_for(machine: &Machine, checked: &Checked) -> bool
+pub fn is_for(machine: &Machine, checked: &Checked) -> bool
     ensures { IsTrue result → checked.now.setup ≡ machine.now.placement.setup }
 {
     checked.config() == machine.config()
@@ -64,7 +64,7 @@ fn fits(machine: &Machine, plan: &Option<ReadyPlan>) -> bool
 }
 
 /// Each plan of a hand was checked for the machine's configuration.
-pub(crate) fn are_for(machine: &Machine, plans: &[Option<ReadyPlan>]) -> bool
+pub fn are_for(machine: &Machine, plans: &[Option<ReadyPlan>]) -> bool
     ensures { IsTrue result → AreFor machine.now.placement.setup plans.now }
 {
     for plan in plans {

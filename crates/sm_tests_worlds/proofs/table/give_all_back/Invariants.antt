@@ -1,5 +1,5 @@
 use Rattle.std.proofs.Common.{◌≡◌, ◌+◌, length}
-use Rattle.sm_tests_play.proofs.table.give_all_back.Given as goal
+use Rattle.sm_tests_worlds.proofs.table.give_all_back.Given as goal
 
 -- as many plans are left as rounds are to come
 abbrev pub invariant-loop : goal.invariant-loop

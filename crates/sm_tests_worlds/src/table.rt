@@ -1,21 +1,22 @@
 //! A machine, and the hand that lists of events are played with.
-use super::events::Turn;
-use super::known::{are_for, are_known};
-use super::worlds::{Move, placement, plan_of};
+use crate::events::Turn;
+use crate::known::{are_for, are_known};
+use crate::worlds::{Move, placement, plan_of};
 use sm_machine::{Hand, Machine, ReadyPlan, make_ready};
 use sm_placement::Placement;
 use sm_protocol::{Event, Played};
+use sm_verifier::Checked;
 use std::alloc::{AllocError, AllocFailed, Global};
 use std::process::Abort;
 
 /// A machine, and the hand that lists of events are played with.
-pub(crate) struct Table {
+pub struct Table {
     pub machine: Machine,
     pub hand: Hand,
 }
 
 /// Opens a machine over the worked placement, with so many places of the log and an empty hand.
-pub(crate) fn open(rt: &impl Abort, alloc: Global, log_room: u32) -> Result<Table, AllocError> {
+pub fn open(rt: &impl Abort, alloc: Global, log_room: u32) -> Result<Table, AllocError> {
     let placement = placement(alloc)?;
     assert!(rt; placement.settled());
     match Machine::open(alloc, placement, log_room) {
@@ -55,7 +56,7 @@ fn give_all_back(plans: Vec<Option<ReadyPlan>>) {
 }
 
 /// Opens a machine over the worked placement, for which there is memory.
-pub(crate) fn must_open(rt: &impl Abort, alloc: Global, log_room: u32) -> Table {
+pub fn must_open(rt: &impl Abort, alloc: Global, log_room: u32) -> Table {
     match open(rt, alloc, log_room) {
         Ok(table) => table,
         Err(_) => panic!(rt; "there is no memory for a machine"),
@@ -63,7 +64,7 @@ pub(crate) fn must_open(rt: &impl Abort, alloc: Global, log_room: u32) -> Table 
 }
 
 /// Puts what a machine gives out into the hand.
-pub(crate) fn put<T>(rt: &impl Abort, list: &mut Vec<T>, value: T) {
+pub fn put<T>(rt: &impl Abort, list: &mut Vec<T>, value: T) {
     match list.push(value) {
         Ok(()) => {}
         Err(_) => panic!(rt; "there is no memory for a hand"),
@@ -74,6 +75,11 @@ impl Table {
     /// Puts the plan of a handover behind those in the hand.
     pub fn add_plan(&mut self, alloc: Global, moved: &Move) -> Result<(), AllocError> {
         let checked = plan_of(alloc, moved)?;
+        self.add_checked(alloc, checked)
+    }
+
+    /// Puts a plan behind those in the hand.
+    pub fn add_checked(&mut self, alloc: Global, checked: Checked) -> Result<(), AllocError> {
         let ready = match make_ready(alloc, checked) {
             Ok(ready) => ready,
             Err(_) => return Err(AllocError),
@@ -143,7 +149,7 @@ fn events_of(alloc: Global, turns: &[Turn]) -> Result<Vec<Event>, AllocError> {
 }
 
 /// Asserts that the events of turns are answered so.
-pub(crate) fn assert_answers(rt: &impl Abort, answers: &[Played], turns: &[Turn]) {
+pub fn assert_answers(rt: &impl Abort, answers: &[Played], turns: &[Turn]) {
     assert_eq!(rt; answers.len(), turns.len());
     for at in 0..turns.len() {
         assert!(rt; at < answers.len());

@@ -1,6 +1,6 @@
 use Rattle.std.specs.Prelude.{IfSome}
-use Rattle.sm_tests_play.proofs.Tested.{AllBefore, IsFor}
-use Rattle.sm_tests_play.proofs.known.are_for.Given as goal
+use Rattle.sm_tests_worlds.proofs.Tested.{AllBefore, IsFor}
+use Rattle.sm_tests_worlds.proofs.known.are_for.Given as goal
 
 -- the plans so far were checked for the machine's configuration
 abbrev pub invariant-loop-plan : goal.invariant-loop-plan

@@ -17,7 +17,7 @@ static SERVERS: [(&str, u64); 3] = [("a", 10), ("b", 10), ("c", 4)];
 static SHARDS: [(&str, u64, u32, u32); 2] = [("s", 4, 2, 1), ("t", 6, 1, 0)];
 
 /// The configuration.
-pub(crate) fn config(alloc: Global) -> Result<Config, AllocError> {
+pub fn config(alloc: Global) -> Result<Config, AllocError> {
     let mut servers = Vec::new(alloc);
     for (name, room) in &SERVERS {
         servers.push(Server {
@@ -40,7 +40,7 @@ pub(crate) fn config(alloc: Global) -> Result<Config, AllocError> {
 }
 
 /// The placement, of which one server may be down.
-pub(crate) fn placement(alloc: Global) -> Result<Placement, AllocError> {
+pub fn placement(alloc: Global) -> Result<Placement, AllocError> {
     let config = config(alloc)?;
     let cells = [
         (ShardId::new(0), ServerId::new(0), Cell::Primary),
@@ -53,7 +53,7 @@ pub(crate) fn placement(alloc: Global) -> Result<Placement, AllocError> {
 
 /// A shard goes from one server to another, where it has so much load, with so many retries.
 #[derive(Clone, Copy)]
-pub(crate) struct Move {
+pub struct Move {
     pub shard: u32,
     pub from: u32,
     pub to: u32,
@@ -62,13 +62,24 @@ pub(crate) struct Move {
 }
 
 /// Shard s goes between a and b, from a first, with so many retries.
-pub(crate) const fn s_to_b(retries: u32) -> Move {
+pub const fn s_to_b(retries: u32) -> Move {
     Move {
         shard: 0,
         from: 0,
         to: 1,
         load: 4,
         retries,
+    }
+}
+
+/// Shard t goes from b to a.
+pub const fn t_to_a() -> Move {
+    Move {
+        shard: 1,
+        from: 1,
+        to: 0,
+        load: 6,
+        retries: 0,
     }
 }
 
@@ -124,18 +135,23 @@ const fn handover(moved: &Move) -> [Instr; 5] {
     ]
 }
 
-/// The plan of a handover by one stream, with its check.
-pub(crate) fn plan_of(alloc: Global, moved: &Move) -> Result<Checked, AllocError> {
+/// The plan of one stream, which holds at its start what a handover holds, with its check.
+fn plan_by(
+    alloc: Global,
+    moved: &Move,
+    budget: u32,
+    code: Vec<Instr>,
+) -> Result<Checked, AllocError> {
     let stream = Stream {
-        budget: 4,
+        budget,
         retries: moved.retries,
         holds: held(alloc, moved)?,
-        code: Vec::from_array(alloc, handover(moved))?,
+        code,
     };
     let mut streams = Vec::new(alloc);
     streams.push(stream)?;
     let parts = Parts {
-        budget: 4 + moved.retries.min(100),
+        budget: budget.saturating_add(moved.retries.min(100)),
         streams,
         signals: Vec::new(alloc),
     };
@@ -147,14 +163,42 @@ pub(crate) fn plan_of(alloc: Global, moved: &Move) -> Result<Checked, AllocError
     check(alloc, &config, plan).map_err(|_| AllocError)
 }
 
+/// The plan of a handover by one stream, with its check.
+pub fn plan_of(alloc: Global, moved: &Move) -> Result<Checked, AllocError> {
+    plan_by(alloc, moved, 4, Vec::from_array(alloc, handover(moved))?)
+}
+
+/// The plan by which shard s goes to b, back to a, and is prepared at b a third time, which is then called off, with its check.
+pub fn three_handovers(alloc: Global) -> Result<Checked, AllocError> {
+    let there = s_to_b(0);
+    let back = Move {
+        from: there.to,
+        to: there.from,
+        ..there
+    };
+    let mut code = Vec::from_array(alloc, handover(&there))?;
+    for instr in &handover(&back) {
+        code.push(*instr)?;
+    }
+    let (shard, server) = (ShardId::new(there.shard), ServerId::new(there.to));
+    let owner = ServerId::new(there.from);
+    code.push(Instr::PrepareAdd {
+        shard,
+        server,
+        owner,
+    })?;
+    code.push(Instr::Drop { shard, server })?;
+    plan_by(alloc, &there, 10, code)
+}
+
 /// The plan is that of one handover.
-pub(crate) fn is_handover(checked: &Checked) -> bool {
+pub fn is_handover(checked: &Checked) -> bool {
     let streams = checked.plan().streams();
     streams.len() == 1 && checked.order().len() == 6
 }
 
 /// The id of a server, which has to be there.
-pub(crate) fn server_id(rt: &impl Abort, placement: &Placement, server: u32) -> ServerId
+pub fn server_id(rt: &impl Abort, placement: &Placement, server: u32) -> ServerId
     ensures { result < length placement.now.setup.servers }
 {
     assert!(rt; server < placement.config().server_count());
@@ -162,7 +206,7 @@ pub(crate) fn server_id(rt: &impl Abort, placement: &Placement, server: u32) -> 
 }
 
 /// The id of a shard, which has to be there.
-pub(crate) fn shard_id(rt: &impl Abort, placement: &Placement, shard: u32) -> ShardId
+pub fn shard_id(rt: &impl Abort, placement: &Placement, shard: u32) -> ShardId
     ensures { result < length placement.now.setup.shards }
 {
     assert!(rt; shard < placement.config().shard_count());
@@ -170,7 +214,7 @@ pub(crate) fn shard_id(rt: &impl Abort, placement: &Placement, shard: u32) -> Sh
 }
 
 /// Asserts what the servers a, b and c have of a shard.
-pub(crate) fn assert_cells(rt: &impl Abort, placement: &Placement, shard: u32, cells: [Cell; 3]) {
+pub fn assert_cells(rt: &impl Abort, placement: &Placement, shard: u32, cells: [Cell; 3]) {
     let shard = shard_id(rt, placement, shard);
     let servers = placement.config().server_count();
     assert_eq!(rt; servers, 3);

@@ -1,7 +1,7 @@
 //! Events made by single calls, with what a hand has for them.
-use super::known::is_for;
-use super::table::{Table, put};
-use super::worlds::{server_id, shard_id};
+use crate::known::is_for;
+use crate::table::{Table, put};
+use crate::worlds::{server_id, shard_id};
 use sm_machine::{Answer, Link, ReadyPlan, Step, StreamToken, Ticket};
 use sm_protocol::{Event, Passage, Played};
 use sm_reservation::StreamId;
@@ -10,9 +10,9 @@ use std::process::Abort;
 
 /// Loses each try in the same way, as long as it can count.
 #[derive(Drop)]
-struct Loses {
-    after: bool,
-    lost: u64,
+pub struct Loses {
+    pub after: bool,
+    pub lost: u64,
 }
 
 impl Link for Loses {
@@ -40,7 +40,7 @@ impl Link for Loses {
 }
 
 /// What a step is answered, as lists of events have it.
-fn played_of(step: Step) -> Played {
+pub fn played_of(step: Step) -> Played {
     match step {
         Step::Moved => Played::Moved,
         Step::Blocked { signal } => Played::Blocked { signal },
@@ -53,7 +53,7 @@ fn played_of(step: Step) -> Played {
 }
 
 /// What a request is answered, as lists of events have it.
-fn answered(answer: &Answer) -> Played {
+pub fn answered(answer: &Answer) -> Played {
     match answer {
         Answer::Executed { server } => Played::Executed { server: *server },
         Answer::Passed(ticket) => Played::Passed {
@@ -79,7 +79,7 @@ fn token_place(tokens: &[StreamToken], id: StreamId) -> Option<usize> {
 }
 
 /// The place of the ticket of a pass.
-fn ticket_place(tickets: &[Ticket], place: u32) -> Option<usize> {
+pub fn ticket_place(tickets: &[Ticket], place: u32) -> Option<usize> {
     for at in 0..tickets.len() {
         if tickets[at].place() == place {
             return Some(at);
