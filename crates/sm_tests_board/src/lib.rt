@@ -1,7 +1,17 @@
-//! Tests of the public calls of sm_executor, in a crate of their own: nothing here is part of the product.
+//! Tests of the public calls of sm_router and sm_executor, in a crate of their own: nothing here is part of the product.
 #![tactic(auto)]
 
 #[cfg(test)]
+mod asking;
+#[cfg(test)]
+mod boards;
+#[cfg(test)]
 mod day;
 #[cfg(test)]
-mod world;
+mod given;
+#[cfg(test)]
+mod map_and_asks;
+#[cfg(test)]
+mod memory;
+#[cfg(test)]
+mod played;
