@@ -4,3 +4,6 @@ pub mod Ranges
 pub mod Starting
 pub mod StillRunning
 pub mod PlanCount
+pub mod MachineSent
+pub mod BoardSent
+pub mod CapturedSent

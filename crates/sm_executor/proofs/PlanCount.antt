@@ -1,5 +1,5 @@
 -- The number of plans that were begun.
-use Rattle.std.proofs.Common.{◌≡◌, ◌≤◌, ℕ, Bool, true, false, arith, length}
+use Rattle.std.proofs.Common.{◌≡◌, ◌≤◌, Bool, true, false, arith, length}
 use Rattle.std.specs.Prelude.{if◌then◌else◌, nat_le, ◌||◌}
 use Rattle.std.proofs.lemmas.Bool.{ltb-false}
 use Rattle.sm_placement.specs.Setup.{Setup}

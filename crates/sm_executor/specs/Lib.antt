@@ -3,3 +3,4 @@ pub mod Counting
 pub mod Tied
 pub mod Views
 pub mod Closed
+pub mod CameBack

@@ -1,5 +1,5 @@
 -- What contracts see of what lies behind the lock, of a runner, of an end and of a caller.
-use Rattle.std.specs.Prelude.{◌≡◌, ◌<◌, ℕ, ◌-◌, List, length, slice_index_or}
+use Rattle.std.specs.Prelude.{◌≡◌, ◌<◌, ℕ, ◌-◌, List, length, map, slice_index_or}
 use Rattle.sm_placement.specs.declared.entry.Entry.{Entry}
 use Rattle.sm_reservation.specs.declared.stream_id.StreamId.{StreamId}
 use Rattle.sm_protocol.specs.State.{State, stream_id, progress_of, allowance}
@@ -44,6 +44,13 @@ pub record Finished : Type 0 where
 
 abbrev pub finished : StreamId → ℕ → ℕ → ℕ → ℕ → Finished
 finished stream steps calls budget counted = record { stream = stream; steps = steps; calls = calls; budget = budget; counted = counted }
+
+-- which streams these ends are of, and which these runners are
+abbrev pub streams_ended : List Finished → List StreamId
+streams_ended ended = map (λ e. e.stream) ended
+
+abbrev pub streams_run : List Running → List StreamId
+streams_run runners = map (λ r. r.stream) runners
 
 -- the end that a runner of the stream comes to
 abbrev pub end_in : State → Running → Finished

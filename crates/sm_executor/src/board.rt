@@ -60,6 +60,14 @@ impl<'b, A: Side, B: Side, C: Side, N: Naming> Model for Guard<'b, A, B, C, N> {
     ghost view = { λ g. mutex_guard_value g.held };
 }
 
+/// The stream waits for a signal.
+fn is_blocked(step: Step) -> bool {
+    match step {
+        Step::Blocked { .. } => true,
+        _ => false,
+    }
+}
+
 impl<A: Side, B: Side, C: Side, N: Naming> Board<A, B, C, N> {
     /// A board over what is to lie behind its lock, beside the words, the configuration, and room for the streams that have not
     /// made their ends.
@@ -154,6 +162,32 @@ impl<A: Side, B: Side, C: Side, N: Naming> Board<A, B, C, N> {
         let step = self.held.lock(rt).step(&self.words, runner);
         self.moved.notify_all();
         step
+    }
+
+    /// How many instructions the runner's stream has made. None where it was not begun, or has made its end.
+    pub(crate) fn position<R: Wait>(&self, rt: &R, runner: &Runner<A>) -> Option<usize> {
+        self.held.lock(rt).position(runner)
+    }
+
+    /// The runner's next step over a link that is not Blocked: it waits for the signal.
+    pub(crate) fn step_or_wait<R: Wait, L: Link>(
+        &self,
+        rt: &R,
+        runner: &mut Runner<A>,
+        link: &mut L,
+    ) -> Step
+        ensures { runner.new.stream ≡ runner.old.stream }
+    {
+        let mut held = self.held.lock(rt);
+        for _ in rt.forever() {
+            let step = held.step_over(&self.words, runner, link);
+            if !is_blocked(step) {
+                self.moved.notify_all();
+                return step;
+            }
+            held = self.moved.wait(rt, held);
+        }
+        unreachable!()
     }
 
     /// Streams stop, and those that wait are woken: their steps are answered Halted.

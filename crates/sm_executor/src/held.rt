@@ -5,7 +5,7 @@
 ghost use Rattle.std.specs.Prelude.{◌≡◌, ◌≢◌, OnOk, OnErr, ◌<◌, ◌≤◌, ◌+◌, ◌^◌, ◌++◌, ◌∷◌, [], length, IfOk, IfErr, IfSome, IfNone, true, false};
 ghost use Rattle.sm_placement.specs.Place.{entry_at};
 ghost use Rattle.sm_map.specs.History.{NoneNewer};
-ghost use Rattle.sm_protocol.specs.State.{progress_of};
+ghost use Rattle.sm_protocol.specs.State.{progress_of, is_running};
 ghost use Rattle.sm_protocol.specs.Steps.{Answered};
 ghost use Rattle.sm_protocol.specs.Happens as happening;
 ghost use Rattle.sm_protocol.specs.Happens.{happens};
@@ -247,6 +247,19 @@ impl<A: Side, B: Side, C: Side, N: Naming> Held<A, B, C, N> {
                 runners.destroy_empty();
                 Err(back)
             }
+        }
+    }
+
+    /// How many instructions the runner's stream has made. None where it was not begun, or has made its end.
+    pub fn position(&self, runner: &Runner<A>) -> Option<usize>
+        ensures some { IfSome result (λ at. (is_running (state_in self.now) runner.now.stream ≡ true) × (at ≡ (progress_of (state_in self.now) runner.now.stream).at)) }
+        ensures none { IfNone result (is_running (state_in self.now) runner.now.stream ≡ false) }
+    {
+        let stream = runner.id();
+        if self.machine.is_begun(stream) && !self.machine.is_done(stream) {
+            Some(self.machine.position(stream))
+        } else {
+            None
         }
     }
 

@@ -1,0 +1,6 @@
+use Rattle.std.proofs.Common.{◌≡◌}
+use Rattle.sm_executor.proofs.board.Board.step_or_wait.Given as goal
+
+-- the runner is of the same stream
+abbrev pub invariant-loop : goal.invariant-loop
+invariant-loop g l = (goal.iterator-loop g).can_next l.iterator' × (goal.iterator-loop g).is_finite l.iterator' × (l.runner.stream ≡ l.initial.runner.stream)

@@ -1,0 +1,16 @@
+-- What a thread captures may go to it.
+use denote.Exit.{no}
+use denote.Param.{param}
+use denote.Param.Send.{IsSync, sendable}
+use Rattle.sm_executor.proofs.BoardSent.{board_sync, starter_sync}
+use Rattle.sm_executor.proofs.CapturedSent.{shares_send}
+use Rattle.sm_executor.proofs.runner.Runner.TheSendSync.{the_send as runner_send}
+use Rattle.sm_executor.proofs.threads.fn.run_all.scope.Goals as goal
+
+pub spawn-requires-send-F : goal.spawn-requires-send-F
+spawn-requires-send-F g c = λ κs b.
+    let runtime : IsSync (param 4 g.row.R) = search sendable depth 20 in
+    let gate : IsSync (param 5 g.row.G) = search sendable depth 20 in
+    let board = board_sync (param 0 g.row.A) (param 1 g.row.B) (param 2 g.row.C) (param 3 g.row.N) g.A.Side g.B.Side g.C.Side g.N.Naming g.A.Ledger g.B.Ledger g.C.Ledger in
+    let runner = runner_send (param 0 g.row.A) g.A.Side g.A.Ledger in
+    shares_send no _ _ _ _ _ _ runtime board starter_sync gate runner

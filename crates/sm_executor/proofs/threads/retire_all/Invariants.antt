@@ -1,0 +1,12 @@
+use Rattle.std.proofs.Common.{◌≡◌, ◌≤◌, ◌+◌}
+use Rattle.std.specs.Prelude.{vec_len, vec_capacity}
+use Rattle.sm_executor.proofs.threads.retire_all.Given as goal
+
+abbrev pub invariant-loop-runner : goal.invariant-loop-runner
+invariant-loop-runner g l =
+    (vec_len l.ended + vec_len l.runners ≤ vec_capacity l.ended)
+    × (vec_len l.left + vec_len l.runners ≤ vec_capacity l.left)
+    × (vec_len l.left + vec_len l.ended + vec_len l.runners ≡ vec_len l.fn.left + vec_len l.fn.ended + vec_len l.fn.runners)
+
+abbrev pub decreases-loop-runner : goal.decreases-loop-runner
+decreases-loop-runner g l = vec_len l.runners

@@ -1,0 +1,11 @@
+-- What comes back of a run that has not come to the ends of all streams.
+use Rattle.std.specs.Prelude.{ℕ, ◌+◌, vec_len}
+use Rattle.sm_executor.specs.declared.threads.RunFault.{RunFault}
+use Rattle.sm_executor.specs.declared.threads.RunFault.TheVariants.{NoMemory, NoThread, Halted, Spent}
+
+-- how many runners come back with it, and how many ends
+abbrev pub came_back : {A : Type 0} → RunFault A → ℕ
+came_back (NoMemory runners) = vec_len runners
+came_back (NoThread runners) = vec_len runners
+came_back (Halted runners ended) = vec_len runners + vec_len ended
+came_back (Spent runners ended) = vec_len runners + vec_len ended

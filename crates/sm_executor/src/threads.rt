@@ -1,0 +1,207 @@
+//! Runs: one thread for each stream.
+//!
+//! The threads wait for each other before their first steps, so that no stream has stepped where one cannot be started. What a
+//! thread did to its runner is not told to who joins it: the locked machine says of each runner whether its stream has made its end,
+//! and the ends are compared with the streams that were noted before.
+ghost use Rattle.std.specs.Prelude.{◌≡◌, ◌≤◌, ◌+◌, IfOk, IfErr, length, map, true, vec_len, vec_capacity};
+ghost use Rattle.sm_executor.specs.Views.{streams_ended, streams_run};
+ghost use Rattle.sm_executor.specs.CameBack.{came_back};
+
+use crate::board::Board;
+use crate::gate::{Gate, Starter, drive};
+use crate::names::{Naming, Side};
+use crate::runner::{Ended, Runner};
+use crate::sure::Sure;
+use sm_reservation::StreamId;
+use std::alloc::{AllocError, Global};
+use std::sync::Wait;
+use std::thread;
+use std::thread::Threads;
+
+/// Why a run has not come to the ends of all streams.
+pub enum RunFault<A: Side> {
+    /// Memory ran out before a stream has stepped.
+    NoMemory(Vec<Runner<A>>),
+    /// A thread cannot be started, and no stream has stepped.
+    NoThread(Vec<Runner<A>>),
+    /// The board was halted: the runners whose streams have not made their ends, and the ends of the others.
+    Halted {
+        runners: Vec<Runner<A>>,
+        ended: Vec<Ended<A>>,
+    },
+    /// A stream has spent its allowance, so its thread has halted the board.
+    Spent {
+        runners: Vec<Runner<A>>,
+        ended: Vec<Ended<A>>,
+    },
+}
+
+/// How the threads of a run have fared. All have ended.
+#[derive(Clone, Copy, PartialEq, Eq)]
+enum Ran {
+    /// One of them cannot be started.
+    NotAll,
+    /// A stream has spent its allowance.
+    Spent,
+    /// None has.
+    Through,
+}
+
+/// How they have fared, by whether all have started.
+fn outcome(all: bool, starter: Starter) -> Ran {
+    if starter.has_spent() {
+        Ran::Spent
+    } else if all {
+        Ran::Through
+    } else {
+        Ran::NotAll
+    }
+}
+
+/// Makes the steps of each runner's stream in a thread of its own.
+fn run_all<
+    A: Side + Send + Sync,
+    B: Side + Send + Sync,
+    C: Side + Send + Sync,
+    N: Naming + Send + Sync,
+    R: Threads + Wait + Sync,
+    G: Gate + Sync,
+>(rt: &R, board: &Board<A, B, C, N>, runners: &mut [Runner<A>], gate: &G) -> Ran {
+    let starter = Starter::new();
+    let start = &starter;
+    let all = thread::scope(thread::scope_env(), rt, |scope| {
+        for runner in runners.iter_mut() {
+            if scope
+                .spawn(move || {
+                    let mut link = Sure;
+                    drive(rt, board, start, gate, runner, &mut link)
+                })
+                .is_err()
+            {
+                start.tell(rt, false);
+                return false;
+            }
+        }
+        start.tell(rt, true);
+        true
+    });
+    outcome(all, starter)
+}
+
+/// The streams of runners.
+fn streams_of<A: Side>(alloc: Global, runners: &[Runner<A>]) -> Result<Vec<StreamId>, AllocError>
+    ensures { IfOk result (λ streams. streams.items ≡ streams_run runners.now) }
+{
+    let mut streams = Vec::new(alloc);
+    for runner in runners {
+        streams.push(runner.id())?;
+    }
+    Ok(streams)
+}
+
+/// True only if the ends are of these streams, in their order.
+fn are_of<A: Side>(ended: &[Ended<A>], streams: &[StreamId]) -> bool
+    ensures { result ≡ true → streams_ended ended.now ≡ streams.now }
+{
+    if ended.len() != streams.len() {
+        return false;
+    }
+    for i in 0..ended.len() {
+        if ended[i].stream() != streams[i] {
+            return false;
+        }
+    }
+    true
+}
+
+/// The ends of the runners whose streams have made them, and the other runners, each into a list with room for all. Takes no memory.
+fn retire_all<A: Side, B: Side, C: Side, N: Naming, R: Wait>(
+    rt: &R,
+    board: &Board<A, B, C, N>,
+    mut runners: Vec<Runner<A>>,
+    ended: &mut Vec<Ended<A>>,
+    left: &mut Vec<Runner<A>>,
+)
+    requires ended { vec_len ended.old + vec_len runners ≤ vec_capacity ended.old }
+    requires left { vec_len left.old + vec_len runners ≤ vec_capacity left.old }
+    ensures all { vec_len left.new + vec_len ended.new ≡ vec_len left.old + vec_len ended.old + vec_len runners }
+{
+    runners.reverse();
+    while let Some(runner) = runners.pop() {
+        match board.retire(rt, runner) {
+            Ok(end) => ended.push_reserved(end),
+            Err(runner) => left.push_reserved(runner),
+        }
+    }
+    runners.destroy_empty();
+}
+
+/// What a run is answered, after its threads have ended: these lists have room for all runners.
+fn answer<A: Side, B: Side, C: Side, N: Naming, R: Wait>(
+    rt: &R,
+    board: &Board<A, B, C, N>,
+    runners: Vec<Runner<A>>,
+    streams: &[StreamId],
+    mut ended: Vec<Ended<A>>,
+    mut left: Vec<Runner<A>>,
+    ran: Ran,
+) -> Result<Vec<Ended<A>>, RunFault<A>>
+    requires ended { vec_len ended + vec_len runners ≤ vec_capacity ended }
+    requires left { vec_len left + vec_len runners ≤ vec_capacity left }
+    ensures ended { IfOk result (λ ended. streams_ended ended.items ≡ streams.now) }
+    ensures back { IfErr result (λ fault. came_back fault ≡ vec_len left + vec_len ended + vec_len runners) }
+{
+    retire_all(rt, board, runners, &mut ended, &mut left);
+    if left.is_empty() && are_of(ended.as_slice(), streams) {
+        left.destroy_empty();
+        return Ok(ended);
+    }
+    match ran {
+        Ran::Spent => Err(RunFault::Spent {
+            runners: left,
+            ended,
+        }),
+        _ => Err(RunFault::Halted {
+            runners: left,
+            ended,
+        }),
+    }
+}
+
+/// Makes all steps of the runners' streams, each in a thread of its own. With Ok there is an end for each runner, in their order. With
+/// a fault as many runners and ends come back as there were runners.
+pub fn run<
+    A: Side + Send + Sync,
+    B: Side + Send + Sync,
+    C: Side + Send + Sync,
+    N: Naming + Send + Sync,
+    R: Threads + Wait + Sync,
+    G: Gate + Sync,
+>(
+    rt: &R,
+    alloc: Global,
+    board: &Board<A, B, C, N>,
+    mut runners: Vec<Runner<A>>,
+    gate: &G,
+) -> Result<Vec<Ended<A>>, RunFault<A>>
+    ensures ended { IfOk result (λ ended. streams_ended ended.items ≡ streams_run runners.items) }
+    ensures back { IfErr result (λ fault. came_back fault ≡ vec_len runners) }
+{
+    let Ok(streams) = streams_of(alloc, runners.as_slice()) else {
+        return Err(RunFault::NoMemory(runners));
+    };
+    let Ok(ended) = Vec::with_capacity(alloc, runners.len()) else {
+        return Err(RunFault::NoMemory(runners));
+    };
+    let Ok(left) = Vec::with_capacity(alloc, runners.len()) else {
+        ended.destroy_empty();
+        return Err(RunFault::NoMemory(runners));
+    };
+    let ran = run_all(rt, board, runners.as_mut_slice(), gate);
+    if ran == Ran::NotAll {
+        ended.destroy_empty();
+        left.destroy_empty();
+        return Err(RunFault::NoThread(runners));
+    }
+    answer(rt, board, runners, streams.as_slice(), ended, left, ran)
+}
