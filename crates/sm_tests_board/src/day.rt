@@ -13,14 +13,14 @@ use std::process::Abort;
 use std::sync::Wait;
 
 /// The plan was checked for the machine's configuration.
-fn is_for(machine: &Machine, checked: &Checked) -> bool
+pub(crate) fn is_for(machine: &Machine, checked: &Checked) -> bool
     ensures { IsTrue result → checked.now.setup ≡ machine.now.placement.setup }
 {
     checked.config() == machine.config()
 }
 
 /// Ends a machine, and answers how many events were recorded.
-fn recorded(alloc: Global, machine: Machine) -> usize {
+pub(crate) fn recorded(alloc: Global, machine: Machine) -> usize {
     let count = machine.log().len();
     machine.give_up(Vec::new(alloc), Vec::new(alloc), Vec::new(alloc));
     count
@@ -72,7 +72,7 @@ fn assert_end<A: Side>(rt: &impl Abort, end: &Ended<A>) {
 }
 
 /// The board's runners of a plan that has to begin.
-fn begun<A: Side, B: Side, C: Side, N: Naming, R: Wait + Abort>(
+pub(crate) fn begun<A: Side, B: Side, C: Side, N: Naming, R: Wait + Abort>(
     rt: &R,
     alloc: Global,
     board: &Board<A, B, C, N>,

@@ -4,4 +4,8 @@
 #[cfg(test)]
 mod day;
 #[cfg(test)]
+mod gates;
+#[cfg(test)]
+mod run;
+#[cfg(test)]
 mod world;

@@ -102,20 +102,63 @@ fn code(alloc: Global) -> Result<Vec<Instr>, AllocError> {
     Ok(code)
 }
 
+/// Nothing.
+fn nothing(alloc: Global) -> Result<Parcel, AllocError> {
+    let lists = Lists {
+        cells: Vec::new(alloc),
+        crowns: Vec::new(alloc),
+        room: Vec::new(alloc),
+        spare: Vec::new(alloc),
+    };
+    Parcel::new(alloc, lists).map_err(|_| AllocError)
+}
+
 /// The plan of the handover, checked.
 pub(crate) fn plan(alloc: Global) -> Result<Checked, AllocError> {
-    let stream = Stream {
+    let mut streams = Vec::new(alloc);
+    streams.push(Stream {
         budget: 4,
         retries: 0,
         holds: held(alloc)?,
         code: code(alloc)?,
-    };
+    })?;
+    checked(alloc, streams, Vec::new(alloc))
+}
+
+/// The plan of a stream that waits for a signal, and of the handover, which posts it behind its last call; checked.
+pub(crate) fn signalled_plan(alloc: Global) -> Result<Checked, AllocError> {
+    let mut waits = Vec::new(alloc);
+    waits.push(Instr::Wait { signal: 0 })?;
+    let mut code = code(alloc)?;
+    code.push(Instr::Signal { signal: 0 })?;
     let mut streams = Vec::new(alloc);
-    streams.push(stream)?;
+    streams.push(Stream {
+        budget: 0,
+        retries: 0,
+        holds: nothing(alloc)?,
+        code: waits,
+    })?;
+    streams.push(Stream {
+        budget: 4,
+        retries: 0,
+        holds: held(alloc)?,
+        code,
+    })?;
+    let mut signals = Vec::new(alloc);
+    signals.push(nothing(alloc)?)?;
+    checked(alloc, streams, signals)
+}
+
+/// A plan of these streams and signals, checked.
+fn checked(
+    alloc: Global,
+    streams: Vec<Stream>,
+    signals: Vec<Parcel>,
+) -> Result<Checked, AllocError> {
     let parts = Parts {
         budget: 4,
         streams,
-        signals: Vec::new(alloc),
+        signals,
     };
     let plan = Plan::new(parts).map_err(|_| AllocError)?;
     let config = config(alloc)?;

@@ -1,0 +1,61 @@
+//! Runs whose streams meet each other before their first steps: they end only where each has a thread of its own.
+ghost use Rattle.std.specs.Prelude.{◌≡◌};
+
+use super::run::run_signalled;
+use sm_executor::Gate;
+use sm_reservation::StreamId;
+use std::sync::Wait;
+use std::sync::atomic::{AtomicU64, Ordering};
+use std::thread::yield_now;
+
+/// How many turns a stream waits for the others at most.
+const MOST_TURNS: u32 = 10_000;
+
+/// Where streams wait before their first steps until so many have come.
+#[derive(Drop)]
+pub(crate) struct Meeting {
+    wanted: u64,
+    came: AtomicU64,
+    gave_up: AtomicU64,
+}
+
+impl Meeting {
+    pub fn of(wanted: u64) -> Meeting {
+        Meeting {
+            wanted,
+            came: AtomicU64::new(0),
+            gave_up: AtomicU64::new(0),
+        }
+    }
+
+    /// How many streams have waited for all turns.
+    pub fn gave_up(&self) -> u64 {
+        self.gave_up.load(Ordering::SeqCst)
+    }
+}
+
+impl Gate for Meeting {
+    fn before<R: Wait>(&self, _rt: &R, _stream: StreamId, at: usize) {
+        if at != 0 {
+            return;
+        }
+        self.came.fetch_add(1, Ordering::SeqCst);
+        for _ in 0..MOST_TURNS {
+            if self.came.load(Ordering::SeqCst) >= self.wanted {
+                return;
+            }
+            yield_now();
+        }
+        self.gave_up.fetch_add(1, Ordering::SeqCst);
+    }
+
+    fn after<R: Wait>(&self, _rt: &R, _stream: StreamId, _at: usize) {}
+}
+
+#[test]
+fn two_streams_meet_before_their_first_steps(rt: HostRuntime) {
+    let alloc = rt.alloc();
+    let meeting = Meeting::of(2);
+    assert_eq!(&rt; run_signalled(&rt, alloc, &meeting), 9);
+    assert_eq!(&rt; meeting.gave_up(), 0);
+}
