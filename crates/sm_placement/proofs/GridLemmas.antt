@@ -2,11 +2,12 @@
 use Rattle.std.proofs.Common.{◌≡◌, ◌≢◌, ℕ, ◌+◌, ◌-◌, ◌*◌, ◌<◌, ◌≤◌, cond, ltb, List, ◌++◌, length, set, get_or, take, drop, replicate, refl, sym, ap, ◌∙◌, arith, inl, inr}
 use Rattle.std.proofs.Math.Path.{fun_ext}
 use Rattle.std.proofs.lemmas.Bool.{cases_eq, cases_lt, lt-ltb, le-ltb}
-use Rattle.std.proofs.lemmas.List.{get_or-set_same, get_or-set_other, get_or-replicate, get_or_past, get_or-take, get_or-drop, get_or_read, length-replicate, length-set, length-take, length-drop, take-append-drop, length-take-le, set-append_left, set-append_right}
+use Rattle.std.proofs.lemmas.List.{get_or-set_same, get_or-set_other, get_or-replicate, get_or_past, get_or-take, get_or-drop, get_or_read, length-replicate, length-set, length-take, length-drop, take-append-drop, length-take-le, set-append_left, set-append_right, get_or_append_left, get_or-append_right}
 use borrow.Rule.Slice.PartMut.{put_mid}
 use Rattle.std.proofs.lemmas.Nat.{same_from_place, mul-add-lt, mul-le}
 use Rattle.sm_placement.specs.Sums.{put, put2}
 use Rattle.sm_placement.specs.Layout.{grid_of, entries_of}
+use Rattle.sm_placement.specs.Lasts.{padded}
 use Rattle.sm_placement.proofs.Sums.{put-here, put-apart, put2-here, put2-row, put2-apart}
 
 pub grid_of-is : {A : Type 0} (width : ℕ) (none : A) (xs : List A) (s v : ℕ) → grid_of width none xs s v ≡ cond (ltb v width) (get_or xs (s * width + v) none) none
@@ -146,3 +147,10 @@ entries_of-done xs s x f l done here r m = ap (λ (q : ℕ → ℕ). q r) (entri
 pub entries_of-rest : (xs : List ℕ) (s x : ℕ) (g : ℕ → ℕ) → s < length xs → ((r : ℕ) → s ≤ r → r < length xs → entries_of 0 xs r ≡ g r) → (r : ℕ) → s + 1 ≤ r → r < length (set xs s x) → entries_of 0 (set xs s x) r ≡ g r
 entries_of-rest xs s x g l rest r m k =
     ap (λ (q : ℕ → ℕ). q r) (entries_of-set 0 xs s x l) ∙ put-apart (entries_of 0 xs) s x r (λ e. absurd (omega arith)) ∙ rest r (omega arith) (omega (arith, length-set xs s x))
+
+-- behind the numbers that are written there is 0
+pub entries_of-padded : (n : ℕ) (xs : List ℕ) (k : ℕ) → entries_of 0 (padded n xs) k ≡ entries_of 0 xs k
+entries_of-padded n xs k = elim (cases_lt k (length xs)) [
+  | inl l ↦ entries_of-is 0 (padded n xs) k ∙ get_or_append_left xs (replicate (n - length xs) 0) 0 k l ∙ sym (entries_of-is 0 xs k)
+  | inr l ↦ entries_of-is 0 (padded n xs) k ∙ get_or-append_right xs (replicate (n - length xs) 0) (length xs) k 0 refl l ∙ get_or-empty 0 (n - length xs) (k - length xs) ∙ sym (entries_of-past 0 xs k l)
+]

@@ -17,7 +17,7 @@ use Rattle.sm_placement.specs.Grid.{TableModel, Totals, IsCounted, IsGrid, cells
 use Rattle.sm_placement.proofs.Sums.{put-here, put-apart, put2-here, put2-row, put2-apart, sum_apart, count-le, sum-le, sum_zero}
 use Rattle.sm_placement.proofs.Calls.{load_of-put, load_of-apart, weight_within}
 use Rattle.sm_placement.proofs.SizesLemmas.{load_small}
-use Rattle.sm_placement.proofs.GridLemmas.{grid_of-beside, grid_of-below, grid_of-empty, grid_of-read, grid_of-set, place_within, entries_of-past, entries_of-row, entries_of-set, entries_of-empty, entries_of-read}
+use Rattle.sm_placement.proofs.GridLemmas.{grid_of-within, entries_of-is, grid_of-beside, grid_of-below, grid_of-empty, grid_of-read, grid_of-set, place_within, entries_of-past, entries_of-row, entries_of-set, entries_of-empty, entries_of-read}
 
 -- no server has a load of 2 ^ 45
 pub load-small : (setup : Setup) (cells : ℕ → ℕ → Cell) (v : ℕ) → IsSetup setup → load_of (sizes_of setup) cells v < 2 ^ 45
@@ -104,9 +104,9 @@ cells_of-read {g} {now} {t} s v x h e = subst (λ (n : TableModel). s < length n
     (λ l m r. grid_of-read (length g.setup.servers) (length g.setup.shards) Absent g.cells s v x h.cells_length l m r)
 
 pub lasts_of-read : {g now : TableModel} {t : Totals} (s v x : ℕ) → IsCounted g t → g ≡ now → s < length now.setup.shards → v < length now.setup.servers →
-    x ≡ get_or g.lasts (s * length now.setup.servers + v) x → x ≡ lasts_of now s v
-lasts_of-read {g} {now} {t} s v x h e = subst (λ (n : TableModel). s < length n.setup.shards → v < length n.setup.servers → x ≡ get_or g.lasts (s * length n.setup.servers + v) x → x ≡ lasts_of n s v) e
-    (λ l m r. grid_of-read (length g.setup.servers) (length g.setup.shards) 0 g.lasts s v x h.lasts_length l m r)
+    x ≡ entries_of 0 g.lasts (s * length now.setup.servers + v) → x ≡ lasts_of now s v
+lasts_of-read {g} {now} {t} s v x h e = subst (λ (n : TableModel). s < length n.setup.shards → v < length n.setup.servers → x ≡ entries_of 0 g.lasts (s * length n.setup.servers + v) → x ≡ lasts_of n s v) e
+    (λ l m r. r ∙ entries_of-is 0 g.lasts (s * length g.setup.servers + v) ∙ sym (grid_of-within (length g.setup.servers) 0 g.lasts s v m))
 
 pub down_of-read : {g now : TableModel} {t : Totals} (v : ℕ) (x : Bool) → IsCounted g t → g ≡ now → v < length now.setup.servers → x ≡ get_or g.down v x → x ≡ down_of now v
 down_of-read {g} {now} {t} v x h e = subst (λ (n : TableModel). v < length n.setup.servers → x ≡ get_or g.down v x → x ≡ down_of n v) e

@@ -8,5 +8,6 @@ pub mod Lead
 pub mod SafePlace
 pub mod Layout
 pub mod Counts
+pub mod Lasts
 pub mod Grid
 pub mod Opening

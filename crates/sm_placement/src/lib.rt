@@ -4,6 +4,7 @@
 mod config;
 mod entry;
 mod faults;
+mod lasts;
 mod laws;
 mod lead;
 mod limits;

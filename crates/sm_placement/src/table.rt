@@ -9,6 +9,7 @@ ghost use Rattle.sm_placement.specs.Counts.{counts_in, AreLives};
 ghost use Rattle.sm_placement.specs.declared.limits.TheConstants.{MOST_SERVERS};
 
 use crate::config::Config;
+use crate::lasts::Lasts;
 use crate::row::{self, Counts};
 use sm_server::{Cell, ServerId, ShardId};
 use std::alloc::{AllocError, Global};
@@ -20,7 +21,7 @@ use std::marker::Model;
 pub struct Table {
     config: Config,
     cells: Vec<Cell>,
-    lasts: Vec<u64>,
+    lasts: Lasts,
     down: Vec<bool>,
     down_count: u32,
     loads: Vec<u64>,
@@ -33,9 +34,9 @@ impl Model for Table {
 
     ghost Value = { TableModel };
 
-    ghost view = { λ t. record { setup = t.config; cells = t.cells.items; lasts = t.lasts.items; down = t.down.items } };
+    ghost view = { λ t. record { setup = t.config; cells = t.cells.items; lasts = t.lasts; down = t.down.items } };
 
-    ghost invariant = { λ t. IsCounted (record { setup = t.config; cells = t.cells.items; lasts = t.lasts.items; down = t.down.items }) (record { loads = t.loads.items; lives = t.lives.items; servings = t.servings.items; down = t.down_count }) };
+    ghost invariant = { λ t. IsCounted (record { setup = t.config; cells = t.cells.items; lasts = t.lasts; down = t.down.items }) (record { loads = t.loads.items; lives = t.lives.items; servings = t.servings.items; down = t.down_count }) };
 }
 
 /// What a cell weighs on its server.
@@ -109,7 +110,7 @@ impl Table {
         Ok(Table {
             config,
             cells: vec![in alloc; Cell::Absent; shards * servers]?,
-            lasts: vec![in alloc; 0; shards * servers]?,
+            lasts: Lasts::new(alloc, shards * servers)?,
             down: vec![in alloc; false; servers]?,
             down_count: 0,
             loads: vec![in alloc; 0; servers]?,
@@ -125,7 +126,7 @@ impl Table {
         Ok(Table {
             config: self.config.copy(alloc)?,
             cells: Vec::from_slice(alloc, &self.cells)?,
-            lasts: Vec::from_slice(alloc, &self.lasts)?,
+            lasts: self.lasts.copy(alloc)?,
             down: Vec::from_slice(alloc, &self.down)?,
             down_count: self.down_count,
             loads: Vec::from_slice(alloc, &self.loads)?,
@@ -165,7 +166,7 @@ impl Table {
         requires server { server < length self.now.setup.servers }
         ensures { result ≡ lasts_of self.now shard server }
     {
-        self.lasts[self.slot(shard, server)]
+        self.lasts.get(self.slot(shard, server))
     }
 
     pub fn is_down(&self, server: ServerId) -> bool
@@ -291,7 +292,7 @@ impl Table {
         ensures setup { self.new.setup ≡ self.old.setup }
     {
         let slot = self.slot(shard, server);
-        self.lasts[slot] = number;
+        self.lasts.set(slot, number);
     }
 
     /// Forgets the numbers of all calls. Takes no memory.
@@ -301,6 +302,6 @@ impl Table {
         ensures down { self.new.down ≡ self.old.down }
         ensures setup { self.new.setup ≡ self.old.setup }
     {
-        self.lasts.as_mut_slice().fill(0);
+        self.lasts.forget();
     }
 }
