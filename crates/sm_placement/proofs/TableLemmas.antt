@@ -99,9 +99,9 @@ IsCounted-empty setup h = record {
 
 -- What a reader finds in the lists is what the table says. `now` is the table as its callers see it.
 pub cells_of-read : {g now : TableModel} {t : Totals} (s v : ℕ) (x : Cell) → IsCounted g t → g ≡ now → s < length now.setup.shards → v < length now.setup.servers →
-    x ≡ get_or g.cells (s * length now.setup.servers + v) x → x ≡ cells_of now s v
-cells_of-read {g} {now} {t} s v x h e = subst (λ (n : TableModel). s < length n.setup.shards → v < length n.setup.servers → x ≡ get_or g.cells (s * length n.setup.servers + v) x → x ≡ cells_of n s v) e
-    (λ l m r. grid_of-read (length g.setup.servers) (length g.setup.shards) Absent g.cells s v x h.cells_length l m r)
+    x ≡ entries_of Absent g.cells (s * length now.setup.servers + v) → x ≡ cells_of now s v
+cells_of-read {g} {now} {t} s v x h e = subst (λ (n : TableModel). s < length n.setup.shards → v < length n.setup.servers → x ≡ entries_of Absent g.cells (s * length n.setup.servers + v) → x ≡ cells_of n s v) e
+    (λ l m r. r ∙ entries_of-is Absent g.cells (s * length g.setup.servers + v) ∙ sym (grid_of-within (length g.setup.servers) Absent g.cells s v m))
 
 pub lasts_of-read : {g now : TableModel} {t : Totals} (s v x : ℕ) → IsCounted g t → g ≡ now → s < length now.setup.shards → v < length now.setup.servers →
     x ≡ entries_of 0 g.lasts (s * length now.setup.servers + v) → x ≡ lasts_of now s v
@@ -116,16 +116,10 @@ pub load_of-read : {g now : TableModel} {t : Totals} (v x : ℕ) → IsCounted g
 load_of-read {g} {now} {t} v x h e = subst (λ (n : TableModel). v < length n.setup.servers → x ≡ get_or t.loads v x → x ≡ load_of (sizes_of n.setup) (cells_of n) v) e
     (λ l r. entries_of-read 0 t.loads v (length g.setup.servers) x h.loads_length l r ∙ h.loads v l)
 
--- the slice that is a shard's row
-pub row_of-read : {g now : TableModel} {t : Totals} (s k w : ℕ) (xs : List Cell) → IsCounted g t → g ≡ now → s < length now.setup.shards → k ≡ s → w ≡ length g.down → xs ≡ g.cells →
-    entries_of Absent (take (k * w + w - k * w) (drop (k * w) xs)) ≡ cells_of now s
-row_of-read {g} {now} {t} s k w xs h e l d f b = subst (λ (n : TableModel). s < length n.setup.shards → entries_of Absent (take (k * w + w - k * w) (drop (k * w) xs)) ≡ cells_of n s) e at l
-  where
-    at : s < length g.setup.shards → entries_of Absent (take (k * w + w - k * w) (drop (k * w) xs)) ≡ cells_of g s
-    at m =
-        let wide : w ≡ length g.setup.servers = f ∙ h.down_length in
-        let fits : s * length g.setup.servers + length g.setup.servers ≤ length g.cells = omega (arith, row_fits s (length g.setup.servers) (length g.setup.shards) (length g.setup.servers) m (omega arith), h.cells_length) in
-        rw (d, wide, b) (entries_of-row (length g.setup.servers) (s * length g.setup.servers) Absent g.cells s refl fits)
+-- the row of a shard
+pub row_of-read : {g now : TableModel} {t : Totals} (s k w : ℕ) (xs : List Cell) → IsCounted g t → g ≡ now → k ≡ s → w ≡ length g.down → xs ≡ g.cells →
+    grid_of w Absent xs k ≡ cells_of now s
+row_of-read {g} {now} {t} s k w xs h e d f b = rw (d, f ∙ h.down_length, b) (ap (λ (n : TableModel). cells_of n s) e)
 
 pub live_in-read : {g now : TableModel} {t : Totals} (s x : ℕ) → IsCounted g t → g ≡ now → s < length now.setup.shards → x ≡ get_or t.lives s x → x ≡ live_in (length now.setup.servers) (cells_of now s) (down_of now)
 live_in-read {g} {now} {t} s x h e = subst (λ (n : TableModel). s < length n.setup.shards → x ≡ get_or t.lives s x → x ≡ live_in (length n.setup.servers) (cells_of n s) (down_of n)) e

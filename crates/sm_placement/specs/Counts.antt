@@ -13,10 +13,6 @@ use Rattle.sm_placement.specs.Layout.{entries_of}
 abbrev pub counts_in : ℕ → (ℕ → Cell) → (ℕ → Bool) → Counts
 counts_in n row down = record { live = live_in n row down; serving = serving_in n row }
 
--- the counts of a row that is kept as a list
-abbrev pub counts_of : List Cell → List Bool → Counts
-counts_of row down = counts_in (length row) (entries_of Absent row) (entries_of false down)
-
 -- the server has a replica that is live while the server is up
 abbrev pub has_replica : (ℕ → Cell) → ℕ → Bool
 has_replica row v = is_secondary (row v) || serves row v

@@ -8,6 +8,8 @@ pub mod Lead
 pub mod SafePlace
 pub mod Layout
 pub mod Counts
-pub mod Lasts
 pub mod Grid
+pub mod Parties
+pub mod Cells
+pub mod Lasts
 pub mod Opening

@@ -1,6 +1,7 @@
 //! Where the replicas of each shard stand: names and sizes, cells and their sums, and what the published map says.
 #![tactic(auto)]
 
+mod cells;
 mod config;
 mod entry;
 mod faults;
@@ -9,6 +10,7 @@ mod laws;
 mod lead;
 mod limits;
 mod opening;
+mod parties;
 mod placement;
 mod row;
 mod table;
