@@ -40,7 +40,8 @@ module _ (b : Basis) (v : ℕ) where
     | inr even ↦ elim (two.most u one.known one.takes) [ inl more ↦ (let e = even.0 in absurd (omega arith)) | inr same ↦ (let l = even.1 in let m = same.1 in omega arith) ]
   ]
 
-  same_leaving : (n : ℕ) (ms ns : List Move) → AreLeaving b v n ms → AreLeaving b v n ns → ms ≡ ns
+  -- the moves of a drain to its targets are the same ones
+  pub same_leaving : (n : ℕ) (ms ns : List Move) → AreLeaving b v n ms → AreLeaving b v n ns → ms ≡ ns
   same_leaving zero ms ns one two = one ∙ sym two
   same_leaving (suc s) ms ns one two = elim (cases_Bool (is_absent (b.place.cells s v))) [
     | inl gone ↦ same_leaving s ms ns (one.0 gone) (two.0 gone)

@@ -14,6 +14,7 @@ use Rattle.sm_planner.specs.Basis.{Basis}
 use Rattle.sm_planner.specs.Refusal.{first_refused, refusal, no_room, no_spread, too_many, IsRefused, HasReason, IsPlanOf}
 use Rattle.sm_planner.specs.Drain.{drain_refusal, room_beside, may_take, leaving, IsTarget, AreLeaving, IsStuck, AreDepartures, IsDrainPlan, IsDrainRefused}
 use Rattle.sm_planner.specs.Laws.{RuleAnswersOnce}
+use Rattle.sm_planner.proofs.Answering.{same_leaving}
 use Rattle.sm_report.specs.Report.{Output, refused, done}
 use Rattle.sm_report.specs.Planning.{Aim, Moving, Emptying, IsPlanFor, IsRefusedFor, made_line, no_plan_line, IsAnswered}
 
@@ -35,30 +36,6 @@ reason_refuses law b moves why (inl is) = elim (law b moves).some [
 -- ---- the targets of a drain
 
 module _ (b : Basis) (v : ℕ) where
-  -- a shard has one target
-  one_target : (moves : List Move) (s u w : ℕ) → IsTarget b v moves s u → IsTarget b v moves s w → u ≡ w
-  one_target moves s u w x y =
-      elim (x.most w y.known y.takes) [
-        | inl less ↦ elim (y.most u x.known x.takes) [ inl more ↦ absurd (omega arith) | inr same ↦ absurd (let e = same.0 in omega arith) ]
-        | inr same ↦ elim (y.most u x.known x.takes) [
-          | inl more ↦ absurd (let e = same.0 in omega arith)
-          | inr again ↦ (let a = same.1 in let c = again.1 in omega arith)
-        ]
-      ]
-
-  -- the moves to the targets are the same ones
-  one_leaving : (n : ℕ) (xs ys : List Move) → AreLeaving b v n xs → AreLeaving b v n ys → xs ≡ ys
-  one_leaving zero xs ys x y = x ∙ sym y
-  one_leaving (suc n) xs ys x y = elim (cases_Bool (is_absent (b.place.cells n v))) [
-    | inl none ↦ one_leaving n xs ys (x.0 none) (y.0 none)
-    | inr some ↦
-        let p = x.1 some in
-        let q = y.1 some in
-        let before : p.0 ≡ q.0 = one_leaving n p.0 q.0 p.2 q.2 in
-        let same : p.1 ≡ q.1 = one_target q.0 n p.1 q.1 (subst (λ ms. IsTarget b v ms n p.1) before p.3) q.3 in
-        p.4 ∙ ap (λ (ms : List Move). ms ++ leaving v n p.1 ∷ []) before ∙ ap (λ u. q.0 ++ leaving v n u ∷ []) same ∙ sym q.4
-  ]
-
   -- where more shards leave, those before have left
   left_before : (n : ℕ) (moves : List Move) → AreLeaving b v n moves → (s : ℕ) → s < n → (before : List Move) × AreLeaving b v (suc s) before
   left_before zero moves x s l = absurd (omega arith)
@@ -75,7 +52,7 @@ module _ (b : Basis) (v : ℕ) where
   stays n s moves stuck x l is =
       let before = left_before n moves x s l in
       let p = before.1.1 is.stands in
-      let same : p.0 ≡ stuck = one_leaving s p.0 stuck p.2 is.before in
+      let same : p.0 ≡ stuck = same_leaving b v s p.0 stuck p.2 is.before in
       let target : IsTarget b v stuck s p.1 = subst (λ ms. IsTarget b v ms s p.1) same p.3 in
       both_ways (may_take b v stuck s p.1) (is.placeless p.1 target.known) target.takes
 
@@ -181,7 +158,7 @@ module _ (law : RuleAnswersOnce) (b : Basis) where
 
   module _ (v : ℕ) where
     departed : (xs ys : List Move) → AreDepartures b v xs → AreDepartures b v ys → xs ≡ ys
-    departed xs ys x y = one_leaving b v (sizes_of b.setup).shards xs ys x.1 y.1
+    departed xs ys x y = same_leaving b v (sizes_of b.setup).shards xs ys x.1 y.1
 
     drain_none : (why : NoPlan) (moves : List Move) → AreDepartures b v moves → drain_refusal b v ≡ Some why → ⊥
     drain_none why moves x is = let e = x.0 in let z : None ≡ Some why = sym e ∙ is in cc
