@@ -4,3 +4,4 @@ pub mod Tied
 pub mod Views
 pub mod Closed
 pub mod CameBack
+pub mod Clients

@@ -1,5 +1,5 @@
 //! The board as a desk, at which clients ask.
-ghost use Rattle.std.specs.Prelude.{◌≡◌, ◌+◌, ◌∷◌, length};
+ghost use Rattle.std.specs.Prelude.{length};
 
 use crate::board::Board;
 use crate::caller::Caller;
@@ -11,10 +11,8 @@ use sm_server::{ServerId, ShardId};
 use std::sync::Wait;
 
 impl<A: Side, B: Side, C: Side, N: Naming> Desk for Board<A, B, C, N> {
-    ghost use Rattle.std.specs.Prelude.{◌≡◌, ◌+◌, ◌∷◌, length};
-    ghost use Rattle.sm_map.specs.History.{NoneNewer};
-    ghost use Rattle.sm_executor.specs.Counting.{executes, refuses};
-    ghost use Rattle.sm_executor.specs.Views.{calling};
+    ghost use Rattle.std.specs.Prelude.{length};
+    ghost use Rattle.sm_executor.specs.Clients.{looked, answer_counted};
 
     type Caller = Caller<B, C, N>;
 
@@ -22,11 +20,11 @@ impl<A: Side, B: Side, C: Side, N: Naming> Desk for Board<A, B, C, N> {
 
     ghost servers = { λ board. N.words.servers };
 
-    ghost looked = { λ board old shard entry new. (new ≡ calling ((shard, entry) ∷ old.seen) old.executed old.refused) × NoneNewer old.seen shard entry };
+    ghost looked = { λ board. looked };
 
-    ghost arrived = { λ board old shard server answer new. new ≡ calling old.seen (old.executed + executes answer) (old.refused + refuses answer) };
+    ghost arrived = { λ board old shard server. answer_counted old };
 
-    ghost passed_on = { λ board old ticket answer new. new ≡ calling old.seen (old.executed + executes answer) (old.refused + refuses answer) };
+    ghost passed_on = { λ board old ticket. answer_counted old };
 
     #[tactic(auto, using(crate::proofs::Ranges::known_server))]
     fn look(&self, caller: &mut Caller<B, C, N>, shard: ShardId) -> Entry {

@@ -4,6 +4,7 @@
 mod as_desk;
 mod board;
 mod caller;
+mod clients;
 mod closing;
 mod gate;
 mod ground;
@@ -18,6 +19,7 @@ mod unfinished;
 
 pub use board::{Board, Guard};
 pub use caller::Caller;
+pub use clients::{Client, run_beside};
 pub use closing::{CloseFault, NotClosed};
 pub use gate::{Gate, Open};
 pub use ground::Ground;

@@ -38,7 +38,7 @@ pub enum RunFault<A: Side> {
 
 /// How the threads of a run have fared. All have ended.
 #[derive(Clone, Copy, PartialEq, Eq)]
-enum Ran {
+pub(crate) enum Ran {
     /// One of them cannot be started.
     NotAll,
     /// A stream has spent its allowance.
@@ -59,7 +59,7 @@ fn outcome(all: bool, starter: Starter) -> Ran {
 }
 
 /// Makes the steps of each runner's stream in a thread of its own.
-fn run_all<
+pub(crate) fn run_all<
     A: Side + Send + Sync,
     B: Side + Send + Sync,
     C: Side + Send + Sync,
@@ -136,35 +136,70 @@ fn retire_all<A: Side, B: Side, C: Side, N: Naming, R: Wait>(
     runners.destroy_empty();
 }
 
-/// What a run is answered, after its threads have ended: these lists have room for all runners.
-fn answer<A: Side, B: Side, C: Side, N: Naming, R: Wait>(
-    rt: &R,
-    board: &Board<A, B, C, N>,
-    runners: Vec<Runner<A>>,
-    streams: &[StreamId],
-    mut ended: Vec<Ended<A>>,
-    mut left: Vec<Runner<A>>,
-    ran: Ran,
-) -> Result<Vec<Ended<A>>, RunFault<A>>
-    requires ended { vec_len ended + vec_len runners ≤ vec_capacity ended }
-    requires left { vec_len left + vec_len runners ≤ vec_capacity left }
-    ensures ended { IfOk result (λ ended. streams_ended ended.items ≡ streams.now) }
-    ensures back { IfErr result (λ fault. came_back fault ≡ vec_len left + vec_len ended + vec_len runners) }
-{
-    retire_all(rt, board, runners, &mut ended, &mut left);
-    if left.is_empty() && are_of(ended.as_slice(), streams) {
-        left.destroy_empty();
-        return Ok(ended);
+/// What a run needs after its threads: the streams as they were before, and two empty lists with room for all runners.
+pub(crate) struct Lists<A: Side> {
+    streams: Vec<StreamId>,
+    ended: Vec<Ended<A>>,
+    left: Vec<Runner<A>>,
+    ghost none: { (vec_len ended ≡ 0) × (vec_len left ≡ 0) },
+}
+
+impl<A: Side> Lists<A> {
+    pub fn new(alloc: Global, runners: &[Runner<A>]) -> Result<Lists<A>, AllocError>
+        ensures streams { IfOk result (λ lists. lists.streams.items ≡ streams_run runners.now) }
+        ensures room { IfOk result (λ lists. (length runners.now ≤ vec_capacity lists.ended) × (length runners.now ≤ vec_capacity lists.left)) }
+    {
+        let streams = streams_of(alloc, runners)?;
+        let ended = Vec::with_capacity(alloc, runners.len())?;
+        let Ok(left) = Vec::with_capacity(alloc, runners.len()) else {
+            ended.destroy_empty();
+            return Err(AllocError);
+        };
+        Ok(Lists {
+            streams,
+            ended,
+            left,
+        })
     }
-    match ran {
-        Ran::Spent => Err(RunFault::Spent {
-            runners: left,
-            ended,
-        }),
-        _ => Err(RunFault::Halted {
-            runners: left,
-            ended,
-        }),
+
+    /// What a run is answered, after its threads have ended so.
+    pub fn answer<B: Side, C: Side, N: Naming, R: Wait>(
+        self,
+        rt: &R,
+        board: &Board<A, B, C, N>,
+        runners: Vec<Runner<A>>,
+        ran: Ran,
+    ) -> Result<Vec<Ended<A>>, RunFault<A>>
+        requires room { (vec_len runners ≤ vec_capacity self.ended) × (vec_len runners ≤ vec_capacity self.left) }
+        ensures ended { IfOk result (λ ended. streams_ended ended.items ≡ self.streams.items) }
+        ensures back { IfErr result (λ fault. came_back fault ≡ vec_len runners) }
+    {
+        let Lists {
+            streams,
+            mut ended,
+            mut left,
+        } = self;
+        if ran == Ran::NotAll {
+            ended.destroy_empty();
+            left.destroy_empty();
+            return Err(RunFault::NoThread(runners));
+        }
+        retire_all(rt, board, runners, &mut ended, &mut left);
+        if left.is_empty() && are_of(ended.as_slice(), streams.as_slice()) {
+            left.destroy_empty();
+            return Ok(ended);
+        }
+        if ran == Ran::Spent {
+            Err(RunFault::Spent {
+                runners: left,
+                ended,
+            })
+        } else {
+            Err(RunFault::Halted {
+                runners: left,
+                ended,
+            })
+        }
     }
 }
 
@@ -187,21 +222,9 @@ pub fn run<
     ensures ended { IfOk result (λ ended. streams_ended ended.items ≡ streams_run runners.items) }
     ensures back { IfErr result (λ fault. came_back fault ≡ vec_len runners) }
 {
-    let Ok(streams) = streams_of(alloc, runners.as_slice()) else {
-        return Err(RunFault::NoMemory(runners));
-    };
-    let Ok(ended) = Vec::with_capacity(alloc, runners.len()) else {
-        return Err(RunFault::NoMemory(runners));
-    };
-    let Ok(left) = Vec::with_capacity(alloc, runners.len()) else {
-        ended.destroy_empty();
+    let Ok(lists) = Lists::new(alloc, runners.as_slice()) else {
         return Err(RunFault::NoMemory(runners));
     };
     let ran = run_all(rt, board, runners.as_mut_slice(), gate);
-    if ran == Ran::NotAll {
-        ended.destroy_empty();
-        left.destroy_empty();
-        return Err(RunFault::NoThread(runners));
-    }
-    answer(rt, board, runners, streams.as_slice(), ended, left, ran)
+    lists.answer(rt, board, runners, ran)
 }

@@ -1,0 +1,34 @@
+-- What an ask at a board may come to.
+use Rattle.std.specs.Prelude.{◌≡◌, ◌+◌, ◌∷◌, [], ℕ, Option, Some, None}
+use Rattle.sm_placement.specs.declared.entry.Entry.{Entry}
+use Rattle.sm_map.specs.History.{NoneNewer}
+use Rattle.sm_machine.specs.declared.answer.Answer.{Answer}
+use Rattle.sm_router.specs.Asking.{HasAsked}
+use Rattle.sm_router.specs.declared.asking.Asked.{Asked}
+use Rattle.sm_executor.specs.Counting.{executes, refuses}
+use Rattle.sm_executor.specs.Views.{Calling, calling}
+
+-- a look adds the entry to what the caller has seen, and is no older than that
+abbrev pub looked : Calling → ℕ → Entry → Calling → Type 0
+looked old shard entry new = (new ≡ calling ((shard, entry) ∷ old.seen) old.executed old.refused) × NoneNewer old.seen shard entry
+
+-- an answer is counted by the caller whose request it answers
+abbrev pub answer_counted : Calling → Answer → Calling → Type 0
+answer_counted old answer new = new ≡ calling old.seen (old.executed + executes answer) (old.refused + refuses answer)
+
+-- a client: what it asks for, what it was answered, if it has asked, and its caller
+pub record Asking : Type 0 where
+  pub shard : ℕ
+  pub asked : Option Asked
+  pub caller : Calling
+
+abbrev pub asking : ℕ → Option Asked → Calling → Asking
+asking shard asked caller = record { shard = shard; asked = asked; caller = caller }
+
+-- Before its ask a client's caller has seen and counted nothing, and then what this ask has seen and counted.
+abbrev pub IsClient : Asking → Type 0
+IsClient client = stands client.asked
+  where
+    stands : Option Asked → Type 0
+    stands None = client.caller ≡ calling [] 0 0
+    stands (Some said) = HasAsked looked (λ old shard server. answer_counted old) (λ old ticket. answer_counted old) client.shard (calling [] 0 0) said client.caller

@@ -1,0 +1,208 @@
+//! Clients that ask at a board, each in a thread of its own, beside a run.
+ghost use Rattle.std.specs.Prelude.{◌≡◌, ◌≢◌, ◌<◌, [], None, IfOk, IfErr, IfSome, OnOk, All, length, map, vec_len};
+ghost use Rattle.sm_executor.specs.CameBack.{came_back};
+ghost use Rattle.sm_executor.specs.Clients.{asking, IsClient};
+ghost use Rattle.sm_executor.specs.Views.{calling, streams_ended, streams_run};
+
+use crate::board::Board;
+use crate::caller::Caller;
+use crate::gate::Gate;
+use crate::names::{Naming, Side};
+use crate::runner::{Ended, Runner};
+use crate::threads::{Lists, Ran, RunFault, run_all};
+use sm_router::{Asked, ask};
+use sm_server::ShardId;
+use std::alloc::Global;
+use std::marker::Model;
+use std::sync::Wait;
+use std::thread;
+use std::thread::{Scope, Threads};
+
+/// A client that asks once for a shard. It can be neither copied nor dropped.
+///
+/// A contract sees the shard, the answer, if it has asked, and what its caller has seen and counted.
+pub struct Client<B: Side, C: Side, N: Naming> {
+    caller: Caller<B, C, N>,
+    shard: ShardId,
+    asked: Option<Asked>,
+}
+
+impl<B: Side, C: Side, N: Naming> Model for Client<B, C, N> {
+    ghost use Rattle.std.specs.Prelude.{◌<◌, length};
+    ghost use Rattle.sm_executor.specs.Clients.{Asking, asking, IsClient};
+
+    ghost Value = { Asking };
+
+    ghost view = { λ c. asking c.shard c.asked c.caller };
+
+    ghost invariant = { λ c. (c.shard < length N.words.opening) × IsClient (asking c.shard c.asked c.caller) };
+}
+
+impl<B: Side, C: Side, N: Naming> Client<B, C, N> {
+    /// A client that has not asked yet, with a caller that the board has given out.
+    pub fn new(caller: Caller<B, C, N>, shard: ShardId) -> Client<B, C, N>
+        requires shard { shard < length N.words.opening }
+        requires new { caller ≡ calling [] 0 0 }
+        ensures { result ≡ asking shard None (calling [] 0 0) }
+    {
+        Client {
+            caller,
+            shard,
+            asked: None,
+        }
+    }
+
+    /// Asks, where it has not asked yet.
+    pub fn ask<A: Side, R: Wait>(&mut self, rt: &R, board: &Board<A, B, C, N>)
+        ensures shard { self.new.shard ≡ self.old.shard }
+        ensures asked { self.new.asked ≢ None }
+    {
+        if self.asked.is_none() {
+            self.asked = Some(ask(rt, board, &mut self.caller, self.shard));
+        }
+    }
+
+    /// What it was answered. None where it has not asked yet.
+    pub fn asked(&self) -> Option<Asked>
+        ensures answer { result ≡ self.now.asked }
+        ensures way { IsClient self.now }
+    {
+        self.asked
+    }
+
+    /// Its caller.
+    pub fn into_caller(self) -> Caller<B, C, N>
+        ensures { result ≡ self.caller }
+    {
+        let Client {
+            caller,
+            shard: _,
+            asked: _,
+        } = self;
+        caller
+    }
+}
+
+/// Each client that has not asked yet asks.
+fn ask_all<A: Side, B: Side, C: Side, N: Naming, R: Wait>(
+    rt: &R,
+    board: &Board<A, B, C, N>,
+    clients: &mut [Client<B, C, N>],
+)
+    ensures { All (λ client. client.asked ≢ None) clients.new }
+{
+    for client in clients.iter_mut() {
+        client.ask(rt, board);
+    }
+}
+
+/// Starts a thread for each client's ask. True only if all have started.
+fn start_asks<
+    's,
+    'r: 's,
+    A: Side + Send + Sync,
+    B: Side + Send + Sync,
+    C: Side + Send + Sync,
+    N: Naming + Send + Sync,
+    R: Threads + Wait + Sync,
+>(
+    scope: &'s Scope<'s, &'r ()>,
+    rt: &'r R,
+    board: &'r Board<A, B, C, N>,
+    clients: &'r mut [Client<B, C, N>],
+) -> bool {
+    for client in clients.iter_mut() {
+        if scope.spawn(move || client.ask(rt, board)).is_err() {
+            return false;
+        }
+    }
+    true
+}
+
+/// What the threads of a run beside clients are lent.
+#[derive(Drop)]
+struct Lent<'r, A: Side, B: Side, C: Side, N: Naming> {
+    clients: &'r mut [Client<B, C, N>],
+    runners: &'r mut [Runner<A>],
+}
+
+/// Starts a thread for each client, and then makes the steps of the runners' streams.
+fn start_beside<
+    's,
+    'r: 's,
+    A: Side + Send + Sync,
+    B: Side + Send + Sync,
+    C: Side + Send + Sync,
+    N: Naming + Send + Sync,
+    R: Threads + Wait + Sync,
+    G: Gate + Sync,
+>(
+    scope: &'s Scope<'s, &'r ()>,
+    rt: &'r R,
+    board: &'r Board<A, B, C, N>,
+    gate: &'r G,
+    lent: Lent<'r, A, B, C, N>,
+) -> Ran {
+    let Lent { clients, runners } = lent;
+    if start_asks(scope, rt, board, clients) {
+        run_all(rt, board, runners, gate)
+    } else {
+        Ran::NotAll
+    }
+}
+
+/// As `run_all`, beside the clients.
+fn run_all_beside<
+    A: Side + Send + Sync,
+    B: Side + Send + Sync,
+    C: Side + Send + Sync,
+    N: Naming + Send + Sync,
+    R: Threads + Wait + Sync,
+    G: Gate + Sync,
+>(
+    rt: &R,
+    board: &Board<A, B, C, N>,
+    runners: &mut [Runner<A>],
+    clients: &mut [Client<B, C, N>],
+    gate: &G,
+) -> Ran {
+    let lent = Lent {
+        clients: &mut *clients,
+        runners: &mut *runners,
+    };
+    thread::scope(thread::scope_env(), rt, move |scope| {
+        start_beside(scope, rt, board, gate, lent)
+    })
+}
+
+/// Makes all steps of the runners' streams beside the clients' asks, each stream and each client in a thread of its own: the
+/// clients' threads start first. What comes back is as of `run`, NoThread where a client's thread can't be started. With Ok each
+/// client has asked.
+pub fn run_beside<
+    A: Side + Send + Sync,
+    B: Side + Send + Sync,
+    C: Side + Send + Sync,
+    N: Naming + Send + Sync,
+    R: Threads + Wait + Sync,
+    G: Gate + Sync,
+>(
+    rt: &R,
+    alloc: Global,
+    board: &Board<A, B, C, N>,
+    mut runners: Vec<Runner<A>>,
+    clients: &mut [Client<B, C, N>],
+    gate: &G,
+) -> Result<Vec<Ended<A>>, RunFault<A>>
+    ensures ended { IfOk result (λ ended. streams_ended ended.items ≡ streams_run runners.items) }
+    ensures back { IfErr result (λ fault. came_back fault ≡ vec_len runners) }
+    ensures clients { length clients.new ≡ length clients.old }
+    ensures asked { OnOk result (All (λ client. client.asked ≢ None) clients.new) }
+{
+    let Ok(lists) = Lists::new(alloc, runners.as_slice()) else {
+        return Err(RunFault::NoMemory(runners));
+    };
+    let ran = run_all_beside(rt, board, runners.as_mut_slice(), clients, gate);
+    // What a thread did to its client is not told to who joins it.
+    ask_all(rt, board, clients);
+    lists.answer(rt, board, runners, ran)
+}
