@@ -27,18 +27,23 @@ takes_plan : takes program (codes "plan" ∷ []) ≡ true
 unfolding clap_on_literals
 takes_plan = refl
 
-takes_named : (word : Text) (calls check play plan : Bool) → bytes_eq word (codes "calls") ≡ calls → bytes_eq word (codes "check") ≡ check → bytes_eq word (codes "play") ≡ play → bytes_eq word (codes "plan") ≡ plan
+takes_run : takes program (codes "run" ∷ []) ≡ true
+unfolding clap_on_literals
+takes_run = refl
+
+takes_named : (word : Text) (run calls check play plan : Bool) → bytes_eq word (codes "run") ≡ run → bytes_eq word (codes "calls") ≡ calls → bytes_eq word (codes "check") ≡ check → bytes_eq word (codes "play") ≡ play → bytes_eq word (codes "plan") ≡ plan
     → asked_for (word ∷ []) ≢ None → takes program (word ∷ []) ≡ true
-takes_named word true check play plan is_calls is_check is_play is_plan asked = rw ((bytes_eq-Decides word (codes "calls")).0 is_calls) takes_calls
-takes_named word false true play plan is_calls is_check is_play is_plan asked = rw ((bytes_eq-Decides word (codes "check")).0 is_check) takes_check
-takes_named word false false true plan is_calls is_check is_play is_plan asked = rw ((bytes_eq-Decides word (codes "play")).0 is_play) takes_play
-takes_named word false false false true is_calls is_check is_play is_plan asked = rw ((bytes_eq-Decides word (codes "plan")).0 is_plan) takes_plan
-takes_named word false false false false is_calls is_check is_play is_plan asked = absurd (asked (rw is_calls (rw is_check (rw is_play (rw is_plan refl)))))
+takes_named word true calls check play plan is_run is_calls is_check is_play is_plan asked = rw ((bytes_eq-Decides word (codes "run")).0 is_run) takes_run
+takes_named word false true check play plan is_run is_calls is_check is_play is_plan asked = rw ((bytes_eq-Decides word (codes "calls")).0 is_calls) takes_calls
+takes_named word false false true play plan is_run is_calls is_check is_play is_plan asked = rw ((bytes_eq-Decides word (codes "check")).0 is_check) takes_check
+takes_named word false false false true plan is_run is_calls is_check is_play is_plan asked = rw ((bytes_eq-Decides word (codes "play")).0 is_play) takes_play
+takes_named word false false false false true is_run is_calls is_check is_play is_plan asked = rw ((bytes_eq-Decides word (codes "plan")).0 is_plan) takes_plan
+takes_named word false false false false false is_run is_calls is_check is_play is_plan asked = absurd (asked (rw is_run (rw is_calls (rw is_check (rw is_play (rw is_plan refl))))))
 
 -- clap takes the words that name a command
 pub takes_asked : (words : List Text) → asked_for words ≢ None → takes program words ≡ true
 takes_asked [] asked = absurd (asked refl)
-takes_asked (word ∷ []) asked = takes_named word (bytes_eq word (codes "calls")) (bytes_eq word (codes "check")) (bytes_eq word (codes "play")) (bytes_eq word (codes "plan")) refl refl refl refl asked
+takes_asked (word ∷ []) asked = takes_named word (bytes_eq word (codes "run")) (bytes_eq word (codes "calls")) (bytes_eq word (codes "check")) (bytes_eq word (codes "play")) (bytes_eq word (codes "plan")) refl refl refl refl refl asked
 takes_asked (word ∷ next ∷ rest) asked = absurd (asked refl)
 
 -- memory ran out, so nothing else is said

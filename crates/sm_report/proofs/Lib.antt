@@ -8,3 +8,4 @@ pub mod OneReport
 pub mod SomeReport
 pub mod EventTurns
 pub mod PlayStages
+pub mod RunStages

@@ -9,7 +9,7 @@ use Rattle.clap.specs.declared.error.kind.ErrorKind.TheVariants as kind
 use Rattle.sm_report.specs.declared.command.Command.{Command}
 use Rattle.sm_report.specs.declared.command.Command.TheVariants.{Calls, Check, Play, Plan}
 use Rattle.sm_report.specs.declared.command.Word.{Word}
-use Rattle.sm_report.specs.declared.command.Word.TheVariants.{Report}
+use Rattle.sm_report.specs.declared.command.Word.TheVariants.{Report, Run}
 use Rattle.sm_report.specs.declared.command.LineFault.{LineFault}
 use Rattle.sm_report.specs.declared.command.LineFault.TheVariants.{NoMemory, Help, Bad}
 
@@ -22,9 +22,13 @@ named name =
     else if bytes_eq name (codes "plan") then Some Plan
     else None
 
+-- what a word asks for: a run, or a report
+abbrev pub word_named : List ℕ → Option Word
+word_named word = if bytes_eq word (codes "run") then Some Run else option_map (λ c. Report c) (named word)
+
 -- what the words ask for: one word alone names a command
 abbrev pub asked_for : List (List ℕ) → Option Word
-asked_for (word ∷ []) = option_map (λ c. Report c) (named word)
+asked_for (word ∷ []) = word_named word
 asked_for _ = None
 
 -- the words for calls and for checks, as clap reads them
@@ -36,7 +40,7 @@ first_words =
 
 -- the program's command line, as clap reads it
 abbrev pub program : App
-program = with_subcommand (with_subcommand first_words (new_app (codes "play")).top) (new_app (codes "plan")).top
+program = with_subcommand (with_subcommand (with_subcommand first_words (new_app (codes "play")).top) (new_app (codes "plan")).top) (new_app (codes "run")).top
 
 -- what is said of an error of this kind: help where help was asked for, unless memory ran out
 abbrev pub TellsKind : LineFault → ErrorKind → Type 0

@@ -14,3 +14,6 @@ pub mod Player
 pub mod Stages
 pub mod Planning
 pub mod Output
+pub mod RunLines
+pub mod Unmade
+pub mod Running

@@ -2,7 +2,7 @@
 ghost use Rattle.std.specs.Prelude.{◌≡◌, ◌≢◌, Some, None, IfOk, IfErr, map};
 ghost use Rattle.clap.specs.Words.{app_of, fault_of, kind_of};
 ghost use Rattle.clap.specs.Walk.{texts};
-ghost use Rattle.sm_report.specs.CommandLine.{named, asked_for, first_words, program, Tells, TellsKind};
+ghost use Rattle.sm_report.specs.CommandLine.{named, word_named, asked_for, first_words, program, Tells, TellsKind};
 
 use clap::error::ErrorKind;
 use clap::{Command as Parser, Error};
@@ -86,7 +86,13 @@ fn parser<'a>(alloc: Global) -> Result<Parser<'a>, AllocError>
     let plan = Parser::new(alloc, "plan").about(
         "Makes a plan for the document's moves, or one that empties a server, and prints it or why there is none",
     );
-    first_words(alloc)?.subcommand(play)?.subcommand(plan)
+    let run = Parser::new(alloc, "run").about(
+        "Runs the document's plan with a thread for each stream, and prints what each came to, the answers to the document's asks, and the placement at the end",
+    );
+    first_words(alloc)?
+        .subcommand(play)?
+        .subcommand(plan)?
+        .subcommand(run)
 }
 
 /// What an error of the command line tells.
@@ -103,12 +109,23 @@ fn fault_in(alloc: Global, error: &Error) -> LineFault
     }
 }
 
+/// What a word asks for, where it is the name of a command.
+fn word_named(word: &str) -> Option<Word>
+    ensures { result ≡ word_named word.now }
+{
+    if word == "run" {
+        Some(Word::Run)
+    } else {
+        Command::named(word).map(Word::Report)
+    }
+}
+
 /// What the words ask for, where they are the name of a command and nothing else.
 fn asked_for(words: &[&str]) -> Option<Word>
     ensures { result ≡ asked_for (texts words.now) }
 {
     match words {
-        [word] => Command::named(word).map(Word::Report),
+        [word] => word_named(word),
         _ => None,
     }
 }

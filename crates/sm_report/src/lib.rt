@@ -3,12 +3,14 @@
 
 mod answers;
 mod bad_input;
+mod boards;
 mod calls;
 mod checks;
 mod command;
 mod delivery;
 mod early;
 mod ending;
+mod given;
 mod input;
 mod made;
 mod names;
@@ -20,11 +22,15 @@ mod player;
 mod playing;
 mod plays;
 mod reporting;
+mod run_lines;
+mod running;
 mod stages;
 mod status;
+mod unmade;
 mod verdict;
 
 pub use command::{Command, LineFault, Word, command_of};
 pub use input::{InputFault, take_input};
 pub use reporting::{one_report, report, some_report};
+pub use running::report_run;
 pub use status::Status;

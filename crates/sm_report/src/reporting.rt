@@ -46,7 +46,7 @@ fn read_bytes(alloc: Global, bytes: &[u8]) -> Result<Document, Early>
 }
 
 /// The document that a reader gives.
-fn read_input<R: Read>(alloc: Global, reader: &mut R) -> Result<Document, Early>
+pub fn read_input<R: Read>(alloc: Global, reader: &mut R) -> Result<Document, Early>
     ensures ok { IfOk result (λ document. IsReadAs (R.remaining reader.old) MOST_BYTES (Ok (rows_of document))) }
     ensures known { IfOk result (λ document. IsDocument (rows_of document)) }
     ensures ends { IfErr result (λ early. IfReadEnded early (λ made. IsReadAs (R.remaining reader.old) MOST_BYTES (Err made))) }

@@ -1,15 +1,21 @@
 //! The program: one word says what is reported of the document on standard input.
 #![tactic(auto)]
 
-ghost use Rattle.std.specs.Prelude.{◌≡◌, IfOk, map, string_bytes};
+ghost use Rattle.std.specs.Prelude.{◌≡◌, ◌<◌, IfOk, map, string_bytes};
+ghost use Rattle.std.specs.Io.KnownBytes.{Appends, Keeps};
+ghost use Rattle.sm_report.specs.Report.{Output};
+ghost use Rattle.sm_report.specs.Status.{code_of};
+ghost use Rattle.smplan.specs.Reported.{IsReported};
 
 #[cfg(test)]
 mod tests;
 
-use sm_report::{LineFault, Status, Word, command_of, report};
+use sm_report::{LineFault, Status, Word, command_of, report, report_run};
 use std::alloc::{AllocError, Global};
-use std::io::ErrorKind;
+use std::io::{ErrorKind, Read, Write};
 use std::process::ExitCode;
+use std::sync::Wait;
+use std::thread::Threads;
 use std::{env, io};
 
 /// The words after the program's name.
@@ -32,43 +38,64 @@ fn texts_of<'a>(alloc: Global, words: &'a [String]) -> Result<Vec<&'a str>, Allo
     Ok(texts)
 }
 
-/// Prints what the words ask for, and says how it ends.
-fn answer(rt: &HostRuntime, words: &[&str]) -> Status {
+/// What the words ask for; where they ask for nothing, what is told of them, and how it ends.
+fn word_named(rt: &HostRuntime, words: &[&str]) -> Result<Word, Status> {
     match command_of(rt.alloc(), words) {
-        Ok(Word::Report(command)) => {
-            report(rt.alloc(), command, &mut rt.reader(), &mut io::writer(rt))
-        }
-        Ok(Word::Run) => unreachable!(),
-        Err(LineFault::NoMemory) => Status::NoMemory,
+        Ok(word) => Ok(word),
+        Err(LineFault::NoMemory) => Err(Status::NoMemory),
         Err(LineFault::Help { text }) => match rt.print(text.as_str()) {
-            Ok(()) => Status::Done,
-            Err(_) => Status::WriteFailed,
+            Ok(()) => Err(Status::Done),
+            Err(_) => Err(Status::WriteFailed),
         },
         Err(LineFault::Bad { text }) => {
             let _ = rt.eprint(text.as_str());
-            Status::BadInput
+            Err(Status::BadInput)
         }
     }
 }
 
-/// Prints what the command line asks for, and says how it ends.
-fn run(rt: &HostRuntime) -> Status {
+/// What the command line asks for; where it asks for nothing, what is told of it, and how it ends.
+fn word_of(rt: &HostRuntime) -> Result<Word, Status> {
     let words = match words_of(rt) {
         Ok(words) => words,
         Err(fault) => {
             if fault.kind() == ErrorKind::OutOfMemory {
-                return Status::NoMemory;
+                return Err(Status::NoMemory);
             }
             let _ = rt.eprintln("error: a word of the command line is not UTF-8");
-            return Status::BadInput;
+            return Err(Status::BadInput);
         }
     };
     match texts_of(rt.alloc(), words.as_slice()) {
-        Ok(texts) => answer(rt, texts.as_slice()),
-        Err(_) => Status::NoMemory,
+        Ok(texts) => word_named(rt, texts.as_slice()),
+        Err(_) => Err(Status::NoMemory),
+    }
+}
+
+/// Writes the report that the word asks for, of what the reader gives.
+fn report_word<R: AllocGlobal + Threads + Wait + Sync, I: Read, W: Write>(
+    rt: &R,
+    word: Word,
+    reader: &mut I,
+    writer: &mut W,
+) -> Status
+    // What is written and the status are those of the report on the bytes that came.
+    ensures reported { code_of result < 3 → (output : Output)
+        × IsReported word (I.remaining reader.old) output × (result ≡ output.status)
+        × Appends (W.contents writer.old) (W.contents writer.new) output.text }
+    // Without memory nothing is written.
+    ensures memory { result ≡ Status.NoMemory → Keeps (W.contents writer.old) (W.contents writer.new) }
+{
+    match word {
+        Word::Report(command) => report(rt.alloc(), command, reader, writer),
+        Word::Run => report_run(rt, rt.alloc(), reader, writer),
     }
 }
 
 fn main(rt: HostRuntime) -> ExitCode {
-    ExitCode::from(run(&rt).code())
+    let status = match word_of(&rt) {
+        Ok(word) => report_word(&rt, word, &mut rt.reader(), &mut io::writer(&rt)),
+        Err(status) => status,
+    };
+    ExitCode::from(status.code())
 }

@@ -6,3 +6,4 @@ mod line;
 mod making;
 mod plays;
 mod rows;
+mod runs;

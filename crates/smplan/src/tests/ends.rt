@@ -1,8 +1,12 @@
 //! Readers and writers that go wrong.
 use super::documents::{REFUSED_CALLS, Row, TWO_STREAMS};
-use sm_report::{Command, Status, report};
+use crate::report_word;
+use sm_report::{Command, Status, Word};
 use std::alloc::Global;
 use std::io::{self, ErrorKind, Read, Write};
+use std::process::Abort;
+use std::sync::Wait;
+use std::thread::Threads;
 
 /// A reader of so many bytes at a time, each of whose reads is interrupted before it is made.
 #[derive(Drop)]
@@ -89,25 +93,29 @@ fn failing_writer(alloc: Global, most: usize, fails_at: usize, fault: Fault) -> 
 }
 
 /// A reader that is interrupted before each read gives the whole report.
-pub fn reads_again(rt: &(impl AllocGlobal + std::process::Abort), command: Command, row: &Row) {
+pub fn reads_again(rt: &(impl AllocGlobal + Abort + Threads + Wait + Sync), word: Word, row: &Row) {
     let mut reader = InterruptedReader {
         left: row.document.as_bytes(),
         was_interrupted: false,
     };
     let mut text = Vec::new(rt.alloc());
-    let status = report(rt.alloc(), command, &mut reader, &mut text);
+    let status = report_word(rt, word, &mut reader, &mut text);
     assert!(rt; text.as_slice() == row.text.as_bytes());
     assert_eq!(rt; status, Status::Done);
 }
 
 #[test]
 fn reads_again_where_it_is_interrupted(rt: HostRuntime) {
-    reads_again(&rt, Command::Calls, &REFUSED_CALLS);
-    reads_again(&rt, Command::Check, &TWO_STREAMS);
+    reads_again(&rt, Word::Report(Command::Calls), &REFUSED_CALLS);
+    reads_again(&rt, Word::Report(Command::Check), &TWO_STREAMS);
 }
 
 /// Each read fails in turn, and nothing is written.
-pub fn writes_nothing(rt: &(impl AllocGlobal + std::process::Abort), command: Command, row: &Row) {
+pub fn writes_nothing(
+    rt: &(impl AllocGlobal + Abort + Threads + Wait + Sync),
+    word: Word,
+    row: &Row,
+) {
     let reads = row.document.len() / 16 + 2;
     for fails_at in 1..=reads {
         let mut reader = FailingReader {
@@ -116,7 +124,7 @@ pub fn writes_nothing(rt: &(impl AllocGlobal + std::process::Abort), command: Co
             fails_at,
         };
         let mut text = Vec::new(rt.alloc());
-        let status = report(rt.alloc(), command, &mut reader, &mut text);
+        let status = report_word(rt, word, &mut reader, &mut text);
         assert_eq!(rt; status, Status::ReadFailed, "read {fails_at}");
         assert!(rt; text.is_empty());
     }
@@ -124,36 +132,36 @@ pub fn writes_nothing(rt: &(impl AllocGlobal + std::process::Abort), command: Co
 
 #[test]
 fn writes_nothing_after_a_failed_read(rt: HostRuntime) {
-    writes_nothing(&rt, Command::Calls, &REFUSED_CALLS);
-    writes_nothing(&rt, Command::Check, &TWO_STREAMS);
+    writes_nothing(&rt, Word::Report(Command::Calls), &REFUSED_CALLS);
+    writes_nothing(&rt, Word::Report(Command::Check), &TWO_STREAMS);
 }
 
 /// A writer of one byte at a time gets the whole report.
-pub fn writes_all(rt: &(impl AllocGlobal + std::process::Abort), command: Command, row: &Row) {
+pub fn writes_all(rt: &(impl AllocGlobal + Abort + Threads + Wait + Sync), word: Word, row: &Row) {
     let mut reader = row.document.as_bytes();
     let mut writer = failing_writer(rt.alloc(), 1, 0, Fault::Fails);
-    let status = report(rt.alloc(), command, &mut reader, &mut writer);
+    let status = report_word(rt, word, &mut reader, &mut writer);
     assert!(rt; writer.taken.as_slice() == row.text.as_bytes());
     assert_eq!(rt; status, Status::Done);
 }
 
 #[test]
 fn writes_byte_by_byte(rt: HostRuntime) {
-    writes_all(&rt, Command::Calls, &REFUSED_CALLS);
-    writes_all(&rt, Command::Check, &TWO_STREAMS);
+    writes_all(&rt, Word::Report(Command::Calls), &REFUSED_CALLS);
+    writes_all(&rt, Word::Report(Command::Check), &TWO_STREAMS);
 }
 
 /// Each write of a report goes wrong in turn, and a front of it is written.
 pub fn writes_fronts(
-    rt: &(impl AllocGlobal + std::process::Abort),
-    command: Command,
+    rt: &(impl AllocGlobal + Abort + Threads + Wait + Sync),
+    word: Word,
     row: &Row,
     fault: Fault,
 ) {
     for (before, _) in row.text.as_bytes().chunks(7).enumerate() {
         let mut reader = row.document.as_bytes();
         let mut writer = failing_writer(rt.alloc(), 7, before.saturating_add(1), fault);
-        let status = report(rt.alloc(), command, &mut reader, &mut writer);
+        let status = report_word(rt, word, &mut reader, &mut writer);
         assert_eq!(rt; status, Status::WriteFailed, "after {before} writes");
         let front = writer.taken.as_slice();
         assert_eq!(rt; front.len(), before.saturating_mul(7));
@@ -161,9 +169,9 @@ pub fn writes_fronts(
     }
 }
 
-fn ends_at_each_write(rt: &(impl AllocGlobal + std::process::Abort), fault: Fault) {
-    writes_fronts(rt, Command::Calls, &REFUSED_CALLS, fault);
-    writes_fronts(rt, Command::Check, &TWO_STREAMS, fault);
+fn ends_at_each_write(rt: &(impl AllocGlobal + Abort + Threads + Wait + Sync), fault: Fault) {
+    writes_fronts(rt, Word::Report(Command::Calls), &REFUSED_CALLS, fault);
+    writes_fronts(rt, Word::Report(Command::Check), &TWO_STREAMS, fault);
 }
 
 #[test]

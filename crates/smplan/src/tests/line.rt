@@ -11,6 +11,8 @@ fn knows_the_commands(rt: HostRuntime) {
     assert!(rt; word.is_ok_and(|word| word == Word::Report(Command::Play)));
     let word = command_of(rt.alloc(), &["plan"]);
     assert!(rt; word.is_ok_and(|word| word == Word::Report(Command::Plan)));
+    let word = command_of(rt.alloc(), &["run"]);
+    assert!(rt; word.is_ok_and(|word| word == Word::Run));
 }
 
 static BAD: [&[&str]; 12] = [
@@ -19,7 +21,7 @@ static BAD: [&[&str]; 12] = [
     &["calls", "check"],
     &["play", "play"],
     &["plan", "plan"],
-    &["run"],
+    &["run", "run"],
     &["calls", "calls"],
     &["calls", "--quiet"],
     &["calls", "--"],
@@ -36,16 +38,18 @@ fn refuses_other_words(rt: HostRuntime) {
     }
 }
 
-static HELP: [&[&str]; 9] = [
+static HELP: [&[&str]; 11] = [
     &["--help"],
     &["-h"],
     &["help"],
     &["help", "calls"],
     &["help", "check"],
     &["help", "play"],
+    &["help", "run"],
     &["calls", "--help"],
     &["calls", "-h"],
     &["play", "--help"],
+    &["run", "--help"],
 ];
 
 #[test]

@@ -2,7 +2,7 @@
 use super::documents::Row;
 use super::ends::{Fault, reads_again, writes_all, writes_fronts, writes_nothing};
 use super::rows::assert_reported;
-use sm_report::Command;
+use sm_report::{Command, Word};
 
 /// Two moves, of which the first waits for room that the second one frees.
 const TWO_MOVES: Row = Row {
@@ -22,35 +22,45 @@ const TWO_MOVES: Row = Row {
 
 #[test]
 fn reports_a_plan_that_it_makes(rt: HostRuntime) {
-    assert_reported(&rt, Command::Plan, &TWO_MOVES);
+    assert_reported(&rt, Word::Report(Command::Plan), &TWO_MOVES);
 }
 
 #[test]
 fn reads_moves_again_where_it_is_interrupted(rt: HostRuntime) {
-    reads_again(&rt, Command::Plan, &TWO_MOVES);
+    reads_again(&rt, Word::Report(Command::Plan), &TWO_MOVES);
 }
 
 #[test]
 fn plans_nothing_after_a_failed_read(rt: HostRuntime) {
-    writes_nothing(&rt, Command::Plan, &TWO_MOVES);
+    writes_nothing(&rt, Word::Report(Command::Plan), &TWO_MOVES);
 }
 
 #[test]
 fn writes_a_plan_byte_by_byte(rt: HostRuntime) {
-    writes_all(&rt, Command::Plan, &TWO_MOVES);
+    writes_all(&rt, Word::Report(Command::Plan), &TWO_MOVES);
 }
 
 #[test]
 fn ends_a_plan_at_a_failed_write(rt: HostRuntime) {
-    writes_fronts(&rt, Command::Plan, &TWO_MOVES, Fault::Fails);
+    writes_fronts(&rt, Word::Report(Command::Plan), &TWO_MOVES, Fault::Fails);
 }
 
 #[test]
 fn ends_a_plan_at_a_write_of_nothing(rt: HostRuntime) {
-    writes_fronts(&rt, Command::Plan, &TWO_MOVES, Fault::TakesNothing);
+    writes_fronts(
+        &rt,
+        Word::Report(Command::Plan),
+        &TWO_MOVES,
+        Fault::TakesNothing,
+    );
 }
 
 #[test]
 fn ends_a_plan_at_an_interrupted_write(rt: HostRuntime) {
-    writes_fronts(&rt, Command::Plan, &TWO_MOVES, Fault::IsInterrupted);
+    writes_fronts(
+        &rt,
+        Word::Report(Command::Plan),
+        &TWO_MOVES,
+        Fault::IsInterrupted,
+    );
 }

@@ -2,7 +2,7 @@
 use super::documents::Row;
 use super::ends::{Fault, reads_again, writes_all, writes_fronts, writes_nothing};
 use super::rows::assert_reported;
-use sm_report::Command;
+use sm_report::{Command, Word};
 
 /// A handover that is begun, with a request that is passed on and a restart that is denied.
 const PLAYED_HANDOVER: Row = Row {
@@ -43,35 +43,50 @@ shard t live 1 floor 1 listed b version 0
 
 #[test]
 fn reports_events(rt: HostRuntime) {
-    assert_reported(&rt, Command::Play, &PLAYED_HANDOVER);
+    assert_reported(&rt, Word::Report(Command::Play), &PLAYED_HANDOVER);
 }
 
 #[test]
 fn reads_events_again_where_it_is_interrupted(rt: HostRuntime) {
-    reads_again(&rt, Command::Play, &PLAYED_HANDOVER);
+    reads_again(&rt, Word::Report(Command::Play), &PLAYED_HANDOVER);
 }
 
 #[test]
 fn plays_nothing_after_a_failed_read(rt: HostRuntime) {
-    writes_nothing(&rt, Command::Play, &PLAYED_HANDOVER);
+    writes_nothing(&rt, Word::Report(Command::Play), &PLAYED_HANDOVER);
 }
 
 #[test]
 fn writes_answers_byte_by_byte(rt: HostRuntime) {
-    writes_all(&rt, Command::Play, &PLAYED_HANDOVER);
+    writes_all(&rt, Word::Report(Command::Play), &PLAYED_HANDOVER);
 }
 
 #[test]
 fn ends_answers_at_a_failed_write(rt: HostRuntime) {
-    writes_fronts(&rt, Command::Play, &PLAYED_HANDOVER, Fault::Fails);
+    writes_fronts(
+        &rt,
+        Word::Report(Command::Play),
+        &PLAYED_HANDOVER,
+        Fault::Fails,
+    );
 }
 
 #[test]
 fn ends_answers_at_a_write_of_nothing(rt: HostRuntime) {
-    writes_fronts(&rt, Command::Play, &PLAYED_HANDOVER, Fault::TakesNothing);
+    writes_fronts(
+        &rt,
+        Word::Report(Command::Play),
+        &PLAYED_HANDOVER,
+        Fault::TakesNothing,
+    );
 }
 
 #[test]
 fn ends_answers_at_an_interrupted_write(rt: HostRuntime) {
-    writes_fronts(&rt, Command::Play, &PLAYED_HANDOVER, Fault::IsInterrupted);
+    writes_fronts(
+        &rt,
+        Word::Report(Command::Play),
+        &PLAYED_HANDOVER,
+        Fault::IsInterrupted,
+    );
 }

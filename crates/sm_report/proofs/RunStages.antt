@@ -1,0 +1,169 @@
+-- The stages of a report of a plan that is run, and what came of the run.
+use Rattle.std.proofs.Common.{◌≡◌, ◌≢◌, ◌<◌, ◌+◌, ◌∙◌, ◌++◌, None, append_assoc, drop, drop-cons, take, ℕ, zero, suc, Option, Result, Ok, Err, List, [], ◌∷◌, length, map, refl, sym, ap, subst, arith, inl, inr}
+use Rattle.std.specs.Prelude.{All, slice_index_or}
+use Rattle.std.specs.List.{range_with_len}
+use Rattle.sm_placement.specs.Setup.{Setup, Sizes, sizes_of}
+use Rattle.sm_placement.specs.Place.{Place}
+use Rattle.sm_plan_code.specs.Plan.{PlanModel}
+use Rattle.sm_verifier.specs.Plan.{IsSound}
+use Rattle.sm_protocol.specs.State.{State, opened, stream_id}
+use Rattle.sm_executor.specs.Clients.{Asking, IsClient}
+use Rattle.sm_executor.specs.Closed.{IsClosed}
+use Rattle.sm_executor.specs.Views.{Finished, Running, running, AreRunners, streams_ended, streams_run}
+use Rattle.sm_plan_text.specs.Documents.{DocumentModel}
+use Rattle.sm_report.specs.declared.early.Early.{Early}
+use Rattle.sm_report.specs.declared.early.Early.TheVariants as early
+use Rattle.sm_report.specs.declared.unmade.Unmade.{Unmade}
+use Rattle.sm_report.specs.declared.unmade.Unmade.TheVariants as unmade
+use Rattle.sm_report.specs.Checking.{accepted_line}
+use Rattle.sm_report.specs.Early.{IfEnded, IfReadEnded}
+use Rattle.sm_report.specs.Ending.{ending}
+use Rattle.sm_report.specs.Output.{IsReadAs}
+use Rattle.sm_report.specs.Report.{Output, done}
+use Rattle.sm_report.specs.RunLines.{end_lines, client_line, client_lines}
+use Rattle.sm_report.specs.Running.{HasRun, IsOnBoard, IsRunReport, IsRunReportOf, streams_of_plan}
+use Rattle.sm_report.specs.Stages.{Then, read_stage, AtCheck, IsFaultReport}
+use Rattle.sm_report.specs.Unmade.{IfUnmade, IfRan, IfReadRan}
+use Rattle.sm_report.proofs.Onward.{ends_there, goes_on, ended_weaker}
+
+-- what is said of a report of a run is said of it in weaker words
+unmade_weaker : (why : Unmade) (P Q : Output → Type 0) → ((made : Output) → P made → Q made) → IfUnmade why P → IfUnmade why Q
+unmade_weaker (unmade.Early ended) P Q weaker h = ended_weaker ended P Q weaker h
+unmade_weaker (unmade.Unrun why) P Q weaker h = tt
+
+pub ran_weaker : (result : Result Output Unmade) (P Q : Output → Type 0) → ((made : Output) → P made → Q made) → IfRan result P → IfRan result Q
+ran_weaker (Ok made) P Q weaker h = weaker made h
+ran_weaker (Err why) P Q weaker h = unmade_weaker why P Q weaker h
+
+-- a report that ended at a stage, and one that went on after it
+pub run_stopped : {A : Type 0} (stage : Result A Output) (Next : A → Output → Type 0) (ended : Early) (result : Result Output Unmade) → result ≡ Err (unmade.Early ended)
+    → IfEnded ended (λ made. stage ≡ Err made) → IfRan result (Then stage Next)
+run_stopped stage Next ended result is ends =
+    subst (λ r. IfRan r (Then stage Next)) (sym is)
+    (ended_weaker ended (λ made. stage ≡ Err made) (Then stage Next) (λ made h. ends_there stage Next made h) ends)
+
+pub run_went_on : {A : Type 0} (stage : Result A Output) (Next : A → Output → Type 0) (found : A) (result : Result Output Unmade) → stage ≡ Ok found
+    → IfRan result (Next found) → IfRan result (Then stage Next)
+run_went_on stage Next found result is next = ran_weaker result (Next found) (Then stage Next) (λ made h. goes_on stage Next found made is h) next
+
+-- a report that ended with a fault of the plan
+pub run_refused : (c : Sizes) (plan : PlanModel) (Next : Output → Type 0) (ended : Early) (result : Result Output Unmade) → result ≡ Err (unmade.Early ended)
+    → IfEnded ended (IsFaultReport c [] plan) → IfRan result (AtCheck c [] plan Next)
+run_refused c plan Next ended result is ends =
+    subst (λ r. IfRan r (AtCheck c [] plan Next)) (sym is)
+    (ended_weaker ended (IsFaultReport c [] plan) (AtCheck c [] plan Next) (λ made h. inl h) ends)
+
+-- one of a plan that passed the check, on a board
+pub run_checked : (setup given : Setup) (p : Place) (log : ℕ) (plan checked : PlanModel) (asks told : List ℕ) (result : Result Output Unmade) → given ≡ setup → checked ≡ plan → told ≡ asks → IsSound (sizes_of given) plan
+    → IfRan result (IsOnBoard (opened (sizes_of given) p log) given checked told) → IfRan result (AtCheck (sizes_of setup) [] plan (IsOnBoard (opened (sizes_of setup) p log) setup plan asks))
+run_checked setup given p log plan checked asks told result same plans asked sound h =
+    ran_weaker result (IsOnBoard (opened (sizes_of given) p log) given checked told) (AtCheck (sizes_of setup) [] plan (IsOnBoard (opened (sizes_of setup) p log) setup plan asks))
+    (λ made is. inr (
+      subst (λ s. IsSound (sizes_of s) plan) same sound,
+      subst (λ x. IsOnBoard (opened (sizes_of setup) p log) setup x asks made) plans
+          (subst (λ s. IsOnBoard (opened (sizes_of s) p log) s checked asks made) same
+          (subst (λ xs. IsOnBoard (opened (sizes_of given) p log) given checked xs made) asked is)),
+    )) h
+
+-- ---- what is read
+
+-- what is said of a report that was made of what was read is said in weaker words of one that reads too
+behind_reading : (result : Result Output Unmade) (P Q : Output → Type 0) → ((made : Output) → P made → Q made) → IfRan result P → IfReadRan result Q
+behind_reading (Ok made) P Q weaker h = weaker made h
+behind_reading (Err (unmade.Early early.NoMemory)) P Q weaker h = tt
+behind_reading (Err (unmade.Early early.ReadFailed)) P Q weaker h = tt
+behind_reading (Err (unmade.Early (early.Report made))) P Q weaker h = weaker made h
+behind_reading (Err (unmade.Unrun why)) P Q weaker h = tt
+
+-- what is said of the report with which the reading ended is said of it in weaker words
+read_weaker : (ended : Early) (P Q : Output → Type 0) → ((made : Output) → P made → Q made) → IfReadEnded ended P → IfReadEnded ended Q
+read_weaker early.NoMemory P Q weaker h = tt
+read_weaker early.ReadFailed P Q weaker h = tt
+read_weaker (early.Report made) P Q weaker h = weaker made h
+
+-- a report that ends where the bytes are read
+pub run_unread : (most : ℕ) (left : Option (List ℕ)) (ended : Early) (result : Result Output Unmade) → result ≡ Err (unmade.Early ended)
+    → IfReadEnded ended (λ made. IsReadAs left most (Err made)) → IfReadRan result (IsRunReportOf most left)
+run_unread most left ended result is ends =
+    subst (λ r. IfReadRan r (IsRunReportOf most left)) (sym is)
+    (read_weaker ended (λ made. IsReadAs left most (Err made)) (IsRunReportOf most left)
+    (λ made h. (h.0, h.1, ends_there (read_stage most h.0) IsRunReport made h.2)) ends)
+
+-- a report that goes on with the document
+pub run_read : (most : ℕ) (left : Option (List ℕ)) (rows : DocumentModel) (result : Result Output Unmade) → IsReadAs left most (Ok rows)
+    → IfRan result (IsRunReport rows) → IfReadRan result (IsRunReportOf most left)
+run_read most left rows result h reported =
+    behind_reading result (IsRunReport rows) (IsRunReportOf most left)
+    (λ made is. (h.0, h.1, goes_on (read_stage most h.0) IsRunReport rows made h.2 is)) reported
+
+-- ---- the streams that were run
+
+-- the runners from number k on are of the streams from there on
+streams_from : (plan k n : ℕ) (runners : List Running) → length runners ≡ n → ((i : ℕ) (d : Running) → i < n → slice_index_or runners i d ≡ running (stream_id plan (k + i)) 0)
+    → streams_run runners ≡ map (stream_id plan) (range_with_len k n)
+streams_from plan k zero [] count each = refl
+streams_from plan k (suc n) [] count each = absurd (cc)
+streams_from plan k zero (x ∷ xs) count each = absurd (cc)
+streams_from plan k (suc n) (x ∷ xs) count each =
+    let here : k + 0 ≡ k = omega arith in
+    let first : x ≡ running (stream_id plan k) 0 = each 0 x (omega arith) ∙ ap (λ j. running (stream_id plan j) 0) here in
+    let others : streams_run xs ≡ map (stream_id plan) (range_with_len (k + 1) n) =
+    streams_from plan (k + 1) n xs (omega (arith, count)) (λ i d below. each (suc i) d (omega arith) ∙ ap (λ j. running (stream_id plan j) 0) (let e : k + suc i ≡ k + 1 + i = omega arith in e)) in
+    ap (λ (r : Running). r.stream ∷ streams_run xs) first ∙ ap (λ ss. stream_id plan k ∷ ss) others
+
+-- a plan's runners are of its streams, in their order
+pub streams_are : (plan n : ℕ) (runners : List Running) → AreRunners plan n runners → streams_run runners ≡ streams_of_plan plan n
+streams_are plan n runners are = streams_from plan 0 n runners are.count (λ i d below. are.each i d below ∙ ap (λ j. running (stream_id plan j) 0) (let e : i ≡ 0 + i = omega arith in e))
+
+-- what a slice of a list's front was written, in the list
+written_back : {X : Type 0} (n : ℕ) (xs rest : List X) → length xs ≡ n → take n (xs ++ rest) ≡ xs
+written_back zero [] rest e = refl
+written_back zero (x ∷ xs) rest e = absurd (cc)
+written_back (suc n) [] rest e = absurd (cc)
+written_back (suc n) (x ∷ xs) rest e = ap (λ ys. x ∷ ys) (written_back n xs rest (omega (arith, e)))
+
+-- a run of a plan's runners that has come to the ends of all, beside clients that have asked
+pub has_run : (plan n count : ℕ) (runners : List Running) (ended kept : List Finished) (asks : List ℕ) (clients rest : List Asking) → AreRunners plan n runners
+    → streams_ended ended ≡ streams_run runners → kept ≡ ended → length clients ≡ count → length clients ≡ length asks → All (λ client. client.asked ≢ None) clients
+    → HasRun n asks kept (take count (clients ++ rest))
+has_run plan n count runners ended kept asks clients rest are ends same long asked answers = record {
+  number = plan;
+  ends = ap streams_ended same ∙ ends ∙ streams_are plan n runners are;
+  clients_are = ap length back ∙ asked;
+  answered = subst (All (λ client. client.asked ≢ None)) (sym back) answers;
+}
+  where
+    back : take count (clients ++ rest) ≡ clients
+    back = written_back count clients rest long
+
+-- the report of such a run on a board that is closed
+pub was_run : (opened : State) (setup : Setup) (plan : PlanModel) (asks : List ℕ) (ended : List Finished) (clients : List Asking) (accepted asked : List ℕ) (result : Result Output Unmade)
+    → HasRun (length plan.streams) asks ended clients → All IsClient clients → accepted ≡ accepted_line plan → asked ≡ client_lines setup 0 clients
+    → IfRan result (λ made. (now : State) × IsClosed opened now ended (map (λ client. client.caller) clients) × (length now.plans ≡ 1) × (made ≡ done (accepted ++ end_lines now 0 ++ asked ++ ending setup now.place)))
+    → IfRan result (IsOnBoard opened setup plan asks)
+was_run opened setup plan asks ended clients accepted asked result ran ways front lines h =
+    ran_weaker result (λ made. (now : State) × IsClosed opened now ended (map (λ client. client.caller) clients) × (length now.plans ≡ 1) × (made ≡ done (accepted ++ end_lines now 0 ++ asked ++ ending setup now.place)))
+    (IsOnBoard opened setup plan asks)
+    (λ made is. inr (record {
+      now = is.0;
+      ended = ended;
+      clients = clients;
+      ran = ran;
+      ways = ways;
+      closed = is.1;
+      alone = is.2;
+      told = is.3
+          ∙ ap (λ text. done (text ++ end_lines is.0 0 ++ asked ++ ending setup is.0.place)) front
+          ∙ ap (λ text. done (accepted_line plan ++ end_lines is.0 0 ++ text ++ ending setup is.0.place)) lines;
+    })) h
+
+-- the lines of the clients that are left, once that of the next one was added
+pub client_added : (setup : Setup) (clients : List Asking) (i : ℕ) (x : Asking) (out next text : List ℕ) → i < length clients → x ≡ slice_index_or clients i x → next ≡ out ++ client_line setup i x.asked
+    → out ++ client_lines setup i (drop i clients) ≡ text → next ++ client_lines setup (i + 1) (drop (i + 1) clients) ≡ text
+client_added setup clients i x out next text below is added so_far =
+    let one : suc i ≡ i + 1 = omega arith in
+    let here : drop i clients ≡ x ∷ drop (i + 1) clients = drop-cons clients i x below ∙ ap (λ y. y ∷ drop (suc i) clients) (sym is) ∙ ap (λ n. x ∷ drop n clients) one in
+    ap (λ t. t ++ client_lines setup (i + 1) (drop (i + 1) clients)) added
+    ∙ append_assoc out (client_line setup i x.asked) (client_lines setup (i + 1) (drop (i + 1) clients))
+    ∙ sym (ap (λ xs. out ++ client_lines setup i xs) here)
+    ∙ so_far

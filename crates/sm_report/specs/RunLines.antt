@@ -1,0 +1,55 @@
+-- The lines of a plan that was run, and of what was asked beside it.
+use Rattle.std.specs.Prelude.{ℕ, ◌+◌, Option, Some, None, List, [], ◌∷◌, ◌++◌, codes}
+use Rattle.std.specs.List.{flat_map, range_with_len}
+use Rattle.std.specs.Fmt.{decimal}
+use Rattle.sm_placement.specs.Setup.{Setup}
+use Rattle.sm_reservation.specs.declared.stream_id.StreamId.{StreamId}
+use Rattle.sm_protocol.specs.State.{State, stream_id, stream_count, progress_of, allowance}
+use Rattle.sm_machine.specs.Retired.{recorded_steps}
+use Rattle.sm_router.specs.declared.asking.Asked.{Asked}
+use Rattle.sm_router.specs.declared.asking.Asked.TheVariants as asked
+use Rattle.sm_executor.specs.Clients.{Asking}
+use Rattle.sm_report.specs.Lines.{line}
+use Rattle.sm_report.specs.Ending.{server_name}
+use Rattle.sm_report.specs.PlayLines.{word_line, executed_line}
+
+-- ---- streams
+
+-- a stream that has made its end: its recorded steps, the tries of its calls, and how many it was allowed
+abbrev pub stream_end_line : ℕ → ℕ → ℕ → ℕ → List ℕ
+stream_end_line stream steps calls budget
+    = line (codes "stream " ∷ decimal stream ∷ codes ": steps " ∷ decimal steps ∷ codes " calls " ∷ decimal calls ∷ codes " budget " ∷ decimal budget ∷ [])
+
+-- the same of a stream as it stands
+abbrev pub end_line : State → StreamId → List ℕ
+end_line w id = stream_end_line id.stream (recorded_steps w id) (progress_of w id).tries (allowance w id)
+
+-- the lines of all streams of the plan with this number
+abbrev pub end_lines : State → ℕ → List ℕ
+end_lines w number = flat_map (λ i. end_line w (stream_id number i)) (range_with_len 0 (stream_count w number))
+
+-- ---- asks
+
+abbrev pub ask_front : ℕ → List ℕ
+ask_front i = codes "ask " ++ decimal i ++ codes ": "
+
+-- what an ask was answered
+abbrev pub asked_line : Setup → Asked → List ℕ
+asked_line setup (asked.Executed server) = executed_line (server_name setup server)
+asked_line setup asked.NotListed = word_line (codes "not listed")
+asked_line setup asked.Unavailable = word_line (codes "unavailable")
+asked_line setup asked.TooManyHops = word_line (codes "too many hops")
+asked_line setup asked.LogFull = word_line (codes "log full")
+
+abbrev pub ask_line : Setup → ℕ → Asked → List ℕ
+ask_line setup i answer = ask_front i ++ asked_line setup answer
+
+-- the line of a client, which has none before its ask
+abbrev pub client_line : Setup → ℕ → Option Asked → List ℕ
+client_line setup i None = []
+client_line setup i (Some answer) = ask_line setup i answer
+
+-- the lines of clients, numbered from i
+abbrev pub client_lines : Setup → ℕ → List Asking → List ℕ
+client_lines setup i [] = []
+client_lines setup i (client ∷ clients) = client_line setup i client.asked ++ client_lines setup (i + 1) clients

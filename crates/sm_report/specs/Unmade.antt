@@ -1,0 +1,37 @@
+-- Runs that have not come to their end.
+use Rattle.std.specs.Prelude.{List, ℕ, [], ◌∷◌, codes, Result, Ok, Err}
+use Rattle.sm_report.specs.declared.unmade.Unrun.{Unrun}
+use Rattle.sm_report.specs.declared.unmade.Unrun.TheVariants.{NoThread, Halted, Spent, NoCaller, NotClosed}
+use Rattle.sm_report.specs.declared.unmade.Unmade.{Unmade}
+use Rattle.sm_report.specs.declared.unmade.Unmade.TheVariants as unmade
+use Rattle.sm_report.specs.Early.{IfEnded, IfReadEnded}
+use Rattle.sm_report.specs.Lines.{line}
+use Rattle.sm_report.specs.Report.{Output}
+
+-- What is written where a plan has begun and was not run to its end. Of the texts behind the first none is wanted: nothing halts the
+-- board of a report, and it is closed where all streams have made their ends; but no contract rules them out.
+abbrev pub unrun_text : Unrun → List ℕ
+unrun_text NoThread = line (codes "not run: 2 NoThread" ∷ [])
+unrun_text Halted = line (codes "not run: 3 Halted" ∷ [])
+unrun_text Spent = line (codes "not run: 4 Spent" ∷ [])
+unrun_text NoCaller = line (codes "not run: 5 NoCaller" ∷ [])
+unrun_text NotClosed = line (codes "not run: 6 NotClosed" ∷ [])
+
+-- the report with which a stage ended is one of these, where there is one
+abbrev pub IfUnmade : Unmade → (Output → Type 0) → Type 0
+IfUnmade (unmade.Early early) Is = IfEnded early Is
+IfUnmade (unmade.Unrun why) Is = Unit {0}
+
+-- the report that was made is one of these, where there is one
+abbrev pub IfRan : Result Output Unmade → (Output → Type 0) → Type 0
+IfRan (Ok made) Is = Is made
+IfRan (Err why) Is = IfUnmade why Is
+
+-- the same of a stage that reads
+abbrev pub IfReadUnmade : Unmade → (Output → Type 0) → Type 0
+IfReadUnmade (unmade.Early early) Is = IfReadEnded early Is
+IfReadUnmade (unmade.Unrun why) Is = Unit {0}
+
+abbrev pub IfReadRan : Result Output Unmade → (Output → Type 0) → Type 0
+IfReadRan (Ok made) Is = Is made
+IfReadRan (Err why) Is = IfReadUnmade why Is

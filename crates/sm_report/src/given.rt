@@ -1,0 +1,119 @@
+//! What a board has given out, and takes back where it ends.
+ghost use Rattle.std.specs.Prelude.{◌≡◌, ◌≤◌, ◌+◌, IfOk, [], map, vec_len, vec_capacity};
+ghost use Rattle.sm_executor.specs.CameBack.{came_back};
+ghost use Rattle.sm_report.specs.Unmade.{IfUnmade};
+
+use crate::early::Early;
+use crate::unmade::{Unmade, Unrun};
+use sm_executor::{Caller, Client, Ended, Naming, RunFault, Runner, Side};
+use sm_machine::StreamToken;
+use std::alloc::{AllocError, Global};
+use std::mem;
+
+/// What a board has given out: the ends of streams, the clients of asks with its callers, and the tokens of streams that have made no
+/// end. Each list has room for all, as nothing of this can be let fall.
+pub struct Given<A: Side, B: Side, C: Side, N: Naming> {
+    pub ended: Vec<Ended<A>>,
+    pub clients: Vec<Client<B, C, N>>,
+    /// Those of the clients, once these have asked.
+    pub callers: Vec<Caller<B, C, N>>,
+    pub tokens: Vec<StreamToken>,
+}
+
+impl<A: Side, B: Side, C: Side, N: Naming> Given<A, B, C, N> {
+    /// Room for what a plan of so many streams and so many asks are given.
+    pub fn with_room(alloc: Global, streams: usize, asks: usize) -> Result<Self, AllocError>
+        ensures ended { IfOk result (λ given. given.ended.items ≡ []) }
+        ensures clients { IfOk result (λ given. (given.clients.items ≡ []) × (asks ≤ vec_capacity given.clients)) }
+        ensures callers { IfOk result (λ given. (given.callers.items ≡ []) × (asks ≤ vec_capacity given.callers)) }
+        ensures tokens { IfOk result (λ given. (given.tokens.items ≡ []) × (streams ≤ vec_capacity given.tokens)) }
+    {
+        let clients = Vec::with_capacity(alloc, asks)?;
+        let callers = match Vec::with_capacity(alloc, asks) {
+            Ok(callers) => callers,
+            Err(error) => {
+                clients.destroy_empty();
+                return Err(error);
+            }
+        };
+        match Vec::with_capacity(alloc, streams) {
+            Ok(tokens) => Ok(Given {
+                ended: Vec::new(alloc),
+                clients,
+                callers,
+                tokens,
+            }),
+            Err(error) => {
+                clients.destroy_empty();
+                callers.destroy_empty();
+                Err(error)
+            }
+        }
+    }
+}
+
+/// Puts ends into the place of a list that has none.
+pub fn keep_ends<A: Side>(kept: &mut Vec<Ended<A>>, ended: Vec<Ended<A>>)
+    requires { kept.old.items ≡ [] }
+    ensures { kept.new.items ≡ ended.items }
+{
+    mem::replace(kept, ended).destroy_empty();
+}
+
+/// The tokens of runners, into a list with room for all. Takes no memory.
+pub fn keep_runners<A: Side>(tokens: &mut Vec<StreamToken>, mut runners: Vec<Runner<A>>)
+    requires { vec_len tokens.old + vec_len runners ≤ vec_capacity tokens.old }
+{
+    while let Some(runner) = runners.pop() {
+        tokens.push_reserved(runner.into_token());
+    }
+    runners.destroy_empty();
+}
+
+/// Keeps what comes back of a run that has not come to the ends of all streams, and says why there is no report.
+pub fn keep_fault<A: Side>(
+    kept: &mut Vec<Ended<A>>,
+    tokens: &mut Vec<StreamToken>,
+    fault: RunFault<A>,
+) -> Unmade
+    requires none { kept.old.items ≡ [] }
+    requires room { vec_len tokens.old + came_back fault ≤ vec_capacity tokens.old }
+    ensures { IfUnmade result (λ made. ⊥) }
+{
+    match fault {
+        RunFault::NoMemory(runners) => {
+            keep_runners(tokens, runners);
+            Unmade::Early(Early::NoMemory)
+        }
+        RunFault::NoThread(runners) => {
+            keep_runners(tokens, runners);
+            Unmade::Unrun(Unrun::NoThread)
+        }
+        RunFault::Halted { runners, ended } => {
+            keep_runners(tokens, runners);
+            keep_ends(kept, ended);
+            Unmade::Unrun(Unrun::Halted)
+        }
+        RunFault::Spent { runners, ended } => {
+            keep_runners(tokens, runners);
+            keep_ends(kept, ended);
+            Unmade::Unrun(Unrun::Spent)
+        }
+    }
+}
+
+/// The callers of clients in their order, into an empty list with room for all. Takes no memory.
+pub fn take_callers<B: Side, C: Side, N: Naming>(
+    mut clients: Vec<Client<B, C, N>>,
+    callers: &mut Vec<Caller<B, C, N>>,
+)
+    requires none { callers.old.items ≡ [] }
+    requires room { vec_len clients ≤ vec_capacity callers.old }
+    ensures { callers.new.items ≡ map (λ client. client.caller) clients.items }
+{
+    clients.reverse();
+    while let Some(client) = clients.pop() {
+        callers.push_reserved(client.into_caller());
+    }
+    clients.destroy_empty();
+}

@@ -1,0 +1,183 @@
+//! The report of a document's plan, which is run: a thread for each of its streams, and one for each ask.
+ghost use Rattle.std.specs.Prelude.{◌≡◌, ◌≢◌, ◌≤◌, ◌<◌, ℕ, All, List, length, take};
+ghost use Rattle.std.specs.Io.KnownBytes.{Appends, Keeps};
+ghost use Rattle.sm_placement.specs.Setup.{sizes_of};
+ghost use Rattle.sm_placement.specs.Place.{down_count};
+ghost use Rattle.sm_placement.specs.Layout.{place_of};
+ghost use Rattle.sm_placement.specs.Lead.{IsSettled};
+ghost use Rattle.sm_plan_code.specs.Plan.{IsKnownPlan};
+ghost use Rattle.sm_protocol.specs.State.{opened};
+ghost use Rattle.sm_plan_text.specs.Documents.{IsDocument};
+ghost use Rattle.sm_plan_text.specs.Reading.{rows_of};
+ghost use Rattle.sm_report.specs.declared.reporting.TheConstants.{MOST_BYTES};
+ghost use Rattle.sm_report.specs.declared.unmade.Unrun.{Unrun};
+ghost use Rattle.sm_report.specs.Report.{Output};
+ghost use Rattle.sm_report.specs.Running.{IsOnBoard, IsLoggedForRun, IsPlacedForRun, IsOpenedForRun, IsRunReport, IsRunReportOf, IsWritten};
+ghost use Rattle.sm_report.specs.Status.{code_of};
+ghost use Rattle.sm_report.specs.Unmade.{unrun_text, IfRan, IfReadRan};
+
+use crate::boards::report_on_board;
+use crate::delivery::deliver;
+use crate::early::Early;
+use crate::made::Made;
+use crate::reporting::read_input;
+use crate::stages::{checked, has_log, member, placement};
+use crate::status::Status;
+use crate::unmade::{Unmade, Unrun};
+use sm_machine::{Machine, OpenFault};
+use sm_placement::Placement;
+use sm_plan_code::Plan;
+use sm_plan_text::{Document, Member};
+use sm_server::ShardId;
+use sm_verifier::Checked;
+use std::alloc::Global;
+use std::io::{Read, Write};
+use std::sync::Wait;
+use std::thread::Threads;
+
+/// The report of a checked plan that is run from a settled placement, beside asks.
+fn report_checked<R: Threads + Wait + Sync>(
+    rt: &R,
+    alloc: Global,
+    placement: Placement,
+    log: u32,
+    checked: Checked,
+    asks: &[ShardId],
+) -> Result<Made, Unmade>
+    requires settled { IsSettled (sizes_of placement.setup) (place_of placement) }
+    requires room { down_count (sizes_of placement.setup) (place_of placement) ≤ log }
+    requires most { log ≤ 1048576 }
+    requires setup { checked.setup ≡ placement.setup }
+    requires known { All (λ shard. shard < length placement.setup.shards) asks.now }
+    ensures { IfRan result (IsOnBoard (opened (sizes_of placement.setup) (place_of placement) log) placement.setup checked.plan asks.now) }
+{
+    match Machine::open(alloc, placement, log) {
+        Ok((machine, permits)) => report_on_board(rt, alloc, machine, permits, checked, asks),
+        Err((_, OpenFault::NoMemory)) => Err(Unmade::Early(Early::NoMemory)),
+        Err((_, OpenFault::LogFull)) => unreachable!(),
+    }
+}
+
+/// The report of a document's plan at its placement, whose log has room.
+fn report_logged<R: Threads + Wait + Sync>(
+    rt: &R,
+    alloc: Global,
+    document: &Document,
+    placement: Placement,
+    plan: Plan,
+) -> Result<Made, Unmade>
+    requires document { IsDocument (rows_of document.now) }
+    requires setup { placement.setup ≡ (rows_of document.now).setup }
+    requires settled { IsSettled (sizes_of placement.setup) (place_of placement) }
+    requires room { down_count (sizes_of placement.setup) (place_of placement) ≤ document.now.log }
+    requires plan { IsKnownPlan (length placement.setup.shards) (length placement.setup.servers) plan }
+    ensures { IfRan result (IsLoggedForRun (rows_of document.now) plan (place_of placement) tt) }
+{
+    let checked = checked(alloc, "", &placement, plan)?;
+    let asks = document.asks.as_slice();
+    report_checked(rt, alloc, placement, document.log, checked, asks)
+}
+
+/// The report of a document's plan at its placement.
+fn report_placed<R: Threads + Wait + Sync>(
+    rt: &R,
+    alloc: Global,
+    document: &Document,
+    placement: Placement,
+    plan: Plan,
+) -> Result<Made, Unmade>
+    requires document { IsDocument (rows_of document.now) }
+    requires setup { placement.setup ≡ (rows_of document.now).setup }
+    requires settled { IsSettled (sizes_of placement.setup) (place_of placement) }
+    requires plan { IsKnownPlan (length placement.setup.shards) (length placement.setup.servers) plan }
+    ensures { IfRan result (IsPlacedForRun (rows_of document.now) plan (place_of placement)) }
+{
+    has_log(alloc, document, &placement)?;
+    report_logged(rt, alloc, document, placement, plan)
+}
+
+/// The report of a plan, which was taken out of the document.
+fn report_plan<R: Threads + Wait + Sync>(
+    rt: &R,
+    alloc: Global,
+    document: &Document,
+    plan: Plan,
+) -> Result<Made, Unmade>
+    requires document { IsDocument (rows_of document.now) }
+    requires plan { IsKnownPlan (length (rows_of document.now).setup.shards) (length (rows_of document.now).setup.servers) plan }
+    ensures { IfRan result (IsOpenedForRun (rows_of document.now) plan) }
+{
+    let placement = placement(alloc, document)?;
+    report_placed(rt, alloc, document, placement, plan)
+}
+
+/// The report of a document's plan, which is taken out of it and run beside the document's asks.
+fn report_document<R: Threads + Wait + Sync>(
+    rt: &R,
+    alloc: Global,
+    document: &mut Document,
+) -> Result<Made, Unmade>
+    requires { IsDocument (rows_of document.old) }
+    ensures { IfRan result (IsRunReport (rows_of document.old)) }
+{
+    let plan = member(alloc, Member::Plan, document.plan.take())?;
+    report_plan(rt, alloc, document, plan)
+}
+
+/// The report of the plan of the document that a reader gives, which is run.
+fn report_reader<R: Threads + Wait + Sync, I: Read>(
+    rt: &R,
+    alloc: Global,
+    reader: &mut I,
+) -> Result<Made, Unmade>
+    ensures { IfReadRan result (IsRunReportOf MOST_BYTES (I.remaining reader.old)) }
+{
+    let mut document = read_input(alloc, reader)?;
+    report_document(rt, alloc, &mut document)
+}
+
+/// Writes why a plan was not run to its end, and says how that ends.
+fn write_unrun<W: Write>(writer: &mut W, unrun: Unrun) -> Status
+    ensures status { (result ≢ Status.WriteFailed) → result ≡ Status.NoThread }
+    ensures text { result ≡ Status.NoThread → Appends (W.contents writer.old) (W.contents writer.new) (unrun_text unrun) }
+    ensures front { (k : ℕ) × Appends (W.contents writer.old) (W.contents writer.new) (take k (unrun_text unrun)) }
+{
+    if deliver(writer, unrun.text().as_bytes()) {
+        Status::NoThread
+    } else {
+        Status::WriteFailed
+    }
+}
+
+/// Reads all input, runs the document's plan with a thread for each of its streams and each ask, makes the whole report, and then
+/// writes it. Where nothing is known of what a reader gives, what is written is a report on some bytes.
+pub fn report_run<R: Threads + Wait + Sync, I: Read, W: Write>(
+    rt: &R,
+    alloc: Global,
+    reader: &mut I,
+    writer: &mut W,
+) -> Status
+    // What is written and the status are those of a report on the bytes that came.
+    ensures reported { code_of result < 3 → (output : Output)
+        × IsRunReportOf MOST_BYTES (I.remaining reader.old) output × (result ≡ output.status)
+        × Appends (W.contents writer.old) (W.contents writer.new) output.text }
+    // Without memory, and after a read that fails, nothing is written.
+    ensures memory { result ≡ Status.NoMemory → Keeps (W.contents writer.old) (W.contents writer.new) }
+    ensures read_fault { result ≡ Status.ReadFailed → Keeps (W.contents writer.old) (W.contents writer.new) }
+    // Where the plan was not run to its end, that is all that is written.
+    ensures threads { result ≡ Status.NoThread → (why : Unrun) × Appends (W.contents writer.old) (W.contents writer.new) (unrun_text why) }
+    // After a write that fails, a front of what would be written is.
+    ensures write_fault { result ≡ Status.WriteFailed → (text : List ℕ)
+        × IsWritten MOST_BYTES (I.remaining reader.old) text
+        × (k : ℕ) × Appends (W.contents writer.old) (W.contents writer.new) (take k text) }
+{
+    match report_reader(rt, alloc, reader) {
+        Ok(made) => made.write(writer),
+        Err(Unmade::Early(early)) => match early {
+            Early::Report(made) => made.write(writer),
+            Early::NoMemory => Status::NoMemory,
+            Early::ReadFailed => Status::ReadFailed,
+        },
+        Err(Unmade::Unrun(unrun)) => write_unrun(writer, unrun),
+    }
+}
