@@ -26,10 +26,11 @@ test:
 	scripts/check-faults
 	scripts/check-command-line
 	scripts/check-memory
+	scripts/check-threads
 	scripts/check-memory-tests sm_tests_json sm_tests_placement sm_tests_rights sm_tests_text sm_tests sm_tests_machine sm_tests_plans sm_tests_play sm_tests_planner sm_map
 	scripts/refused-programs
 	scripts/check-caught-by-tests
-	scripts/try-edits sm_server sm_placement sm_reservation sm_plan_code sm_verifier sm_task_controller sm_protocol sm_machine sm_planner sm_map sm_router sm_executor json_tree
+	scripts/try-edits sm_server sm_placement sm_reservation sm_plan_code sm_verifier sm_task_controller sm_protocol sm_machine sm_planner sm_map sm_router json_tree
 	scripts/check-try-edits
 
 # (all crates' edits, over what the gate has built)
