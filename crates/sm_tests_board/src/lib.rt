@@ -8,9 +8,13 @@ mod asking;
 #[cfg(test)]
 mod boards;
 #[cfg(test)]
+mod clients;
+#[cfg(test)]
 mod day;
 #[cfg(test)]
 mod events;
+#[cfg(test)]
+mod gates;
 #[cfg(test)]
 mod given;
 #[cfg(test)]
@@ -19,5 +23,7 @@ mod map_and_asks;
 mod memory;
 #[cfg(test)]
 mod played;
+#[cfg(test)]
+mod runs;
 #[cfg(test)]
 mod worlds;

@@ -135,6 +135,17 @@ const fn handover(moved: &Move) -> [Instr; 5] {
     ]
 }
 
+/// What holds nothing.
+fn nothing(alloc: Global) -> Result<Parcel, AllocError> {
+    let lists = Lists {
+        cells: Vec::new(alloc),
+        crowns: Vec::new(alloc),
+        room: Vec::new(alloc),
+        spare: Vec::new(alloc),
+    };
+    Parcel::new(alloc, lists).map_err(|_| AllocError)
+}
+
 /// The plan of these streams and signals, with its check.
 fn checked_of(
     alloc: Global,
@@ -200,6 +211,45 @@ pub(crate) fn three_handovers(alloc: Global) -> Result<Checked, AllocError> {
     })?;
     code.push(Instr::Drop { shard, server })?;
     plan_by(alloc, &there, 10, code)
+}
+
+/// A stream that holds nothing, and calls no server.
+fn idle(alloc: Global, code: Vec<Instr>) -> Result<Stream, AllocError> {
+    Ok(Stream {
+        budget: 0,
+        retries: 0,
+        holds: nothing(alloc)?,
+        code,
+    })
+}
+
+/// The plan of a stream that waits for a signal, and of the handover of shard s to b by a second one, which then posts it; with its
+/// check.
+pub(crate) fn signalled(alloc: Global) -> Result<Checked, AllocError> {
+    let moved = s_to_b(0);
+    let mut code = Vec::from_array(alloc, handover(&moved))?;
+    code.push(Instr::Signal { signal: 0 })?;
+    let waits = Vec::from_array(alloc, [Instr::Wait { signal: 0 }])?;
+    let mut streams = Vec::new(alloc);
+    streams.push(idle(alloc, waits)?)?;
+    streams.push(Stream {
+        budget: 4,
+        retries: 0,
+        holds: held(alloc, &moved)?,
+        code,
+    })?;
+    let mut signals = Vec::new(alloc);
+    signals.push(nothing(alloc)?)?;
+    checked_of(alloc, 4, streams, signals)
+}
+
+/// The plan of eight streams without code, with its check.
+pub(crate) fn eight_idle(alloc: Global) -> Result<Checked, AllocError> {
+    let mut streams = Vec::new(alloc);
+    for _ in 0..8 {
+        streams.push(idle(alloc, Vec::new(alloc))?)?;
+    }
+    checked_of(alloc, 0, streams, Vec::new(alloc))
 }
 
 /// The plan is that of one handover.

@@ -1,0 +1,50 @@
+//! A gate of runs, at which streams meet before their first steps.
+use sm_executor::Gate;
+use sm_reservation::StreamId;
+use std::sync::Wait;
+use std::sync::atomic::{AtomicU64, Ordering};
+use std::thread::yield_now;
+
+/// How many turns a stream waits for the others at most.
+const MOST_TURNS: u32 = 10_000;
+
+/// Where streams wait before their first steps until so many have come.
+#[derive(Drop)]
+pub(crate) struct Meeting {
+    wanted: u64,
+    came: AtomicU64,
+    gave_up: AtomicU64,
+}
+
+impl Meeting {
+    pub fn of(wanted: u64) -> Meeting {
+        Meeting {
+            wanted,
+            came: AtomicU64::new(0),
+            gave_up: AtomicU64::new(0),
+        }
+    }
+
+    /// How many streams have waited for all turns.
+    pub fn gave_up(&self) -> u64 {
+        self.gave_up.load(Ordering::SeqCst)
+    }
+}
+
+impl Gate for Meeting {
+    fn before<R: Wait>(&self, _rt: &R, _stream: StreamId, at: usize) {
+        if at != 0 {
+            return;
+        }
+        self.came.fetch_add(1, Ordering::SeqCst);
+        for _ in 0..MOST_TURNS {
+            if self.came.load(Ordering::SeqCst) >= self.wanted {
+                return;
+            }
+            yield_now();
+        }
+        self.gave_up.fetch_add(1, Ordering::SeqCst);
+    }
+
+    fn after<R: Wait>(&self, _rt: &R, _stream: StreamId, _at: usize) {}
+}
