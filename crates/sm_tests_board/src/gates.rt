@@ -1,5 +1,5 @@
-//! A gate of runs, at which streams meet before their first steps.
-use sm_executor::Gate;
+//! Gates of runs: one at which streams meet before their first steps, and one that halts the board.
+use sm_executor::{Board, Gate, Naming, Side};
 use sm_reservation::StreamId;
 use std::sync::Wait;
 use std::sync::atomic::{AtomicU64, Ordering};
@@ -47,4 +47,32 @@ impl Gate for Meeting {
     }
 
     fn after<R: Wait>(&self, _rt: &R, _stream: StreamId, _at: usize) {}
+}
+
+/// Halts a board behind the step of this number, counted from one.
+#[derive(Drop)]
+pub(crate) struct Halting<'b, A: Side, B: Side, C: Side, N: Naming> {
+    board: &'b Board<A, B, C, N>,
+    number: u64,
+    made: AtomicU64,
+}
+
+impl<'b, A: Side, B: Side, C: Side, N: Naming> Halting<'b, A, B, C, N> {
+    pub fn behind(board: &'b Board<A, B, C, N>, number: u64) -> Halting<'b, A, B, C, N> {
+        Halting {
+            board,
+            number,
+            made: AtomicU64::new(0),
+        }
+    }
+}
+
+impl<'b, A: Side, B: Side, C: Side, N: Naming> Gate for Halting<'b, A, B, C, N> {
+    fn before<R: Wait>(&self, _rt: &R, _stream: StreamId, _at: usize) {}
+
+    fn after<R: Wait>(&self, rt: &R, _stream: StreamId, _at: usize) {
+        if self.made.fetch_add(1, Ordering::SeqCst).wrapping_add(1) == self.number {
+            self.board.halt(rt);
+        }
+    }
 }

@@ -6,7 +6,7 @@ ghost use Rattle.sm_executor.specs.Tied.{IsMapOf};
 use super::answers::Loses;
 use super::boards::machine;
 use super::clients::run_beside_clients;
-use super::gates::Meeting;
+use super::gates::{Halting, Meeting};
 use super::given::{is_for, put};
 use super::worlds::{assert_cells, eight_idle, plan_of, s_to_b, signalled};
 use sm_executor::{Board, Caller, Ended, Gate, Ground, Naming, Open, RunFault, Runner, Side, run};
@@ -25,6 +25,8 @@ use std::thread::Threads;
 pub(crate) enum Course<'a> {
     /// To its end, through a gate at which the streams meet.
     Meets(&'a Meeting),
+    /// The board is halted behind the step of this number, resumed, and the rest is run.
+    HaltedBehind(u64),
     /// Its one stream has spent its allowance, is given one more try, and goes on.
     Spent,
     /// Beside two clients, of which each asks for a shard of its own.
@@ -66,6 +68,36 @@ fn joined<A: Side>(
     assert!(rt; others.is_empty());
     others.destroy_empty();
     ended
+}
+
+/// Runs until the board is halted behind a step, and then the rest. Where all streams had ended, nothing was left to halt; behind the
+/// first step something is.
+fn run_halted<
+    A: Side + Send + Sync,
+    B: Side + Send + Sync,
+    C: Side + Send + Sync,
+    N: Naming + Send + Sync,
+    R: Threads + Wait + Sync + Abort,
+>(
+    rt: &R,
+    alloc: Global,
+    board: &Board<A, B, C, N>,
+    runners: Vec<Runner<A>>,
+    number: u64,
+) -> Vec<Ended<A>> {
+    match run(rt, alloc, board, runners, &Halting::behind(board, number)) {
+        Ok(ended) => {
+            assert!(rt; number > 1);
+            ended
+        }
+        Err(RunFault::Halted { runners, ended }) => {
+            assert!(rt; !runners.is_empty());
+            assert!(rt; board.hold(rt).machine().log().len() as u64 >= number);
+            board.resume(rt);
+            joined(rt, ended, run_through(rt, alloc, board, runners, &Open))
+        }
+        Err(_) => panic!(rt; "a run ends otherwise than halted"),
+    }
 }
 
 /// The one stream loses its first call, and has then one try too few: the run ends by this, and goes on with one more.
@@ -130,6 +162,10 @@ fn go<
     match course {
         Course::Meets(meeting) => (
             run_through(rt, alloc, board, runners, meeting),
+            Vec::new(alloc),
+        ),
+        Course::HaltedBehind(number) => (
+            run_halted(rt, alloc, board, runners, number),
             Vec::new(alloc),
         ),
         Course::Spent => (run_spent(rt, alloc, board, runners), Vec::new(alloc)),
@@ -235,6 +271,15 @@ fn eight_streams_without_code_meet(rt: HostRuntime) {
     let (_placement, count) = run_plan(&rt, alloc, eight_idle(alloc), Course::Meets(&meeting));
     assert_eq!(&rt; count, 8);
     assert_eq!(&rt; meeting.gave_up(), 0);
+}
+
+/// Wherever the board is halted, what is left is run to the same end.
+#[test]
+fn a_run_is_halted_behind_each_step(rt: HostRuntime) {
+    let alloc = rt.alloc();
+    for number in 1..10u64 {
+        run_signalled(&rt, alloc, Course::HaltedBehind(number));
+    }
 }
 
 /// A lost try, four calls, a publication, a refill and the end.
