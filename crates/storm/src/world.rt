@@ -1,0 +1,83 @@
+//! What all runs have in common: the shape of the plan, and the placements before it and after it.
+ghost use Rattle.std.specs.Prelude.{◌≡◌, ◌<◌, length};
+
+use crate::fault::Fault;
+use board_streams::{Shape, config_of, placement_after, placement_before};
+use sm_placement::{Config, Placement};
+use sm_server::{ServerId, ShardId};
+use std::alloc::Global;
+
+/// 64 streams of 64 instructions: eleven handovers of five, two exchanges of four, and a secondary.
+pub(crate) const SHAPE: Shape = Shape {
+    streams: 64,
+    first: 5,
+    second: 4,
+    third: 2,
+};
+
+/// How many shards there are: one for each stream, and sixteen that no stream touches.
+pub(crate) const SHARDS: u32 = 80;
+
+/// How many servers there are.
+pub(crate) const SERVERS: u32 = 64;
+
+/// The first of the servers that no stream mentions.
+pub(crate) const RESTED: u32 = 48;
+
+/// How many of these there are.
+pub(crate) const RESTING: u32 = 16;
+
+/// The configuration, and the placements before the plan and after it.
+#[derive(Drop)]
+pub(crate) struct World {
+    pub config: Config,
+    pub before: Placement,
+    pub after: Placement,
+}
+
+impl World {
+    pub fn new(alloc: Global) -> Result<World, Fault> {
+        let config = config_of(alloc, &SHAPE)?;
+        let before = placement_before(alloc, &config, &SHAPE)?;
+        let after = placement_after(alloc, &config, &SHAPE)?;
+        Ok(World {
+            config,
+            before,
+            after,
+        })
+    }
+}
+
+/// The shard stands at the same servers, and the published map lists the same one.
+fn is_same_shard(ended: &Placement, wanted: &Placement, shard: ShardId) -> bool
+    requires shards { (shard < length ended.now.setup.shards) × (shard < length wanted.now.setup.shards) }
+    requires servers { length ended.now.setup.servers ≡ length wanted.now.setup.servers }
+{
+    if ended.listed(shard) != wanted.listed(shard) {
+        return false;
+    }
+    for number in 0..ended.config().server_count() {
+        let server = ServerId::new(number);
+        if ended.cell(shard, server) != wanted.cell(shard, server) {
+            return false;
+        }
+    }
+    true
+}
+
+/// The shards stand at the same servers, and the published map lists the same ones.
+pub(crate) fn is_same(ended: &Placement, wanted: &Placement) -> bool {
+    let (one, other) = (ended.config(), wanted.config());
+    if one.shard_count() != other.shard_count() || one.server_count() != other.server_count() {
+        return false;
+    }
+    if ended.down_count() != wanted.down_count() {
+        return false;
+    }
+    for shard in 0..one.shard_count() {
+        if !is_same_shard(ended, wanted, ShardId::new(shard)) {
+            return false;
+        }
+    }
+    true
+}
