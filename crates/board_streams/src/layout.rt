@@ -1,7 +1,7 @@
 //! The servers, the shards, and where each of them stands before a plan and after it.
 ghost use Rattle.std.specs.Prelude.{◌<◌, ◌^◌};
 
-use crate::unmade::Unmade;
+use crate::fault::Fault;
 use sm_placement::{Config, Placement, Server, Shard};
 use sm_server::{Cell, ServerId, ShardId};
 use std::alloc::{AllocError, Global};
@@ -83,7 +83,7 @@ fn shards_of(alloc: Global, shape: &Shape) -> Result<Vec<Shard>, AllocError> {
 }
 
 /// The configuration.
-pub fn config_of(alloc: Global, shape: &Shape) -> Result<Config, Unmade> {
+pub fn config_of(alloc: Global, shape: &Shape) -> Result<Config, Fault> {
     let servers = servers_of(alloc)?;
     let shards = shards_of(alloc, shape)?;
     Ok(Config::new(alloc, &servers, &shards)?)
@@ -132,11 +132,7 @@ fn push_resting(rows: &mut Rows, shape: &Shape) -> Result<(), AllocError> {
 }
 
 /// The placement that a plan of this shape starts at. One server may be down at a time.
-pub fn placement_before(
-    alloc: Global,
-    config: &Config,
-    shape: &Shape,
-) -> Result<Placement, Unmade> {
+pub fn placement_before(alloc: Global, config: &Config, shape: &Shape) -> Result<Placement, Fault> {
     let mut rows = moved_rows(alloc, shape, 0)?;
     push_resting(&mut rows, shape)?;
     let Rows { cells, listed } = rows;
@@ -144,7 +140,7 @@ pub fn placement_before(
 }
 
 /// The placement that a plan of this shape ends at, but for the versions of the published map.
-pub fn placement_after(alloc: Global, config: &Config, shape: &Shape) -> Result<Placement, Unmade> {
+pub fn placement_after(alloc: Global, config: &Config, shape: &Shape) -> Result<Placement, Fault> {
     let mut rows = moved_rows(alloc, shape, moves_of(shape))?;
     push_added(&mut rows, shape)?;
     push_resting(&mut rows, shape)?;

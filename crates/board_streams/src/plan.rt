@@ -1,9 +1,10 @@
 //! The plan of a shape.
-ghost use Rattle.std.specs.Prelude.{◌≡◌, IfOk};
+ghost use Rattle.std.specs.Prelude.{◌≡◌, IfOk, IsTrue};
 
 use crate::code::{behind, code_of};
+use crate::fault::Fault;
 use crate::layout::{Shape, moves_of, primary_of, secondary_of};
-use crate::unmade::Unmade;
+use sm_machine::Machine;
 use sm_placement::{Config, Lead};
 use sm_plan_code::{MOST_CALLS, Parts, Plan, Stream};
 use sm_reservation::{CellRight, Crown, Lists, Parcel, PlainCell, Room};
@@ -39,7 +40,7 @@ fn rights_of(alloc: Global, shard: u32, moved: u64) -> Result<Lists, AllocError>
 }
 
 /// What a stream holds at its start: the rights to go on with its shard, and to add the secondary.
-fn holds_of(alloc: Global, shape: &Shape, stream: u32) -> Result<Parcel, Unmade> {
+fn holds_of(alloc: Global, shape: &Shape, stream: u32) -> Result<Parcel, Fault> {
     let last = behind(shape, stream, 2);
     let server = secondary_of(last);
     let mut lists = rights_of(alloc, stream, 0)?;
@@ -64,7 +65,7 @@ fn budget_of(shape: &Shape) -> u32 {
 }
 
 /// The streams.
-fn streams_of(alloc: Global, shape: &Shape) -> Result<Vec<Stream>, Unmade> {
+fn streams_of(alloc: Global, shape: &Shape) -> Result<Vec<Stream>, Fault> {
     let mut streams = Vec::new(alloc);
     for stream in 0..shape.streams {
         streams.push(Stream {
@@ -78,7 +79,7 @@ fn streams_of(alloc: Global, shape: &Shape) -> Result<Vec<Stream>, Unmade> {
 }
 
 /// What the signals carry: those behind the first turns, and those behind the second ones.
-fn signals_of(alloc: Global, shape: &Shape) -> Result<Vec<Parcel>, Unmade> {
+fn signals_of(alloc: Global, shape: &Shape) -> Result<Vec<Parcel>, Fault> {
     let first = u64::from(shape.first);
     let mut signals = Vec::new(alloc);
     for stream in 0..shape.streams {
@@ -94,7 +95,7 @@ fn signals_of(alloc: Global, shape: &Shape) -> Result<Vec<Parcel>, Unmade> {
 }
 
 /// The plan of a shape, checked for the configuration.
-pub fn plan_of(alloc: Global, config: &Config, shape: &Shape) -> Result<Checked, Unmade>
+pub fn plan_of(alloc: Global, config: &Config, shape: &Shape) -> Result<Checked, Fault>
     ensures { IfOk result (λ checked. checked.setup ≡ config.now) }
 {
     let parts = Parts {
@@ -103,13 +104,20 @@ pub fn plan_of(alloc: Global, config: &Config, shape: &Shape) -> Result<Checked,
         signals: signals_of(alloc, shape)?,
     };
     let Ok(plan) = Plan::new(parts) else {
-        return Err(Unmade::TooLarge);
+        return Err(Fault::TooLarge);
     };
     if !plan.fits(config) {
-        return Err(Unmade::TooLarge);
+        return Err(Fault::TooLarge);
     }
     match check(alloc, config, plan) {
         Ok(checked) => Ok(checked),
-        Err((_, fault)) => Err(Unmade::from(fault)),
+        Err((_, fault)) => Err(Fault::from(fault)),
     }
+}
+
+/// The plan was checked for the machine's configuration.
+pub fn is_for(machine: &Machine, checked: &Checked) -> bool
+    ensures { IsTrue result → checked.now.setup ≡ machine.now.placement.setup }
+{
+    checked.config() == machine.config()
 }

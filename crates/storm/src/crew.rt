@@ -5,7 +5,7 @@ ghost use Rattle.storm.specs.declared.world.TheConstants.{SHARDS};
 use crate::asker::Asker;
 use crate::gusts::{Gusts, scattered};
 use crate::restarts::Restarts;
-use crate::streams::Streams;
+use board_streams::Streams;
 use sm_executor::{Board, Caller, Naming, Side};
 use std::alloc::{AllocError, Global};
 use std::sync::Wait;

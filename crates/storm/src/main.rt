@@ -10,7 +10,6 @@ mod fault;
 mod gusts;
 mod restarts;
 mod run;
-mod streams;
 mod world;
 
 use fault::Fault;

@@ -11,10 +11,9 @@ use crate::crew::{Crew, run_in_storm};
 use crate::fault::Fault;
 use crate::gusts::{Gusts, scattered};
 use crate::restarts::Restarts;
-use crate::streams::Streams;
 use crate::world::{SERVERS, SHAPE, SHARDS, World, is_same};
-use board_streams::plan_of;
-use sm_executor::{Board, Caller, Ended, Ground, Naming, Side};
+use board_streams::{Fault as RunFault, Streams, close, give_up, is_for, plan_of};
+use sm_executor::{Board, Ground, Naming, Side};
 use sm_machine::{Machine, OpenFault, Permit, StreamToken};
 use sm_placement::Placement;
 use sm_verifier::Checked;
@@ -26,13 +25,6 @@ use std::thread::Threads;
 /// How many places the log of a run has: more than there are steps, requests and restarts.
 const PLACES: u32 = 16_384;
 
-/// The plan was checked for the machine's configuration.
-fn is_for(machine: &Machine, checked: &Checked) -> bool
-    ensures { IsTrue result → checked.now.setup ≡ machine.now.placement.setup }
-{
-    checked.config() == machine.config()
-}
-
 /// The machine has the servers and the shards of a storm.
 fn is_large_enough(machine: &Machine) -> bool
     ensures shards { IsTrue result → SHARDS ≤ length machine.now.placement.setup.shards }
@@ -40,33 +32,6 @@ fn is_large_enough(machine: &Machine) -> bool
 {
     let config = machine.config();
     config.shard_count() >= SHARDS && config.server_count() >= SERVERS
-}
-
-/// Gives a machine up, with the permits that it has given out.
-fn give_up(alloc: Global, machine: Machine, permits: Vec<Permit>) {
-    machine.give_up(Vec::new(alloc), permits, Vec::new(alloc));
-}
-
-/// Closes a board with all that it has given out, and answers its placement.
-fn close<A: Side, B: Side, C: Side, N: Naming>(
-    alloc: Global,
-    board: Board<A, B, C, N>,
-    ended: Vec<Ended<A>>,
-    callers: Vec<Caller<B, C, N>>,
-    tokens: Vec<StreamToken>,
-    permits: Vec<Permit>,
-) -> Result<Placement, Fault>
-    requires { (A.all ≡ A.parts) × (B.all ≡ B.parts) × (C.all ≡ C.parts) }
-{
-    match board.close(ended, callers) {
-        Ok(machine) => Ok(machine.give_up(tokens, permits, Vec::new(alloc))),
-        Err(refused) => {
-            let (board, ended, callers) = refused.back();
-            let machine = board.give_up(ended, callers);
-            machine.give_up(tokens, permits, Vec::new(alloc));
-            Err(Fault::NotClosed)
-        }
-    }
 }
 
 /// The placement at the end of a storm over a board, whose streams have room for their tokens.
@@ -102,15 +67,15 @@ fn storm_with<
     let (callers, permits) = (crew.into_callers(), restarts.into_permits());
     let placement = close(alloc, board, ended, callers, tokens, permits);
     if let Some(fault) = fault {
-        return Err(fault);
+        return Err(Fault::Run(fault));
     }
     if !started {
-        return Err(Fault::NoThread);
+        return Err(Fault::Run(RunFault::NoThread));
     }
     if !restarted {
         return Err(Fault::NoRestart);
     }
-    placement
+    Ok(placement?)
 }
 
 /// The placement at the end of a storm over a board, on which the plan begins.
@@ -142,7 +107,7 @@ fn storm_on_board<
         Err(_) => {
             let machine = board.give_up(Vec::new(alloc), crew.into_callers());
             machine.give_up(tokens, restarts.into_permits(), Vec::new(alloc));
-            Err(Fault::NotBegun)
+            Err(Fault::Run(RunFault::NotBegun))
         }
     }
 }
@@ -176,7 +141,7 @@ fn storm_on_ground<
         Ok(board) => board,
         Err((machine, _ground, _error)) => {
             give_up(alloc, machine, permits);
-            return Err(Fault::NoMemory);
+            return Err(Fault::Run(RunFault::NoMemory));
         }
     };
     let Ok(tokens) = Vec::with_capacity(alloc, checked.plan().streams().len()) else {
@@ -185,7 +150,7 @@ fn storm_on_ground<
             board.give_up(Vec::new(alloc), Vec::new(alloc)),
             permits,
         );
-        return Err(Fault::NoMemory);
+        return Err(Fault::Run(RunFault::NoMemory));
     };
     match Crew::new(rt, alloc, &board, scattered(seed)) {
         Ok(crew) => {
@@ -199,7 +164,7 @@ fn storm_on_ground<
                 board.give_up(Vec::new(alloc), Vec::new(alloc)),
                 permits,
             );
-            Err(Fault::NoMemory)
+            Err(Fault::Run(RunFault::NoMemory))
         }
     }
 }
@@ -215,11 +180,11 @@ fn storm_over<R: Threads + Wait + Sync>(
 ) -> Result<Placement, Fault> {
     if !is_for(&machine, &checked) || !is_large_enough(&machine) {
         give_up(alloc, machine, permits);
-        return Err(Fault::NoPlan);
+        return Err(Fault::Run(RunFault::TooLarge));
     }
     if permits.reserve(1).is_err() {
         give_up(alloc, machine, permits);
-        return Err(Fault::NoMemory);
+        return Err(Fault::Run(RunFault::NoMemory));
     }
     match Ground::new(alloc, &machine) {
         Ok(ground) => storm_on_ground::<Brand, Brand, Brand, Brand, R>(
@@ -227,7 +192,7 @@ fn storm_over<R: Threads + Wait + Sync>(
         ),
         Err(_) => {
             give_up(alloc, machine, permits);
-            Err(Fault::NoMemory)
+            Err(Fault::Run(RunFault::NoMemory))
         }
     }
 }
@@ -242,7 +207,7 @@ pub(crate) fn run_once<R: Threads + Wait + Sync>(
     let checked = plan_of(alloc, &world.config, &SHAPE)?;
     let placement = world.before.copy(alloc)?;
     if !placement.settled() {
-        return Err(Fault::NoPlan);
+        return Err(Fault::Run(RunFault::TooLarge));
     }
     let seed = scattered(u64::from(number));
     match Machine::open(alloc, placement, PLACES) {
@@ -254,7 +219,7 @@ pub(crate) fn run_once<R: Threads + Wait + Sync>(
                 Err(Fault::OtherEnd)
             }
         }
-        Err((_, OpenFault::NoMemory)) => Err(Fault::NoMemory),
-        Err((_, OpenFault::LogFull)) => Err(Fault::NoPlan),
+        Err((_, OpenFault::NoMemory)) => Err(Fault::Run(RunFault::NoMemory)),
+        Err((_, OpenFault::LogFull)) => Err(Fault::Run(RunFault::TooLarge)),
     }
 }

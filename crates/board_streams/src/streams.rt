@@ -2,8 +2,7 @@
 ghost use Rattle.std.specs.Prelude.{◌≤◌, ◌+◌, vec_len, vec_capacity};
 
 use crate::fault::Fault;
-use crate::gusts::Gusts;
-use sm_executor::{Board, Ended, Naming, RunFault, Runner, Side, run};
+use sm_executor::{Board, Ended, Gate, Naming, RunFault, Runner, Side, run};
 use sm_machine::StreamToken;
 use std::alloc::Global;
 use std::mem;
@@ -12,7 +11,7 @@ use std::thread::Threads;
 
 /// The runners of streams before they run, and after that their ends, or the tokens of those that came to none. It can be neither
 /// copied nor dropped.
-pub(crate) struct Streams<A: Side> {
+pub struct Streams<A: Side> {
     runners: Vec<Runner<A>>,
     ended: Vec<Ended<A>>,
     tokens: Vec<StreamToken>,
@@ -67,7 +66,8 @@ impl<A: Side> Streams<A> {
         C: Side + Send + Sync,
         N: Naming + Send + Sync,
         R: Threads + Wait + Sync,
-    >(&mut self, rt: &R, alloc: Global, board: &Board<A, B, C, N>, gusts: &Gusts)
+        G: Gate + Sync,
+    >(&mut self, rt: &R, alloc: Global, board: &Board<A, B, C, N>, gate: &G)
     where
         A: Send + Sync,
     {
@@ -75,7 +75,7 @@ impl<A: Side> Streams<A> {
             return;
         }
         let runners = mem::replace(&mut self.runners, Vec::new(alloc));
-        match run(rt, alloc, board, runners, gusts) {
+        match run(rt, alloc, board, runners, gate) {
             Ok(ended) => self.keep_ends(ended),
             Err(RunFault::NoMemory(runners)) => self.keep(runners, Fault::NoMemory),
             Err(RunFault::NoThread(runners)) => self.keep(runners, Fault::NoThread),

@@ -1,0 +1,86 @@
+//! Why a plan was not made, or not run to its end.
+use sm_placement::{ConfigFault, OpenFault};
+use sm_reservation::{Lists, ParcelFault};
+use sm_verifier::Fault as CheckFault;
+use std::alloc::{AllocError, AllocFailed};
+use thiserror::Error;
+
+/// Why a plan was not made, or not run to its end on a board that is closed then.
+#[derive(Clone, Copy, Debug, PartialEq, Eq, Error)]
+pub enum Fault {
+    /// Memory was short.
+    #[error("out of memory")]
+    NoMemory,
+    /// The shape has too many streams or too many moves for a plan.
+    #[error("the shape is too large")]
+    TooLarge,
+    /// The plan did not begin.
+    #[error("the plan did not begin")]
+    NotBegun,
+    /// A thread could not be started.
+    #[error("a thread could not be started")]
+    NoThread,
+    /// Not each stream has made its end.
+    #[error("a stream has not made its end")]
+    NotEnded,
+    /// The board was not closed.
+    #[error("the board was not closed")]
+    NotClosed,
+}
+
+impl From<AllocError> for Fault {
+    ghost use Rattle.std.specs.Prelude.{◌≡◌};
+    ghost use Rattle.board_streams.specs.declared.fault.Fault.TheVariants.{NoMemory};
+
+    ghost from_gives = { λ _ why. why ≡ NoMemory };
+
+    fn from(_error: AllocError) -> Fault {
+        Fault::NoMemory
+    }
+}
+
+impl<T: Drop> From<AllocFailed<T>> for Fault {
+    fn from(_failed: AllocFailed<T>) -> Fault {
+        Fault::NoMemory
+    }
+}
+
+impl From<ConfigFault> for Fault {
+    fn from(fault: ConfigFault) -> Fault {
+        if fault == ConfigFault::NoMemory {
+            Fault::NoMemory
+        } else {
+            Fault::TooLarge
+        }
+    }
+}
+
+impl From<OpenFault> for Fault {
+    fn from(fault: OpenFault) -> Fault {
+        if fault == OpenFault::NoMemory {
+            Fault::NoMemory
+        } else {
+            Fault::TooLarge
+        }
+    }
+}
+
+impl From<(Lists, ParcelFault)> for Fault {
+    fn from((_lists, fault): (Lists, ParcelFault)) -> Fault {
+        if fault == ParcelFault::NoMemory {
+            Fault::NoMemory
+        } else {
+            Fault::TooLarge
+        }
+    }
+}
+
+impl From<CheckFault> for Fault {
+    fn from(fault: CheckFault) -> Fault {
+        if fault == CheckFault::NoMemory {
+            Fault::NoMemory
+        } else {
+            Fault::TooLarge
+        }
+    }
+}
