@@ -1,5 +1,5 @@
 //! The streams of a run.
-ghost use Rattle.std.specs.Prelude.{◌≤◌, ◌+◌, vec_len, vec_capacity};
+ghost use Rattle.std.specs.Prelude.{◌≡◌, ◌≤◌, ◌+◌, vec_len, vec_capacity};
 
 use crate::fault::Fault;
 use sm_executor::{Board, Ended, Gate, Naming, RunFault, Runner, Side, run};

@@ -1,5 +1,5 @@
 //! Who restarts servers during a run.
-ghost use Rattle.std.specs.Prelude.{◌≤◌, ◌<◌, vec_len, vec_capacity};
+ghost use Rattle.std.specs.Prelude.{◌≡◌, ◌≤◌, ◌<◌, None, vec_len, vec_capacity};
 ghost use Rattle.storm.specs.declared.world.TheConstants.{SERVERS};
 
 use crate::gusts::scattered;
