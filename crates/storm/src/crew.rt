@@ -158,8 +158,8 @@ fn start_beside<
     }
 }
 
-/// Runs the streams beside the crew's asks and the restarts. True only if all threads beside the streams have started.
-pub(crate) fn run_in_storm<
+/// Runs the streams beside the askers and the restarts. True only if all threads beside the streams have started.
+fn run_in_storm<
     A: Side + Send + Sync,
     B: Side + Send + Sync,
     C: Side + Send + Sync,
@@ -170,16 +170,34 @@ pub(crate) fn run_in_storm<
     alloc: Global,
     board: &Board<A, B, C, N>,
     streams: &mut Streams<A>,
-    crew: &mut Crew<B, C, N>,
+    askers: &mut [Asker<B, C, N>],
     restarts: &mut Restarts<N>,
     gusts: &Gusts,
-) -> bool {
+) -> bool
+    ensures { length askers.new ≡ length askers.old }
+{
     let lent = Lent {
-        askers: crew.askers.as_mut_slice(),
+        askers: &mut *askers,
         restarts: &mut *restarts,
         streams: &mut *streams,
     };
     thread::scope(thread::scope_env(), rt, move |scope| {
         start_beside(scope, rt, alloc, board, gusts, lent)
     })
+}
+
+impl<B: Side + Send + Sync, C: Side + Send + Sync, N: Naming + Send + Sync> Crew<B, C, N> {
+    /// Runs the streams beside the crew's asks and the restarts. True only if all threads beside the streams have started.
+    pub fn run_beside<A: Side + Send + Sync, R: Threads + Wait + Sync>(
+        &mut self,
+        rt: &R,
+        alloc: Global,
+        board: &Board<A, B, C, N>,
+        streams: &mut Streams<A>,
+        restarts: &mut Restarts<N>,
+        gusts: &Gusts,
+    ) -> bool {
+        let askers = self.askers.as_mut_slice();
+        run_in_storm(rt, alloc, board, streams, askers, restarts, gusts)
+    }
 }

@@ -7,7 +7,7 @@ ghost use Rattle.sm_machine.specs.State.{state_of};
 ghost use Rattle.sm_executor.specs.Tied.{IsMapOf};
 ghost use Rattle.storm.specs.declared.world.TheConstants.{SERVERS, SHARDS};
 
-use crate::crew::{Crew, run_in_storm};
+use crate::crew::Crew;
 use crate::fault::Fault;
 use crate::gusts::{Gusts, scattered};
 use crate::restarts::Restarts;
@@ -53,15 +53,7 @@ fn storm_with<
     requires { (A.all ≡ A.parts) × (B.all ≡ B.parts) × (C.all ≡ C.parts) }
 {
     let gusts = Gusts { seed };
-    let started = run_in_storm(
-        rt,
-        alloc,
-        &board,
-        &mut streams,
-        &mut crew,
-        &mut restarts,
-        &gusts,
-    );
+    let started = crew.run_beside(rt, alloc, &board, &mut streams, &mut restarts, &gusts);
     let (fault, restarted) = (streams.fault(), restarts.all_made());
     let (ended, tokens) = streams.into_parts();
     let (callers, permits) = (crew.into_callers(), restarts.into_permits());
