@@ -1,5 +1,5 @@
 //! What all runs have in common: the shape of the plan, and the placements before it and after it.
-ghost use Rattle.std.specs.Prelude.{◌≡◌, ◌<◌, length};
+ghost use Rattle.std.specs.Prelude.{◌≡◌, ◌<◌, ◌≤◌, length};
 
 use crate::fault::Fault;
 use board_streams::{Shape, config_of, placement_after, placement_before};
@@ -48,15 +48,24 @@ impl World {
     }
 }
 
-/// The shard stands at the same servers, and the published map lists the same one.
-fn is_same_shard(ended: &Placement, wanted: &Placement, shard: ShardId) -> bool
+/// How many shards and servers a placement has.
+fn counts(placement: &Placement) -> (u32, u32)
+    ensures shards { result.0 ≡ length placement.now.setup.shards }
+    ensures servers { result.1 ≡ length placement.now.setup.servers }
+{
+    let config = placement.config();
+    (config.shard_count(), config.server_count())
+}
+
+/// The shard stands at the same ones of so many servers, and the published map lists the same one.
+fn is_same_shard(ended: &Placement, wanted: &Placement, shard: ShardId, servers: u32) -> bool
     requires shards { (shard < length ended.now.setup.shards) × (shard < length wanted.now.setup.shards) }
-    requires servers { length ended.now.setup.servers ≡ length wanted.now.setup.servers }
+    requires servers { (servers ≤ length ended.now.setup.servers) × (servers ≤ length wanted.now.setup.servers) }
 {
     if ended.listed(shard) != wanted.listed(shard) {
         return false;
     }
-    for number in 0..ended.config().server_count() {
+    for number in 0..servers {
         let server = ServerId::new(number);
         if ended.cell(shard, server) != wanted.cell(shard, server) {
             return false;
@@ -67,15 +76,16 @@ fn is_same_shard(ended: &Placement, wanted: &Placement, shard: ShardId) -> bool
 
 /// The shards stand at the same servers, and the published map lists the same ones.
 pub(crate) fn is_same(ended: &Placement, wanted: &Placement) -> bool {
-    let (one, other) = (ended.config(), wanted.config());
-    if one.shard_count() != other.shard_count() || one.server_count() != other.server_count() {
+    let (shards, servers) = counts(ended);
+    let (wanted_shards, wanted_servers) = counts(wanted);
+    if shards != wanted_shards || servers != wanted_servers {
         return false;
     }
     if ended.down_count() != wanted.down_count() {
         return false;
     }
-    for shard in 0..one.shard_count() {
-        if !is_same_shard(ended, wanted, ShardId::new(shard)) {
+    for shard in 0..shards {
+        if !is_same_shard(ended, wanted, ShardId::new(shard), servers) {
             return false;
         }
     }
