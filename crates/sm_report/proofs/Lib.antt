@@ -1,4 +1,3 @@
-pub mod CommandLine
 pub mod Onward
 pub mod Inputs
 pub mod Texts

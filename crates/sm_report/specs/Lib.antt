@@ -1,5 +1,4 @@
 pub mod Status
-pub mod CommandLine
 pub mod Lines
 pub mod Ending
 pub mod Answers

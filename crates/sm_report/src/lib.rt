@@ -29,7 +29,7 @@ mod status;
 mod unmade;
 mod verdict;
 
-pub use command::{Command, LineFault, Word, command_of};
+pub use command::Command;
 pub use input::{InputFault, take_input};
 pub use reporting::{one_report, report, some_report};
 pub use running::report_run;

@@ -1,21 +1,16 @@
 //! The program: one word says what is reported of the document on standard input.
 #![tactic(auto)]
 
-ghost use Rattle.std.specs.Prelude.{◌≡◌, ◌<◌, IfOk, map, string_bytes};
-ghost use Rattle.std.specs.Io.KnownBytes.{Appends, Keeps};
-ghost use Rattle.sm_report.specs.Report.{Output};
-ghost use Rattle.sm_report.specs.Status.{code_of};
-ghost use Rattle.smplan.specs.Reported.{IsReported};
+ghost use Rattle.std.specs.Prelude.{◌≡◌, IfOk, map, string_bytes};
 
 #[cfg(test)]
 mod tests;
 
-use sm_report::{LineFault, Status, Word, command_of, report, report_run};
+use sm_command_line::{LineFault, Word, command_of, report_word};
+use sm_report::Status;
 use std::alloc::{AllocError, Global};
-use std::io::{ErrorKind, Read, Write};
+use std::io::ErrorKind;
 use std::process::ExitCode;
-use std::sync::Wait;
-use std::thread::Threads;
 use std::{env, io};
 
 /// The words after the program's name.
@@ -69,26 +64,6 @@ fn word_of(rt: &HostRuntime) -> Result<Word, Status> {
     match texts_of(rt.alloc(), words.as_slice()) {
         Ok(texts) => word_named(rt, texts.as_slice()),
         Err(_) => Err(Status::NoMemory),
-    }
-}
-
-/// Writes the report that the word asks for, of what the reader gives.
-fn report_word<R: AllocGlobal + Threads + Wait + Sync, I: Read, W: Write>(
-    rt: &R,
-    word: Word,
-    reader: &mut I,
-    writer: &mut W,
-) -> Status
-    // What is written and the status are those of the report on the bytes that came.
-    ensures reported { code_of result < 3 → (output : Output)
-        × IsReported word (I.remaining reader.old) output × (result ≡ output.status)
-        × Appends (W.contents writer.old) (W.contents writer.new) output.text }
-    // Without memory nothing is written.
-    ensures memory { result ≡ Status.NoMemory → Keeps (W.contents writer.old) (W.contents writer.new) }
-{
-    match word {
-        Word::Report(command) => report(rt.alloc(), command, reader, writer),
-        Word::Run => report_run(rt, rt.alloc(), reader, writer),
     }
 }
 

@@ -1,7 +1,7 @@
 //! Readers and writers that go wrong.
 use super::documents::{REFUSED_CALLS, Row, TWO_STREAMS};
-use crate::report_word;
-use sm_report::{Command, Status, Word};
+use sm_command_line::{Word, report_word};
+use sm_report::{Command, Status};
 use std::alloc::Global;
 use std::io::{self, ErrorKind, Read, Write};
 use std::process::Abort;

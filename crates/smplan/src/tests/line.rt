@@ -1,5 +1,6 @@
 //! The words of the command line.
-use sm_report::{Command, LineFault, Word, command_of};
+use sm_command_line::{LineFault, Word, command_of};
+use sm_report::Command;
 
 #[test]
 fn knows_the_commands(rt: HostRuntime) {

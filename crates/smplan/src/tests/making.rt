@@ -2,7 +2,8 @@
 use super::documents::Row;
 use super::ends::{Fault, reads_again, writes_all, writes_fronts, writes_nothing};
 use super::rows::assert_reported;
-use sm_report::{Command, Word};
+use sm_command_line::Word;
+use sm_report::Command;
 
 /// Two moves, of which the first waits for room that the second one frees.
 const TWO_MOVES: Row = Row {

@@ -2,7 +2,8 @@
 use super::documents::Row;
 use super::ends::{Fault, reads_again, writes_all, writes_fronts, writes_nothing};
 use super::rows::assert_reported;
-use sm_report::{Command, Word};
+use sm_command_line::Word;
+use sm_report::Command;
 
 /// A handover that is begun, with a request that is passed on and a restart that is denied.
 const PLAYED_HANDOVER: Row = Row {

@@ -1,7 +1,7 @@
 //! A report over memory.
 use super::documents::{REFUSED_CALLS, Row, TWO_STREAMS};
-use crate::report_word;
-use sm_report::{Command, Status, Word, one_report};
+use sm_command_line::{Word, report_word};
+use sm_report::{Command, Status, one_report};
 use std::process::Abort;
 use std::sync::Wait;
 use std::thread::Threads;

@@ -2,7 +2,7 @@
 use super::documents::{Row, TWO_STREAMS};
 use super::ends::{Fault, reads_again, writes_all, writes_fronts, writes_nothing};
 use super::rows::assert_reported;
-use sm_report::Word;
+use sm_command_line::Word;
 
 /// What is told of them where they are run.
 const ENDS: &str = r#"accepted: calls 8 streams 2

@@ -7,9 +7,9 @@ use Rattle.clap.specs.Kinds.{Kinds, IsAmong}
 use Rattle.clap.specs.declared.error.kind.ErrorKind.{ErrorKind}
 use Rattle.clap.specs.declared.error.kind.ErrorKind.TheVariants as kind
 use Rattle.clap.proofs.OnLiterals.{clap_on_literals}
-use Rattle.sm_report.specs.CommandLine.{asked_for, program, Tells, TellsKind}
-use Rattle.sm_report.specs.declared.command.LineFault.{LineFault}
-use Rattle.sm_report.specs.declared.command.LineFault.TheVariants.{NoMemory, Help, Bad}
+use Rattle.sm_command_line.specs.CommandLine.{asked_for, program, Tells, TellsKind}
+use Rattle.sm_command_line.specs.declared.words.LineFault.{LineFault}
+use Rattle.sm_command_line.specs.declared.words.LineFault.TheVariants.{NoMemory, Help, Bad}
 
 takes_calls : takes program (codes "calls" ∷ []) ≡ true
 unfolding clap_on_literals

@@ -1,8 +1,8 @@
 -- What the program writes, by the word of its command line.
 use Rattle.std.specs.Prelude.{ℕ, List, Option}
 use Rattle.sm_report.specs.declared.reporting.TheConstants.{MOST_BYTES}
-use Rattle.sm_report.specs.declared.command.Word.{Word}
-use Rattle.sm_report.specs.declared.command.Word.TheVariants.{Report, Run}
+use Rattle.sm_command_line.specs.declared.words.Word.{Word}
+use Rattle.sm_command_line.specs.declared.words.Word.TheVariants.{Report, Run}
 use Rattle.sm_report.specs.Report.{Output}
 use Rattle.sm_report.specs.Output.{IsReportOf}
 use Rattle.sm_report.specs.Running.{IsRunReportOf}

@@ -8,14 +8,14 @@ use Rattle.clap.specs.declared.error.kind.ErrorKind.{ErrorKind}
 use Rattle.clap.specs.declared.error.kind.ErrorKind.TheVariants as kind
 use Rattle.sm_report.specs.declared.command.Command.{Command}
 use Rattle.sm_report.specs.declared.command.Command.TheVariants.{Calls, Check, Play, Plan}
-use Rattle.sm_report.specs.declared.command.Word.{Word}
-use Rattle.sm_report.specs.declared.command.Word.TheVariants.{Report, Run}
-use Rattle.sm_report.specs.declared.command.LineFault.{LineFault}
-use Rattle.sm_report.specs.declared.command.LineFault.TheVariants.{NoMemory, Help, Bad}
+use Rattle.sm_command_line.specs.declared.words.Word.{Word}
+use Rattle.sm_command_line.specs.declared.words.Word.TheVariants.{Report, Run}
+use Rattle.sm_command_line.specs.declared.words.LineFault.{LineFault}
+use Rattle.sm_command_line.specs.declared.words.LineFault.TheVariants.{NoMemory, Help, Bad}
 
 -- the command with this name
-abbrev pub named : List ℕ → Option Command
-named name =
+abbrev pub command_named : List ℕ → Option Command
+command_named name =
     if bytes_eq name (codes "calls") then Some Calls
     else if bytes_eq name (codes "check") then Some Check
     else if bytes_eq name (codes "play") then Some Play
@@ -24,7 +24,7 @@ named name =
 
 -- what a word asks for: a run, or a report
 abbrev pub word_named : List ℕ → Option Word
-word_named word = if bytes_eq word (codes "run") then Some Run else option_map (λ c. Report c) (named word)
+word_named word = if bytes_eq word (codes "run") then Some Run else option_map (λ c. Report c) (command_named word)
 
 -- what the words ask for: one word alone names a command
 abbrev pub asked_for : List (List ℕ) → Option Word

@@ -1,8 +1,8 @@
 use Rattle.std.proofs.Common.{ap₂, refl, ◌∙◌}
 use Rattle.clap.specs.Words.{takes}
 use Rattle.clap.specs.Walk.{texts}
-use Rattle.sm_report.proofs.CommandLine.{takes_asked, tells_no_memory, tells_kinds}
-use Rattle.sm_report.proofs.command.command_of.Goals as goal
+use Rattle.sm_command_line.proofs.CommandLine.{takes_asked, tells_no_memory, tells_kinds}
+use Rattle.sm_command_line.proofs.words.command_of.Goals as goal
 
 pub returns-in-Err-clause-known : goal.returns-in-Err-clause-known
 returns-in-Err-clause-known c = λ asked.

@@ -1,0 +1,32 @@
+//! The report that a word of the command line asks for.
+ghost use Rattle.std.specs.Prelude.{◌≡◌, ◌<◌};
+ghost use Rattle.std.specs.Io.KnownBytes.{Appends, Keeps};
+ghost use Rattle.sm_report.specs.Report.{Output};
+ghost use Rattle.sm_report.specs.Status.{code_of};
+ghost use Rattle.sm_command_line.specs.Reported.{IsReported};
+
+use crate::words::Word;
+use sm_report::{Status, report, report_run};
+use std::io::{Read, Write};
+use std::sync::Wait;
+use std::thread::Threads;
+
+/// Writes the report that the word asks for, of what the reader gives.
+pub fn report_word<R: AllocGlobal + Threads + Wait + Sync, I: Read, W: Write>(
+    rt: &R,
+    word: Word,
+    reader: &mut I,
+    writer: &mut W,
+) -> Status
+    // What is written and the status are those of the report on the bytes that came.
+    ensures reported { code_of result < 3 → (output : Output)
+        × IsReported word (I.remaining reader.old) output × (result ≡ output.status)
+        × Appends (W.contents writer.old) (W.contents writer.new) output.text }
+    // Without memory nothing is written.
+    ensures memory { result ≡ Status.NoMemory → Keeps (W.contents writer.old) (W.contents writer.new) }
+{
+    match word {
+        Word::Report(command) => report(rt.alloc(), command, reader, writer),
+        Word::Run => report_run(rt, rt.alloc(), reader, writer),
+    }
+}

@@ -1,0 +1,143 @@
+//! The words of the command line.
+ghost use Rattle.std.specs.Prelude.{◌≡◌, ◌≢◌, Some, None, IfOk, IfErr, map};
+ghost use Rattle.clap.specs.Words.{app_of, fault_of, kind_of};
+ghost use Rattle.clap.specs.Walk.{texts};
+ghost use Rattle.sm_command_line.specs.CommandLine.{command_named, word_named, asked_for, first_words, program, Tells, TellsKind};
+
+use clap::error::ErrorKind;
+use clap::{Command as Parser, Error};
+use sm_report::Command;
+use std::alloc::{AllocError, Global};
+
+/// What the words after the program's name ask for.
+#[derive(Clone, Copy, Debug, PartialEq, Eq)]
+pub enum Word {
+    Report(Command),
+    Run,
+}
+
+/// Why the words ask for nothing.
+#[derive(Debug, Drop)]
+pub enum LineFault {
+    NoMemory,
+    /// Help was asked for.
+    Help { text: String },
+    /// The words are no command line of the program.
+    Bad { text: String },
+}
+
+/// The words for calls and for checks.
+fn first_words<'a>(alloc: Global) -> Result<Parser<'a>, AllocError>
+    ensures { IfOk result (λ p. app_of p ≡ first_words) }
+{
+    let calls = Parser::new(alloc, "calls").about(
+        "Makes the document's calls, and prints their answers and the placement after them",
+    );
+    let check = Parser::new(alloc, "check").about(
+        "Checks the document's plan, and prints that it is accepted or why it is not",
+    );
+    Parser::new(alloc, "smplan")
+        .bin_name("smplan")?
+        .about("Reads a placement of shards on standard input, and prints a report of it")
+        .no_binary_name(true)
+        .subcommand_required(true)
+        .subcommand(calls)?
+        .subcommand(check)
+}
+
+/// The command line: one word, the name of a command.
+fn parser<'a>(alloc: Global) -> Result<Parser<'a>, AllocError>
+    ensures { IfOk result (λ p. app_of p ≡ program) }
+{
+    let play = Parser::new(alloc, "play").about(
+        "Plays the document's events, and prints their answers, how far its plans have come, and the placement after them",
+    );
+    let plan = Parser::new(alloc, "plan").about(
+        "Makes a plan for the document's moves, or one that empties a server, and prints it or why there is none",
+    );
+    let run = Parser::new(alloc, "run").about(
+        "Runs the document's plan with a thread for each stream, and prints what each came to, the answers to the document's asks, and the placement at the end",
+    );
+    first_words(alloc)?
+        .subcommand(play)?
+        .subcommand(plan)?
+        .subcommand(run)
+}
+
+/// What an error of the command line tells.
+fn fault_in(alloc: Global, error: &Error) -> LineFault
+    ensures { TellsKind result (kind_of error.now) }
+{
+    let Ok(text) = error.to_string(alloc) else {
+        return LineFault::NoMemory;
+    };
+    match error.kind() {
+        ErrorKind::OutOfMemory => LineFault::NoMemory,
+        ErrorKind::DisplayHelp => LineFault::Help { text },
+        _ => LineFault::Bad { text },
+    }
+}
+
+/// The command with this name.
+fn command_named(name: &str) -> Option<Command>
+    ensures { result ≡ command_named name.now }
+{
+    if name == "calls" {
+        Some(Command::Calls)
+    } else if name == "check" {
+        Some(Command::Check)
+    } else if name == "play" {
+        Some(Command::Play)
+    } else if name == "plan" {
+        Some(Command::Plan)
+    } else {
+        None
+    }
+}
+
+/// What a word asks for, where it is the name of a command.
+fn word_named(word: &str) -> Option<Word>
+    ensures { result ≡ word_named word.now }
+{
+    if word == "run" {
+        Some(Word::Run)
+    } else {
+        command_named(word).map(Word::Report)
+    }
+}
+
+/// What the words ask for, where they are the name of a command and nothing else.
+fn asked_for(words: &[&str]) -> Option<Word>
+    ensures { result ≡ asked_for (texts words.now) }
+{
+    match words {
+        [word] => word_named(word),
+        _ => None,
+    }
+}
+
+/// What the words after the program's name ask for.
+///
+/// The texts of help and of faults are `clap`'s.
+pub fn command_of(alloc: Global, words: &[&str]) -> Result<Word, LineFault>
+    ensures ok { IfOk result (λ word. asked_for (texts words.now) ≡ Some word) }
+    ensures known { asked_for (texts words.now) ≢ None → IfErr result (λ fault. fault ≡ LineFault.NoMemory) }
+    ensures faults { IfErr result (λ fault. Tells fault (fault_of program (texts words.now))) }
+{
+    let Ok(mut parser) = parser(alloc) else {
+        return Err(LineFault::NoMemory);
+    };
+    if let Err(error) = parser.try_get_matches_from_mut(words) {
+        return Err(fault_in(alloc, &error));
+    }
+    if let Some(word) = asked_for(words) {
+        return Ok(word);
+    }
+    match parser.error(
+        ErrorKind::UnknownArgument,
+        "a command is named by one word, with nothing after it",
+    ) {
+        Ok(error) => Err(fault_in(alloc, &error)),
+        Err(_) => Err(LineFault::NoMemory),
+    }
+}
