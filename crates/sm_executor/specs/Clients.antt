@@ -25,10 +25,22 @@ pub record Asking : Type 0 where
 abbrev pub asking : ℕ → Option Asked → Calling → Asking
 asking shard asked caller = record { shard = shard; asked = asked; caller = caller }
 
+-- what an ask for the shard may come to, with the caller before and after it
+abbrev pub IsAsk : ℕ → Calling → Asked → Calling → Type 0
+IsAsk shard = HasAsked looked (λ old shard server. answer_counted old) (λ old ticket. answer_counted old) shard
+
 -- Before its ask a client's caller has seen and counted nothing, and then what this ask has seen and counted.
 abbrev pub IsClient : Asking → Type 0
 IsClient client = stands client.asked
   where
     stands : Option Asked → Type 0
     stands None = client.caller ≡ calling [] 0 0
-    stands (Some said) = HasAsked looked (λ old shard server. answer_counted old) (λ old ticket. answer_counted old) client.shard (calling [] 0 0) said client.caller
+    stands (Some said) = IsAsk client.shard (calling [] 0 0) said client.caller
+
+-- A client that had not asked has asked once, for its shard. One that had is as it was.
+abbrev pub AsksOnce : Asking → Asking → Type 0
+AsksOnce old new = once old.asked
+  where
+    once : Option Asked → Type 0
+    once None = (said : Asked) × (new ≡ asking old.shard (Some said) new.caller) × IsAsk old.shard old.caller said new.caller
+    once (Some said) = new ≡ old

@@ -1,7 +1,7 @@
 //! Clients that ask at a board, each in a thread of its own, beside a run.
 ghost use Rattle.std.specs.Prelude.{◌≡◌, ◌≢◌, ◌<◌, [], None, IfOk, IfErr, IfSome, OnOk, All, length, map, vec_len};
 ghost use Rattle.sm_executor.specs.CameBack.{came_back};
-ghost use Rattle.sm_executor.specs.Clients.{asking, IsClient};
+ghost use Rattle.sm_executor.specs.Clients.{asking, AsksOnce, IsClient};
 ghost use Rattle.sm_executor.specs.Views.{calling, streams_ended, streams_run};
 
 use crate::board::Board;
@@ -52,10 +52,18 @@ impl<B: Side, C: Side, N: Naming> Client<B, C, N> {
         }
     }
 
-    /// Asks, where it has not asked yet.
+    /// The shard that it asks for.
+    pub fn shard(&self) -> ShardId
+        ensures { result ≡ self.now.shard }
+    {
+        self.shard
+    }
+
+    /// Asks for its shard, where it has not asked yet.
     pub fn ask<A: Side, R: Wait>(&mut self, rt: &R, board: &Board<A, B, C, N>)
         ensures shard { self.new.shard ≡ self.old.shard }
         ensures asked { self.new.asked ≢ None }
+        ensures once { AsksOnce self.old self.new }
     {
         if self.asked.is_none() {
             self.asked = Some(ask(rt, board, &mut self.caller, self.shard));
