@@ -14,6 +14,7 @@ ghost use Rattle.sm_machine.specs.Restarted.{approval_of, restart_of};
 ghost use Rattle.sm_machine.specs.Losses.{refill_answer, is_lost_answer};
 ghost use Rattle.sm_placement.specs.Sums.{bit};
 ghost use Rattle.sm_executor.specs.Counting.{Counts, executes, refuses};
+ghost use Rattle.sm_executor.specs.Stepping.{HasStepped, is_waiting};
 ghost use Rattle.sm_executor.specs.Tied.{HasStood};
 ghost use Rattle.sm_executor.specs.Views.{holding, state_in, calling, AreRunners};
 
@@ -61,7 +62,9 @@ impl<'b, A: Side, B: Side, C: Side, N: Naming> Model for Guard<'b, A, B, C, N> {
 }
 
 /// The stream waits for a signal.
-fn is_blocked(step: Step) -> bool {
+fn is_blocked(step: Step) -> bool
+    ensures { result ≡ is_waiting step }
+{
     match step {
         Step::Blocked { .. } => true,
         _ => false,
@@ -140,9 +143,15 @@ impl<A: Side, B: Side, C: Side, N: Naming> Board<A, B, C, N> {
     pub fn step_over<R: Wait, L: Link>(&self, rt: &R, runner: &mut Runner<A>, link: &mut L) -> Step
         ensures stream { runner.new.stream ≡ runner.old.stream }
         ensures counts { (ended : Bool) × Counts ended (played_of result) runner.old.steps runner.new.steps }
+        ensures over { HasStepped L.asked link.old link.new N.opened runner.old.stream (played_of result) }
         ensures lost { L.losses link.new ≡ L.losses link.old + bit (is_lost_answer (played_of result)) }
     {
-        let step = self.held.lock(rt).step_over(&self.words, runner, link);
+        let step = {
+            let mut held = self.held.lock(rt);
+            held.goes_on();
+            held.machine().is_reached();
+            held.step_over(&self.words, runner, link)
+        };
         self.moved.notify_all();
         step
     }
@@ -169,17 +178,21 @@ impl<A: Side, B: Side, C: Side, N: Naming> Board<A, B, C, N> {
         self.held.lock(rt).position(runner)
     }
 
-    /// The runner's next step over a link that is not Blocked: it waits for the signal.
+    /// The runner's next step over a link that is not Blocked: it waits for the signal, and asks the link for that step alone.
     pub(crate) fn step_or_wait<R: Wait, L: Link>(
         &self,
         rt: &R,
         runner: &mut Runner<A>,
         link: &mut L,
     ) -> Step
-        ensures { runner.new.stream ≡ runner.old.stream }
+        ensures stream { runner.new.stream ≡ runner.old.stream }
+        ensures over { HasStepped L.asked link.old link.new N.opened runner.old.stream (played_of result) }
+        ensures lost { L.losses link.new ≡ L.losses link.old + bit (is_lost_answer (played_of result)) }
     {
         let mut held = self.held.lock(rt);
         for _ in rt.forever() {
+            held.goes_on();
+            held.machine().is_reached();
             let step = held.step_over(&self.words, runner, link);
             if !is_blocked(step) {
                 self.moved.notify_all();
