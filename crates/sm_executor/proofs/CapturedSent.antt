@@ -7,8 +7,11 @@ use denote.RattleType.{RattleType}
 use denote.Struct.Field.{row_field}
 use denote.Struct.Tuple.{TupleAt, parts, type_at}
 use denote.Param.{arg, param}
-use denote.Param.Send.{IsSend, arg_send, param_send}
+use denote.Param.Send.{IsSend, IsSync, arg_send, param_send, sendable}
 use denote.Param.SendFields.{FieldsHave, as_row_send, declared_send}
+use Rattle.std.specs.contracts.option.Option as Option
+use Rattle.std.specs.contracts.sync.Mutex as Mutex
+use Rattle.std.proofs.Crossing.{crosses}
 
 -- the types of captured values, each of which may go to another thread
 abbrev pub types_of : List ((T : RattleType) × IsSend T) → List RattleType
@@ -21,3 +24,11 @@ parts_send (x ∷ xs) = (as_row_send (row_field x.0) x.1, parts_send xs)
 
 pub captured_send : {i : ℕ} {δ : Ty} (k : Kept) (ν : Sym) (xs : List ((T : RattleType) × IsSend T)) → IsSend (param i (arg δ k (TupleAt ν (types_of xs))))
 captured_send {i} {δ} k ν xs = param_send i (arg δ k (TupleAt ν (types_of xs))) (arg_send δ k (TupleAt ν (types_of xs)) (declared_send (type_at ν (types_of xs)) (parts_send xs)))
+
+-- and so may what may be there
+pub option_send : (T : RattleType) → IsSend T → IsSend (Option.the_row T)
+option_send T s = search sendable depth 12
+
+-- and threads may share what lies behind a lock
+pub mutex_sync : (T : RattleType) → IsSend T → IsSync (Mutex.the_row T)
+mutex_sync T s = search (crosses, sendable) depth 10

@@ -9,6 +9,7 @@ use crate::caller::Caller;
 use crate::gate::Gate;
 use crate::names::{Naming, Side};
 use crate::runner::{Ended, Runner};
+use crate::sure::Sure;
 use crate::threads::{Lists, Ran, RunFault, run_all};
 use sm_router::{Asked, ask};
 use sm_server::ShardId;
@@ -153,7 +154,7 @@ fn start_beside<
 ) -> Ran {
     let Lent { clients, runners } = lent;
     if start_asks(scope, rt, board, clients) {
-        run_all(rt, board, runners, gate)
+        run_all::<A, B, C, N, Sure, R, G>(rt, board, runners, &[], gate)
     } else {
         Ran::NotAll
     }

@@ -2,6 +2,7 @@
 use crate::board::Board;
 use crate::names::{Naming, Side};
 use crate::runner::Runner;
+use crate::sure::Sure;
 use sm_machine::{Link, Step};
 use sm_reservation::StreamId;
 use std::sync::{Condvar, Mutex, Wait};
@@ -133,5 +134,20 @@ pub(crate) fn drive<A: Side, B: Side, C: Side, N: Naming, L: Link, R: Wait, G: G
         }
         Step::Unknown => board.halt(rt),
         _ => {}
+    }
+}
+
+/// As `drive`, over the stream's own link, which the thread keeps until its last step. Where there is none nothing is lost.
+pub(crate) fn drive_own<A: Side, B: Side, C: Side, N: Naming, L: Link, R: Wait, G: Gate>(
+    rt: &R,
+    board: &Board<A, B, C, N>,
+    starter: &Starter,
+    gate: &G,
+    runner: &mut Runner<A>,
+    link: Option<&Mutex<L>>,
+) {
+    match link {
+        Some(link) => drive(rt, board, starter, gate, runner, &mut *link.lock(rt)),
+        None => drive(rt, board, starter, gate, runner, &mut Sure),
     }
 }

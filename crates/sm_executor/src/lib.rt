@@ -26,4 +26,4 @@ pub use ground::Ground;
 pub use names::{Naming, Side};
 pub use runner::{Ended, Runner};
 pub use sure::Sure;
-pub use threads::{RunFault, run};
+pub use threads::{RunFault, run, run_over};

@@ -8,15 +8,16 @@ ghost use Rattle.sm_executor.specs.Views.{streams_ended, streams_run};
 ghost use Rattle.sm_executor.specs.CameBack.{came_back};
 
 use crate::board::Board;
-use crate::gate::{Gate, Starter, drive};
+use crate::gate::{Gate, Starter, drive_own};
 use crate::names::{Naming, Side};
 use crate::runner::{Ended, Runner};
 use crate::sure::Sure;
+use sm_machine::Link;
 use sm_reservation::StreamId;
 use std::alloc::{AllocError, Global};
-use std::sync::Wait;
+use std::sync::{Mutex, Wait};
 use std::thread;
-use std::thread::Threads;
+use std::thread::{Scope, Threads};
 
 /// Why a run has not come to the ends of all streams.
 pub enum RunFault<A: Side> {
@@ -58,32 +59,71 @@ fn outcome(all: bool, starter: Starter) -> Ran {
     }
 }
 
-/// Makes the steps of each runner's stream in a thread of its own.
+/// What the threads of a run are lent: the runners, and the links in their places.
+#[derive(Drop)]
+struct Lent<'r, A: Side, L: Link> {
+    runners: &'r mut [Runner<A>],
+    links: &'r [Mutex<L>],
+}
+
+/// Starts a thread for each runner's stream, over the link in the runner's place. True only if all have started, and all are told.
+fn start_all<
+    's,
+    'r: 's,
+    A: Side + Send + Sync,
+    B: Side + Send + Sync,
+    C: Side + Send + Sync,
+    N: Naming + Send + Sync,
+    L: Link + Send,
+    R: Threads + Wait + Sync,
+    G: Gate + Sync,
+>(
+    scope: &'s Scope<'s, &'r ()>,
+    rt: &'r R,
+    board: &'r Board<A, B, C, N>,
+    starter: &'r Starter,
+    gate: &'r G,
+    lent: Lent<'r, A, L>,
+) -> bool {
+    let Lent { runners, links } = lent;
+    for (i, runner) in runners.iter_mut().enumerate() {
+        let link = links.get(i);
+        if scope
+            .spawn(move || drive_own(rt, board, starter, gate, runner, link))
+            .is_err()
+        {
+            starter.tell(rt, false);
+            return false;
+        }
+    }
+    starter.tell(rt, true);
+    true
+}
+
+/// Makes the steps of each runner's stream in a thread of its own, over the link in the runner's place.
 pub(crate) fn run_all<
     A: Side + Send + Sync,
     B: Side + Send + Sync,
     C: Side + Send + Sync,
     N: Naming + Send + Sync,
+    L: Link + Send,
     R: Threads + Wait + Sync,
     G: Gate + Sync,
->(rt: &R, board: &Board<A, B, C, N>, runners: &mut [Runner<A>], gate: &G) -> Ran {
+>(
+    rt: &R,
+    board: &Board<A, B, C, N>,
+    runners: &mut [Runner<A>],
+    links: &[Mutex<L>],
+    gate: &G,
+) -> Ran {
     let starter = Starter::new();
     let start = &starter;
-    let all = thread::scope(thread::scope_env(), rt, |scope| {
-        for runner in runners.iter_mut() {
-            if scope
-                .spawn(move || {
-                    let mut link = Sure;
-                    drive(rt, board, start, gate, runner, &mut link)
-                })
-                .is_err()
-            {
-                start.tell(rt, false);
-                return false;
-            }
-        }
-        start.tell(rt, true);
-        true
+    let lent = Lent {
+        runners: &mut *runners,
+        links,
+    };
+    let all = thread::scope(thread::scope_env(), rt, move |scope| {
+        start_all(scope, rt, board, start, gate, lent)
     });
     outcome(all, starter)
 }
@@ -203,6 +243,34 @@ impl<A: Side> Lists<A> {
     }
 }
 
+/// Makes all steps of the runners' streams, each in a thread of its own and over the link in its runner's place, which the thread keeps
+/// until its last step. Where there is no link in that place the stream loses no call. What comes back is as of `run`.
+pub fn run_over<
+    A: Side + Send + Sync,
+    B: Side + Send + Sync,
+    C: Side + Send + Sync,
+    N: Naming + Send + Sync,
+    L: Link + Send,
+    R: Threads + Wait + Sync,
+    G: Gate + Sync,
+>(
+    rt: &R,
+    alloc: Global,
+    board: &Board<A, B, C, N>,
+    mut runners: Vec<Runner<A>>,
+    links: &[Mutex<L>],
+    gate: &G,
+) -> Result<Vec<Ended<A>>, RunFault<A>>
+    ensures ended { IfOk result (λ ended. streams_ended ended.items ≡ streams_run runners.items) }
+    ensures back { IfErr result (λ fault. came_back fault ≡ vec_len runners) }
+{
+    let Ok(lists) = Lists::new(alloc, runners.as_slice()) else {
+        return Err(RunFault::NoMemory(runners));
+    };
+    let ran = run_all(rt, board, runners.as_mut_slice(), links, gate);
+    lists.answer(rt, board, runners, ran)
+}
+
 /// Makes all steps of the runners' streams, each in a thread of its own. With Ok there is an end for each runner, in their order. With
 /// a fault as many runners and ends come back as there were runners.
 pub fn run<
@@ -216,15 +284,11 @@ pub fn run<
     rt: &R,
     alloc: Global,
     board: &Board<A, B, C, N>,
-    mut runners: Vec<Runner<A>>,
+    runners: Vec<Runner<A>>,
     gate: &G,
 ) -> Result<Vec<Ended<A>>, RunFault<A>>
     ensures ended { IfOk result (λ ended. streams_ended ended.items ≡ streams_run runners.items) }
     ensures back { IfErr result (λ fault. came_back fault ≡ vec_len runners) }
 {
-    let Ok(lists) = Lists::new(alloc, runners.as_slice()) else {
-        return Err(RunFault::NoMemory(runners));
-    };
-    let ran = run_all(rt, board, runners.as_mut_slice(), gate);
-    lists.answer(rt, board, runners, ran)
+    run_over::<A, B, C, N, Sure, R, G>(rt, alloc, board, runners, &[], gate)
 }

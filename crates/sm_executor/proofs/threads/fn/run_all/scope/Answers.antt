@@ -1,17 +1,18 @@
--- What a thread captures may go to it.
-use mathlib.Core.List.{[], ◌∷◌}
-use denote.Exit.{no}
-use denote.Param.{param}
-use denote.Param.Send.{IsSync, mut_send, shr_send, sendable}
-use Rattle.sm_executor.proofs.BoardSent.{board_sync, starter_sync}
-use Rattle.sm_executor.proofs.CapturedSent.{captured_send}
-use Rattle.sm_executor.proofs.runner.Runner.TheSendSync.{the_send as runner_send}
+-- The names of a run's types may go to other threads, as its bounds say.
+use denote.Param.Send.{sendable}
 use Rattle.sm_executor.proofs.threads.fn.run_all.scope.Goals as goal
 
-pub spawn-requires-send-F : goal.spawn-requires-send-F
-spawn-requires-send-F g c = λ κs b.
-    let runtime : IsSync (param 4 g.row.R) = search sendable depth 20 in
-    let gate : IsSync (param 5 g.row.G) = search sendable depth 20 in
-    let board = board_sync (param 0 g.row.A) (param 1 g.row.B) (param 2 g.row.C) (param 3 g.row.N) g.A.Side g.B.Side g.C.Side g.N.Naming g.A.Ledger g.B.Ledger g.C.Ledger in
-    let runner = runner_send (param 0 g.row.A) g.A.Side g.A.Ledger in
-    captured_send no _ ((_, shr_send _ _ _ runtime) ∷ (_, shr_send _ _ _ board) ∷ (_, shr_send _ _ _ starter_sync) ∷ (_, shr_send _ _ _ gate) ∷ (_, mut_send _ _ _ runner) ∷ [])
+pub start_all-requires-send-A : goal.start_all-requires-send-A
+start_all-requires-send-A g c = search sendable depth 20
+
+pub start_all-requires-send-B : goal.start_all-requires-send-B
+start_all-requires-send-B g c = search sendable depth 20
+
+pub start_all-requires-send-C : goal.start_all-requires-send-C
+start_all-requires-send-C g c = search sendable depth 20
+
+pub start_all-requires-send-N : goal.start_all-requires-send-N
+start_all-requires-send-N g c = search sendable depth 20
+
+pub start_all-requires-send-L : goal.start_all-requires-send-L
+start_all-requires-send-L g c = search sendable depth 20
