@@ -96,7 +96,11 @@ run_read most left rows result h reported =
     behind_reading result (IsRunReport rows) (IsRunReportOf most left)
     (λ made is. (h.0, h.1, goes_on (read_stage most h.0) IsRunReport rows made h.2 is)) reported
 
--- ---- the streams that were run
+-- ---- the streams and the asks that were run
+
+-- the shards of clients
+abbrev pub shards_of : List Asking → List ℕ
+shards_of clients = map (λ client. client.shard) clients
 
 -- the runners from number k on are of the streams from there on
 streams_from : (plan k n : ℕ) (runners : List Running) → length runners ≡ n → ((i : ℕ) (d : Running) → i < n → slice_index_or runners i d ≡ running (stream_id plan (k + i)) 0)
@@ -115,6 +119,15 @@ streams_from plan k (suc n) (x ∷ xs) count each =
 pub streams_are : (plan n : ℕ) (runners : List Running) → AreRunners plan n runners → streams_run runners ≡ streams_of_plan plan n
 streams_are plan n runners are = streams_from plan 0 n runners are.count (λ i d below. are.each i d below ∙ ap (λ j. running (stream_id plan j) 0) (let e : i ≡ 0 + i = omega arith in e))
 
+-- clients that are of their asks from number i on, where that one is, are of them from the next one on
+pub ask_kept : (i : ℕ) (clients : List Asking) (asks : List ℕ) (client : Asking) (ask : ℕ) → i < length clients → i < length asks → client ≡ slice_index_or clients i client → ask ≡ slice_index_or asks i ask
+    → client.shard ≡ ask → shards_of (drop (i + 1) clients) ≡ drop (i + 1) asks → shards_of (drop i clients) ≡ drop i asks
+ask_kept i clients asks client ask below within is_client is_ask same rest =
+    let one : suc i ≡ i + 1 = omega arith in
+    let here : drop i clients ≡ client ∷ drop (i + 1) clients = drop-cons clients i client below ∙ ap (λ x. x ∷ drop (suc i) clients) (sym is_client) ∙ ap (λ n. client ∷ drop n clients) one in
+    let there : drop i asks ≡ ask ∷ drop (i + 1) asks = drop-cons asks i ask within ∙ ap (λ x. x ∷ drop (suc i) asks) (sym is_ask) ∙ ap (λ n. ask ∷ drop n asks) one in
+    ap shards_of here ∙ ap (λ x. x ∷ shards_of (drop (i + 1) clients)) same ∙ ap (λ xs. ask ∷ xs) rest ∙ sym there
+
 -- what a slice of a list's front was written, in the list
 written_back : {X : Type 0} (n : ℕ) (xs rest : List X) → length xs ≡ n → take n (xs ++ rest) ≡ xs
 written_back zero [] rest e = refl
@@ -124,17 +137,14 @@ written_back (suc n) (x ∷ xs) rest e = ap (λ ys. x ∷ ys) (written_back n xs
 
 -- a run of a plan's runners that has come to the ends of all, beside clients that have asked
 pub has_run : (plan n count : ℕ) (runners : List Running) (ended kept : List Finished) (asks : List ℕ) (clients rest : List Asking) → AreRunners plan n runners
-    → streams_ended ended ≡ streams_run runners → kept ≡ ended → length clients ≡ count → length clients ≡ length asks → All (λ client. client.asked ≢ None) clients
+    → streams_ended ended ≡ streams_run runners → kept ≡ ended → length clients ≡ count → shards_of (take count (clients ++ rest)) ≡ asks → All (λ client. client.asked ≢ None) clients
     → HasRun n asks kept (take count (clients ++ rest))
-has_run plan n count runners ended kept asks clients rest are ends same long asked answers = record {
+has_run plan n count runners ended kept asks clients rest are ends same long shards answers = record {
   number = plan;
   ends = ap streams_ended same ∙ ends ∙ streams_are plan n runners are;
-  clients_are = ap length back ∙ asked;
-  answered = subst (All (λ client. client.asked ≢ None)) (sym back) answers;
+  shards = shards;
+  answered = subst (All (λ client. client.asked ≢ None)) (sym (written_back count clients rest long)) answers;
 }
-  where
-    back : take count (clients ++ rest) ≡ clients
-    back = written_back count clients rest long
 
 -- the report of such a run on a board that is closed
 pub was_run : (opened : State) (setup : Setup) (plan : PlanModel) (asks : List ℕ) (ended : List Finished) (clients : List Asking) (accepted asked : List ℕ) (result : Result Output Unmade)

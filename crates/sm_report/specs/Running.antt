@@ -30,11 +30,11 @@ use Rattle.sm_report.specs.Stages.{Then, read_stage, member_stage, placement_sta
 abbrev pub streams_of_plan : ℕ → ℕ → List StreamId
 streams_of_plan number n = map (stream_id number) (range_with_len 0 n)
 
--- There is an end for each of the plan's streams, in their order, and for each ask a client that has asked.
+-- There is an end for each of the plan's streams, in their order, and for each ask, in theirs, a client of its shard that has asked.
 pub record HasRun (streams : ℕ) (asks : List ℕ) (ended : List Finished) (clients : List Asking) : Type 0 where
   pub number : ℕ
   pub ends : streams_ended ended ≡ streams_of_plan number streams
-  pub clients_are : length clients ≡ length asks
+  pub shards : map (λ client. client.shard) clients ≡ asks
   pub answered : All (λ client. client.asked ≢ None) clients
 
 -- The plan was run: with these ends and callers the board is closed at a state at which one plan has begun on it, and each client's

@@ -65,6 +65,22 @@ fn call_clients<A: Side, B: Side, C: Side, N: Naming, R: Wait>(
     true
 }
 
+/// Whether each client is of the ask at its place, and there is one for each. What a thread did to its client is not told to who joins
+/// it, so the clients themselves are looked at.
+fn are_of<B: Side, C: Side, N: Naming>(clients: &[Client<B, C, N>], asks: &[ShardId]) -> bool
+    ensures { result ≡ true → map (λ client. client.shard) clients.now ≡ asks.now }
+{
+    if clients.len() != asks.len() {
+        return false;
+    }
+    for (i, client) in clients.iter().enumerate() {
+        if client.shard() != asks[i] {
+            return false;
+        }
+    }
+    true
+}
+
 /// Runs the streams of runners beside asks.
 fn run_begun<
     A: Side + Send + Sync,
@@ -97,7 +113,11 @@ fn run_begun<
     match run_beside(rt, alloc, board, runners, clients, &Open) {
         Ok(ended) => {
             keep_ends(&mut given.ended, ended);
-            Ok(())
+            if are_of(given.clients.as_slice(), asks) {
+                Ok(())
+            } else {
+                Err(Unmade::Unrun(Unrun::OtherAsk))
+            }
         }
         Err(fault) => Err(keep_fault(&mut given.ended, &mut given.tokens, fault)),
     }
