@@ -1,12 +1,12 @@
--- Lists read by shard and server, or by place: after a write, where nothing was written, and one row alone.
-use Rattle.std.proofs.Common.{◌≡◌, ◌≢◌, ℕ, ◌+◌, ◌-◌, ◌*◌, ◌<◌, ◌≤◌, cond, ltb, List, ◌++◌, length, set, get_or, take, drop, replicate, refl, sym, ap, ◌∙◌, arith, inl, inr}
+-- Lists read by shard and server, or by place: after a write, and where nothing was written.
+use Rattle.std.proofs.Common.{◌≡◌, ◌≢◌, ℕ, ◌+◌, ◌-◌, ◌*◌, ◌<◌, ◌≤◌, cond, ltb, List, length, set, get_or, replicate, refl, sym, ap, ◌∙◌, arith, inl, inr}
 use Rattle.std.proofs.Math.Path.{fun_ext}
 use Rattle.std.proofs.lemmas.Bool.{cases_eq, cases_lt, lt-ltb, le-ltb}
-use Rattle.std.proofs.lemmas.List.{get_or-set_same, get_or-set_other, get_or-replicate, get_or_past, get_or-take, get_or-drop, get_or_read, length-replicate, length-set, length-take, length-drop, take-append-drop, length-take-le, set-append_left, set-append_right}
-use borrow.Rule.Slice.PartMut.{put_mid}
+use Rattle.std.proofs.lemmas.List.{get_or-set_same, get_or-set_other, get_or-replicate, get_or_past, get_or_read, length-replicate, length-set, get_or_append_left, get_or-append_right}
 use Rattle.std.proofs.lemmas.Nat.{same_from_place, mul-add-lt, mul-le}
 use Rattle.sm_placement.specs.Sums.{put, put2}
 use Rattle.sm_placement.specs.Layout.{grid_of, entries_of}
+use Rattle.sm_placement.specs.Lasts.{padded}
 use Rattle.sm_placement.proofs.Sums.{put-here, put-apart, put2-here, put2-row, put2-apart}
 
 pub grid_of-is : {A : Type 0} (width : ℕ) (none : A) (xs : List A) (s v : ℕ) → grid_of width none xs s v ≡ cond (ltb v width) (get_or xs (s * width + v) none) none
@@ -65,6 +65,16 @@ grid_of-set {A} width none xs s v x l m = fun_ext (λ r. fun_ext (λ q. at r q))
       | inr d ↦ other r q (λ a. absurd (d a)) ∙ sym (put2-apart (grid_of width none xs) s v x r q d)
     ]
 
+-- a row is written at a place of it
+pub row-set : {A : Type 0} (width : ℕ) (none : A) (xs : List A) (s v : ℕ) (x : A) → s * width + width ≤ length xs → v < width →
+    grid_of width none (set xs (s * width + v) x) s ≡ put (grid_of width none xs s) v x
+row-set {A} width none xs s v x l m =
+    ap (λ (f : ℕ → ℕ → A). f s) (grid_of-set width none xs s v x m (omega arith)) ∙ put-here (grid_of width none xs) s (put (grid_of width none xs s) v x) s refl
+
+-- the same row, as a step of the code names it
+pub same_row : {A : Type 0} {width count : ℕ} {xs ys : List A} {s r : ℕ} (none : A) → width ≡ count → xs ≡ ys → s ≡ r → grid_of width none xs s ≡ grid_of count none ys r
+same_row none w e k = rw (w, e, k) refl
+
 pub entries_of-set : {A : Type 0} (none : A) (xs : List A) (k : ℕ) (x : A) → k < length xs → entries_of none (set xs k x) ≡ put (entries_of none xs) k x
 entries_of-set none xs k x l = fun_ext (λ q. at q)
   where
@@ -93,16 +103,6 @@ grid_of-empty width none n = fun_ext (λ s. fun_ext (λ v. at s v))
       | inr l ↦ grid_of-beside width none (replicate n none) s v l
     ]
 
--- one row, alone in a list
-pub grid_of-row : {A : Type 0} (width : ℕ) (none : A) (xs : List A) (s : ℕ) → s * width + width ≤ length xs → grid_of width none xs s ≡ entries_of none (take width (drop (s * width) xs))
-grid_of-row {A} width none xs s l = fun_ext (λ v. at v)
-  where
-    at : (v : ℕ) → grid_of width none xs s v ≡ entries_of none (take width (drop (s * width) xs)) v
-    at v = elim (cases_lt v width) [
-      | inl m ↦ grid_of-within width none xs s v m ∙ sym (entries_of-is none (take width (drop (s * width) xs)) v ∙ get_or-take width (drop (s * width) xs) v none m ∙ get_or-drop (s * width) xs v none)
-      | inr m ↦ grid_of-beside width none xs s v m ∙ sym (entries_of-past none (take width (drop (s * width) xs)) v (omega (arith, length-take width (drop (s * width) xs), length-drop (s * width) xs)))
-    ]
-
 -- what is read at the place of a pair, or of a server
 pub grid_of-read : {A : Type 0} (width height : ℕ) (none : A) (xs : List A) (s v : ℕ) (x : A) → length xs ≡ height * width → s < height → v < width →
     x ≡ get_or xs (s * width + v) x → x ≡ grid_of width none xs s v
@@ -110,31 +110,6 @@ grid_of-read width height none xs s v x e l m r = get_or_read xs (s * width + v)
 
 pub entries_of-read : {A : Type 0} (none : A) (xs : List A) (k n : ℕ) (x : A) → length xs ≡ n → k < n → x ≡ get_or xs k x → x ≡ entries_of none xs k
 entries_of-read none xs k n x e l r = get_or_read xs k x (omega arith) r none ∙ sym (entries_of-is none xs k)
-
--- `&xs[start..start + width]`, where a row of the grid starts
-pub length-row : {A : Type 0} (width start : ℕ) (xs : List A) → start + width ≤ length xs → length (take (start + width - start) (drop start xs)) ≡ width
-length-row width start xs l = omega (arith, length-take (start + width - start) (drop start xs), length-drop start xs)
-
-pub entries_of-row : {A : Type 0} (width start : ℕ) (none : A) (xs : List A) (s : ℕ) → start ≡ s * width → s * width + width ≤ length xs →
-    entries_of none (take (start + width - start) (drop start xs)) ≡ grid_of width none xs s
-entries_of-row {A} width start none xs s e l =
-    let k : start + width - start ≡ width = omega arith in
-    rw (k, e) (sym (grid_of-row width none xs s l))
-
--- a write within the row is a write to the list
-pub put_mid-row : {A : Type 0} (width start : ℕ) (xs : List A) (i : ℕ) (y : A) → start + width ≤ length xs → i < width →
-    put_mid start (start + width - start) xs (set (take (start + width - start) (drop start xs)) i y) ≡ set xs (start + i) y
-put_mid-row {A} width start xs i y l m =
-    let w : ℕ = start + width - start in
-    let e : w ≡ width = omega arith in
-    let front : List A = take start xs in
-    let back : List A = drop start xs in
-    let at : start + i - start ≡ i = omega arith in
-    let inside : i < length (take w back) = omega (arith, length-row width start xs l) in
-    let whole : set xs (start + i) y ≡ set (front ++ back) (start + i) y = ap (λ (zs : List A). set zs (start + i) y) (sym (take-append-drop start xs)) in
-    let right : set (front ++ back) (start + i) y ≡ front ++ set back (start + i - start) y = set-append_right front back start (start + i) y (length-take-le start xs (omega arith)) (omega arith) in
-    let part : set back i y ≡ set (take w back) i y ++ drop w back = ap (λ (zs : List A). set zs i y) (sym (take-append-drop w back)) ∙ set-append_left (take w back) (drop w back) i y inside in
-    sym (whole ∙ right ∙ ap (λ (k : ℕ). front ++ set back k y) at ∙ ap (λ (zs : List A). front ++ zs) part)
 
 -- a loop over a list of numbers, which writes one of them
 pub entries_of-done : (xs : List ℕ) (s x : ℕ) (f : ℕ → ℕ) → s < length xs → ((r : ℕ) → r < s → entries_of 0 xs r ≡ f r) → x ≡ f s → (r : ℕ) → r < s + 1 → entries_of 0 (set xs s x) r ≡ f r
@@ -146,3 +121,10 @@ entries_of-done xs s x f l done here r m = ap (λ (q : ℕ → ℕ). q r) (entri
 pub entries_of-rest : (xs : List ℕ) (s x : ℕ) (g : ℕ → ℕ) → s < length xs → ((r : ℕ) → s ≤ r → r < length xs → entries_of 0 xs r ≡ g r) → (r : ℕ) → s + 1 ≤ r → r < length (set xs s x) → entries_of 0 (set xs s x) r ≡ g r
 entries_of-rest xs s x g l rest r m k =
     ap (λ (q : ℕ → ℕ). q r) (entries_of-set 0 xs s x l) ∙ put-apart (entries_of 0 xs) s x r (λ e. absurd (omega arith)) ∙ rest r (omega arith) (omega (arith, length-set xs s x))
+
+-- behind the numbers that are written there is 0
+pub entries_of-padded : (n : ℕ) (xs : List ℕ) (k : ℕ) → entries_of 0 (padded n xs) k ≡ entries_of 0 xs k
+entries_of-padded n xs k = elim (cases_lt k (length xs)) [
+  | inl l ↦ entries_of-is 0 (padded n xs) k ∙ get_or_append_left xs (replicate (n - length xs) 0) 0 k l ∙ sym (entries_of-is 0 xs k)
+  | inr l ↦ entries_of-is 0 (padded n xs) k ∙ get_or-append_right xs (replicate (n - length xs) 0) (length xs) k 0 refl l ∙ get_or-empty 0 (n - length xs) (k - length xs) ∙ sym (entries_of-past 0 xs k l)
+]

@@ -19,3 +19,5 @@ pub mod Servings
 pub mod NamedLemmas
 pub mod Lives
 pub mod SizesLemmas
+pub mod Blocks
+pub mod CellLemmas

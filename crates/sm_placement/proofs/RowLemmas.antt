@@ -1,8 +1,7 @@
 -- A row of cells with one cell changed: whose part changes, and the counts.
-use Rattle.std.proofs.Common.{◌≡◌, ◌≢◌, ℕ, ◌+◌, ◌-◌, ◌<◌, ◌≤◌, List, length, set, Bool, true, false, not, ◌&&◌, ◌||◌, Some, refl, sym, ap, subst, ◌∙◌, arith, inl, inr}
+use Rattle.std.proofs.Common.{◌≡◌, ◌≢◌, ℕ, ◌+◌, ◌-◌, ◌<◌, ◌≤◌, List, Bool, true, false, not, ◌&&◌, ◌||◌, Some, refl, sym, ap, ◌∙◌, arith, inl, inr}
 use Rattle.std.specs.Option.{unwrap_or}
 use Rattle.std.proofs.lemmas.Bool.{cases_eq, eq-eqb, ne_eqb}
-use Rattle.std.proofs.lemmas.List.{length-set}
 use Rattle.std.proofs.lemmas.Option.{none-some, same_Some}
 use Rattle.sm_server.specs.declared.call.Cell.{Cell}
 use Rattle.sm_server.specs.declared.call.Cell.TheVariants.{Absent, Prepared, Secondary, Primary, Forwarding}
@@ -11,8 +10,7 @@ use Rattle.sm_placement.specs.declared.row.Counts.{Counts}
 use Rattle.sm_placement.specs.Layout.{entries_of}
 use Rattle.sm_placement.specs.Sums.{put, sum_below, bit}
 use Rattle.sm_placement.specs.Rows.{IsKnownCell, forwards, serves_as, serves, is_live, live_in, serving_in}
-use Rattle.sm_placement.specs.Counts.{has_replica, target_of, party_of, at_both, counts_at, counts_in, counts_of, CanCorrect, corrected}
-use Rattle.sm_placement.proofs.GridLemmas.{entries_of-set}
+use Rattle.sm_placement.specs.Counts.{has_replica, target_of, party_of, at_both, counts_at, counts_in, CanCorrect, corrected}
 use Rattle.sm_placement.proofs.Sums.{put-here, put-apart, count-le, sum_apart, sum_two_apart, bit-le-one}
 
 -- a cell that doesn't forward to a server doesn't forward to it under any number
@@ -108,58 +106,46 @@ serving_in-put n row down v next l h k o =
 same_counts : (a b c d : ℕ) → a ≡ b → c ≡ d → ◌≡◌ {A = Counts} (record { live = a; serving = c }) (record { live = b; serving = d })
 same_counts a b c d e f = cc
 
--- a row that is kept as a list, with a cell changed
-pub counts_of-set : (row : List Cell) (down : List Bool) (n : ℕ) (f : ℕ → Cell) (v : ℕ) (next : Cell) → length row ≡ n → entries_of Absent row ≡ f → v < n →
-    counts_of (set row v next) down ≡ counts_in n (put f v next) (entries_of false down)
-counts_of-set row down n f v next e s l =
-    ap (λ (m : ℕ). counts_in m (entries_of Absent (set row v next)) (entries_of false down)) (length-set row v next ∙ e)
-    ∙ ap (λ (g : ℕ → Cell). counts_in n g (entries_of false down)) (entries_of-set Absent row v next (omega arith) ∙ ap (λ (g : ℕ → Cell). put g v next) s)
-
--- the counts of such a row are exchanged with the parts: the parts of the cell's server and of the other party are exchanged
-pub CanCorrect-set : (row : List Cell) (down : List Bool) (v : ℕ) (next : Cell) (counts before after : Counts) → length row ≤ 1024 → v < length row →
-    IsKnownCell (length row) (entries_of Absent row v) → IsKnownCell (length row) next → (is_forwarding (entries_of Absent row v) && is_forwarding next) ≡ false →
-    counts ≡ counts_of row down →
-    before ≡ counts_at (entries_of Absent row) (entries_of false down) v (party_of (entries_of Absent row v) next v) →
-    after ≡ counts_at (entries_of Absent (set row v next)) (entries_of false down) v (party_of (entries_of Absent row v) next v) →
-    CanCorrect counts before after × (corrected counts before after ≡ counts_of (set row v next) down)
-CanCorrect-set row down v next counts before after b l h k o e d a =
-    let n : ℕ = length row in
-    let r : ℕ → Cell = entries_of Absent row in
-    let dn : ℕ → Bool = entries_of false down in
-    let now : ℕ → Cell = put r v next in
-    let p : ℕ = party_of (r v) next v in
-    let s : entries_of Absent (set row v next) ≡ now = entries_of-set Absent row v next l in
-    let a' : after ≡ counts_at now dn v p = a ∙ ap (λ (f : ℕ → Cell). counts_at f dn v p) s in
-    let z : counts_of (set row v next) down ≡ counts_in n now dn = counts_of-set row down n r v next refl refl l in
-    let al : after.live ≡ (counts_at now dn v p).live = ap (λ (q : Counts). q.live) a' in
-    let ase : after.serving ≡ (counts_at now dn v p).serving = ap (λ (q : Counts). q.serving) a' in
-    let bl : before.live ≡ (counts_at r dn v p).live = ap (λ (q : Counts). q.live) d in
-    let bs : before.serving ≡ (counts_at r dn v p).serving = ap (λ (q : Counts). q.serving) d in
-    let cl : counts.live ≡ live_in n r dn = ap (λ (q : Counts). q.live) e in
-    let cs : counts.serving ≡ serving_in n r = ap (λ (q : Counts). q.serving) e in
-    let live : live_in n r dn + (counts_at now dn v p).live ≡ live_in n now dn + (counts_at r dn v p).live = live_in-put n r dn v next l h k o in
-    let serving : serving_in n r + (counts_at now dn v p).serving ≡ serving_in n now + (counts_at r dn v p).serving = serving_in-put n r dn v next l h k o in
-    let few : (counts_at now dn v p).live ≤ 2 = at_both-le (is_live now dn) v p in
-    let few' : (counts_at now dn v p).serving ≤ 2 = at_both-le (serves now) v p in
-    let most : live_in n r dn ≤ n = count-le n (is_live r dn) in
-    let most' : serving_in n r ≤ n = count-le n (serves r) in (
+-- the counts of a row are exchanged with the parts: the parts of the cell's server and of the other party are exchanged
+pub CanCorrect-put : (n : ℕ) (row : ℕ → Cell) (down : ℕ → Bool) (v : ℕ) (next : Cell) (counts before after : Counts) → n ≤ 1024 → v < n →
+    IsKnownCell n (row v) → IsKnownCell n next → (is_forwarding (row v) && is_forwarding next) ≡ false →
+    counts ≡ counts_in n row down →
+    before ≡ counts_at row down v (party_of (row v) next v) →
+    after ≡ counts_at (put row v next) down v (party_of (row v) next v) →
+    CanCorrect counts before after × (corrected counts before after ≡ counts_in n (put row v next) down)
+CanCorrect-put n row down v next counts before after b l h k o e d a =
+    let now : ℕ → Cell = put row v next in
+    let p : ℕ = party_of (row v) next v in
+    let al : after.live ≡ (counts_at now down v p).live = ap (λ (q : Counts). q.live) a in
+    let ase : after.serving ≡ (counts_at now down v p).serving = ap (λ (q : Counts). q.serving) a in
+    let bl : before.live ≡ (counts_at row down v p).live = ap (λ (q : Counts). q.live) d in
+    let bs : before.serving ≡ (counts_at row down v p).serving = ap (λ (q : Counts). q.serving) d in
+    let cl : counts.live ≡ live_in n row down = ap (λ (q : Counts). q.live) e in
+    let cs : counts.serving ≡ serving_in n row = ap (λ (q : Counts). q.serving) e in
+    let live : live_in n row down + (counts_at now down v p).live ≡ live_in n now down + (counts_at row down v p).live = live_in-put n row down v next l h k o in
+    let serving : serving_in n row + (counts_at now down v p).serving ≡ serving_in n now + (counts_at row down v p).serving = serving_in-put n row down v next l h k o in
+    let few : (counts_at now down v p).live ≤ 2 = at_both-le (is_live now down) v p in
+    let few' : (counts_at now down v p).serving ≤ 2 = at_both-le (serves now) v p in
+    let most : live_in n row down ≤ n = count-le n (is_live row down) in
+    let most' : serving_in n row ≤ n = count-le n (serves row) in (
       record { live = omega arith; serving = omega arith; live_fits = omega arith; serving_fits = omega arith },
-      same_counts (counts.live + after.live - before.live) (live_in n now dn) (counts.serving + after.serving - before.serving) (serving_in n now) (omega arith) (omega arith) ∙ sym z,
+      same_counts (counts.live + after.live - before.live) (live_in n now down) (counts.serving + after.serving - before.serving) (serving_in n now) (omega arith) (omega arith),
     )
 
--- the same, from what each step of the code gives: the old cell, the other party, and the place that is written
-pub CanCorrect-steps : (row : List Cell) (down : List Bool) (v place u : ℕ) (old next : Cell) (counts before after : Counts) → length row ≤ 1024 → v < length row →
-    IsKnownCell (length row) (entries_of Absent row v) → IsKnownCell (length row) next → (is_forwarding (entries_of Absent row v) && is_forwarding next) ≡ false →
-    counts ≡ counts_of row down →
-    old ≡ entries_of Absent row v → u ≡ party_of old next v → place ≡ v →
-    before ≡ counts_at (entries_of Absent row) (entries_of false down) v u →
-    after ≡ counts_at (entries_of Absent (set row place next)) (entries_of false down) v u →
-    CanCorrect counts before after × (corrected counts before after ≡ counts_of (set row place next) down)
-CanCorrect-steps row down v place u old next counts before after b l h k o e oe ue pe =
-    let f : u ≡ party_of (entries_of Absent row v) next v = ue ∙ ap (λ (x : Cell). party_of x next v) oe in
-    let Goal : ℕ → ℕ → Type 0 = λ (q w : ℕ). before ≡ counts_at (entries_of Absent row) (entries_of false down) v w → after ≡ counts_at (entries_of Absent (set row q next)) (entries_of false down) v w →
-    CanCorrect counts before after × (corrected counts before after ≡ counts_of (set row q next) down) in
-    subst (λ (q : ℕ). Goal q u) (sym pe) (subst (λ (w : ℕ). Goal v w) (sym f) (CanCorrect-set row down v next counts before after b l h k o e))
+-- the same, from what each step of the code gives: the row that is read, the old cell, the other party, and the row that is there then
+pub CanCorrect-steps : (n : ℕ) (row read now : ℕ → Cell) (down : ℕ → Bool) (v u : ℕ) (old next : Cell) (counts before after : Counts) → n ≤ 1024 → v < n →
+    IsKnownCell n (row v) → IsKnownCell n next → (is_forwarding (row v) && is_forwarding next) ≡ false →
+    counts ≡ counts_in n row down →
+    read ≡ row → now ≡ put row v next →
+    old ≡ read v → u ≡ party_of old next v →
+    before ≡ counts_at read down v u →
+    after ≡ counts_at now down v u →
+    CanCorrect counts before after × (corrected counts before after ≡ counts_in n (put row v next) down)
+CanCorrect-steps n row read now down v u old next counts before after b l h k o e re ne oe ue d a =
+    let f : u ≡ party_of (row v) next v = ue ∙ ap (λ (x : Cell). party_of x next v) (oe ∙ ap (λ (g : ℕ → Cell). g v) re) in
+    CanCorrect-put n row down v next counts before after b l h k o e
+    (d ∙ ap (λ (g : ℕ → Cell). counts_at g down v u) re ∙ ap (λ (w : ℕ). counts_at row down v w) f)
+    (a ∙ ap (λ (g : ℕ → Cell). counts_at g down v u) ne ∙ ap (λ (w : ℕ). counts_at (put row v next) down v w) f)
 
 -- a server that comes up or goes down: only its own replica counts or stops to count
 pub live_in-toggle : (n : ℕ) (row : ℕ → Cell) (down : ℕ → Bool) (v : ℕ) → v < n →
@@ -173,7 +159,7 @@ live_in-toggle n row down v l =
     both true r = omega arith
     both false r = omega arith
 
--- the same by cases, as code tests them, for a row that is kept as a list
-pub live_in-toggled : (row : List Cell) (down : List Bool) (n v : ℕ) (b r : Bool) → v < n → b ≡ entries_of false down v → r ≡ has_replica (entries_of Absent row) v →
-    live_in n (entries_of Absent row) (put (entries_of false down) v (not (entries_of false down v))) + bit (not b && r) ≡ live_in n (entries_of Absent row) (entries_of false down) + bit (b && r)
-live_in-toggled row down n v b r l e d = rw (e, d) (live_in-toggle n (entries_of Absent row) (entries_of false down) v l)
+-- the same by cases, as code tests them
+pub live_in-toggled : (row : ℕ → Cell) (down : List Bool) (n v : ℕ) (b r : Bool) → v < n → b ≡ entries_of false down v → r ≡ has_replica row v →
+    live_in n row (put (entries_of false down) v (not (entries_of false down v))) + bit (not b && r) ≡ live_in n row (entries_of false down) + bit (b && r)
+live_in-toggled row down n v b r l e d = rw (e, d) (live_in-toggle n row (entries_of false down) v l)

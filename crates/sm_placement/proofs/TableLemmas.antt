@@ -1,5 +1,5 @@
 -- A table's totals: that they fit, where nothing stands anywhere, and after a write.
-use Rattle.std.proofs.Common.{◌≡◌, ◌≢◌, ℕ, ◌+◌, ◌-◌, ◌*◌, ◌^◌, ◌<◌, ◌≤◌, Bool, true, false, not, List, length, set, get_or, take, drop, replicate, refl, sym, ap, subst, ◌∙◌, arith, inl, inr}
+use Rattle.std.proofs.Common.{◌≡◌, ◌≢◌, ℕ, ◌+◌, ◌-◌, ◌*◌, ◌^◌, ◌<◌, ◌≤◌, Bool, true, false, not, List, length, set, get_or, replicate, refl, sym, ap, subst, ◌∙◌, arith, inl, inr}
 use Rattle.std.specs.Bool.{beq}
 use Rattle.std.proofs.lemmas.Bool.{cases_eq, true≢false}
 use Rattle.std.proofs.lemmas.List.{length-replicate, length-set}
@@ -17,7 +17,7 @@ use Rattle.sm_placement.specs.Grid.{TableModel, Totals, IsCounted, IsGrid, cells
 use Rattle.sm_placement.proofs.Sums.{put-here, put-apart, put2-here, put2-row, put2-apart, sum_apart, count-le, sum-le, sum_zero}
 use Rattle.sm_placement.proofs.Calls.{load_of-put, load_of-apart, weight_within}
 use Rattle.sm_placement.proofs.SizesLemmas.{load_small}
-use Rattle.sm_placement.proofs.GridLemmas.{grid_of-beside, grid_of-below, grid_of-empty, grid_of-read, grid_of-set, place_within, entries_of-past, entries_of-row, entries_of-set, entries_of-empty, entries_of-read}
+use Rattle.sm_placement.proofs.GridLemmas.{grid_of-within, entries_of-is, grid_of-beside, grid_of-below, grid_of-empty, grid_of-set, place_within, entries_of-past, entries_of-set, entries_of-empty, entries_of-read}
 
 -- no server has a load of 2 ^ 45
 pub load-small : (setup : Setup) (cells : ℕ → ℕ → Cell) (v : ℕ) → IsSetup setup → load_of (sizes_of setup) cells v < 2 ^ 45
@@ -99,14 +99,14 @@ IsCounted-empty setup h = record {
 
 -- What a reader finds in the lists is what the table says. `now` is the table as its callers see it.
 pub cells_of-read : {g now : TableModel} {t : Totals} (s v : ℕ) (x : Cell) → IsCounted g t → g ≡ now → s < length now.setup.shards → v < length now.setup.servers →
-    x ≡ get_or g.cells (s * length now.setup.servers + v) x → x ≡ cells_of now s v
-cells_of-read {g} {now} {t} s v x h e = subst (λ (n : TableModel). s < length n.setup.shards → v < length n.setup.servers → x ≡ get_or g.cells (s * length n.setup.servers + v) x → x ≡ cells_of n s v) e
-    (λ l m r. grid_of-read (length g.setup.servers) (length g.setup.shards) Absent g.cells s v x h.cells_length l m r)
+    x ≡ entries_of Absent g.cells (s * length now.setup.servers + v) → x ≡ cells_of now s v
+cells_of-read {g} {now} {t} s v x h e = subst (λ (n : TableModel). s < length n.setup.shards → v < length n.setup.servers → x ≡ entries_of Absent g.cells (s * length n.setup.servers + v) → x ≡ cells_of n s v) e
+    (λ l m r. r ∙ entries_of-is Absent g.cells (s * length g.setup.servers + v) ∙ sym (grid_of-within (length g.setup.servers) Absent g.cells s v m))
 
 pub lasts_of-read : {g now : TableModel} {t : Totals} (s v x : ℕ) → IsCounted g t → g ≡ now → s < length now.setup.shards → v < length now.setup.servers →
-    x ≡ get_or g.lasts (s * length now.setup.servers + v) x → x ≡ lasts_of now s v
-lasts_of-read {g} {now} {t} s v x h e = subst (λ (n : TableModel). s < length n.setup.shards → v < length n.setup.servers → x ≡ get_or g.lasts (s * length n.setup.servers + v) x → x ≡ lasts_of n s v) e
-    (λ l m r. grid_of-read (length g.setup.servers) (length g.setup.shards) 0 g.lasts s v x h.lasts_length l m r)
+    x ≡ entries_of 0 g.lasts (s * length now.setup.servers + v) → x ≡ lasts_of now s v
+lasts_of-read {g} {now} {t} s v x h e = subst (λ (n : TableModel). s < length n.setup.shards → v < length n.setup.servers → x ≡ entries_of 0 g.lasts (s * length n.setup.servers + v) → x ≡ lasts_of n s v) e
+    (λ l m r. r ∙ entries_of-is 0 g.lasts (s * length g.setup.servers + v) ∙ sym (grid_of-within (length g.setup.servers) 0 g.lasts s v m))
 
 pub down_of-read : {g now : TableModel} {t : Totals} (v : ℕ) (x : Bool) → IsCounted g t → g ≡ now → v < length now.setup.servers → x ≡ get_or g.down v x → x ≡ down_of now v
 down_of-read {g} {now} {t} v x h e = subst (λ (n : TableModel). v < length n.setup.servers → x ≡ get_or g.down v x → x ≡ down_of n v) e
@@ -116,16 +116,17 @@ pub load_of-read : {g now : TableModel} {t : Totals} (v x : ℕ) → IsCounted g
 load_of-read {g} {now} {t} v x h e = subst (λ (n : TableModel). v < length n.setup.servers → x ≡ get_or t.loads v x → x ≡ load_of (sizes_of n.setup) (cells_of n) v) e
     (λ l r. entries_of-read 0 t.loads v (length g.setup.servers) x h.loads_length l r ∙ h.loads v l)
 
--- the slice that is a shard's row
-pub row_of-read : {g now : TableModel} {t : Totals} (s k w : ℕ) (xs : List Cell) → IsCounted g t → g ≡ now → s < length now.setup.shards → k ≡ s → w ≡ length g.down → xs ≡ g.cells →
-    entries_of Absent (take (k * w + w - k * w) (drop (k * w) xs)) ≡ cells_of now s
-row_of-read {g} {now} {t} s k w xs h e l d f b = subst (λ (n : TableModel). s < length n.setup.shards → entries_of Absent (take (k * w + w - k * w) (drop (k * w) xs)) ≡ cells_of n s) e at l
-  where
-    at : s < length g.setup.shards → entries_of Absent (take (k * w + w - k * w) (drop (k * w) xs)) ≡ cells_of g s
-    at m =
-        let wide : w ≡ length g.setup.servers = f ∙ h.down_length in
-        let fits : s * length g.setup.servers + length g.setup.servers ≤ length g.cells = omega (arith, row_fits s (length g.setup.servers) (length g.setup.shards) (length g.setup.servers) m (omega arith), h.cells_length) in
-        rw (d, wide, b) (entries_of-row (length g.setup.servers) (s * length g.setup.servers) Absent g.cells s refl fits)
+-- the row of a shard
+pub row_of-read : {g now : TableModel} {t : Totals} (s k w : ℕ) (xs : List Cell) → IsCounted g t → g ≡ now → k ≡ s → w ≡ length g.down → xs ≡ g.cells →
+    grid_of w Absent xs k ≡ cells_of now s
+row_of-read {g} {now} {t} s k w xs h e d f b = rw (d, f ∙ h.down_length, b) (ap (λ (n : TableModel). cells_of n s) e)
+
+-- a shard's row lies within the list
+pub row_within : {g now : TableModel} {t : Totals} (s k w : ℕ) → IsCounted g t → g ≡ now → s < length now.setup.shards → k ≡ s → w ≡ length g.down → k * w + w ≤ length g.cells
+row_within {g} {now} {t} s k w h e l d f =
+    let m : s < length g.setup.shards = omega (arith, ap (λ (n : TableModel). length n.setup.shards) e) in
+    let r : s * w + w ≤ length g.setup.shards * length g.setup.servers = row_fits s w (length g.setup.shards) (length g.setup.servers) m (omega (arith, h.down_length)) in
+    rw (d, h.cells_length) r
 
 pub live_in-read : {g now : TableModel} {t : Totals} (s x : ℕ) → IsCounted g t → g ≡ now → s < length now.setup.shards → x ≡ get_or t.lives s x → x ≡ live_in (length now.setup.servers) (cells_of now s) (down_of now)
 live_in-read {g} {now} {t} s x h e = subst (λ (n : TableModel). s < length n.setup.shards → x ≡ get_or t.lives s x → x ≡ live_in (length n.setup.servers) (cells_of n s) (down_of n)) e
@@ -140,6 +141,18 @@ IsGrid-read {g} {now} {t} h e = subst (λ (n : TableModel). IsGrid n) e (IsGrid-
 
 pub IsSetup-read : {g now : TableModel} {t : Totals} → IsCounted g t → g ≡ now → IsSetup now.setup
 IsSetup-read {g} {now} {t} h e = subst (λ (n : TableModel). IsSetup n.setup) e h.setup
+
+-- a table with the same parts is the same, with the same totals
+pub same_table : {setup others : Setup} {cells more : List Cell} {lasts numbers : List ℕ} {down states : List Bool} → setup ≡ others → cells ≡ more → lasts ≡ numbers → down ≡ states →
+    ◌≡◌ {A = TableModel} (record { setup = setup; cells = cells; lasts = lasts; down = down }) (record { setup = others; cells = more; lasts = numbers; down = states })
+same_table a b d e = rw (a, b, d, e) refl
+
+pub same_totals : {loads a lives b servings d : List ℕ} (down : ℕ) → loads ≡ a → lives ≡ b → servings ≡ d →
+    ◌≡◌ {A = Totals} (record { loads = loads; lives = lives; servings = servings; down = down }) (record { loads = a; lives = b; servings = d; down = down })
+same_totals down e f k = rw (e, f, k) refl
+
+pub IsCounted-same : {g h : TableModel} {t u : Totals} → IsCounted g t → h ≡ g → u ≡ t → IsCounted h u
+IsCounted-same is e f = rw (e, f) is
 
 -- other last numbers leave the totals as they are
 pub IsCounted-with_lasts : {g : TableModel} {t : Totals} (lasts : List ℕ) → IsCounted g t → length lasts ≡ length g.lasts → IsCounted (record g { lasts = lasts }) t
@@ -229,23 +242,23 @@ IsCounted-set {g} {t} s v next load counts h l m known by_load by_counts = recor
 -- ---- what the code reads and writes for it, over the lists of the table ----
 
 -- the totals of a shard are the counts of its row
-pub counts_in-read : {g : TableModel} {t : Totals} (s live serving : ℕ) (cells : List Cell) (down : List Bool) → IsCounted g t → s < length g.setup.shards → cells ≡ g.cells → down ≡ g.down →
+pub counts_in-read : {g : TableModel} {t : Totals} (s live serving : ℕ) (down : List Bool) → IsCounted g t → s < length g.setup.shards → down ≡ g.down →
     live ≡ get_or t.lives s live → serving ≡ get_or t.servings s serving →
-    ◌≡◌ {A = Counts} (record { live = live; serving = serving }) (counts_in (length down) (grid_of (length down) Absent cells s) (entries_of false down))
-counts_in-read {g} {t} s live serving cells down h l ce de a b =
+    ◌≡◌ {A = Counts} (record { live = live; serving = serving }) (counts_in (length down) (grid_of (length down) Absent g.cells s) (entries_of false down))
+counts_in-read {g} {t} s live serving down h l de a b =
     let n : ℕ = length g.setup.servers in
     let x : live ≡ live_in n (cells_of g s) (down_of g) = entries_of-read 0 t.lives s (length g.setup.shards) live h.lives_length l a ∙ h.lives s l in
     let y : serving ≡ serving_in n (cells_of g s) = entries_of-read 0 t.servings s (length g.setup.shards) serving h.servings_length l b ∙ h.servings s l in
-    rw (x, y, ce, de, h.down_length) refl
+    rw (x, y, de, h.down_length) refl
 
 -- the list and the counts after a cell is set in its row
-pub set_in_row-is : {g : TableModel} {t : Totals} (s v : ℕ) (next : Cell) (counts : Counts) (cells now : List Cell) (down : List Bool) → IsCounted g t → cells ≡ g.cells → down ≡ g.down →
-    now ≡ set cells (s * length down + v) next → counts ≡ counts_in (length down) (put (grid_of (length down) Absent cells s) v next) (entries_of false down) →
+pub row_set-is : {g : TableModel} {t : Totals} (s v : ℕ) (next : Cell) (counts : Counts) (now : List Cell) (down : List Bool) → IsCounted g t → down ≡ g.down →
+    now ≡ set g.cells (s * length down + v) next → counts ≡ counts_in (length down) (put (grid_of (length down) Absent g.cells s) v next) (entries_of false down) →
     (now ≡ set g.cells (s * length g.setup.servers + v) next) × (counts ≡ counts_in (length g.setup.servers) (put (cells_of g s) v next) (down_of g))
-set_in_row-is {g} {t} s v next counts cells now down h ce de a b =
+row_set-is {g} {t} s v next counts now down h de a b =
     let l : length down ≡ length g.setup.servers = ap length de ∙ h.down_length in
-    let P : ℕ → List Cell → List Bool → Type 0 = λ (n : ℕ) (xs : List Cell) (ds : List Bool). (now ≡ set xs (s * n + v) next) × (counts ≡ counts_in n (put (grid_of n Absent xs s) v next) (entries_of false ds)) in
-    subst (λ (ds : List Bool). P (length g.setup.servers) g.cells ds) de (subst (λ (xs : List Cell). P (length g.setup.servers) xs down) ce (subst (λ (n : ℕ). P n cells down) l (a, b)))
+    let P : ℕ → List Bool → Type 0 = λ (n : ℕ) (ds : List Bool). (now ≡ set g.cells (s * n + v) next) × (counts ≡ counts_in n (put (grid_of n Absent g.cells s) v next) (entries_of false ds)) in
+    subst (λ (ds : List Bool). P (length g.setup.servers) ds) de (subst (λ (n : ℕ). P n down) l (a, b))
 
 -- the load of the cell's server, corrected
 pub record IsCorrected (load added removed after : ℕ) : Type 0 where
@@ -310,12 +323,12 @@ pub down_count-small : {g : TableModel} {t : Totals} → IsCounted g t → t.dow
 down_count-small {g} {t} h = rw h.down (down-small g.setup (down_of g) h.setup)
 
 -- the table with corrected counts
-pub IsCounted-toggle : {g old : TableModel} {t : Totals} (v : ℕ) (b was : Bool) (cells : List Cell) (down : List Bool) (lives : List ℕ) (count : ℕ) → IsCounted g t → g ≡ old → v < length old.setup.servers →
-    was ≡ down_of old v → was ≡ not b → cells ≡ g.cells → down ≡ g.down → length lives ≡ length t.lives →
-    AreLives lives (length down) (grid_of (length down) Absent cells) (put (entries_of false down) v (not (entries_of false down v))) →
+pub IsCounted-toggle : {g old : TableModel} {t : Totals} (v : ℕ) (b was : Bool) (down : List Bool) (lives : List ℕ) (count : ℕ) → IsCounted g t → g ≡ old → v < length old.setup.servers →
+    was ≡ down_of old v → was ≡ not b → down ≡ g.down → length lives ≡ length t.lives →
+    AreLives lives (length down) (grid_of (length down) Absent g.cells) (put (entries_of false down) v (not (entries_of false down v))) →
     count + bit (not b) ≡ t.down + bit b →
     IsCounted (record g { down = set g.down v b }) (record t { lives = lives; down = count })
-IsCounted-toggle {g} {old} {t} v b was cells down lives count h e l r w ce de le are counted = record {
+IsCounted-toggle {g} {old} {t} v b was down lives count h e l r w de le are counted = record {
   setup = h.setup;
   cells_length = h.cells_length;
   lasts_length = h.lasts_length;
@@ -341,8 +354,7 @@ IsCounted-toggle {g} {old} {t} v b was cells down lives count h e l r w ce de le
 
     listed : AreLives lives (length g.setup.servers) (cells_of g) (put (down_of g) v (not (down_of g v)))
     listed = subst (λ (ds : List Bool). AreLives lives (length g.setup.servers) (grid_of (length g.setup.servers) Absent g.cells) (put (entries_of false ds) v (not (entries_of false ds v)))) de
-        (subst (λ (xs : List Cell). AreLives lives (length g.setup.servers) (grid_of (length g.setup.servers) Absent xs) (put (entries_of false down) v (not (entries_of false down v)))) ce
-        (subst (λ (n : ℕ). AreLives lives n (grid_of n Absent cells) (put (entries_of false down) v (not (entries_of false down v)))) (ap length de ∙ h.down_length) are))
+        (subst (λ (n : ℕ). AreLives lives n (grid_of n Absent g.cells) (put (entries_of false down) v (not (entries_of false down v)))) (ap length de ∙ h.down_length) are)
 
     turned : AreLives lives (length g.setup.servers) (cells_of g) (put (down_of g) v b)
     turned = subst (λ (x : Bool). AreLives lives (length g.setup.servers) (cells_of g) (put (down_of g) v x)) d listed

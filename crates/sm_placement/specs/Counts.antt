@@ -1,8 +1,8 @@
 -- How many servers of a shard's row are live, and how many serve it.
-use Rattle.std.specs.Prelude.{◌≡◌, ◌<◌, ◌≤◌, ℕ, ◌+◌, ◌-◌, ◌^◌, ◌==◌, ◌||◌, Bool, false, Option, Some, None, if◌then◌else◌, List, length}
+use Rattle.std.specs.Prelude.{◌≡◌, ◌<◌, ◌≤◌, ℕ, ◌+◌, ◌-◌, ◌^◌, ◌==◌, ◌||◌, Bool, Option, Some, None, if◌then◌else◌, List, length}
 use Rattle.std.specs.Option.{option_or, unwrap_or}
 use Rattle.sm_server.specs.declared.call.Cell.{Cell}
-use Rattle.sm_server.specs.declared.call.Cell.TheVariants.{Absent, Forwarding}
+use Rattle.sm_server.specs.declared.call.Cell.TheVariants.{Forwarding}
 use Rattle.sm_server.specs.Cell.{is_secondary}
 use Rattle.sm_placement.specs.declared.row.Counts.{Counts}
 use Rattle.sm_placement.specs.Sums.{bit}
@@ -12,10 +12,6 @@ use Rattle.sm_placement.specs.Layout.{entries_of}
 -- the counts of a row of n servers
 abbrev pub counts_in : ℕ → (ℕ → Cell) → (ℕ → Bool) → Counts
 counts_in n row down = record { live = live_in n row down; serving = serving_in n row }
-
--- the counts of a row that is kept as a list
-abbrev pub counts_of : List Cell → List Bool → Counts
-counts_of row down = counts_in (length row) (entries_of Absent row) (entries_of false down)
 
 -- the server has a replica that is live while the server is up
 abbrev pub has_replica : (ℕ → Cell) → ℕ → Bool

@@ -9,4 +9,7 @@ pub mod SafePlace
 pub mod Layout
 pub mod Counts
 pub mod Grid
+pub mod Parties
+pub mod Cells
+pub mod Lasts
 pub mod Opening

@@ -1,13 +1,16 @@
 //! Where the replicas of each shard stand: names and sizes, cells and their sums, and what the published map says.
 #![tactic(auto)]
 
+mod cells;
 mod config;
 mod entry;
 mod faults;
+mod lasts;
 mod laws;
 mod lead;
 mod limits;
 mod opening;
+mod parties;
 mod placement;
 mod row;
 mod table;

@@ -5,7 +5,8 @@ ghost use Rattle.sm_placement.specs.Sums.{put, bit};
 ghost use Rattle.sm_placement.specs.Rows.{IsKnownCell, forwards, serves, is_live, live_in};
 ghost use Rattle.sm_placement.specs.Layout.{grid_of, entries_of};
 
-use sm_server::{Cell, ServerId};
+use crate::cells::{Cells, Row};
+use sm_server::{Cell, ServerId, ShardId};
 
 /// How many servers of a row are live, and how many serve.
 #[derive(Clone, Copy)]
@@ -14,7 +15,7 @@ pub struct Counts {
     pub serving: u32,
 }
 
-ghost use Rattle.sm_placement.specs.Counts.{counts_of, counts_at, has_replica, target_of, party_of, CanCorrect, corrected, AreLives};
+ghost use Rattle.sm_placement.specs.Counts.{counts_in, counts_at, has_replica, target_of, party_of, CanCorrect, corrected};
 ghost use Rattle.sm_placement.specs.declared.limits.TheConstants.{MOST_SERVERS};
 
 /// The cell forwards to the server under the number.
@@ -28,19 +29,19 @@ fn forwards(cell: &Cell, server: ServerId, number: u64) -> bool
 }
 
 /// The cell of a server. Beyond the row it is absent.
-#[tactic(auto, unfolding(crate::specs::Layout::entries_of))]
-fn cell_at(row: &[Cell], server: ServerId) -> Cell
-    ensures { result ≡ entries_of Cell.Absent row.now server }
+fn cell_at(row: Row<'_>, server: ServerId) -> Cell
+    ensures { result ≡ grid_of row.entry.servers Cell.Absent row.entry.cells.now row.entry.shard server }
 {
-    match row.get(server.number() as usize) {
-        Some(cell) => *cell,
-        None => Cell::Absent,
+    let column = server.number() as usize;
+    if column >= row.servers {
+        return Cell::Absent;
     }
+    row.cells.get(row.shard * row.servers + column)
 }
 
 /// The server serves the shard of the row: a primary does, and a prepared server to which the owner forwards.
-pub fn serves(row: &[Cell], server: ServerId) -> bool
-    ensures { result ≡ serves (entries_of Cell.Absent row.now) server }
+pub fn serves(row: Row<'_>, server: ServerId) -> bool
+    ensures { result ≡ serves (grid_of row.entry.servers Cell.Absent row.entry.cells.now row.entry.shard) server }
 {
     match cell_at(row, server) {
         Cell::Primary => true,
@@ -50,8 +51,8 @@ pub fn serves(row: &[Cell], server: ServerId) -> bool
 }
 
 /// The server has a replica that is live while the server is up.
-pub fn has_replica(row: &[Cell], server: ServerId) -> bool
-    ensures { result ≡ has_replica (entries_of Cell.Absent row.now) server }
+pub fn has_replica(row: Row<'_>, server: ServerId) -> bool
+    ensures { result ≡ has_replica (grid_of row.entry.servers Cell.Absent row.entry.cells.now row.entry.shard) server }
 {
     match cell_at(row, server) {
         Cell::Secondary => true,
@@ -60,12 +61,12 @@ pub fn has_replica(row: &[Cell], server: ServerId) -> bool
 }
 
 /// The count of a row's live replicas, once a server that is down comes up, or one that is up goes down.
-pub fn live_toggled(row: &[Cell], down: &[bool], server: ServerId, live: u32) -> u32
-    requires bound { length row.now ≤ MOST_SERVERS }
-    requires length { length down.now ≡ length row.now }
-    requires server { server < length row.now }
-    requires live { live ≡ live_in (length row.now) (entries_of Cell.Absent row.now) (entries_of false down.now) }
-    ensures { result ≡ live_in (length row.now) (entries_of Cell.Absent row.now) (put (entries_of false down.now) server (not (entries_of false down.now server))) }
+pub fn live_toggled(row: Row<'_>, down: &[bool], server: ServerId, live: u32) -> u32
+    requires bound { row.servers ≤ MOST_SERVERS }
+    requires length { length down.now ≡ row.servers }
+    requires server { server < row.servers }
+    requires live { live ≡ live_in (row.servers) (grid_of row.servers Cell.Absent row.cells.now row.shard) (entries_of false down.now) }
+    ensures { result ≡ live_in (row.entry.servers) (grid_of row.entry.servers Cell.Absent row.entry.cells.now row.entry.shard) (put (entries_of false down.now) server (not (entries_of false down.now server))) }
 {
     if !has_replica(row, server) {
         live
@@ -88,10 +89,10 @@ fn target(cell: &Cell) -> Option<ServerId>
 
 /// What one server adds to the counts of a row.
 #[tactic(auto, unfolding(crate::specs::Layout::entries_of))]
-fn counts_at_one(row: &[Cell], down: &[bool], server: ServerId) -> Counts
+fn counts_at_one(row: Row<'_>, down: &[bool], server: ServerId) -> Counts
     requires { server < length down.now }
-    ensures live { result.live ≡ bit (is_live (entries_of Cell.Absent row.now) (entries_of false down.now) server) }
-    ensures serving { result.serving ≡ bit (serves (entries_of Cell.Absent row.now) server) }
+    ensures live { result.live ≡ bit (is_live (grid_of row.entry.servers Cell.Absent row.entry.cells.now row.entry.shard) (entries_of false down.now) server) }
+    ensures serving { result.serving ≡ bit (serves (grid_of row.entry.servers Cell.Absent row.entry.cells.now row.entry.shard) server) }
 {
     let is_up = !down[server.number() as usize];
     Counts {
@@ -109,10 +110,10 @@ fn party_of(old: &Cell, next: &Cell, server: ServerId) -> ServerId
 }
 
 /// What two servers, which may be one, add to the counts of a row.
-fn counts_at(row: &[Cell], down: &[bool], server: ServerId, other: ServerId) -> Counts
+fn counts_at(row: Row<'_>, down: &[bool], server: ServerId, other: ServerId) -> Counts
     requires server { server < length down.now }
     requires other { other < length down.now }
-    ensures { result ≡ counts_at (entries_of Cell.Absent row.now) (entries_of false down.now) server other }
+    ensures { result ≡ counts_at (grid_of row.entry.servers Cell.Absent row.entry.cells.now row.entry.shard) (entries_of false down.now) server other }
 {
     let own = counts_at_one(row, down, server);
     if other == server {
@@ -136,27 +137,34 @@ fn corrected(counts: Counts, before: Counts, after: Counts) -> Counts
     }
 }
 
-/// Sets the cell of a server in a row with these counts, and says what the counts are then.
+/// Sets the cell of a server and a shard whose row has these counts, and says what the counts are then.
 pub fn set_cell(
-    row: &mut [Cell],
+    cells: &mut Cells,
     down: &[bool],
+    shard: ShardId,
     server: ServerId,
     cell: Cell,
     counts: Counts,
 ) -> Counts
-    requires bound { length row.old ≤ MOST_SERVERS }
-    requires length { length down.now ≡ length row.old }
-    requires server { server < length row.old }
-    requires known { IsKnownCell (length row.old) (entries_of Cell.Absent row.old server) }
-    requires next { IsKnownCell (length row.old) cell }
-    requires one_forwards { (is_forwarding (entries_of Cell.Absent row.old server) && is_forwarding cell) ≡ false }
-    requires counts { counts ≡ counts_of row.old down.now }
-    ensures row { row.new ≡ slice_set row.old server cell }
-    ensures counts { result ≡ counts_of row.new down.now }
+    requires bound { length down.now ≤ MOST_SERVERS }
+    requires shard { shard * length down.now + length down.now ≤ length cells.old }
+    requires server { server < length down.now }
+    requires known { IsKnownCell (length down.now) (grid_of (length down.now) Cell.Absent cells.old shard server) }
+    requires next { IsKnownCell (length down.now) cell }
+    requires one_forwards { (is_forwarding (grid_of (length down.now) Cell.Absent cells.old shard server) && is_forwarding cell) ≡ false }
+    requires counts { counts ≡ counts_in (length down.now) (grid_of (length down.now) Cell.Absent cells.old shard) (entries_of false down.now) }
+    ensures cells { cells.new ≡ slice_set cells.old (shard * length down.now + server) cell }
+    ensures counts { result ≡ counts_in (length down.now) (put (grid_of (length down.now) Cell.Absent cells.old shard) server cell) (entries_of false down.now) }
 {
+    let servers = down.len();
+    let row = cells.row(shard.number() as usize, servers);
     let other = party_of(&cell_at(row, server), &cell, server);
     let before = counts_at(row, down, server, other);
-    row[server.number() as usize] = cell;
+    cells.set(
+        shard.number() as usize * servers + server.number() as usize,
+        cell,
+    );
+    let row = cells.row(shard.number() as usize, servers);
     let after = counts_at(row, down, server, other);
     corrected(counts, before, after)
 }

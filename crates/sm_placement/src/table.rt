@@ -8,7 +8,9 @@ ghost use Rattle.sm_placement.specs.Layout.{grid_of, entries_of};
 ghost use Rattle.sm_placement.specs.Counts.{counts_in, AreLives};
 ghost use Rattle.sm_placement.specs.declared.limits.TheConstants.{MOST_SERVERS};
 
+use crate::cells::{Cells, Row};
 use crate::config::Config;
+use crate::lasts::Lasts;
 use crate::row::{self, Counts};
 use sm_server::{Cell, ServerId, ShardId};
 use std::alloc::{AllocError, Global};
@@ -19,8 +21,8 @@ use std::marker::Model;
 #[derive(Drop)]
 pub struct Table {
     config: Config,
-    cells: Vec<Cell>,
-    lasts: Vec<u64>,
+    cells: Cells,
+    lasts: Lasts,
     down: Vec<bool>,
     down_count: u32,
     loads: Vec<u64>,
@@ -33,9 +35,9 @@ impl Model for Table {
 
     ghost Value = { TableModel };
 
-    ghost view = { λ t. record { setup = t.config; cells = t.cells.items; lasts = t.lasts.items; down = t.down.items } };
+    ghost view = { λ t. record { setup = t.config; cells = t.cells; lasts = t.lasts; down = t.down.items } };
 
-    ghost invariant = { λ t. IsCounted (record { setup = t.config; cells = t.cells.items; lasts = t.lasts.items; down = t.down.items }) (record { loads = t.loads.items; lives = t.lives.items; servings = t.servings.items; down = t.down_count }) };
+    ghost invariant = { λ t. IsCounted (record { setup = t.config; cells = t.cells; lasts = t.lasts; down = t.down.items }) (record { loads = t.loads.items; lives = t.lives.items; servings = t.servings.items; down = t.down_count }) };
 }
 
 /// What a cell weighs on its server.
@@ -45,33 +47,8 @@ const fn weight(cell: &Cell, load: u64) -> u64
     if cell.is_absent() { 0 } else { load }
 }
 
-/// Sets a cell of a shard whose row has these counts, and says what the counts are then.
-fn set_in_row(
-    cells: &mut [Cell],
-    down: &[bool],
-    shard: ShardId,
-    server: ServerId,
-    cell: Cell,
-    counts: Counts,
-) -> Counts
-    requires bound { length down.now ≤ MOST_SERVERS }
-    requires shard { shard * length down.now + length down.now ≤ length cells.old }
-    requires server { server < length down.now }
-    requires known { IsKnownCell (length down.now) (grid_of (length down.now) Cell.Absent cells.old shard server) }
-    requires next { IsKnownCell (length down.now) cell }
-    requires one_forwards { (is_forwarding (grid_of (length down.now) Cell.Absent cells.old shard server) && is_forwarding cell) ≡ false }
-    requires counts { counts ≡ counts_in (length down.now) (grid_of (length down.now) Cell.Absent cells.old shard) (entries_of false down.now) }
-    ensures cells { cells.new ≡ slice_set cells.old (shard * length down.now + server) cell }
-    ensures counts { result ≡ counts_in (length down.now) (put (grid_of (length down.now) Cell.Absent cells.old shard) server cell) (entries_of false down.now) }
-{
-    let servers = down.len();
-    let start = shard.number() as usize * servers;
-    let row = &mut cells[start..start + servers];
-    row::set_cell(row, down, server, cell, counts)
-}
-
 /// Corrects the counts of live replicas, once a server that is down comes up, or one that is up goes down.
-fn toggle_lives(lives: &mut [u32], cells: &[Cell], down: &[bool], server: ServerId)
+fn toggle_lives(lives: &mut [u32], cells: &Cells, down: &[bool], server: ServerId)
     requires bound { length down.now ≤ MOST_SERVERS }
     requires cells { length cells.now ≡ length lives.old * length down.now }
     requires server { server < length down.now }
@@ -80,8 +57,7 @@ fn toggle_lives(lives: &mut [u32], cells: &[Cell], down: &[bool], server: Server
 {
     let servers = down.len();
     for shard in 0..lives.len() {
-        let start = shard * servers;
-        let row = &cells[start..start + servers];
+        let row = cells.row(shard, servers);
         lives[shard] = row::live_toggled(row, down, server, lives[shard]);
     }
 }
@@ -108,8 +84,8 @@ impl Table {
         let config = config.copy(alloc)?;
         Ok(Table {
             config,
-            cells: vec![in alloc; Cell::Absent; shards * servers]?,
-            lasts: vec![in alloc; 0; shards * servers]?,
+            cells: Cells::new(alloc, shards * servers)?,
+            lasts: Lasts::new(alloc, shards * servers)?,
             down: vec![in alloc; false; servers]?,
             down_count: 0,
             loads: vec![in alloc; 0; servers]?,
@@ -124,8 +100,8 @@ impl Table {
     {
         Ok(Table {
             config: self.config.copy(alloc)?,
-            cells: Vec::from_slice(alloc, &self.cells)?,
-            lasts: Vec::from_slice(alloc, &self.lasts)?,
+            cells: self.cells.copy(alloc)?,
+            lasts: self.lasts.copy(alloc)?,
             down: Vec::from_slice(alloc, &self.down)?,
             down_count: self.down_count,
             loads: Vec::from_slice(alloc, &self.loads)?,
@@ -156,7 +132,7 @@ impl Table {
         requires server { server < length self.now.setup.servers }
         ensures { result ≡ cells_of self.now shard server }
     {
-        self.cells[self.slot(shard, server)]
+        self.cells.get(self.slot(shard, server))
     }
 
     /// The number of the last call that had an effect on the cell, and 0 for none.
@@ -165,7 +141,7 @@ impl Table {
         requires server { server < length self.now.setup.servers }
         ensures { result ≡ lasts_of self.now shard server }
     {
-        self.lasts[self.slot(shard, server)]
+        self.lasts.get(self.slot(shard, server))
     }
 
     pub fn is_down(&self, server: ServerId) -> bool
@@ -209,13 +185,11 @@ impl Table {
     }
 
     /// The cells of a shard, by server.
-    fn row_of(&self, shard: ShardId) -> &[Cell]
+    fn row_of(&self, shard: ShardId) -> Row<'_>
         requires { shard < length self.now.setup.shards }
-        ensures { entries_of Cell.Absent result.now ≡ cells_of self.now shard }
+        ensures { grid_of result.servers Cell.Absent result.cells.now result.shard ≡ cells_of self.now shard }
     {
-        let servers = self.down.len();
-        let start = shard.number() as usize * servers;
-        &self.cells[start..start + servers]
+        self.cells.row(shard.number() as usize, self.down.len())
     }
 
     /// A server serves a shard.
@@ -253,8 +227,7 @@ impl Table {
             live: self.lives[row],
             serving: self.servings[row],
         };
-        let cells = self.cells.as_mut_slice();
-        let counts = set_in_row(cells, &self.down, shard, server, cell, counts);
+        let counts = row::set_cell(&mut self.cells, &self.down, shard, server, cell, counts);
         self.lives[row] = counts.live;
         self.servings[row] = counts.serving;
         let column = server.number() as usize;
@@ -291,7 +264,7 @@ impl Table {
         ensures setup { self.new.setup ≡ self.old.setup }
     {
         let slot = self.slot(shard, server);
-        self.lasts[slot] = number;
+        self.lasts.set(slot, number);
     }
 
     /// Forgets the numbers of all calls. Takes no memory.
@@ -301,6 +274,6 @@ impl Table {
         ensures down { self.new.down ≡ self.old.down }
         ensures setup { self.new.setup ≡ self.old.setup }
     {
-        self.lasts.as_mut_slice().fill(0);
+        self.lasts.forget();
     }
 }

@@ -3,4 +3,4 @@ use Rattle.sm_placement.proofs.TableLemmas.{lasts_of-read}
 use Rattle.sm_placement.proofs.table.Table.last.Goals as goal
 
 pub returns : goal.returns
-returns c = lasts_of-read c.args.shard c.args.server c.index.result.now c.self.invariant c.self.view_is c.requires.shard c.requires.server (rw (← c.slot.ensures) c.index.ensures)
+returns c = lasts_of-read c.args.shard c.args.server c.get.result c.self.invariant c.self.view_is c.requires.shard c.requires.server (rw (← c.slot.ensures) c.get.ensures)

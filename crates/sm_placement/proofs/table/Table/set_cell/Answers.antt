@@ -1,14 +1,12 @@
 -- The totals are corrected with the cell.
-use Rattle.std.proofs.Common.{◌≡◌, ◌<◌, ◌+◌, ◌-◌, ◌*◌, ℕ, length, set, get_or, sym, ap, subst, ◌∙◌, arith}
-use Rattle.std.specs.Vec.{with_items}
-use Rattle.std.proofs.lemmas.List.{with_items_is}
+use Rattle.std.proofs.Common.{◌≡◌, ◌<◌, ◌+◌, ◌-◌, ℕ, length, get_or, sym, ap, subst, ◌∙◌, arith}
 use Rattle.sm_server.specs.declared.call.Cell.{Cell}
 use Rattle.sm_placement.specs.Rows.{IsKnownCell}
 use Rattle.sm_placement.specs.Setup.{sizes_of}
 use Rattle.sm_placement.specs.Place.{weight, load_of}
 use Rattle.sm_placement.specs.Sums.{put2}
 use Rattle.sm_placement.specs.Grid.{TableModel, Totals, IsCounted, cells_of}
-use Rattle.sm_placement.proofs.TableLemmas.{counts_in-read, set_in_row-is, IsCorrected, load_of-corrected, IsCounted-set, cells_of-set}
+use Rattle.sm_placement.proofs.TableLemmas.{counts_in-read, row_set-is, IsCorrected, load_of-corrected, IsCounted-set, cells_of-set}
 use Rattle.sm_placement.proofs.table.Table.set_cell.Goals as goal
 
 -- what the steps of the code say of the load, with the table as its callers saw it
@@ -20,10 +18,10 @@ corrected {g} {old} {t} s v next cell load size added removed h e l m ce se re a
     load_of-corrected s v next load added removed h (omega (arith, ap (λ (n : TableModel). length n.setup.shards) e)) (omega (arith, ap (λ (n : TableModel). length n.setup.servers) e)) le
     (ae ∙ ap (λ (k : ℕ). weight next k) se) (re ∙ ap (λ (x : Cell). weight x size) c ∙ ap (λ (k : ℕ). weight (cells_of g s v) k) se)
 
-pub set_in_row-counts-requires-clause-counts : goal.set_in_row-counts-requires-clause-counts
-set_in_row-counts-requires-clause-counts c =
-    counts_in-read c.args.shard c.index.result.now c.index-2.result.now c.as_mut_slice-cells.result.now c.deref.result.now c.self.invariant
-    (omega (arith, ap (λ (g : TableModel). length g.setup.shards) c.self.view_is, c.requires.shard)) c.as_mut_slice-cells.ensures.value c.deref.ensures.value
+pub set_cell-counts-requires-clause-counts : goal.set_cell-counts-requires-clause-counts
+set_cell-counts-requires-clause-counts c =
+    counts_in-read c.args.shard c.index.result.now c.index-2.result.now c.deref.result.now c.self.invariant
+    (omega (arith, ap (λ (g : TableModel). length g.setup.shards) c.self.view_is, c.requires.shard)) c.deref.ensures.value
     (rw (← c.number-row.ensures) c.index.ensures) (rw (← c.number-row.ensures) c.index-2.ensures)
 
 pub overflow_add-index : goal.overflow_add-index
@@ -40,26 +38,18 @@ overflow_sub-index c =
 
 pub invariant_of-self : goal.invariant_of-self
 invariant_of-self c =
-    let n : ℕ = length c.self.inside.config.servers in
     let l : c.args.shard < length c.self.inside.config.shards = omega (arith, ap (λ (g : TableModel). length g.setup.shards) c.self.view_is, c.requires.shard) in
     let m : c.args.server < length c.self.inside.config.servers = omega (arith, ap (λ (g : TableModel). length g.setup.servers) c.self.view_is, c.requires.server) in
     let known : IsKnownCell (length c.self.inside.config.servers) c.args.cell = subst (λ (g : TableModel). IsKnownCell (length g.setup.servers) c.args.cell) (sym c.self.view_is) c.requires.known in
-    let fits : length c.set_in_row-counts.new.cells ≡ c.self.inside.cells.len = omega arith in
     let k = corrected c.args.shard c.args.server c.args.cell c.cell.result c.index-3.result.now c.load-load.result c.weight.result c.weight-removed.result c.self.invariant c.self.view_is c.requires.shard c.requires.server
     c.cell.ensures c.load-load.ensures.load c.weight-removed.ensures c.weight.ensures (rw (← c.number-column.ensures) c.index-3.ensures) in
-    let row = set_in_row-is c.args.shard c.args.server c.args.cell c.set_in_row-counts.result c.as_mut_slice-cells.result.now c.set_in_row-counts.new.cells c.deref.result.now c.self.invariant
-    c.as_mut_slice-cells.ensures.value c.deref.ensures.value c.set_in_row-counts.ensures.cells c.set_in_row-counts.ensures.counts in
-    let w : (with_items c.self.inside.cells c.set_in_row-counts.new.cells).items ≡ set c.self.inside.cells.items (c.args.shard * n + c.args.server) c.args.cell =
-    with_items_is c.self.inside.cells c.set_in_row-counts.new.cells fits ∙ row.0 in
-    rw (w, c.number-row.ensures, c.number-column.ensures)
-    (IsCounted-set c.args.shard c.args.server c.args.cell (c.index-3.result.now + c.weight.result - c.weight-removed.result) c.set_in_row-counts.result c.self.invariant l m known k.is row.1)
+    let row = row_set-is c.args.shard c.args.server c.args.cell c.set_cell-counts.result c.set_cell-counts.new.cells c.deref.result.now c.self.invariant
+    c.deref.ensures.value c.set_cell-counts.ensures.cells c.set_cell-counts.ensures.counts in
+    rw (row.0, c.number-row.ensures, c.number-column.ensures)
+    (IsCounted-set c.args.shard c.args.server c.args.cell (c.index-3.result.now + c.weight.result - c.weight-removed.result) c.set_cell-counts.result c.self.invariant l m known k.is row.1)
 
 pub returns-clause-cells : goal.returns-clause-cells
 returns-clause-cells c =
-    let n : ℕ = length c.self.inside.config.servers in
-    let fits : length c.set_in_row-counts.new.cells ≡ c.self.inside.cells.len = omega arith in
-    let row = set_in_row-is c.args.shard c.args.server c.args.cell c.set_in_row-counts.result c.as_mut_slice-cells.result.now c.set_in_row-counts.new.cells c.deref.result.now c.self.invariant
-    c.as_mut_slice-cells.ensures.value c.deref.ensures.value c.set_in_row-counts.ensures.cells c.set_in_row-counts.ensures.counts in
-    let w : (with_items c.self.inside.cells c.set_in_row-counts.new.cells).items ≡ set c.self.inside.cells.items (c.args.shard * n + c.args.server) c.args.cell =
-    with_items_is c.self.inside.cells c.set_in_row-counts.new.cells fits ∙ row.0 in
-    rw w (cells_of-set c.args.shard c.args.server c.args.cell c.self.invariant c.self.view_is c.requires.shard c.requires.server)
+    let row = row_set-is c.args.shard c.args.server c.args.cell c.set_cell-counts.result c.set_cell-counts.new.cells c.deref.result.now c.self.invariant
+    c.deref.ensures.value c.set_cell-counts.ensures.cells c.set_cell-counts.ensures.counts in
+    rw row.0 (cells_of-set c.args.shard c.args.server c.args.cell c.self.invariant c.self.view_is c.requires.shard c.requires.server)

@@ -27,8 +27,8 @@ invariant_of-self c =
     let o : bit c.args.down ≡ 1 = rw c.if-down.true refl in
     let count : c.self.inside.down_count + 1 + bit (not c.args.down) ≡ c.self.inside.down_count + bit c.args.down = omega arith in
     rw (w, c.number.ensures)
-    (IsCounted-toggle c.args.server c.args.down c.is_down.result c.deref.result.now c.deref-2.result.now c.toggle_lives.new.lives (c.self.inside.down_count + 1) c.self.invariant c.self.view_is c.requires c.is_down.ensures
-    (not-from_beq c.is_down.result c.args.down c.if-is_down-down.false) c.deref.ensures.value c.deref-2.ensures.value same c.toggle_lives.ensures count)
+    (IsCounted-toggle c.args.server c.args.down c.is_down.result c.deref.result.now c.toggle_lives.new.lives (c.self.inside.down_count + 1) c.self.invariant c.self.view_is c.requires c.is_down.ensures
+    (not-from_beq c.is_down.result c.args.down c.if-is_down-down.false) c.deref.ensures.value same c.toggle_lives.ensures count)
 
 pub invariant_of-self-else-down : goal.invariant_of-self-else-down
 invariant_of-self-else-down c =
@@ -40,8 +40,8 @@ invariant_of-self-else-down c =
     let some : 1 ≤ c.self.inside.down_count = let k = down-toggled c.args.server c.args.down c.is_down.result c.self.invariant c.self.view_is c.requires c.is_down.ensures (not-from_beq c.is_down.result c.args.down c.if-is_down-down.false) in omega (arith, k) in
     let count : c.self.inside.down_count - 1 + bit (not c.args.down) ≡ c.self.inside.down_count + bit c.args.down = omega arith in
     rw (w, c.number.ensures)
-    (IsCounted-toggle c.args.server c.args.down c.is_down.result c.deref.result.now c.deref-2.result.now c.toggle_lives.new.lives (c.self.inside.down_count - 1) c.self.invariant c.self.view_is c.requires c.is_down.ensures
-    (not-from_beq c.is_down.result c.args.down c.if-is_down-down.false) c.deref.ensures.value c.deref-2.ensures.value same c.toggle_lives.ensures count)
+    (IsCounted-toggle c.args.server c.args.down c.is_down.result c.deref.result.now c.toggle_lives.new.lives (c.self.inside.down_count - 1) c.self.invariant c.self.view_is c.requires c.is_down.ensures
+    (not-from_beq c.is_down.result c.args.down c.if-is_down-down.false) c.deref.ensures.value same c.toggle_lives.ensures count)
 
 pub returns-then-is_down-down-clause-down : goal.returns-then-is_down-down-clause-down
 returns-then-is_down-down-clause-down c =

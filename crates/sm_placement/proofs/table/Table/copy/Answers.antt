@@ -1,0 +1,13 @@
+-- Each part is the same.
+use Rattle.std.proofs.Common.{◌∙◌}
+use Rattle.sm_placement.proofs.TableLemmas.{same_table, same_totals, IsCounted-same}
+use Rattle.sm_placement.proofs.table.Table.copy.Goals as goal
+
+pub invariant_of-result : goal.invariant_of-result
+invariant_of-result c =
+    IsCounted-same c.self.invariant
+    (same_table c.in_ok-copy.ensures c.in_ok-copy-2.ensures c.in_ok-copy-3.ensures (c.in_ok-from_slice.ensures.items ∙ c.deref.ensures.value))
+    (same_totals c.self.inside.down_count (c.in_ok-from_slice-2.ensures.items ∙ c.deref-2.ensures.value) (c.in_ok-from_slice-3.ensures.items ∙ c.deref-3.ensures.value) (c.in_ok-from_slice-4.ensures.items ∙ c.deref-4.ensures.value))
+
+pub returns : goal.returns
+returns c = same_table c.in_ok-copy.ensures c.in_ok-copy-2.ensures c.in_ok-copy-3.ensures (c.in_ok-from_slice.ensures.items ∙ c.deref.ensures.value) ∙ c.self.view_is

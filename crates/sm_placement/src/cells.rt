@@ -1,0 +1,170 @@
+//! Cells, a byte for each, with the parties of those that have one beside them.
+ghost use Rattle.std.specs.Prelude.{◌≡◌, ◌<◌, ◌≤◌, ◌+◌, ◌*◌, ◌^◌, length, replicate, slice_set, IfOk};
+ghost use Rattle.sm_placement.specs.Layout.{entries_of};
+
+use crate::parties::{Parties, Party, no_party};
+use sm_server::Cell;
+use std::alloc::{AllocError, Global};
+use std::marker::Model;
+
+/// What a cell is, without the party that it may have.
+#[derive(Clone, Copy)]
+pub enum State {
+    Absent,
+    Prepared,
+    Secondary,
+    Primary,
+    Forwarding,
+}
+
+/// A list of cells: the state of each, and the party of each whose state has one. Beside any other state a party means
+/// nothing.
+#[derive(Drop)]
+pub struct Cells {
+    states: Vec<State>,
+    parties: Parties,
+}
+
+impl Model for Cells {
+    ghost use Rattle.std.specs.Prelude.{◌≤◌, ◌*◌, length, List};
+    ghost use Rattle.sm_server.specs.declared.call.Cell.{Cell};
+    ghost use Rattle.sm_placement.specs.declared.parties.TheConstants.{BLOCK};
+    ghost use Rattle.sm_placement.specs.Parties.{party_at};
+    ghost use Rattle.sm_placement.specs.Cells.{with_parties};
+
+    ghost Value = { List Cell };
+
+    ghost view = { λ c. with_parties c.states.items (party_at c.parties.starts c.parties.parties) };
+
+    ghost invariant = { λ c. length c.states.items ≤ length c.parties.starts * BLOCK };
+}
+
+/// The servers' cells of one shard, in a list with the same number of cells for each shard.
+#[derive(Clone, Copy)]
+pub struct Row<'a> {
+    pub cells: &'a Cells,
+    pub shard: usize,
+    pub servers: usize,
+    ghost inside: { shard * servers + servers ≤ length cells.now },
+    ghost small: { shard * servers + servers < 2 ^ 64 },
+}
+
+ghost use Rattle.sm_placement.specs.Cells.{cell_of, state_of_cell, named_party, has_party};
+
+/// The state of a cell.
+fn state_of_cell(cell: &Cell) -> State
+    ensures { result ≡ state_of_cell cell.now }
+{
+    match cell {
+        Cell::Absent => State::Absent,
+        Cell::Prepared { .. } => State::Prepared,
+        Cell::Secondary => State::Secondary,
+        Cell::Primary => State::Primary,
+        Cell::Forwarding { .. } => State::Forwarding,
+    }
+}
+
+/// The party that a cell names, if it names one.
+fn named_party(cell: &Cell) -> Option<Party>
+    ensures { result ≡ named_party cell.now }
+{
+    match cell {
+        Cell::Prepared { from, number } => Some(Party {
+            server: *from,
+            number: *number,
+        }),
+        Cell::Forwarding { to, number } => Some(Party {
+            server: *to,
+            number: *number,
+        }),
+        _ => None,
+    }
+}
+
+/// The cell of a state has a party.
+fn has_party(state: State) -> bool
+    ensures { result ≡ has_party state }
+{
+    matches!(state, State::Prepared | State::Forwarding)
+}
+
+/// The cell of a state, with a party where it has one.
+fn cell_of(state: State, party: Party) -> Cell
+    ensures { result ≡ cell_of state party }
+{
+    match state {
+        State::Absent => Cell::Absent,
+        State::Prepared => Cell::Prepared {
+            from: party.server,
+            number: party.number,
+        },
+        State::Secondary => Cell::Secondary,
+        State::Primary => Cell::Primary,
+        State::Forwarding => Cell::Forwarding {
+            to: party.server,
+            number: party.number,
+        },
+    }
+}
+
+impl Cells {
+    /// This many cells, with nothing in each. There is room for the parties of all, but none is written.
+    pub fn new(alloc: Global, count: usize) -> Result<Cells, AllocError>
+        requires { count < 2 ^ 32 }
+        ensures { IfOk result (λ cells. cells ≡ replicate count Cell.Absent) }
+    {
+        Ok(Cells {
+            states: vec![in alloc; State::Absent; count]?,
+            parties: Parties::new(alloc, count)?,
+        })
+    }
+
+    /// The cells, once more.
+    pub fn copy(&self, alloc: Global) -> Result<Cells, AllocError>
+        ensures { IfOk result (λ cells. cells ≡ self.now) }
+    {
+        Ok(Cells {
+            states: Vec::from_slice(alloc, &self.states)?,
+            parties: self.parties.copy(alloc)?,
+        })
+    }
+
+    /// The cell at a place.
+    pub fn get(&self, place: usize) -> Cell
+        requires { place < length self.now }
+        ensures { result ≡ entries_of Cell.Absent self.now place }
+    {
+        let state = self.states[place];
+        if !has_party(state) {
+            return cell_of(state, no_party());
+        }
+        cell_of(state, self.parties.get(place))
+    }
+
+    /// Sets the cell at a place. Takes no memory.
+    pub fn set(&mut self, place: usize, cell: Cell)
+        requires { place < length self.old }
+        ensures { self.new ≡ slice_set self.old place cell }
+    {
+        self.states[place] = state_of_cell(&cell);
+        match named_party(&cell) {
+            Some(party) => self.parties.set(place, party),
+            None => {}
+        }
+    }
+
+    /// The cells of one shard.
+    pub fn row(&self, shard: usize, servers: usize) -> Row<'_>
+        requires { shard * servers + servers ≤ length self.now }
+        ensures cells { result.cells.now ≡ self.now }
+        ensures shard { result.shard ≡ shard }
+        ensures servers { result.servers ≡ servers }
+    {
+        prove!(servers <= self.states.len());
+        Row {
+            cells: self,
+            shard,
+            servers,
+        }
+    }
+}
