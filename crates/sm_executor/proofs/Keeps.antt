@@ -17,6 +17,7 @@ use Rattle.sm_protocol.specs.declared.event.Logged.{Logged}
 use Rattle.sm_protocol.specs.State.{State}
 use Rattle.sm_protocol.specs.Steps.{Answered}
 use Rattle.sm_executor.specs.Counting.{is_step, is_executed, is_refused, IsBooked, Counts}
+use Rattle.sm_executor.specs.Closed.{HasMorePlans}
 use Rattle.sm_executor.specs.Tied.{IsPublished, IsMapOf, IsQuiet, Publishes, IsBehind}
 use Rattle.sm_executor.proofs.Effects.{Asked, Made, Uncounted}
 
@@ -47,6 +48,16 @@ counted_more opened old new x a b c e k = record {
 -- when a board is opened
 pub counted_opened : (opened : State) → IsBooked opened opened 0 0 0
 counted_opened opened = record { since = []; log = sym (append-nil opened.log); steps_are = refl; executed_are = refl; refused_are = refl }
+
+-- ---- the plans
+
+-- where the list of plans is as it was
+pub more_plans : (opened old new : State) → new.plans ≡ old.plans → HasMorePlans opened old → HasMorePlans opened new
+more_plans opened old new e h = (h.0, e ∙ h.1)
+
+-- when a board is opened
+pub plans_opened : (opened : State) → HasMorePlans opened opened
+plans_opened opened = ([], sym (append-nil opened.plans))
 
 -- ---- the words
 

@@ -1,7 +1,7 @@
 -- What is so where a board is closed, and why one is not.
 use Rattle.std.specs.Prelude.{◌≡◌, ◌↔◌, ◌++◌, ◌∷◌, [], ℕ, zero, suc, true, List, length, map, sum, if◌then◌else◌}
 use Rattle.sm_reservation.specs.declared.stream_id.StreamId.{StreamId}
-use Rattle.sm_protocol.specs.State.{State, stream_id, stream_count, is_begun}
+use Rattle.sm_protocol.specs.State.{State, Start, stream_id, stream_count, is_begun}
 use Rattle.sm_protocol.specs.Laws.{AreDone}
 use Rattle.sm_protocol.specs.Log.{IsInLog, IsAtEnds}
 use Rattle.sm_protocol.specs.declared.event.Logged.{Logged}
@@ -26,6 +26,17 @@ unfinished_to w (suc k) = unfinished_to w k ++ unfinished_in w k (stream_count w
 abbrev pub unfinished_streams : State → List (StreamId × ℕ)
 unfinished_streams w = unfinished_to w (length w.plans)
 
+-- ---- what only grows
+
+-- the plans begun since the opening stand behind those that it had
+abbrev pub HasMorePlans : State → State → Type 0
+HasMorePlans opened now = (begun : List Start) × (now.plans ≡ opened.plans ++ begun)
+
+-- the log and the list of plans have only grown
+pub record GoesOn (opened now : State) : Type 0 where
+  pub log : (since : List Logged) × (now.log ≡ opened.log ++ since)
+  pub plans : HasMorePlans opened now
+
 -- ---- the account
 
 -- The books, from the opening to now, are the sums of what these ends and callers have counted.
@@ -36,14 +47,11 @@ IsAccount opened now ended callers = IsBooked opened now (sum (map (λ e. e.coun
 -- is the end of the plans in the order of their starts, whatever the schedule was; and the log since the opening has as many steps,
 -- executed and refused requests as these ends and callers have counted.
 pub record IsClosed (opened now : State) (ended : List Finished) (callers : List Calling) : Type 0 where
+  pub goes_on : GoesOn opened now
   pub done : AreDone now
   pub in_log : (id : StreamId) → is_begun now id ≡ true → IsInLog now id
   pub at_ends : IsAtEnds now
   pub account : IsAccount opened now ended callers
-
--- the log has only grown
-abbrev pub GoesOn : State → State → Type 0
-GoesOn opened now = (since : List Logged) × (now.log ≡ opened.log ++ since)
 
 -- what a contract sees of a board that is not closed: why, what came back, and which streams have not made their ends
 pub record NotClosing : Type 0 where

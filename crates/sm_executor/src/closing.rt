@@ -161,7 +161,7 @@ impl<A: Side, B: Side, C: Side, N: Naming> Board<A, B, C, N> {
 
     /// The machine as it stands, with nothing told of what was counted.
     pub fn give_up(self, ended: Vec<Ended<A>>, callers: Vec<Caller<B, C, N>>) -> Machine
-        ensures log { GoesOn N.opened (state_of result) }
+        ensures goes_on { GoesOn N.opened (state_of result) }
         ensures setup { result.placement.setup ≡ N.setup }
     {
         spend_ended(ended);

@@ -1,15 +1,17 @@
 //! What a board is opened with.
-ghost use Rattle.std.specs.Prelude.{◌≡◌, ◌<◌, ◌≤◌, ◌^◌, All, IfOk, IfErr, length, slice_get, Some, ℕ};
+ghost use Rattle.std.specs.Prelude.{◌≡◌, ◌<◌, ◌≤◌, ◌*◌, ◌^◌, All, IfOk, IfErr, length, map, slice_get, Some, ℕ};
 ghost use Rattle.sm_placement.specs.Place.{entry_at};
 ghost use Rattle.sm_map.specs.Entry.{IsInRange};
 ghost use Rattle.sm_machine.specs.State.{state_of};
 ghost use Rattle.sm_executor.specs.Tied.{IsMapOf};
+ghost use Rattle.sm_executor.specs.Views.{running};
 
 use crate::board::Board;
 use crate::held::Held;
 use crate::names::{Naming, PARTS, Side};
+use crate::runner::Runner;
 use crate::unfinished::MOST_UNFINISHED;
-use sm_machine::Machine;
+use sm_machine::{Machine, StreamToken};
 use sm_map::{Entry, Publisher, Words};
 use sm_placement::Config;
 use sm_server::ShardId;
@@ -95,9 +97,49 @@ impl<A: Side, B: Side, C: Side, N: Naming> Board<A, B, C, N> {
         requires refused { (ground.refused ≡ C.name) × (C.parts ≡ 2 ^ 62) × (C.all ≡ 2 ^ 62) }
         ensures { IfErr result (λ e. (e.0 ≡ machine) × (e.1 ≡ ground)) }
     {
+        match Board::open_begun(alloc, machine, ground, Vec::new(alloc)) {
+            Ok((board, runners)) => {
+                runners.destroy_empty();
+                Ok(board)
+            }
+            Err((machine, ground, tokens, why)) => {
+                tokens.destroy_empty();
+                Err((machine, ground, why))
+            }
+        }
+    }
+
+    /// Opens a board over a machine in which plans have begun already, with a runner for each of these tokens of their streams, in the
+    /// tokens' order. Where memory runs out, all come back.
+    pub fn open_begun(
+        alloc: Global,
+        machine: Machine,
+        ground: Ground,
+        tokens: Vec<StreamToken>,
+    ) -> Result<
+        (Board<A, B, C, N>, Vec<Runner<A>>),
+        (Machine, Ground, Vec<StreamToken>, AllocError),
+    >
+        requires map { IsMapOf ground.words (state_of machine) }
+        requires setup { ground.setup ≡ machine.placement.setup }
+        requires names { (ground.words ≡ N.words) × (ground.setup ≡ N.setup) × (state_of machine ≡ N.opened) }
+        requires few { length tokens.items ≤ 64 * length (state_of machine).plans }
+        requires steps { (ground.steps ≡ A.name) × (A.parts ≡ 2 ^ 62) × (A.all ≡ 2 ^ 62) }
+        requires executed { (ground.executed ≡ B.name) × (B.parts ≡ 2 ^ 62) × (B.all ≡ 2 ^ 62) }
+        requires refused { (ground.refused ≡ C.name) × (C.parts ≡ 2 ^ 62) × (C.all ≡ 2 ^ 62) }
+        ensures runners { IfOk result (λ opened. opened.1.items ≡ map (λ token. running token 0) tokens.items) }
+        ensures back { IfErr result (λ e. (e.0 ≡ machine) × (e.1 ≡ ground) × (e.2 ≡ tokens)) }
+    {
         let room = match Vec::with_capacity(alloc, MOST_UNFINISHED) {
             Ok(room) => room,
-            Err(why) => return Err((machine, ground, why)),
+            Err(why) => return Err((machine, ground, tokens, why)),
+        };
+        let mut runners = match Vec::with_capacity(alloc, tokens.len()) {
+            Ok(runners) => runners,
+            Err(why) => {
+                room.destroy_empty();
+                return Err((machine, ground, tokens, why));
+            }
         };
         let Ground {
             words,
@@ -107,7 +149,8 @@ impl<A: Side, B: Side, C: Side, N: Naming> Board<A, B, C, N> {
             executed,
             refused,
         } = ground;
-        let held = Held::open(machine, publisher, steps, executed, refused);
-        Ok(Board::of(held, words, config, room))
+        let mut held = Held::open(machine, publisher, steps, executed, refused);
+        held.take_on(&mut runners, tokens);
+        Ok((Board::of(held, words, config, room), runners))
     }
 }

@@ -2,7 +2,7 @@
 //!
 //! Each method is one event at most, and changes the machine just as the machine's own call does. The books rise with the log,
 //! and what a step publishes is stored in the words before the method returns.
-ghost use Rattle.std.specs.Prelude.{◌≡◌, ◌≢◌, OnOk, OnErr, ◌<◌, ◌≤◌, ◌+◌, ◌^◌, ◌++◌, ◌∷◌, [], length, IfOk, IfErr, IfSome, IfNone, true, false};
+ghost use Rattle.std.specs.Prelude.{◌≡◌, ◌≢◌, OnOk, OnErr, ◌<◌, ◌≤◌, ◌+◌, ◌*◌, ◌^◌, ◌++◌, ◌∷◌, [], length, map, IfOk, IfErr, IfSome, IfNone, true, false, vec_len, vec_capacity};
 ghost use Rattle.sm_placement.specs.Place.{entry_at};
 ghost use Rattle.sm_map.specs.History.{NoneNewer};
 ghost use Rattle.sm_protocol.specs.State.{progress_of, is_running};
@@ -28,7 +28,7 @@ use crate::caller::Caller;
 use crate::names::{Naming, Side};
 use crate::runner::{Ended, Runner};
 use crate::shares::fill_runners;
-use sm_machine::{Answer, BeginFault, Link, Machine, Permit, Step, Ticket};
+use sm_machine::{Answer, BeginFault, Link, Machine, Permit, Step, StreamToken, Ticket};
 use sm_map::{Entry, Publisher, Words};
 use sm_protocol::RefillFault;
 use sm_server::{ServerId, ShardId};
@@ -65,6 +65,7 @@ impl<A: Side, B: Side, C: Side, N: Naming> Model for Held<A, B, C, N> {
     ghost use Rattle.sm_executor.specs.Views.{Holding, holding};
     ghost use Rattle.sm_executor.specs.Tied.{IsPublished};
     ghost use Rattle.sm_executor.specs.Counting.{IsBooked};
+    ghost use Rattle.sm_executor.specs.Closed.{HasMorePlans};
 
     ghost Value = { Holding };
 
@@ -78,7 +79,8 @@ impl<A: Side, B: Side, C: Side, N: Naming> Model for Held<A, B, C, N> {
         × (h.free_refused.parts + h.callers ≡ C.all) × (h.free_refused.amount ≡ 0) × (C.all ≡ 2 ^ 62)
         × (h.callers ≤ 4096)
         × (h.machine.placement.setup ≡ N.setup)
-        × (h.runners ≤ 64 * length (state_of h.machine).plans) };
+        × (h.runners ≤ 64 * length (state_of h.machine).plans)
+        × HasMorePlans N.opened (state_of h.machine) };
 }
 
 /// Stores the entry that was added behind the first so many, if one was.
@@ -156,9 +158,9 @@ impl<A: Side, B: Side, C: Side, N: Naming> Held<A, B, C, N> {
         }
     }
 
-    /// A law: the log has only grown since the opening, and the configuration is the board's.
+    /// A law: the log and the list of plans have only grown since the opening, and the configuration is the board's.
     pub fn goes_on(&self)
-        ensures log { GoesOn N.opened (state_in self.now) }
+        ensures goes_on { GoesOn N.opened (state_in self.now) }
         ensures setup { self.now.machine.placement.setup ≡ N.setup }
     {
         let _runners = self.runners;
@@ -214,6 +216,20 @@ impl<A: Side, B: Side, C: Side, N: Naming> Held<A, B, C, N> {
         self.steps.add(&mut runner.share, made as u64);
         store_added::<N>(words, &mut self.publisher, &self.machine, added);
         step
+    }
+
+    /// The tokens of streams that began before the board was opened get runners, in an empty list with room for them.
+    pub fn take_on(&mut self, runners: &mut Vec<Runner<A>>, tokens: Vec<StreamToken>)
+        requires none { runners.old.items ≡ [] }
+        requires room { vec_len tokens ≤ vec_capacity runners.old }
+        requires few { self.old.runners + length tokens.items ≤ 64 * length (state_in self.old).plans }
+        ensures held { self.new ≡ holding self.old.machine (self.old.runners + length tokens.items) self.old.callers }
+        ensures runners { runners.new.items ≡ map (λ token. running token 0) tokens.items }
+    {
+        self.machine.is_reached();
+        let count = tokens.len() as u64;
+        fill_runners(runners, tokens, &mut self.free_steps);
+        self.runners += count;
     }
 
     /// A plan begins as the machine begins it, and each of its streams has a runner.

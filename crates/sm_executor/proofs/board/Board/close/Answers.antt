@@ -18,7 +18,7 @@ returns-then-not-is_empty-clause-why g c =
     let ok = p.ok in
     let more = eqb-false (vec_len p) 0 (sym c.is_empty.ensures ∙ c.if-not-is_empty.true) in
     let some : ¬ (c.again.result.positions.items ≡ []) = λ e. let none : length p.items ≡ 0 = ap length (sym c.again.ensures ∙ e) in more (omega arith) in
-    record { now = state_in c.into_inner-held.result; goes_on = c.goes_on.ensures.log; named = c.again.ensures ∙ c.list_unfinished.ensures.items ∙ same; not_done = (λ e. some, λ n. refl) }
+    record { now = state_in c.into_inner-held.result; goes_on = c.goes_on.ensures.goes_on; named = c.again.ensures ∙ c.list_unfinished.ensures.items ∙ same; not_done = (λ e. some, λ n. refl) }
 
 pub returns-in-Ok-clause-closed : goal.returns-in-Ok-clause-closed
 returns-in-Ok-clause-closed g c =
@@ -33,7 +33,7 @@ returns-in-Ok-clause-closed g c =
     let reached = subst (λ (m : MachineModel). IsReached r.0 (state_of m)) c.machine.ensures r.1 in
     let ends = c.ends_are_reached.ensures r.0 w reached done in
     subst (λ (m : MachineModel). IsClosed g.N.Naming.opened (state_of m) c.args.ended.items c.args.callers.items) (sym c.in-Ok.ensures.machine)
-    (record { done = done; in_log = ends.0; at_ends = ends.1; account = c.in-Ok.ensures.account })
+    (record { goes_on = c.goes_on.ensures.goes_on; done = done; in_log = ends.0; at_ends = ends.1; account = c.in-Ok.ensures.account })
 
 pub returns-in-Err-clause-why : goal.returns-in-Err-clause-why
 returns-in-Err-clause-why g c =
@@ -42,7 +42,7 @@ returns-in-Err-clause-why g c =
     let ok = p.ok in
     let empty = eqb-true (vec_len p) 0 (sym c.is_empty.ensures ∙ c.if-not-is_empty.false) in
     let none : c.again-in-Err.result.positions.items ≡ [] = c.again-in-Err.ensures ∙ nil_from_length p.items (omega arith) in
-    record { now = state_in c.into_inner-held.result; goes_on = c.goes_on.ensures.log; named = c.again-in-Err.ensures ∙ c.list_unfinished.ensures.items ∙ same; not_done = (λ e. absurd (differ e), λ n. absurd (n none)) }
+    record { now = state_in c.into_inner-held.result; goes_on = c.goes_on.ensures.goes_on; named = c.again-in-Err.ensures ∙ c.list_unfinished.ensures.items ∙ same; not_done = (λ e. absurd (differ e), λ n. absurd (n none)) }
   where
     differ : BookDiffers ≡ NotDone → ⊥
     differ e = cc

@@ -4,7 +4,7 @@ use Rattle.sm_plan_code.specs.Plan.{PlanModel}
 use Rattle.sm_protocol.specs.Happens.{started}
 use Rattle.sm_machine.specs.State.{state_of}
 use Rattle.sm_executor.specs.Views.{Holding, state_in, AreRunners}
-use Rattle.sm_executor.proofs.Starting.{begun_is, started_kept, few_runners, runners_are}
+use Rattle.sm_executor.proofs.Starting.{begun_is, started_kept, few_runners, started_more, runners_are}
 use Rattle.sm_executor.proofs.held.Held.begin.Goals as goal
 
 pub invariant_of-self : goal.invariant_of-self
@@ -23,7 +23,7 @@ invariant_of-self g c =
     let few : length plan.streams ≤ 64 = subst (λ (p : PlanModel). length p.streams ≤ 64) c.plan.ensures.value c.streams.ensures.plan.small.stream_count in
     let count = ens.tokens.count in
     let most : c.len-count.result ≤ 64 = omega arith in
-    (k.tied, k.counted, omega arith, c.fill_runners.ensures.amount, i.4, i.5, i.6, i.7, i.8, i.9, i.10, i.11, ens.setup ∙ i.12, few_runners w v plan c.self.inside.runners c.len-count.result e most i.13)
+    (k.tied, k.counted, omega arith, c.fill_runners.ensures.amount, i.4, i.5, i.6, i.7, i.8, i.9, i.10, i.11, ens.setup ∙ i.12, few_runners w v plan c.self.inside.runners c.len-count.result e most i.13, started_more g.N.Naming.opened w v plan e i.14)
 
 pub returns-in-Ok-begin-clause-runners : goal.returns-in-Ok-begin-clause-runners
 returns-in-Ok-begin-clause-runners g c =

@@ -1,4 +1,4 @@
--- A new board.
+-- A new board over a machine in which plans have begun.
 use Rattle.std.proofs.Common.{ap, ◌∙◌, subst}
 use Rattle.sm_map.specs.Models.{WordsModel, PublisherModel}
 use Rattle.sm_protocol.specs.State.{State}
@@ -6,7 +6,7 @@ use Rattle.sm_machine.specs.State.{state_of}
 use Rattle.sm_executor.specs.Names.{Bases}
 use Rattle.sm_executor.specs.Tied.{IsMapOf}
 use Rattle.sm_executor.proofs.Keeps.{tied_opened}
-use Rattle.sm_executor.proofs.board.Board.open.Goals as goal
+use Rattle.sm_executor.proofs.board.Board.open_begun.Goals as goal
 
 pub open-held-requires-clause-tied : goal.open-held-requires-clause-tied
 open-held-requires-clause-tied g c =
