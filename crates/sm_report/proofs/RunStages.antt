@@ -1,14 +1,23 @@
 -- The stages of a report of a plan that is run, and what came of the run.
-use Rattle.std.proofs.Common.{◌≡◌, ◌≢◌, ◌<◌, ◌+◌, ◌∙◌, ◌++◌, None, append_assoc, drop, drop-cons, take, ℕ, zero, suc, Option, Result, Ok, Err, List, [], ◌∷◌, length, map, refl, sym, ap, subst, arith, inl, inr}
+use Rattle.std.proofs.Common.{◌≡◌, ◌≢◌, ◌<◌, ◌+◌, ◌∙◌, ◌++◌, None, append_assoc, drop, drop-cons, length-append, take, ℕ, zero, suc, Option, Result, Ok, Err, List, [], ◌∷◌, length, map, refl, sym, ap, subst, arith, inl, inr}
 use Rattle.std.specs.Prelude.{All, slice_index_or}
 use Rattle.std.specs.List.{range_with_len}
+use Rattle.std.proofs.lemmas.List.{append-nil, nil_from_length}
 use Rattle.sm_placement.specs.Setup.{Setup, Sizes, sizes_of}
 use Rattle.sm_placement.specs.Place.{Place}
+use Rattle.sm_reservation.specs.declared.stream_id.StreamId.{StreamId}
 use Rattle.sm_plan_code.specs.Plan.{PlanModel}
 use Rattle.sm_verifier.specs.Plan.{IsSound}
-use Rattle.sm_protocol.specs.State.{State, opened, stream_id}
+use Rattle.sm_protocol.specs.declared.event.BeginFault.{BeginFault}
+use Rattle.sm_protocol.specs.declared.event.BeginFault.TheVariants.{NoMemory}
+use Rattle.sm_protocol.specs.declared.event.Played.TheVariants.{Begun}
+use Rattle.sm_protocol.specs.State.{State, Start, opened, no_start, plan_at, stream_count, stream_id}
+use Rattle.sm_protocol.specs.Steps.{Outcome, Answered}
+use Rattle.sm_protocol.specs.Happens.{happens, started, Begin}
+use Rattle.sm_machine.specs.Starts.{AreTokens}
+use Rattle.sm_machine.specs.Started.{IsNotStarted}
 use Rattle.sm_executor.specs.Clients.{Asking, IsClient}
-use Rattle.sm_executor.specs.Closed.{IsClosed}
+use Rattle.sm_executor.specs.Closed.{HasMorePlans, IsClosed}
 use Rattle.sm_executor.specs.Views.{Finished, Running, running, AreRunners, streams_ended, streams_run}
 use Rattle.sm_plan_text.specs.Documents.{DocumentModel}
 use Rattle.sm_report.specs.declared.early.Early.{Early}
@@ -19,10 +28,11 @@ use Rattle.sm_report.specs.Checking.{accepted_line}
 use Rattle.sm_report.specs.Early.{IfEnded, IfReadEnded}
 use Rattle.sm_report.specs.Ending.{ending}
 use Rattle.sm_report.specs.Output.{IsReadAs}
-use Rattle.sm_report.specs.Report.{Output, done}
+use Rattle.sm_report.specs.PlayLines.{not_begun_line}
+use Rattle.sm_report.specs.Report.{Output, done, refused}
 use Rattle.sm_report.specs.RunLines.{end_lines, client_line, client_lines}
-use Rattle.sm_report.specs.Running.{HasRun, IsOnBoard, IsRunReport, IsRunReportOf, streams_of_plan}
-use Rattle.sm_report.specs.Stages.{Then, read_stage, AtCheck, IsFaultReport}
+use Rattle.sm_report.specs.Running.{HasRun, WasRun, IsStartedForRun, IsRunReport, IsRunReportOf, first_streams}
+use Rattle.sm_report.specs.Stages.{Then, begun_or_refused, read_stage, start_stage, AtCheck, IsFaultReport}
 use Rattle.sm_report.specs.Unmade.{IfUnmade, IfRan, IfReadRan}
 use Rattle.sm_report.proofs.Onward.{ends_there, goes_on, ended_weaker}
 
@@ -53,16 +63,16 @@ run_refused c plan Next ended result is ends =
     subst (λ r. IfRan r (AtCheck c [] plan Next)) (sym is)
     (ended_weaker ended (IsFaultReport c [] plan) (AtCheck c [] plan Next) (λ made h. inl h) ends)
 
--- one of a plan that passed the check, on a board
+-- one of a plan that passed the check, and then begins
 pub run_checked : (setup given : Setup) (p : Place) (log : ℕ) (plan checked : PlanModel) (asks told : List ℕ) (result : Result Output Unmade) → given ≡ setup → checked ≡ plan → told ≡ asks → IsSound (sizes_of given) plan
-    → IfRan result (IsOnBoard (opened (sizes_of given) p log) given checked told) → IfRan result (AtCheck (sizes_of setup) [] plan (IsOnBoard (opened (sizes_of setup) p log) setup plan asks))
+    → IfRan result (IsStartedForRun (opened (sizes_of given) p log) given checked told) → IfRan result (AtCheck (sizes_of setup) [] plan (IsStartedForRun (opened (sizes_of setup) p log) setup plan asks))
 run_checked setup given p log plan checked asks told result same plans asked sound h =
-    ran_weaker result (IsOnBoard (opened (sizes_of given) p log) given checked told) (AtCheck (sizes_of setup) [] plan (IsOnBoard (opened (sizes_of setup) p log) setup plan asks))
+    ran_weaker result (IsStartedForRun (opened (sizes_of given) p log) given checked told) (AtCheck (sizes_of setup) [] plan (IsStartedForRun (opened (sizes_of setup) p log) setup plan asks))
     (λ made is. inr (
       subst (λ s. IsSound (sizes_of s) plan) same sound,
-      subst (λ x. IsOnBoard (opened (sizes_of setup) p log) setup x asks made) plans
-          (subst (λ s. IsOnBoard (opened (sizes_of s) p log) s checked asks made) same
-          (subst (λ xs. IsOnBoard (opened (sizes_of given) p log) given checked xs made) asked is)),
+      subst (λ x. IsStartedForRun (opened (sizes_of setup) p log) setup x asks made) plans
+          (subst (λ s. IsStartedForRun (opened (sizes_of s) p log) s checked asks made) same
+          (subst (λ xs. IsStartedForRun (opened (sizes_of given) p log) given checked xs made) asked is)),
     )) h
 
 -- ---- what is read
@@ -96,7 +106,11 @@ run_read most left rows result h reported =
     behind_reading result (IsRunReport rows) (IsRunReportOf most left)
     (λ made is. (h.0, h.1, goes_on (read_stage most h.0) IsRunReport rows made h.2 is)) reported
 
--- ---- the streams that were run
+-- ---- the streams and the asks that were run
+
+-- the shards of clients
+abbrev pub shards_of : List Asking → List ℕ
+shards_of clients = map (λ client. client.shard) clients
 
 -- the runners from number k on are of the streams from there on
 streams_from : (plan k n : ℕ) (runners : List Running) → length runners ≡ n → ((i : ℕ) (d : Running) → i < n → slice_index_or runners i d ≡ running (stream_id plan (k + i)) 0)
@@ -111,9 +125,18 @@ streams_from plan k (suc n) (x ∷ xs) count each =
     streams_from plan (k + 1) n xs (omega (arith, count)) (λ i d below. each (suc i) d (omega arith) ∙ ap (λ j. running (stream_id plan j) 0) (let e : k + suc i ≡ k + 1 + i = omega arith in e)) in
     ap (λ (r : Running). r.stream ∷ streams_run xs) first ∙ ap (λ ss. stream_id plan k ∷ ss) others
 
--- a plan's runners are of its streams, in their order
-pub streams_are : (plan n : ℕ) (runners : List Running) → AreRunners plan n runners → streams_run runners ≡ streams_of_plan plan n
-streams_are plan n runners are = streams_from plan 0 n runners are.count (λ i d below. are.each i d below ∙ ap (λ j. running (stream_id plan j) 0) (let e : i ≡ 0 + i = omega arith in e))
+-- the runners of the plan that began first are of its streams, in their order
+streams_are : (n : ℕ) (runners : List Running) → AreRunners 0 n runners → streams_run runners ≡ first_streams n
+streams_are n runners are = streams_from 0 0 n runners are.count (λ i d below. are.each i d below ∙ ap (λ j. running (stream_id 0 j) 0) (let e : i ≡ 0 + i = omega arith in e))
+
+-- clients that are of their asks from number i on, where that one is, are of them from the next one on
+pub ask_kept : (i : ℕ) (clients : List Asking) (asks : List ℕ) (client : Asking) (ask : ℕ) → i < length clients → i < length asks → client ≡ slice_index_or clients i client → ask ≡ slice_index_or asks i ask
+    → client.shard ≡ ask → shards_of (drop (i + 1) clients) ≡ drop (i + 1) asks → shards_of (drop i clients) ≡ drop i asks
+ask_kept i clients asks client ask below within is_client is_ask same rest =
+    let one : suc i ≡ i + 1 = omega arith in
+    let here : drop i clients ≡ client ∷ drop (i + 1) clients = drop-cons clients i client below ∙ ap (λ x. x ∷ drop (suc i) clients) (sym is_client) ∙ ap (λ n. client ∷ drop n clients) one in
+    let there : drop i asks ≡ ask ∷ drop (i + 1) asks = drop-cons asks i ask within ∙ ap (λ x. x ∷ drop (suc i) asks) (sym is_ask) ∙ ap (λ n. ask ∷ drop n asks) one in
+    ap shards_of here ∙ ap (λ x. x ∷ shards_of (drop (i + 1) clients)) same ∙ ap (λ xs. ask ∷ xs) rest ∙ sym there
 
 -- what a slice of a list's front was written, in the list
 written_back : {X : Type 0} (n : ℕ) (xs rest : List X) → length xs ≡ n → take n (xs ++ rest) ≡ xs
@@ -122,40 +145,76 @@ written_back zero (x ∷ xs) rest e = absurd (cc)
 written_back (suc n) [] rest e = absurd (cc)
 written_back (suc n) (x ∷ xs) rest e = ap (λ ys. x ∷ ys) (written_back n xs rest (omega (arith, e)))
 
--- a run of a plan's runners that has come to the ends of all, beside clients that have asked
-pub has_run : (plan n count : ℕ) (runners : List Running) (ended kept : List Finished) (asks : List ℕ) (clients rest : List Asking) → AreRunners plan n runners
-    → streams_ended ended ≡ streams_run runners → kept ≡ ended → length clients ≡ count → length clients ≡ length asks → All (λ client. client.asked ≢ None) clients
-    → HasRun n asks kept (take count (clients ++ rest))
-has_run plan n count runners ended kept asks clients rest are ends same long asked answers = record {
-  number = plan;
-  ends = ap streams_ended same ∙ ends ∙ streams_are plan n runners are;
-  clients_are = ap length back ∙ asked;
-  answered = subst (All (λ client. client.asked ≢ None)) (sym back) answers;
+-- a run of the runners of the plan that began first that has come to the ends of all, beside clients that have asked
+pub has_run : (n count : ℕ) (runners : List Running) (ended kept : List Finished) (clients rest : List Asking) → AreRunners 0 n runners
+    → streams_ended ended ≡ streams_run runners → kept ≡ ended → length clients ≡ count → All (λ client. client.asked ≢ None) clients
+    → HasRun n kept (take count (clients ++ rest))
+has_run n count runners ended kept clients rest are ends same long answers = record {
+  ends = ap streams_ended same ∙ ends ∙ streams_are n runners are;
+  answered = subst (All (λ client. client.asked ≢ None)) (sym (written_back count clients rest long)) answers;
 }
-  where
-    back : take count (clients ++ rest) ≡ clients
-    back = written_back count clients rest long
+
+-- where one plan had begun and one has begun now, it is that one
+nothing_more : (begun now : State) → HasMorePlans begun now → length begun.plans ≡ 1 → length now.plans ≡ 1 → now.plans ≡ begun.plans
+nothing_more begun now more one alone =
+    let count : length now.plans ≡ length begun.plans + length more.0 = ap length more.1 ∙ length-append begun.plans more.0 in
+    let none : more.0 ≡ [] = nil_from_length more.0 (omega (arith, count, one, alone)) in
+    more.1 ∙ ap (λ (ps : List Start). begun.plans ++ ps) none ∙ append-nil begun.plans
+
+-- with these ends and clients the board is closed at a state at which one plan has begun, and these lines are told of it
+abbrev pub IsTold : State → Setup → List Finished → List Asking → List ℕ → List ℕ → Output → Type 0
+IsTold begun setup ended clients accepted asked made = (now : State) × IsClosed begun now ended (map (λ client. client.caller) clients) × (length now.plans ≡ 1) × (made ≡ done (accepted ++ end_lines now 0 ++ asked ++ ending setup now.place))
 
 -- the report of such a run on a board that is closed
-pub was_run : (opened : State) (setup : Setup) (plan : PlanModel) (asks : List ℕ) (ended : List Finished) (clients : List Asking) (accepted asked : List ℕ) (result : Result Output Unmade)
-    → HasRun (length plan.streams) asks ended clients → All IsClient clients → accepted ≡ accepted_line plan → asked ≡ client_lines setup 0 clients
-    → IfRan result (λ made. (now : State) × IsClosed opened now ended (map (λ client. client.caller) clients) × (length now.plans ≡ 1) × (made ≡ done (accepted ++ end_lines now 0 ++ asked ++ ending setup now.place)))
-    → IfRan result (IsOnBoard opened setup plan asks)
-was_run opened setup plan asks ended clients accepted asked result ran ways front lines h =
-    ran_weaker result (λ made. (now : State) × IsClosed opened now ended (map (λ client. client.caller) clients) × (length now.plans ≡ 1) × (made ≡ done (accepted ++ end_lines now 0 ++ asked ++ ending setup now.place)))
-    (IsOnBoard opened setup plan asks)
-    (λ made is. inr (record {
+pub was_run : (begun : State) (setup : Setup) (asks : List ℕ) (ended : List Finished) (clients : List Asking) (accepted asked : List ℕ) (result : Result Output Unmade)
+    → length begun.plans ≡ 1 → HasRun (stream_count begun 0) ended clients → shards_of clients ≡ asks → All IsClient clients → accepted ≡ accepted_line (plan_at begun 0) → asked ≡ client_lines setup 0 clients
+    → IfRan result (IsTold begun setup ended clients accepted asked) → IfRan result (WasRun begun setup asks)
+was_run begun setup asks ended clients accepted asked result one ran shards ways front lines h =
+    ran_weaker result (IsTold begun setup ended clients accepted asked) (WasRun begun setup asks)
+    (λ made is. record {
       now = is.0;
       ended = ended;
       clients = clients;
       ran = ran;
+      shards = shards;
       ways = ways;
       closed = is.1;
-      alone = is.2;
+      alone = nothing_more begun is.0 is.1.goes_on.plans one is.2;
       told = is.3
           ∙ ap (λ text. done (text ++ end_lines is.0 0 ++ asked ++ ending setup is.0.place)) front
-          ∙ ap (λ text. done (accepted_line plan ++ end_lines is.0 0 ++ text ++ ending setup is.0.place)) lines;
-    })) h
+          ∙ ap (λ text. done (accepted_line (plan_at begun 0) ++ end_lines is.0 0 ++ text ++ ending setup is.0.place)) lines;
+    }) h
+
+-- ---- the plan's start
+
+-- the report of a plan that has begun
+pub start_went_on : (setup : Setup) (w begun : State) (plan : PlanModel) (n : ℕ) (asks : List ℕ) (result : Result Output Unmade) → (happens w (Begin plan)).0 ≡ Answered (Begun n)
+    → begun ≡ (happens w (Begin plan)).1 → IfRan result (WasRun begun setup asks) → IfRan result (IsStartedForRun w setup plan asks)
+start_went_on setup w begun plan n asks result answer is h =
+    run_went_on (start_stage setup w plan) (λ b. WasRun b setup asks) (happens w (Begin plan)).1 result
+    (ap (λ (o : Outcome). begun_or_refused setup o (happens w (Begin plan)).1) answer) (subst (λ b. IfRan result (WasRun b setup asks)) is h)
+
+-- of one that has not
+pub start_refused : (setup : Setup) (w : State) (plan : PlanModel) (fault : BeginFault) (asks : List ℕ) (why : Unmade) → (fault ≢ NoMemory → IsNotStarted w plan fault)
+    → IfUnmade why (λ made. (fault ≢ NoMemory) × (made ≡ refused (not_begun_line setup fault))) → IfUnmade why (IsStartedForRun w setup plan asks)
+start_refused setup w plan fault asks why is h =
+    unmade_weaker why (λ made. (fault ≢ NoMemory) × (made ≡ refused (not_begun_line setup fault))) (IsStartedForRun w setup plan asks)
+    (λ made told. ends_there (start_stage setup w plan) (λ b. WasRun b setup asks) made (ap (λ (o : Outcome × State). begun_or_refused setup o.0 o.1) (is told.0) ∙ ap Err (sym told.1))) h
+
+-- a plan that begins where none had is the only one
+pub one_begun : (w begun : State) (plan : PlanModel) → begun ≡ started w plan → w.plans ≡ [] → length begun.plans ≡ 1
+one_begun w begun plan is none = ap (λ (x : State). length x.plans) is ∙ ap (λ (ps : List Start). length (ps ++ record { plan = plan; since = length w.log } ∷ [])) none
+
+-- and has the first number
+pub first_begun : (w begun : State) (plan : PlanModel) → begun ≡ started w plan → w.plans ≡ [] → plan_at begun 0 ≡ plan
+first_begun w begun plan is none = ap (λ (x : State). plan_at x 0) is ∙ ap (λ (ps : List Start). (slice_index_or (ps ++ record { plan = plan; since = length w.log } ∷ []) 0 no_start).plan) none
+
+-- so have its streams' tokens
+pub first_tokens : (w begun : State) (plan : PlanModel) (tokens : List StreamId) → begun ≡ started w plan → w.plans ≡ [] → AreTokens (length w.plans) (length plan.streams) tokens
+    → AreTokens 0 (stream_count begun 0) tokens
+first_tokens w begun plan tokens is none are =
+    subst (λ n. AreTokens 0 n tokens) (sym (ap (λ (p : PlanModel). length p.streams) (first_begun w begun plan is none)))
+    (subst (λ k. AreTokens k (length plan.streams) tokens) (ap length none) are)
 
 -- the lines of the clients that are left, once that of the next one was added
 pub client_added : (setup : Setup) (clients : List Asking) (i : ℕ) (x : Asking) (out next text : List ℕ) → i < length clients → x ≡ slice_index_or clients i x → next ≡ out ++ client_line setup i x.asked

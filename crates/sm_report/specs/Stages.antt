@@ -30,7 +30,10 @@ use Rattle.sm_report.specs.Playing.{Scene, event_turn}
 use Rattle.sm_report.specs.PlayLines.{plan_front, not_begun_line}
 use Rattle.sm_plan_text.specs.declared.event.EventText.TheVariants.{Begin}
 use Rattle.sm_protocol.specs.declared.event.Played.TheVariants.{NotBegun}
+use Rattle.sm_protocol.specs.State.{State}
 use Rattle.sm_protocol.specs.Steps.{Outcome, Answered}
+use Rattle.sm_protocol.specs.Happens.{happens}
+use Rattle.sm_protocol.specs.Happens as happening
 
 -- What is reported where a stage comes before the others: what the next ones say of what it found, or its own ending.
 abbrev pub Then : {A : Type 0} → Result A Output → (A → Output → Type 0) → Output → Type 0
@@ -72,13 +75,17 @@ log_refused_line = line (codes "log refused: 2 LogFull" ∷ [])
 abbrev pub log_stage : DocumentModel → Place → Result (Unit {0}) Output
 log_stage d p = if nat_lt d.log (down_count (sizes_of d.setup) p) then Err (refused log_refused_line) else Ok tt
 
-abbrev pub begun_or_refused : Setup → Outcome → Scene → Result Scene Output
+abbrev pub begun_or_refused : {A : Type 0} → Setup → Outcome → A → Result A Output
 begun_or_refused setup (Answered (NotBegun why)) x = Err (refused (not_begun_line setup why))
 begun_or_refused setup _ x = Ok x
 
 -- the plan at the first place has begun, before any event
 abbrev pub begin_stage : Setup → Scene → Result Scene Output
 begin_stage setup x = begun_or_refused setup (event_turn x (Begin 0)).0 (event_turn x (Begin 0)).1
+
+-- a plan has begun from this state, before it is run
+abbrev pub start_stage : Setup → State → PlanModel → Result State Output
+start_stage setup w plan = begun_or_refused setup (happens w (happening.Begin plan)).0 (happens w (happening.Begin plan)).1
 
 -- ---- stages that are told by what is true of the plan
 

@@ -1,7 +1,7 @@
 -- Runs that have not come to their end.
 use Rattle.std.specs.Prelude.{List, ℕ, [], ◌∷◌, codes, Result, Ok, Err}
 use Rattle.sm_report.specs.declared.unmade.Unrun.{Unrun}
-use Rattle.sm_report.specs.declared.unmade.Unrun.TheVariants.{NoThread, Halted, Spent, NoCaller, NotClosed}
+use Rattle.sm_report.specs.declared.unmade.Unrun.TheVariants.{NoThread, Halted, Spent, NoCaller, OtherAsk, NotClosed}
 use Rattle.sm_report.specs.declared.unmade.Unmade.{Unmade}
 use Rattle.sm_report.specs.declared.unmade.Unmade.TheVariants as unmade
 use Rattle.sm_report.specs.Early.{IfEnded, IfReadEnded}
@@ -15,7 +15,8 @@ unrun_text NoThread = line (codes "not run: 2 NoThread" ∷ [])
 unrun_text Halted = line (codes "not run: 3 Halted" ∷ [])
 unrun_text Spent = line (codes "not run: 4 Spent" ∷ [])
 unrun_text NoCaller = line (codes "not run: 5 NoCaller" ∷ [])
-unrun_text NotClosed = line (codes "not run: 6 NotClosed" ∷ [])
+unrun_text OtherAsk = line (codes "not run: 6 OtherAsk" ∷ [])
+unrun_text NotClosed = line (codes "not run: 7 NotClosed" ∷ [])
 
 -- the report with which a stage ended is one of these, where there is one
 abbrev pub IfUnmade : Unmade → (Output → Type 0) → Type 0

@@ -1,16 +1,19 @@
-//! A plan on a board: it begins, its streams run beside asks, and the board is closed.
-ghost use Rattle.std.specs.Prelude.{◌≡◌, ◌≤◌, ◌<◌, ◌^◌, ◌++◌, [], ℕ, All, IfErr, IfOk, OnOk, length, map, string_bytes, true, vec_len, vec_capacity};
+//! A plan on a board: it begins on a machine, its streams run beside asks on a board over it, and the board is closed.
+ghost use Rattle.std.specs.Prelude.{◌≡◌, ◌≢◌, ◌≤◌, ◌<◌, ◌^◌, ◌++◌, [], ℕ, All, IfErr, IfOk, OnOk, length, map, string_bytes, true, vec_len, vec_capacity};
+ghost use Rattle.sm_machine.specs.Starts.{AreTokens};
 ghost use Rattle.sm_machine.specs.State.{state_of};
 ghost use Rattle.sm_executor.specs.Clients.{IsClient};
 ghost use Rattle.sm_executor.specs.Closed.{IsClosed};
 ghost use Rattle.sm_executor.specs.Tied.{IsMapOf};
 ghost use Rattle.sm_executor.specs.Views.{AreRunners};
-ghost use Rattle.sm_protocol.specs.State.{State};
+ghost use Rattle.sm_protocol.specs.State.{State, plan_at, stream_count};
+ghost use Rattle.sm_protocol.specs.declared.event.BeginFault.TheVariants as begin_fault;
 ghost use Rattle.sm_report.specs.Checking.{accepted_line};
 ghost use Rattle.sm_report.specs.Ending.{ending};
-ghost use Rattle.sm_report.specs.Report.{done};
+ghost use Rattle.sm_report.specs.PlayLines.{not_begun_line};
+ghost use Rattle.sm_report.specs.Report.{done, refused};
 ghost use Rattle.sm_report.specs.RunLines.{end_lines, client_lines};
-ghost use Rattle.sm_report.specs.Running.{HasRun, IsNotBegun, IsOnBoard};
+ghost use Rattle.sm_report.specs.Running.{HasRun, WasRun, IsStartedForRun};
 ghost use Rattle.sm_report.specs.Unmade.{IfUnmade, IfRan};
 
 use crate::early::Early;
@@ -19,7 +22,6 @@ use crate::given::{Given, keep_ends, keep_fault, keep_runners, take_callers};
 use crate::made::Made;
 use crate::run_lines::{push_clients, push_ends};
 use crate::unmade::{Unmade, Unrun};
-use crate::verdict::push_accepted;
 use sm_executor::{Board, Client, Ground, Naming, Open, Runner, Side, run_beside};
 use sm_machine::{BeginFault, Machine, Permit, StreamToken};
 use sm_placement::Config;
@@ -32,7 +34,7 @@ use std::thread::Threads;
 
 /// Why there is no report of a plan that does not begin.
 fn not_begun(alloc: Global, config: &Config, fault: BeginFault) -> Unmade
-    ensures { IfUnmade result (IsNotBegun config.now) }
+    ensures { IfUnmade result (λ made. (fault ≢ begin_fault.NoMemory) × (made ≡ refused (not_begun_line config.now fault))) }
 {
     if fault == BeginFault::NoMemory {
         return Unmade::Early(Early::NoMemory);
@@ -65,7 +67,23 @@ fn call_clients<A: Side, B: Side, C: Side, N: Naming, R: Wait>(
     true
 }
 
-/// Runs the streams of runners beside asks.
+/// Whether each client is of the ask at its place, and there is one for each. What a thread did to its client is not told to who joins
+/// it, so the clients themselves are looked at.
+fn are_of<B: Side, C: Side, N: Naming>(clients: &[Client<B, C, N>], asks: &[ShardId]) -> bool
+    ensures { result ≡ true → map (λ client. client.shard) clients.now ≡ asks.now }
+{
+    if clients.len() != asks.len() {
+        return false;
+    }
+    for (i, client) in clients.iter().enumerate() {
+        if client.shard() != asks[i] {
+            return false;
+        }
+    }
+    true
+}
+
+/// Runs the streams of the plan that has begun beside asks.
 fn run_begun<
     A: Side + Send + Sync,
     B: Side + Send + Sync,
@@ -82,11 +100,11 @@ fn run_begun<
 ) -> Result<(), Unmade>
     requires none { (given.old.ended.items ≡ []) × (given.old.clients.items ≡ []) × (given.old.tokens.items ≡ []) }
     requires room { (length asks.now ≤ vec_capacity given.old.clients) × (vec_len runners ≤ vec_capacity given.old.tokens) }
-    requires runners { (plan : ℕ) × AreRunners plan (vec_len runners) runners.items }
+    requires runners { AreRunners 0 (stream_count N.opened 0) runners.items }
     requires known { All (λ shard. shard < length N.words.opening) asks.now }
     ensures callers { given.new.callers ≡ given.old.callers }
     ensures most { vec_len given.new.clients ≤ length asks.now }
-    ensures ran { OnOk result (HasRun (vec_len runners) asks.now given.new.ended.items given.new.clients.items) }
+    ensures ran { OnOk result (HasRun (stream_count N.opened 0) given.new.ended.items given.new.clients.items) }
     ensures why { IfErr result (λ why. IfUnmade why (λ made. ⊥)) }
 {
     if !call_clients(rt, board, asks, &mut given.clients) {
@@ -103,44 +121,7 @@ fn run_begun<
     }
 }
 
-/// Begins a checked plan, and runs it beside asks.
-fn run_plan<
-    A: Side + Send + Sync,
-    B: Side + Send + Sync,
-    C: Side + Send + Sync,
-    N: Naming + Send + Sync,
-    R: Threads + Wait + Sync,
->(
-    rt: &R,
-    alloc: Global,
-    board: &Board<A, B, C, N>,
-    checked: Checked,
-    asks: &[ShardId],
-    given: &mut Given<A, B, C, N>,
-) -> Result<(), Unmade>
-    requires setup { checked.setup ≡ N.setup }
-    requires none { (given.old.ended.items ≡ []) × (given.old.clients.items ≡ []) × (given.old.tokens.items ≡ []) }
-    requires room { (length asks.now ≤ vec_capacity given.old.clients) × (length checked.plan.streams ≤ vec_capacity given.old.tokens) }
-    requires known { All (λ shard. shard < length N.words.opening) asks.now }
-    ensures callers { given.new.callers ≡ given.old.callers }
-    ensures most { vec_len given.new.clients ≤ length asks.now }
-    ensures ran { OnOk result (HasRun (length checked.plan.streams) asks.now given.new.ended.items given.new.clients.items) }
-    ensures why { IfErr result (λ why. IfUnmade why (IsNotBegun N.setup)) }
-{
-    match board.begin(rt, alloc, checked) {
-        Ok(runners) => run_begun(rt, alloc, board, runners, asks, given),
-        Err((_back, fault)) => Err(not_begun(alloc, board.config(), fault)),
-    }
-}
-
-/// The lines of a plan that was run and of its asks, but for those of its streams.
-#[derive(Drop)]
-struct Told {
-    accepted: String,
-    asked: String,
-}
-
-/// Begins a checked plan, runs it beside asks, and tells what does not hang on the machine.
+/// Runs the streams of the plan that has begun beside asks, and tells what the asks came to.
 fn run_told<
     A: Side + Send + Sync,
     B: Side + Send + Sync,
@@ -151,28 +132,29 @@ fn run_told<
     rt: &R,
     alloc: Global,
     board: &Board<A, B, C, N>,
-    checked: Checked,
+    runners: Vec<Runner<A>>,
     asks: &[ShardId],
     given: &mut Given<A, B, C, N>,
-) -> Result<Told, Unmade>
-    requires setup { checked.setup ≡ N.setup }
+) -> Result<String, Unmade>
     requires none { (given.old.ended.items ≡ []) × (given.old.clients.items ≡ []) × (given.old.tokens.items ≡ []) }
-    requires room { (length asks.now ≤ vec_capacity given.old.clients) × (length checked.plan.streams ≤ vec_capacity given.old.tokens) }
+    requires room { (length asks.now ≤ vec_capacity given.old.clients) × (vec_len runners ≤ vec_capacity given.old.tokens) }
+    requires runners { AreRunners 0 (stream_count N.opened 0) runners.items }
     requires known { All (λ shard. shard < length N.words.opening) asks.now }
     ensures callers { given.new.callers ≡ given.old.callers }
     ensures most { vec_len given.new.clients ≤ length asks.now }
-    ensures ran { OnOk result (HasRun (length checked.plan.streams) asks.now given.new.ended.items given.new.clients.items) }
-    ensures accepted { IfOk result (λ told. string_bytes told.accepted ≡ accepted_line checked.plan) }
-    ensures asked { IfOk result (λ told. string_bytes told.asked ≡ client_lines N.setup 0 given.new.clients.items) }
+    ensures ran { OnOk result (HasRun (stream_count N.opened 0) given.new.ended.items given.new.clients.items) }
+    ensures shards { OnOk result (map (λ client. client.shard) given.new.clients.items ≡ asks.now) }
+    ensures asked { IfOk result (λ asked. string_bytes asked ≡ client_lines N.setup 0 given.new.clients.items) }
     ensures ways { OnOk result (All IsClient given.new.clients.items) }
-    ensures why { IfErr result (λ why. IfUnmade why (IsNotBegun N.setup)) }
+    ensures why { IfErr result (λ why. IfUnmade why (λ made. ⊥)) }
 {
-    let mut accepted = String::new(alloc);
-    push_accepted(&mut accepted, checked.plan())?;
-    run_plan(rt, alloc, board, checked, asks, given)?;
+    run_begun(rt, alloc, board, runners, asks, given)?;
+    if !are_of(given.clients.as_slice(), asks) {
+        return Err(Unmade::Unrun(Unrun::OtherAsk));
+    }
     let mut asked = String::new(alloc);
     push_clients(&mut asked, board.config(), given.clients.as_slice())?;
-    Ok(Told { accepted, asked })
+    Ok(asked)
 }
 
 /// Adds the lines of the streams of a machine's one plan.
@@ -194,16 +176,14 @@ fn report_machine(
     machine: Machine,
     tokens: Vec<StreamToken>,
     permits: Vec<Permit>,
-    told: Told,
+    accepted: String,
+    asked: String,
 ) -> Result<Made, Unmade>
     ensures alone { OnOk result (length (state_of machine).plans ≡ 1) }
-    ensures text { IfOk result (λ made. made ≡ done (string_bytes told.accepted ++ end_lines (state_of machine) 0 ++ string_bytes told.asked ++ ending machine.placement.setup (state_of machine).place)) }
+    ensures text { IfOk result (λ made. made ≡ done (string_bytes accepted ++ end_lines (state_of machine) 0 ++ string_bytes asked ++ ending machine.placement.setup (state_of machine).place)) }
     ensures why { IfErr result (λ why. IfUnmade why (λ made. ⊥)) }
 {
-    let Told {
-        accepted: mut text,
-        asked,
-    } = told;
+    let mut text = accepted;
     let ends = push_plan_ends(&mut text, &machine);
     let placement = machine.give_up(tokens, permits, Vec::new(alloc));
     ends?;
@@ -218,14 +198,15 @@ fn report_ran<A: Side, B: Side, C: Side, N: Naming>(
     board: Board<A, B, C, N>,
     given: Given<A, B, C, N>,
     permits: Vec<Permit>,
-    told: Told,
+    accepted: String,
+    asked: String,
 ) -> Result<Made, Unmade>
     requires sides { (A.all ≡ A.parts) × (B.all ≡ B.parts) × (C.all ≡ C.parts) }
     requires none { given.callers.items ≡ [] }
     requires room { vec_len given.clients ≤ vec_capacity given.callers }
     ensures { IfRan result (λ made. (now : State) × IsClosed N.opened now given.ended.items (map (λ client. client.caller) given.clients.items)
         × (length now.plans ≡ 1)
-        × (made ≡ done (string_bytes told.accepted ++ end_lines now 0 ++ string_bytes told.asked ++ ending N.setup now.place))) }
+        × (made ≡ done (string_bytes accepted ++ end_lines now 0 ++ string_bytes asked ++ ending N.setup now.place))) }
 {
     let Given {
         ended,
@@ -235,7 +216,7 @@ fn report_ran<A: Side, B: Side, C: Side, N: Naming>(
     } = given;
     take_callers(clients, &mut callers);
     match board.close(ended, callers) {
-        Ok(machine) => report_machine(alloc, machine, tokens, permits, told),
+        Ok(machine) => report_machine(alloc, machine, tokens, permits, accepted, asked),
         Err(refused) => {
             let (board, ended, callers) = refused.back();
             let machine = board.give_up(ended, callers);
@@ -266,7 +247,7 @@ fn give_up<A: Side, B: Side, C: Side, N: Naming>(
     machine.give_up(tokens, permits, Vec::new(alloc));
 }
 
-/// The report of a checked plan that is run on a board, with lists for what the board gives out.
+/// The report of the plan that has begun, which is run on a board, with lists for what the board gives out.
 fn report_given<
     A: Side + Send + Sync,
     B: Side + Send + Sync,
@@ -279,18 +260,21 @@ fn report_given<
     board: Board<A, B, C, N>,
     mut given: Given<A, B, C, N>,
     permits: Vec<Permit>,
-    checked: Checked,
+    runners: Vec<Runner<A>>,
+    accepted: String,
     asks: &[ShardId],
 ) -> Result<Made, Unmade>
     requires sides { (A.all ≡ A.parts) × (B.all ≡ B.parts) × (C.all ≡ C.parts) }
-    requires setup { checked.setup ≡ N.setup }
     requires none { (given.ended.items ≡ []) × (given.clients.items ≡ []) × (given.callers.items ≡ []) × (given.tokens.items ≡ []) }
-    requires room { (length asks.now ≤ vec_capacity given.clients) × (length asks.now ≤ vec_capacity given.callers) × (length checked.plan.streams ≤ vec_capacity given.tokens) }
+    requires room { (length asks.now ≤ vec_capacity given.clients) × (length asks.now ≤ vec_capacity given.callers) × (vec_len runners ≤ vec_capacity given.tokens) }
+    requires one { length N.opened.plans ≡ 1 }
+    requires runners { AreRunners 0 (stream_count N.opened 0) runners.items }
+    requires accepted { string_bytes accepted ≡ accepted_line (plan_at N.opened 0) }
     requires known { All (λ shard. shard < length N.words.opening) asks.now }
-    ensures { IfRan result (IsOnBoard N.opened N.setup checked.plan asks.now) }
+    ensures { IfRan result (WasRun N.opened N.setup asks.now) }
 {
-    match run_told(rt, alloc, &board, checked, asks, &mut given) {
-        Ok(told) => report_ran(alloc, board, given, permits, told),
+    match run_told(rt, alloc, &board, runners, asks, &mut given) {
+        Ok(asked) => report_ran(alloc, board, given, permits, accepted, asked),
         Err(why) => {
             give_up(alloc, board, given, permits);
             Err(why)
@@ -298,7 +282,7 @@ fn report_given<
     }
 }
 
-/// The report of a checked plan that is run on a board over a machine, on this ground of it.
+/// The report of the plan that has begun on a machine, which is run on a board over the machine, on this ground of it.
 fn report_on_ground<
     A: Side + Send + Sync,
     B: Side + Send + Sync,
@@ -311,55 +295,94 @@ fn report_on_ground<
     machine: Machine,
     permits: Vec<Permit>,
     ground: Ground,
-    checked: Checked,
+    tokens: Vec<StreamToken>,
+    accepted: String,
     asks: &[ShardId],
 ) -> Result<Made, Unmade>
     requires map { IsMapOf ground.words (state_of machine) }
-    requires setup { (ground.setup ≡ machine.placement.setup) × (checked.setup ≡ N.setup) }
+    requires setup { ground.setup ≡ machine.placement.setup }
     requires names { (ground.words ≡ N.words) × (ground.setup ≡ N.setup) × (state_of machine ≡ N.opened) }
     requires steps { (ground.steps ≡ A.name) × (A.parts ≡ 2 ^ 62) × (A.all ≡ 2 ^ 62) }
     requires executed { (ground.executed ≡ B.name) × (B.parts ≡ 2 ^ 62) × (B.all ≡ 2 ^ 62) }
     requires refused { (ground.refused ≡ C.name) × (C.parts ≡ 2 ^ 62) × (C.all ≡ 2 ^ 62) }
+    requires one { length (state_of machine).plans ≡ 1 }
+    requires tokens { AreTokens 0 (stream_count (state_of machine) 0) tokens.items }
+    requires few { length tokens.items ≤ 64 }
+    requires accepted { string_bytes accepted ≡ accepted_line (plan_at (state_of machine) 0) }
     requires known { All (λ shard. shard < length N.words.opening) asks.now }
-    ensures { IfRan result (IsOnBoard N.opened N.setup checked.plan asks.now) }
+    ensures { IfRan result (WasRun N.opened N.setup asks.now) }
 {
-    let board = match Board::<A, B, C, N>::open(alloc, machine, ground) {
-        Ok(board) => board,
-        Err((machine, _ground, error)) => {
-            machine.give_up(Vec::new(alloc), permits, Vec::new(alloc));
+    let given = match Given::with_room(alloc, tokens.len(), asks.len()) {
+        Ok(given) => given,
+        Err(error) => {
+            machine.give_up(tokens, permits, Vec::new(alloc));
             return Err(Unmade::from(error));
         }
     };
-    match Given::with_room(alloc, checked.plan().streams().len(), asks.len()) {
-        Ok(given) => report_given(rt, alloc, board, given, permits, checked, asks),
-        Err(error) => {
-            let machine = board.give_up(Vec::new(alloc), Vec::new(alloc));
-            machine.give_up(Vec::new(alloc), permits, Vec::new(alloc));
+    match Board::<A, B, C, N>::open_begun(alloc, machine, ground, tokens) {
+        Ok((board, runners)) => {
+            report_given(rt, alloc, board, given, permits, runners, accepted, asks)
+        }
+        Err((machine, _ground, tokens, error)) => {
+            given.destroy_empty();
+            machine.give_up(tokens, permits, Vec::new(alloc));
             Err(Unmade::from(error))
         }
     }
 }
 
-/// The report of a checked plan that is run on a board over a machine, which has these permits, beside asks.
-pub fn report_on_board<R: Threads + Wait + Sync>(
+/// The report of the plan that has begun on a machine, which is run on a board over the machine, beside asks.
+fn report_on_board<R: Threads + Wait + Sync>(
     rt: &R,
     alloc: Global,
     machine: Machine,
     permits: Vec<Permit>,
-    checked: Checked,
+    tokens: Vec<StreamToken>,
+    accepted: String,
     asks: &[ShardId],
 ) -> Result<Made, Unmade>
-    requires setup { checked.setup ≡ machine.placement.setup }
+    requires one { length (state_of machine).plans ≡ 1 }
+    requires tokens { AreTokens 0 (stream_count (state_of machine) 0) tokens.items }
+    requires accepted { string_bytes accepted ≡ accepted_line (plan_at (state_of machine) 0) }
     requires known { All (λ shard. shard < length machine.placement.setup.shards) asks.now }
-    ensures { IfRan result (IsOnBoard (state_of machine) machine.placement.setup checked.plan asks.now) }
+    ensures { IfRan result (WasRun (state_of machine) machine.placement.setup asks.now) }
 {
+    // (a plan has 64 streams at most)
+    machine.is_reached();
     match Ground::new(alloc, &machine) {
         Ok(ground) => report_on_ground::<Brand, Brand, Brand, Brand, R>(
-            rt, alloc, machine, permits, ground, checked, asks,
+            rt, alloc, machine, permits, ground, tokens, accepted, asks,
         ),
         Err(error) => {
-            machine.give_up(Vec::new(alloc), permits, Vec::new(alloc));
+            machine.give_up(tokens, permits, Vec::new(alloc));
             Err(Unmade::from(error))
+        }
+    }
+}
+
+/// The report of a checked plan that begins on a machine which has begun none, and which has these permits, and is then run beside
+/// asks. Its first line says that the plan is accepted.
+pub fn report_started<R: Threads + Wait + Sync>(
+    rt: &R,
+    alloc: Global,
+    mut machine: Machine,
+    permits: Vec<Permit>,
+    checked: Checked,
+    accepted: String,
+    asks: &[ShardId],
+) -> Result<Made, Unmade>
+    requires none { (state_of machine).plans ≡ [] }
+    requires setup { checked.setup ≡ machine.placement.setup }
+    requires accepted { string_bytes accepted ≡ accepted_line checked.plan }
+    requires known { All (λ shard. shard < length machine.placement.setup.shards) asks.now }
+    ensures { IfRan result (IsStartedForRun (state_of machine) machine.placement.setup checked.plan asks.now) }
+{
+    match machine.begin(alloc, checked) {
+        Ok(tokens) => report_on_board(rt, alloc, machine, permits, tokens, accepted, asks),
+        Err((_back, fault)) => {
+            let why = not_begun(alloc, machine.config(), fault);
+            machine.give_up(Vec::new(alloc), permits, Vec::new(alloc));
+            Err(why)
         }
     }
 }

@@ -50,6 +50,22 @@ impl<A: Side, B: Side, C: Side, N: Naming> Given<A, B, C, N> {
             }
         }
     }
+
+    /// Ends lists that hold nothing.
+    pub fn destroy_empty(self)
+        requires { (self.ended.items ≡ []) × (self.clients.items ≡ []) × (self.callers.items ≡ []) × (self.tokens.items ≡ []) }
+    {
+        let Given {
+            ended,
+            clients,
+            callers,
+            tokens,
+        } = self;
+        ended.destroy_empty();
+        clients.destroy_empty();
+        callers.destroy_empty();
+        tokens.destroy_empty();
+    }
 }
 
 /// Puts ends into the place of a list that has none.

@@ -12,11 +12,11 @@ ghost use Rattle.sm_plan_text.specs.Reading.{rows_of};
 ghost use Rattle.sm_report.specs.declared.reporting.TheConstants.{MOST_BYTES};
 ghost use Rattle.sm_report.specs.declared.unmade.Unrun.{Unrun};
 ghost use Rattle.sm_report.specs.Report.{Output};
-ghost use Rattle.sm_report.specs.Running.{IsOnBoard, IsLoggedForRun, IsPlacedForRun, IsOpenedForRun, IsRunReport, IsRunReportOf, IsWritten};
+ghost use Rattle.sm_report.specs.Running.{IsStartedForRun, IsLoggedForRun, IsPlacedForRun, IsOpenedForRun, IsRunReport, IsRunReportOf, IsWritten};
 ghost use Rattle.sm_report.specs.Status.{code_of};
 ghost use Rattle.sm_report.specs.Unmade.{unrun_text, IfRan, IfReadRan};
 
-use crate::boards::report_on_board;
+use crate::boards::report_started;
 use crate::delivery::deliver;
 use crate::early::Early;
 use crate::made::Made;
@@ -24,6 +24,7 @@ use crate::reporting::read_input;
 use crate::stages::{checked, has_log, member, placement};
 use crate::status::Status;
 use crate::unmade::{Unmade, Unrun};
+use crate::verdict::push_accepted;
 use sm_machine::{Machine, OpenFault};
 use sm_placement::Placement;
 use sm_plan_code::Plan;
@@ -49,10 +50,14 @@ fn report_checked<R: Threads + Wait + Sync>(
     requires most { log ≤ 1048576 }
     requires setup { checked.setup ≡ placement.setup }
     requires known { All (λ shard. shard < length placement.setup.shards) asks.now }
-    ensures { IfRan result (IsOnBoard (opened (sizes_of placement.setup) (place_of placement) log) placement.setup checked.plan asks.now) }
+    ensures { IfRan result (IsStartedForRun (opened (sizes_of placement.setup) (place_of placement) log) placement.setup checked.plan asks.now) }
 {
+    let mut accepted = String::new(alloc);
+    push_accepted(&mut accepted, checked.plan())?;
     match Machine::open(alloc, placement, log) {
-        Ok((machine, permits)) => report_on_board(rt, alloc, machine, permits, checked, asks),
+        Ok((machine, permits)) => {
+            report_started(rt, alloc, machine, permits, checked, accepted, asks)
+        }
         Err((_, OpenFault::NoMemory)) => Err(Unmade::Early(Early::NoMemory)),
         Err((_, OpenFault::LogFull)) => unreachable!(),
     }

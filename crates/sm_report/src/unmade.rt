@@ -17,6 +17,8 @@ pub enum Unrun {
     Spent,
     /// The board has given out no caller for an ask.
     NoCaller,
+    /// A client has asked for another shard than its ask names.
+    OtherAsk,
     /// The board could not be closed, or another plan has begun on it.
     NotClosed,
 }
@@ -31,7 +33,8 @@ impl Unrun {
             Unrun::Halted => "not run: 3 Halted\n",
             Unrun::Spent => "not run: 4 Spent\n",
             Unrun::NoCaller => "not run: 5 NoCaller\n",
-            Unrun::NotClosed => "not run: 6 NotClosed\n",
+            Unrun::OtherAsk => "not run: 6 OtherAsk\n",
+            Unrun::NotClosed => "not run: 7 NotClosed\n",
         }
     }
 }

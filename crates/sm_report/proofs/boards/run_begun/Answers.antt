@@ -4,10 +4,8 @@ use Rattle.sm_report.proofs.boards.run_begun.Goals as goal
 
 pub returns-in-Ok-clause-ran : goal.returns-in-Ok-clause-ran
 returns-in-Ok-clause-ran g c =
-    let r = c.requires.runners in
     let lent = ap length c.as_mut_slice-clients.ensures.value in
     let kept = c.in-Ok.ensures.clients in
-    let all = c.if-not-call_clients.ensures.all in
     let ok = c.call_clients.new.clients.ok in
-    has_run r.0 _ _ c.args.runners.items c.in-Ok.ended.items _ c.args.asks.now c.run_beside.new.clients _ r.1 c.in-Ok.ensures.ended c.keep_ends.ensures
-    (omega (arith, lent, kept, ok)) (omega (arith, lent, kept, all)) c.in-Ok.ensures.asked
+    has_run _ _ c.args.runners.items c.in-Ok.ended.items c.keep_ends.new.kept.items c.run_beside.new.clients _ c.requires.runners c.in-Ok.ensures.ended c.keep_ends.ensures
+    (omega (arith, lent, kept, ok)) c.in-Ok.ensures.asked
