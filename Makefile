@@ -22,7 +22,7 @@ test:
 	cp crates/smplan/out/smplan build/smplan
 	$(MAKE) --jobs=2 --output-sync=line check-program check-tests
 	scripts/check-try-edits
-	scripts/try-edits --until $$(( $(BEGUN) + 150 * 60 ))
+	scripts/try-edits --until $$(( $(BEGUN) + 140 * 60 ))
 
 # (the scripts over the program that stands in build, and those over tests)
 check-program:
