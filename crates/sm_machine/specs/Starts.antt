@@ -15,6 +15,7 @@ use Rattle.sm_machine.specs.Begun.{BegunParts, CarriedParts, course_at}
 use Rattle.sm_machine.specs.Tied.{declares, pool_left}
 use Rattle.sm_machine.specs.State.{Whole}
 use Rattle.sm_plan_code.specs.Plan.{PlanModel}
+use Rattle.sm_plan_code.specs.declared.limits.TheConstants.{MOST_NUMBER, MOST_PLANS}
 use Rattle.sm_verifier.specs.declared.admission.Holding.{Holding}
 use Rattle.sm_verifier.specs.FirstHolding.{first_holding}
 use Rattle.sm_protocol.specs.declared.event.BeginFault.{BeginFault}
@@ -111,7 +112,7 @@ abbrev pub fault_after : Whole → PlanModel → Option Holding → Option Begin
 fault_after x plan (Some why) = Some (fault.Holding why)
 fault_after x plan None =
     if nat_lt x.free (places_of plan) then Some fault.LogFull
-    else if nat_le 16 x.running || nat_lt 4294967295 (length x.state.plans) then Some fault.TooManyPlans
+    else if nat_le MOST_PLANS x.running || nat_lt MOST_NUMBER (length x.state.plans) then Some fault.TooManyPlans
     else None
 
 abbrev pub begin_fault : Whole → PlanModel → Option BeginFault

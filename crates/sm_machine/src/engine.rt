@@ -5,6 +5,7 @@ ghost use Rattle.std.specs.Option.{ForSome};
 ghost use Rattle.sm_placement.specs.Sums.{put, put2};
 ghost use Rattle.sm_placement.specs.Rows.{IsKnownCall};
 ghost use Rattle.sm_placement.specs.Place.{called_numbered, publish};
+ghost use Rattle.sm_plan_code.specs.declared.limits.TheConstants.{MOST_NUMBER, MOST_PLANS};
 ghost use Rattle.sm_plan_code.specs.Instr.{shard_of, IsOwn};
 ghost use Rattle.sm_plan_code.specs.Table.{exchange_of};
 ghost use Rattle.sm_protocol.specs.State.{is_begun, progress_of, next_instruction, allowance, plan_at, stream_count, signal_count, parcel_at, set_progress, recorded};
@@ -78,13 +79,14 @@ pub(crate) struct Engine {
 impl Model for Engine {
     ghost use Rattle.std.specs.Prelude.{◌≡◌, ◌≤◌, length, vec_capacity};
     ghost use Rattle.sm_machine.specs.Machine.{MachineModel};
+    ghost use Rattle.sm_plan_code.specs.declared.limits.TheConstants.{MOST_PLANS};
     ghost use Rattle.sm_machine.specs.Unfinished.{AreUnfinished};
 
     ghost Value = { MachineModel };
 
     ghost view = { λ m. record { opening = m.opening; placement = m.placement; pool = m.pool; entries = m.entries.items; numbers = m.numbers.items; next_number = m.next_number; plans = m.plans; journal = m.journal; free = m.free; running = m.running; halted = m.halted } };
 
-    ghost invariant = { λ m. (length m.entries.items ≤ length m.journal.log) × (length m.journal.log ≤ m.journal.room) × (m.journal.room ≤ vec_capacity m.entries) × (length m.numbers.items ≡ length m.placement.setup.shards) × (m.pool.shards ≡ length m.placement.setup.shards) × (m.pool.servers ≡ length m.placement.setup.servers) × AreUnfinished m.plans m.unfinished.items × (16 ≤ vec_capacity m.unfinished) };
+    ghost invariant = { λ m. (length m.entries.items ≤ length m.journal.log) × (length m.journal.log ≤ m.journal.room) × (m.journal.room ≤ vec_capacity m.entries) × (length m.numbers.items ≡ length m.placement.setup.shards) × (m.pool.shards ≡ length m.placement.setup.shards) × (m.pool.servers ≡ length m.placement.setup.servers) × AreUnfinished m.plans m.unfinished.items × (MOST_PLANS ≤ vec_capacity m.unfinished) };
 }
 
 impl Engine {
@@ -99,7 +101,7 @@ impl Engine {
         requires numbers { rooms.numbers.items ≡ replicate (length placement.setup.shards) 0 }
         requires journal { rooms.journal ≡ record { log = []; room = room } }
         requires unfinished { rooms.unfinished.items ≡ [] }
-        requires places { 16 ≤ vec_capacity rooms.unfinished }
+        requires places { MOST_PLANS ≤ vec_capacity rooms.unfinished }
         ensures { whole_of result ≡ opened_whole placement.setup (place_of placement) room }
     {
         let mut placement = placement;
@@ -499,8 +501,8 @@ impl Engine {
     /// A plan is begun, and its streams take what they declare. Takes no memory.
     pub fn add_plan(&mut self, ready: ReadyPlan) -> Vec<StreamToken>
         requires fill { CanFillAll (begun_of ready 0) (whole_of self.old).pool }
-        requires few { length (state_of self.old).plans ≤ 4294967295 }
-        requires place { length (unfinished_below (whole_of self.old).unfinished (length (state_of self.old).plans)) < 16 }
+        requires few { length (state_of self.old).plans ≤ MOST_NUMBER }
+        requires place { length (unfinished_below (whole_of self.old).unfinished (length (state_of self.old).plans)) < MOST_PLANS }
         ensures begun { IsBegunIn (whole_of self.old) ready (whole_of self.new) }
         ensures none { result.items ≡ [] }
         ensures room { length ready.plan.streams ≤ vec_capacity result }

@@ -1,5 +1,6 @@
 //! The plans that were begun, by their numbers.
 ghost use Rattle.std.specs.Prelude.{◌≡◌, ◌<◌, ◌≤◌, ◌++◌, ◌∷◌, [], length, slice_index_or, slice_set};
+ghost use Rattle.sm_plan_code.specs.declared.limits.TheConstants.{MOST_NUMBER};
 ghost use Rattle.sm_machine.specs.Begun.{no_begun};
 
 use crate::begun::Begun;
@@ -62,7 +63,7 @@ impl Plans {
 
     /// One plan more, which gets the next number. Takes no memory.
     pub fn push(&mut self, plan: Begun, room: PlanRoom)
-        requires { length self.old ≤ 4294967295 }
+        requires { length self.old ≤ MOST_NUMBER }
         ensures { self.new ≡ self.old ++ plan ∷ [] }
     {
         self.tree.push(self.count, plan, room);

@@ -5,12 +5,13 @@ ghost use Rattle.sm_placement.specs.Place.{forget_numbers};
 ghost use Rattle.sm_placement.specs.Layout.{place_of};
 ghost use Rattle.sm_placement.specs.Lead.{IsSettled};
 ghost use Rattle.sm_reservation.specs.Pool.{pool_hold, true_rights};
+ghost use Rattle.sm_plan_code.specs.declared.limits.TheConstants.{MOST_PLANS};
 ghost use Rattle.sm_machine.specs.Opening.{place_of_rows};
 
 use crate::journal::Journal;
 use crate::opening::Opening;
-use crate::starting::MOST_RUNNING;
 use sm_placement::{Entry, Placement};
+use sm_plan_code::MOST_PLANS;
 use sm_reservation::Pool;
 use sm_server::ShardId;
 use std::alloc::{AllocError, Global};
@@ -45,7 +46,7 @@ impl Rooms {
         ensures numbers { IfOk result (λ rooms. rooms.numbers.items ≡ replicate (length placement.now.setup.shards) 0) }
         ensures journal { IfOk result (λ rooms. rooms.journal ≡ record { log = []; room = room }) }
         ensures unfinished { IfOk result (λ rooms. rooms.unfinished.items ≡ []) }
-        ensures places { IfOk result (λ rooms. 16 ≤ vec_capacity rooms.unfinished) }
+        ensures places { IfOk result (λ rooms. MOST_PLANS ≤ vec_capacity rooms.unfinished) }
     {
         let shards = placement.config().shard_count();
         Ok(Rooms {
@@ -54,7 +55,7 @@ impl Rooms {
             entries: Vec::with_capacity(alloc, room as usize)?,
             numbers: vec![in alloc; 0; shards as usize]?,
             journal: Journal::open(alloc, room)?,
-            unfinished: Vec::with_capacity(alloc, MOST_RUNNING as usize)?,
+            unfinished: Vec::with_capacity(alloc, MOST_PLANS)?,
         })
     }
 }

@@ -1,5 +1,6 @@
 //! Starts of plans.
 ghost use Rattle.std.specs.Prelude.{◌≡◌, ◌≢◌, nat_lt, ◌≤◌, ◌<◌, ◌+◌, ◌^◌, ℕ, [], Some, None, OnOk, IfOk, OnErr, IfErr, length, vec_capacity};
+ghost use Rattle.sm_plan_code.specs.declared.limits.TheConstants.{MOST_PLANS};
 ghost use Rattle.sm_protocol.specs.State.{places_of};
 ghost use Rattle.sm_protocol.specs.declared.event.BeginFault.TheVariants as fault;
 ghost use Rattle.sm_machine.specs.State.{whole_of, state_of};
@@ -12,12 +13,10 @@ use crate::engine::Engine;
 use crate::places::places_of;
 use crate::ready_plan::ReadyPlan;
 use crate::token::StreamToken;
+use sm_plan_code::{MOST_NUMBER, MOST_PLANS};
 use sm_protocol::BeginFault;
 use sm_reservation::StreamId;
 use sm_verifier::Checked;
-
-/// How many plans may be unfinished at once.
-pub(crate) const MOST_RUNNING: u32 = 16;
 
 /// The tokens of the first streams of a plan, into a list with room for them. Takes no memory.
 fn fill_tokens(tokens: &mut Vec<StreamToken>, plan: u32, count: usize)
@@ -51,7 +50,7 @@ impl Engine {
         if self.free() < places {
             return Some(BeginFault::LogFull);
         }
-        if self.running() >= MOST_RUNNING || self.plan_count() > 4_294_967_295 {
+        if self.running() >= MOST_PLANS as u32 || self.plan_count() > MOST_NUMBER as usize {
             return Some(BeginFault::TooManyPlans);
         }
         None
@@ -59,7 +58,7 @@ impl Engine {
 
     /// A plan of so many streams more is unfinished, and so many places of the log are free.
     fn count_start(&mut self, free: u64, streams: usize)
-        requires { (whole_of self.old).running < 16 }
+        requires { (whole_of self.old).running < MOST_PLANS }
         ensures { whole_of self.new ≡ record (whole_of self.old) { free = free; running = (whole_of self.old).running + bit (nat_lt 0 streams) } }
     {
         self.set_free(free);
