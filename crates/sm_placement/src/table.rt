@@ -1,5 +1,5 @@
 //! The cells of a configuration, one after another, with running totals.
-ghost use Rattle.std.specs.Prelude.{◌≡◌, ◌<◌, ◌≤◌, ◌+◌, ◌*◌, ◌^◌, ◌&&◌, false, not, length, slice_set, IfOk};
+ghost use Rattle.std.specs.Prelude.{◌≡◌, ◌<◌, ◌≤◌, ◌+◌, ◌*◌, ◌^◌, ◌&&◌, false, not, length, replicate, slice_set, IfOk};
 ghost use Rattle.sm_server.specs.Cell.{is_forwarding};
 ghost use Rattle.sm_placement.specs.Sums.{put};
 ghost use Rattle.sm_placement.specs.Rows.{IsKnownCell};
@@ -62,6 +62,50 @@ fn toggle_lives(lives: &mut [u32], cells: &Cells, down: &[bool], server: ServerI
     }
 }
 
+/// The lists with an entry for each server, nobody down and no load on any.
+fn blank_by_server(alloc: Global, servers: usize) -> Result<(Vec<bool>, Vec<u64>), AllocError>
+    ensures down { IfOk result (λ lists. lists.0.items ≡ replicate servers false) }
+    ensures loads { IfOk result (λ lists. lists.1.items ≡ replicate servers 0) }
+{
+    let down = vec![in alloc; false; servers]?;
+    Ok((down, vec![in alloc; 0; servers]?))
+}
+
+/// The lists with an entry for each shard, of which no replica is live and none serves.
+fn blank_by_shard(alloc: Global, shards: usize) -> Result<(Vec<u32>, Vec<u32>), AllocError>
+    ensures lives { IfOk result (λ lists. lists.0.items ≡ replicate shards 0) }
+    ensures servings { IfOk result (λ lists. lists.1.items ≡ replicate shards 0) }
+{
+    let lives = vec![in alloc; 0; shards]?;
+    Ok((lives, vec![in alloc; 0; shards]?))
+}
+
+/// The lists with an entry for each server, once more.
+fn copied_by_server(
+    alloc: Global,
+    down: &[bool],
+    loads: &[u64],
+) -> Result<(Vec<bool>, Vec<u64>), AllocError>
+    ensures down { IfOk result (λ lists. lists.0.items ≡ down.now) }
+    ensures loads { IfOk result (λ lists. lists.1.items ≡ loads.now) }
+{
+    let down = Vec::from_slice(alloc, down)?;
+    Ok((down, Vec::from_slice(alloc, loads)?))
+}
+
+/// The lists with an entry for each shard, once more.
+fn copied_by_shard(
+    alloc: Global,
+    lives: &[u32],
+    servings: &[u32],
+) -> Result<(Vec<u32>, Vec<u32>), AllocError>
+    ensures lives { IfOk result (λ lists. lists.0.items ≡ lives.now) }
+    ensures servings { IfOk result (λ lists. lists.1.items ≡ servings.now) }
+{
+    let lives = Vec::from_slice(alloc, lives)?;
+    Ok((lives, Vec::from_slice(alloc, servings)?))
+}
+
 impl Table {
     ghost use Rattle.std.specs.Prelude.{◌≡◌, ◌<◌, ◌≤◌, ◌+◌, ◌*◌, ◌^◌, ◌&&◌, false, length, IfOk};
     ghost use Rattle.sm_placement.specs.Setup.{sizes_of};
@@ -82,15 +126,19 @@ impl Table {
         let servers = config.server_count() as usize;
         let shards = config.shard_count() as usize;
         let config = config.copy(alloc)?;
+        let cells = Cells::new(alloc, shards * servers)?;
+        let lasts = Lasts::new(alloc, shards * servers)?;
+        let (down, loads) = blank_by_server(alloc, servers)?;
+        let (lives, servings) = blank_by_shard(alloc, shards)?;
         Ok(Table {
             config,
-            cells: Cells::new(alloc, shards * servers)?,
-            lasts: Lasts::new(alloc, shards * servers)?,
-            down: vec![in alloc; false; servers]?,
+            cells,
+            lasts,
+            down,
             down_count: 0,
-            loads: vec![in alloc; 0; servers]?,
-            lives: vec![in alloc; 0; shards]?,
-            servings: vec![in alloc; 0; shards]?,
+            loads,
+            lives,
+            servings,
         })
     }
 
@@ -98,15 +146,20 @@ impl Table {
     pub fn copy(&self, alloc: Global) -> Result<Table, AllocError>
         ensures { IfOk result (λ t. t ≡ self.now) }
     {
+        let config = self.config.copy(alloc)?;
+        let cells = self.cells.copy(alloc)?;
+        let lasts = self.lasts.copy(alloc)?;
+        let (down, loads) = copied_by_server(alloc, &self.down, &self.loads)?;
+        let (lives, servings) = copied_by_shard(alloc, &self.lives, &self.servings)?;
         Ok(Table {
-            config: self.config.copy(alloc)?,
-            cells: self.cells.copy(alloc)?,
-            lasts: self.lasts.copy(alloc)?,
-            down: Vec::from_slice(alloc, &self.down)?,
+            config,
+            cells,
+            lasts,
+            down,
             down_count: self.down_count,
-            loads: Vec::from_slice(alloc, &self.loads)?,
-            lives: Vec::from_slice(alloc, &self.lives)?,
-            servings: Vec::from_slice(alloc, &self.servings)?,
+            loads,
+            lives,
+            servings,
         })
     }
 
