@@ -37,7 +37,7 @@ check-program:
 	scripts/check-threads
 
 check-tests:
-	scripts/check-memory-tests sm_tests_json sm_tests_placement sm_tests_rights sm_tests_text sm_tests sm_tests_machine sm_tests_plans sm_tests_play sm_tests_planner sm_map
+	scripts/check-memory-tests sm_tests_json sm_tests_placement sm_tests_rights sm_tests_text sm_tests sm_tests_machine sm_tests_plans sm_tests_play sm_tests_board sm_tests_planner sm_map
 	scripts/refused-programs
 	scripts/check-caught-by-tests
 

@@ -1,89 +1,84 @@
-//! A day with a board, on one thread: the handover is run step by step, and the board is closed.
-ghost use Rattle.std.specs.Prelude.{◌≡◌, ◌^◌, IsErrAnd, IsTrue};
+//! A day with a board, on one thread: two plans run step by step, and the board is closed.
+ghost use Rattle.std.specs.Prelude.{◌≡◌, ◌^◌, IsErrAnd};
 ghost use Rattle.sm_machine.specs.State.{state_of};
 ghost use Rattle.sm_executor.specs.Tied.{IsMapOf};
 
-use super::world::{placement, plan};
+use super::boards::machine;
+use super::given::{is_for, put};
+use super::map_and_asks::assert_steps;
+use super::plans::{Move, plan_of, s_to_b, t_to_a};
+use super::worlds::assert_loads;
 use sm_executor::{Board, Caller, CloseFault, Ended, Ground, Naming, NotClosed, Runner, Side};
 use sm_machine::{Machine, Step};
+use sm_placement::Placement;
+use sm_reservation::StreamId;
 use sm_verifier::Checked;
 use std::alloc::Global;
 use std::marker::Brand;
 use std::process::Abort;
 use std::sync::Wait;
 
-/// The plan was checked for the machine's configuration.
-fn is_for(machine: &Machine, checked: &Checked) -> bool
-    ensures { IsTrue result → checked.now.setup ≡ machine.now.placement.setup }
-{
-    checked.config() == machine.config()
+/// The first stream of each plan, with how many instructions it has made after the first round of steps.
+static AFTER_A_ROUND: [(StreamId, usize); 2] = [
+    (StreamId { plan: 0, stream: 0 }, 1),
+    (StreamId { plan: 1, stream: 0 }, 1),
+];
+
+/// Ends a machine.
+fn end(alloc: Global, machine: Machine) -> Placement {
+    machine.give_up(Vec::new(alloc), Vec::new(alloc), Vec::new(alloc))
 }
 
-/// Ends a machine, and answers how many events were recorded.
-fn recorded(alloc: Global, machine: Machine) -> usize {
-    let count = machine.log().len();
-    machine.give_up(Vec::new(alloc), Vec::new(alloc), Vec::new(alloc));
-    count
-}
-
-/// A runner makes so many steps, each of which is answered so.
-fn assert_steps<A: Side, B: Side, C: Side, N: Naming, R: Wait + Abort>(
-    rt: &R,
-    board: &Board<A, B, C, N>,
-    runner: &mut Runner<A>,
-    steps: usize,
-    answer: Step,
-) {
-    for _ in 0..steps {
-        assert_eq!(rt; board.step(rt, runner), answer);
-    }
-}
-
-/// Asserts that a board is not closed, why, and how many streams have not made their ends; it comes back.
+/// Asserts that a board is not closed, why, and which streams have not made their ends; it comes back.
 fn assert_not_closed<A: Side, B: Side, C: Side, N: Naming>(
     rt: &impl Abort,
     alloc: Global,
     closed: Result<Machine, NotClosed<A, B, C, N>>,
     fault: CloseFault,
-    unfinished: usize,
+    unfinished: &[(StreamId, usize)],
 ) -> (Board<A, B, C, N>, Vec<Ended<A>>, Vec<Caller<B, C, N>>)
     ensures { IsErrAnd closed (λ e. (result.1.items ≡ e.ended) × (result.2.items ≡ e.callers)) }
 {
     match closed {
         Ok(machine) => {
-            recorded(alloc, machine);
+            let _placement = end(alloc, machine);
             panic!(rt; "a board is closed that has to come back")
         }
         Err(refused) => {
             assert_eq!(rt; refused.fault(), fault);
-            assert_eq!(rt; refused.positions().len(), unfinished);
+            assert!(rt; refused.positions() == unfinished);
             refused.back()
         }
     }
 }
 
-/// Asserts what an end says.
-fn assert_end<A: Side>(rt: &impl Abort, end: &Ended<A>) {
-    assert_eq!(rt; end.stream().plan, 0);
+/// Asserts what the end of a plan's stream says.
+fn assert_end<A: Side>(rt: &impl Abort, end: &Ended<A>, plan: usize) {
+    assert_eq!(rt; end.stream().plan as usize, plan);
     assert_eq!(rt; end.stream().stream, 0);
     assert_eq!(rt; end.steps(), 6);
     assert_eq!(rt; end.calls(), 4);
     assert_eq!(rt; end.budget(), 4);
 }
 
-/// The board's runners of a plan that has to begin.
-fn begun<A: Side, B: Side, C: Side, N: Naming, R: Wait + Abort>(
+/// The runner of a plan of one stream that has to begin comes to the others.
+fn begin<A: Side, B: Side, C: Side, N: Naming, R: Wait + Abort>(
     rt: &R,
     alloc: Global,
     board: &Board<A, B, C, N>,
+    runners: &mut Vec<Runner<A>>,
     checked: Checked,
-) -> Vec<Runner<A>>
-    requires { checked.setup ≡ N.setup }
-{
-    match board.begin(rt, alloc, checked) {
-        Ok(runners) => runners,
+) {
+    assert!(rt; is_for(board, &checked));
+    let mut begun = match board.begin(rt, alloc, checked) {
+        Ok(begun) => begun,
         Err(_) => panic!(rt; "a plan does not begin"),
+    };
+    if let Some(runner) = begun.pop() {
+        put(rt, runners, runner);
     }
+    assert!(rt; begun.is_empty());
+    begun.destroy_empty();
 }
 
 /// All callers that a board gives out, of which there have to be 4,096.
@@ -105,7 +100,7 @@ fn all_callers<A: Side, B: Side, C: Side, N: Naming, R: Wait + Abort>(
     callers
 }
 
-/// The ends of runners, whose streams have to have made them.
+/// The ends of the runners of as many plans, whose streams have to have made them.
 fn ends<A: Side, B: Side, C: Side, N: Naming, R: Wait + Abort>(
     rt: &R,
     alloc: Global,
@@ -119,7 +114,7 @@ fn ends<A: Side, B: Side, C: Side, N: Naming, R: Wait + Abort>(
     while let Some(runner) = runners.pop() {
         match board.retire(rt, runner) {
             Ok(end) => {
-                assert_end(rt, &end);
+                assert_end(rt, &end, runners.len());
                 ended.push_reserved(end);
             }
             Err(_) => panic!(rt; "a stream has made its end, and its runner comes back"),
@@ -129,34 +124,48 @@ fn ends<A: Side, B: Side, C: Side, N: Naming, R: Wait + Abort>(
     ended
 }
 
-/// The streams make their first step, are halted and resumed, and make their ends, the second time without a step.
+/// Each stream makes a step, and stops while the board is halted.
+fn step_each<A: Side, B: Side, C: Side, N: Naming, R: Wait + Abort>(
+    rt: &R,
+    board: &Board<A, B, C, N>,
+    runners: &mut [Runner<A>],
+    answer: Step,
+) {
+    for runner in runners.iter_mut() {
+        assert_steps(rt, board, runner, 1, answer);
+        board.halt(rt);
+        assert_steps(rt, board, runner, 2, Step::Halted);
+        board.resume(rt);
+    }
+}
+
+/// The streams of two plans make their ends, the second time without a step; all have made one step before.
 fn step_to_ends<A: Side, B: Side, C: Side, N: Naming, R: Wait + Abort>(
     rt: &R,
     board: &Board<A, B, C, N>,
     runners: &mut [Runner<A>],
 ) {
-    assert_eq!(rt; runners.len(), 1);
-    for runner in runners.iter_mut() {
-        assert_steps(rt, board, runner, 1, Step::Moved);
-        board.halt(rt);
-        assert_steps(rt, board, runner, 2, Step::Halted);
-        board.resume(rt);
-        assert_steps(rt, board, runner, 4, Step::Moved);
-        assert_steps(rt, board, runner, 2, Step::Done);
+    assert_eq!(rt; runners.len(), 2);
+    for _ in 0..4 {
+        step_each(rt, board, runners, Step::Moved);
+    }
+    for _ in 0..2 {
+        step_each(rt, board, runners, Step::Done);
     }
 }
 
-/// A day: the handover is run to its end, and the board is closed. It is not closed before its stream has made its end, nor without
-/// its callers. Answers how many events the log has.
+/// A day: two plans run side by side to their ends, and the board is closed. It is not closed before their streams have made their
+/// ends, which it names, nor without one of its callers.
 fn day<A: Side, B: Side, C: Side, N: Naming, R: Wait + Abort>(
     rt: &R,
     alloc: Global,
     machine: Machine,
     ground: Ground,
-    checked: Checked,
-) -> usize
+    first: Checked,
+    second: Checked,
+) -> Placement
     requires map { IsMapOf ground.words (state_of machine) }
-    requires setup { (ground.setup ≡ machine.placement.setup) × (checked.setup ≡ N.setup) }
+    requires setup { ground.setup ≡ machine.placement.setup }
     requires names { (ground.words ≡ N.words) × (ground.setup ≡ N.setup) × (state_of machine ≡ N.opened) }
     requires steps { (ground.steps ≡ A.name) × (A.parts ≡ 2 ^ 62) × (A.all ≡ 2 ^ 62) }
     requires executed { (ground.executed ≡ B.name) × (B.parts ≡ 2 ^ 62) × (B.all ≡ 2 ^ 62) }
@@ -167,45 +176,67 @@ fn day<A: Side, B: Side, C: Side, N: Naming, R: Wait + Abort>(
         Err(_) => panic!(rt; "there is no memory for a board"),
     };
     let callers = all_callers(rt, alloc, &board);
-    let mut runners = begun(rt, alloc, &board, checked);
+    let mut runners = Vec::new(alloc);
+    begin(rt, alloc, &board, &mut runners, first);
+    begin(rt, alloc, &board, &mut runners, second);
+    step_each(rt, &board, runners.as_mut_slice(), Step::Moved);
     let closed = board.close(Vec::new(alloc), callers);
-    let (board, none, callers) = assert_not_closed(rt, alloc, closed, CloseFault::NotDone, 1);
+    let (board, none, mut callers) = assert_not_closed(
+        rt,
+        alloc,
+        closed,
+        CloseFault::NotDone,
+        &AFTER_A_ROUND,
+    );
     none.destroy_empty();
     step_to_ends(rt, &board, runners.as_mut_slice());
     let ended = ends(rt, alloc, &board, runners);
-    let closed = board.close(ended, Vec::new(alloc));
-    let (board, ended, none) = assert_not_closed(rt, alloc, closed, CloseFault::BookDiffers, 0);
-    none.destroy_empty();
+    let Some(kept) = callers.pop() else {
+        panic!(rt; "a board has no caller");
+    };
+    let closed = board.close(ended, callers);
+    let (board, ended, mut callers) = assert_not_closed(
+        rt,
+        alloc,
+        closed,
+        CloseFault::BookDiffers,
+        &[],
+    );
+    put(rt, &mut callers, kept);
     match board.close(ended, callers) {
-        Ok(machine) => recorded(alloc, machine),
+        Ok(machine) => {
+            assert_eq!(rt; machine.log().len(), 12);
+            end(alloc, machine)
+        }
         Err(_) => panic!(rt; "a board is not closed whose streams have made their ends"),
     }
 }
 
-/// A day with a new board over a machine.
-fn new_day<R: Wait + Abort>(rt: &R, alloc: Global, machine: Machine, checked: Checked) -> usize
-    requires { checked.setup ≡ machine.placement.setup }
-{
+/// A day with a new board over the worked placement.
+fn new_day<R: Wait + Abort>(rt: &R, alloc: Global, first: Checked, second: Checked) -> Placement {
+    let machine = machine(rt, alloc, 16);
     match Ground::new(alloc, &machine) {
-        Ok(ground) => day::<Brand, Brand, Brand, Brand, R>(rt, alloc, machine, ground, checked),
+        Ok(ground) => {
+            day::<Brand, Brand, Brand, Brand, R>(rt, alloc, machine, ground, first, second)
+        }
         Err(_) => panic!(rt; "there is no memory for a ground"),
     }
 }
 
-#[test]
-fn a_handover_runs_on_a_board_that_is_closed(rt: HostRuntime) {
-    let alloc = rt.alloc();
-    let (Ok(placement), Ok(checked)) = (placement(alloc), plan(alloc)) else {
-        panic!(&rt; "there is no memory for a plan");
-    };
-    assert!(&rt; placement.settled());
-    match Machine::open(alloc, placement, 16) {
-        Ok((machine, permits)) => {
-            assert!(&rt; permits.is_empty());
-            permits.destroy_empty();
-            assert!(&rt; is_for(&machine, &checked));
-            assert_eq!(&rt; new_day(&rt, alloc, machine, checked), 6);
-        }
-        Err(_) => panic!(&rt; "a machine is not opened"),
+/// The plan of a move, for which there is memory.
+fn must_plan(rt: &impl Abort, alloc: Global, moved: &Move) -> Checked {
+    match plan_of(alloc, moved) {
+        Ok(checked) => checked,
+        Err(_) => panic!(rt; "there is no memory for a plan"),
     }
+}
+
+/// Shard s goes from a to b, and t from b to a: a has load 6 then, b and c have 4, and d has 8 as before.
+#[test]
+fn two_plans_run_on_a_board_that_is_closed(rt: HostRuntime) {
+    let alloc = rt.alloc();
+    let first = must_plan(&rt, alloc, &s_to_b(0));
+    let second = must_plan(&rt, alloc, &t_to_a(0));
+    let placement = new_day(&rt, alloc, first, second);
+    assert_loads(&rt, &placement, [6, 4, 4, 8]);
 }

@@ -1,0 +1,96 @@
+//! A plan that is run beside clients that ask.
+ghost use Rattle.std.specs.Prelude.{◌≡◌, [], length};
+ghost use Rattle.sm_executor.specs.Views.{calling};
+
+use super::courses::Course;
+use super::given::{put, shard_of};
+use super::plans::{plan_of, s_to_b};
+use super::runs::{assert_moved, run_plan};
+use sm_executor::{Board, Caller, Client, Ended, Naming, Open, Runner, Side, run_beside};
+use sm_router::Asked;
+use sm_server::{ServerId, ShardId};
+use std::alloc::Global;
+use std::process::Abort;
+use std::sync::Wait;
+use std::thread::Threads;
+
+/// A new client that asks for a shard.
+fn client<A: Side, B: Side, C: Side, N: Naming, R: Wait + Abort>(
+    rt: &R,
+    board: &Board<A, B, C, N>,
+    shard: ShardId,
+) -> Client<B, C, N>
+    requires { length N.words.opening ≡ length N.setup.shards }
+{
+    let shard = shard_of(rt, board, shard);
+    match board.caller(rt) {
+        Some(caller) => Client::new(caller, shard),
+        None => panic!(rt; "a board has no caller"),
+    }
+}
+
+/// The request was executed at the server of this number.
+fn was_executed(asked: Option<Asked>, number: u32) -> bool {
+    let at_server = Asked::Executed {
+        server: ServerId::new(number),
+    };
+    match asked {
+        Some(asked) => asked == at_server,
+        None => false,
+    }
+}
+
+/// Takes the last client, whose request was executed at b or at this other server, and answers its caller.
+fn take_caller<B: Side, C: Side, N: Naming>(
+    rt: &impl Abort,
+    clients: &mut Vec<Client<B, C, N>>,
+    other: u32,
+) -> Caller<B, C, N> {
+    let Some(client) = clients.pop() else {
+        panic!(rt; "a client is lost");
+    };
+    let asked = client.asked();
+    assert!(rt; was_executed(asked, 1) || was_executed(asked, other));
+    client.into_caller()
+}
+
+/// Runs a handover of shard s to b beside a client that asks for s, which a or b executes, and one that asks for t, which b does.
+/// Answers the ends and the callers.
+pub(crate) fn run_beside_clients<
+    A: Side + Send + Sync,
+    B: Side + Send + Sync,
+    C: Side + Send + Sync,
+    N: Naming + Send + Sync,
+    R: Threads + Wait + Sync + Abort,
+>(
+    rt: &R,
+    alloc: Global,
+    board: &Board<A, B, C, N>,
+    runners: Vec<Runner<A>>,
+) -> (Vec<Ended<A>>, Vec<Caller<B, C, N>>)
+    requires { length N.words.opening ≡ length N.setup.shards }
+{
+    let mut clients = Vec::new(alloc);
+    put(rt, &mut clients, client(rt, board, ShardId::new(0)));
+    put(rt, &mut clients, client(rt, board, ShardId::new(1)));
+    let ran = run_beside(rt, alloc, board, runners, clients.as_mut_slice(), &Open);
+    let Ok(ended) = ran else {
+        panic!(rt; "a run does not come to the ends of its streams");
+    };
+    let mut callers = Vec::new(alloc);
+    put(rt, &mut callers, take_caller(rt, &mut clients, 1));
+    put(rt, &mut callers, take_caller(rt, &mut clients, 0));
+    assert!(rt; clients.is_empty());
+    clients.destroy_empty();
+    (ended, callers)
+}
+
+/// The handover's six steps, and of the asks two to three hops.
+#[test]
+fn a_handover_is_run_beside_clients(rt: HostRuntime) {
+    let alloc = rt.alloc();
+    let plan = plan_of(alloc, &s_to_b(0));
+    let (placement, count) = run_plan(&rt, alloc, plan, Course::BesideClients);
+    assert!(&rt; count >= 8);
+    assert_moved(&rt, &placement);
+}

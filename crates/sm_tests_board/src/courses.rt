@@ -1,0 +1,189 @@
+//! Ways to run what has begun on a board by threads, each of which has to come to the ends of all streams.
+ghost use Rattle.std.specs.Prelude.{◌≡◌, length};
+
+use super::clients::run_beside_clients;
+use super::gates::{Halting, Meeting};
+use super::given::put;
+use super::links::{Loses, LosesEverySecond};
+use sm_executor::{
+    Board, Caller, Ended, Gate, Naming, Open, RunFault, Runner, Side, run, run_over,
+};
+use sm_machine::{Link, Step};
+use std::alloc::Global;
+use std::process::Abort;
+use std::sync::{Mutex, Wait};
+use std::thread::Threads;
+
+/// How a plan is run.
+#[derive(Clone, Copy)]
+pub(crate) enum Course<'a> {
+    /// To its end, through a gate at which the streams meet.
+    Meets(&'a Meeting<'a>),
+    /// The board is halted behind the step of this number, resumed, and the rest is run.
+    HaltedBehind(u64),
+    /// Its one stream has spent its allowance, is given one more try, and goes on.
+    Spent,
+    /// Each stream loses every second try, its first one or its second one first, and makes so many.
+    Loses { first: bool, tries: u64 },
+    /// Beside two clients, of which each asks for a shard of its own.
+    BesideClients,
+}
+
+/// The ends of a run that has to come to the ends of all streams.
+pub(crate) fn run_through<
+    A: Side + Send + Sync,
+    B: Side + Send + Sync,
+    C: Side + Send + Sync,
+    N: Naming + Send + Sync,
+    R: Threads + Wait + Sync + Abort,
+    G: Gate + Sync,
+>(
+    rt: &R,
+    alloc: Global,
+    board: &Board<A, B, C, N>,
+    runners: Vec<Runner<A>>,
+    gate: &G,
+) -> Vec<Ended<A>> {
+    match run(rt, alloc, board, runners, gate) {
+        Ok(ended) => ended,
+        Err(_) => panic!(rt; "a run does not come to the ends of its streams"),
+    }
+}
+
+/// The second ends come behind the first.
+fn joined<A: Side>(
+    rt: &impl Abort,
+    mut ended: Vec<Ended<A>>,
+    mut others: Vec<Ended<A>>,
+) -> Vec<Ended<A>> {
+    for _ in 0..others.len() {
+        if let Some(end) = others.pop() {
+            put(rt, &mut ended, end);
+        }
+    }
+    assert!(rt; others.is_empty());
+    others.destroy_empty();
+    ended
+}
+
+/// Runs until the board is halted behind a step, and then the rest. Where all streams had ended, nothing was left to halt; behind the
+/// first step something is.
+fn run_halted<
+    A: Side + Send + Sync,
+    B: Side + Send + Sync,
+    C: Side + Send + Sync,
+    N: Naming + Send + Sync,
+    R: Threads + Wait + Sync + Abort,
+>(
+    rt: &R,
+    alloc: Global,
+    board: &Board<A, B, C, N>,
+    runners: Vec<Runner<A>>,
+    number: u64,
+) -> Vec<Ended<A>> {
+    match run(rt, alloc, board, runners, &Halting::behind(board, number)) {
+        Ok(ended) => {
+            assert!(rt; number > 1);
+            ended
+        }
+        Err(RunFault::Halted { runners, ended }) => {
+            assert!(rt; !runners.is_empty());
+            assert!(rt; board.hold(rt).machine().log().len() as u64 >= number);
+            board.resume(rt);
+            joined(rt, ended, run_through(rt, alloc, board, runners, &Open))
+        }
+        Err(_) => panic!(rt; "a run ends otherwise than halted"),
+    }
+}
+
+/// The one stream loses its first call, and has then one try too few: the run ends by this, and goes on with one more.
+fn run_spent<
+    A: Side + Send + Sync,
+    B: Side + Send + Sync,
+    C: Side + Send + Sync,
+    N: Naming + Send + Sync,
+    R: Threads + Wait + Sync + Abort,
+>(rt: &R, alloc: Global, board: &Board<A, B, C, N>, mut runners: Vec<Runner<A>>) -> Vec<Ended<A>> {
+    for runner in runners.iter_mut() {
+        let mut link = Loses {
+            after: true,
+            lost: 0,
+        };
+        assert_eq!(rt; board.step_over(rt, runner, &mut link), Step::Lost);
+    }
+    match run(rt, alloc, board, runners, &Open) {
+        Err(RunFault::Spent { mut runners, ended }) => {
+            assert_eq!(rt; runners.len(), 1);
+            for runner in runners.iter_mut() {
+                assert!(rt; board.hold(rt).refill(runner, 1).is_ok());
+                assert_eq!(rt; board.step(rt, runner), Step::Halted);
+            }
+            board.resume(rt);
+            joined(rt, ended, run_through(rt, alloc, board, runners, &Open))
+        }
+        _ => panic!(rt; "a run ends otherwise than spent"),
+    }
+}
+
+/// Runs over a link for each stream that loses every second try. Each stream makes four calls, and tries so often.
+fn run_losing<
+    A: Side + Send + Sync,
+    B: Side + Send + Sync,
+    C: Side + Send + Sync,
+    N: Naming + Send + Sync,
+    R: Threads + Wait + Sync + Abort,
+>(
+    rt: &R,
+    alloc: Global,
+    board: &Board<A, B, C, N>,
+    runners: Vec<Runner<A>>,
+    first: bool,
+    tries: u64,
+) -> Vec<Ended<A>> {
+    let mut links = Vec::new(alloc);
+    for _ in 0..runners.len() {
+        let link = LosesEverySecond {
+            next: first,
+            lost: 0,
+        };
+        put(rt, &mut links, Mutex::new(link));
+    }
+    let ended = match run_over(rt, alloc, board, runners, links.as_slice(), &Open) {
+        Ok(ended) => ended,
+        Err(_) => panic!(rt; "a run over links does not come to the ends of its streams"),
+    };
+    for link in &links {
+        assert_eq!(rt; link.lock(rt).lost().saturating_add(4), tries);
+    }
+    for end in &ended {
+        assert_eq!(rt; end.calls(), tries);
+        assert_eq!(rt; end.budget(), 8);
+    }
+    ended
+}
+
+/// Runs what has begun, and answers the ends and the callers.
+pub(crate) fn go<
+    A: Side + Send + Sync,
+    B: Side + Send + Sync,
+    C: Side + Send + Sync,
+    N: Naming + Send + Sync,
+    R: Threads + Wait + Sync + Abort,
+>(
+    rt: &R,
+    alloc: Global,
+    board: &Board<A, B, C, N>,
+    runners: Vec<Runner<A>>,
+    course: Course<'_>,
+) -> (Vec<Ended<A>>, Vec<Caller<B, C, N>>)
+    requires { length N.words.opening ≡ length N.setup.shards }
+{
+    let ended = match course {
+        Course::Meets(meeting) => run_through(rt, alloc, board, runners, meeting),
+        Course::HaltedBehind(number) => run_halted(rt, alloc, board, runners, number),
+        Course::Spent => run_spent(rt, alloc, board, runners),
+        Course::Loses { first, tries } => run_losing(rt, alloc, board, runners, first, tries),
+        Course::BesideClients => return run_beside_clients(rt, alloc, board, runners),
+    };
+    (ended, Vec::new(alloc))
+}

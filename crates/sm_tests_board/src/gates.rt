@@ -1,0 +1,84 @@
+//! Gates of runs: one at which streams meet before their first steps, and one that halts the board.
+use sm_executor::{Board, Gate, Naming, Side};
+use sm_reservation::StreamId;
+use std::sync::Wait;
+use std::sync::atomic::{AtomicU64, Ordering};
+use std::thread::sleep;
+use std::time::Duration;
+
+/// How many turns a stream waits for the others at most.
+const MOST_TURNS: u32 = 10_000;
+
+/// How long a turn is in microseconds, so that the others come in time on a busy machine too.
+const TURN: u64 = 100;
+
+/// Where streams wait before their first steps until so many have come.
+#[derive(Drop)]
+pub(crate) struct Meeting<'c> {
+    clock: &'c HostRuntime,
+    wanted: u64,
+    came: AtomicU64,
+    gave_up: AtomicU64,
+}
+
+impl<'c> Meeting<'c> {
+    pub fn of(clock: &'c HostRuntime, wanted: u64) -> Meeting<'c> {
+        Meeting {
+            clock,
+            wanted,
+            came: AtomicU64::new(0),
+            gave_up: AtomicU64::new(0),
+        }
+    }
+
+    /// How many streams have waited for all turns.
+    pub fn gave_up(&self) -> u64 {
+        self.gave_up.load(Ordering::SeqCst)
+    }
+}
+
+impl<'c> Gate for Meeting<'c> {
+    fn before<R: Wait>(&self, _rt: &R, _stream: StreamId, at: usize) {
+        if at != 0 {
+            return;
+        }
+        self.came.fetch_add(1, Ordering::SeqCst);
+        for _ in 0..MOST_TURNS {
+            if self.came.load(Ordering::SeqCst) >= self.wanted {
+                return;
+            }
+            sleep(self.clock, Duration::from_micros(TURN));
+        }
+        self.gave_up.fetch_add(1, Ordering::SeqCst);
+    }
+
+    fn after<R: Wait>(&self, _rt: &R, _stream: StreamId, _at: usize) {}
+}
+
+/// Halts a board behind the step of this number, counted from one.
+#[derive(Drop)]
+pub(crate) struct Halting<'b, A: Side, B: Side, C: Side, N: Naming> {
+    board: &'b Board<A, B, C, N>,
+    number: u64,
+    made: AtomicU64,
+}
+
+impl<'b, A: Side, B: Side, C: Side, N: Naming> Halting<'b, A, B, C, N> {
+    pub fn behind(board: &'b Board<A, B, C, N>, number: u64) -> Halting<'b, A, B, C, N> {
+        Halting {
+            board,
+            number,
+            made: AtomicU64::new(0),
+        }
+    }
+}
+
+impl<'b, A: Side, B: Side, C: Side, N: Naming> Gate for Halting<'b, A, B, C, N> {
+    fn before<R: Wait>(&self, _rt: &R, _stream: StreamId, _at: usize) {}
+
+    fn after<R: Wait>(&self, rt: &R, _stream: StreamId, _at: usize) {
+        if self.made.fetch_add(1, Ordering::SeqCst).wrapping_add(1) == self.number {
+            self.board.halt(rt);
+        }
+    }
+}

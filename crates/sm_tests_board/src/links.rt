@@ -1,0 +1,64 @@
+//! Links on which tries of calls are lost.
+use sm_machine::Link;
+use sm_protocol::Passage;
+use sm_reservation::StreamId;
+
+/// Loses each try in the same way, as long as it can count.
+#[derive(Drop)]
+pub(crate) struct Loses {
+    pub after: bool,
+    pub lost: u64,
+}
+
+impl Link for Loses {
+    ghost use Rattle.std.specs.Prelude.{⊤};
+
+    ghost losses = { λ link. link.lost };
+
+    ghost asked = { λ _ _ _ _ _. ⊤ };
+
+    fn passage(&mut self, _stream: StreamId, _number: u64) -> Passage {
+        if self.lost == u64::MAX {
+            return Passage::Through;
+        }
+        self.lost += 1;
+        if self.after {
+            Passage::LostAfter
+        } else {
+            Passage::LostBefore
+        }
+    }
+
+    fn lost(&self) -> u64 {
+        self.lost
+    }
+}
+
+/// Loses every second try after its effect, the next one or the one behind it, as long as it can count.
+#[derive(Drop)]
+pub(crate) struct LosesEverySecond {
+    pub next: bool,
+    pub lost: u64,
+}
+
+impl Link for LosesEverySecond {
+    ghost use Rattle.std.specs.Prelude.{⊤};
+
+    ghost losses = { λ link. link.lost };
+
+    ghost asked = { λ _ _ _ _ _. ⊤ };
+
+    fn passage(&mut self, _stream: StreamId, _number: u64) -> Passage {
+        let loses = self.next;
+        self.next = !loses;
+        if !loses || self.lost == u64::MAX {
+            return Passage::Through;
+        }
+        self.lost += 1;
+        Passage::LostAfter
+    }
+
+    fn lost(&self) -> u64 {
+        self.lost
+    }
+}

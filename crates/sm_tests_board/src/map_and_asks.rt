@@ -1,0 +1,98 @@
+//! The map of a board, and asks at it, while shard s is handed over from a to b.
+ghost use Rattle.std.specs.Prelude.{◌≡◌, length};
+
+use super::events::executed;
+use super::given::shard_of;
+use super::worlds::entry;
+use sm_executor::{Board, Caller, Naming, Runner, Side};
+use sm_machine::Step;
+use sm_placement::Entry;
+use sm_protocol::Played;
+use sm_router::{Asked, ask};
+use sm_server::{ServerId, ShardId};
+use std::process::Abort;
+use std::sync::Wait;
+
+/// The runner makes so many steps, each of which is answered so.
+pub(crate) fn assert_steps<A: Side, B: Side, C: Side, N: Naming, R: Wait + Abort>(
+    rt: &R,
+    board: &Board<A, B, C, N>,
+    runner: &mut Runner<A>,
+    steps: usize,
+    answer: Step,
+) {
+    for _ in 0..steps {
+        assert_eq!(rt; board.step(rt, runner), answer);
+    }
+}
+
+/// An ask for s has two hops, which stand in the log behind two steps: it is passed on from a, and executed at b.
+fn assert_two_hops<A: Side, B: Side, C: Side, N: Naming, R: Wait + Abort>(
+    rt: &R,
+    board: &Board<A, B, C, N>,
+    caller: &mut Caller<B, C, N>,
+)
+    requires { length N.words.opening ≡ length N.setup.shards }
+{
+    let shard = shard_of(rt, board, ShardId::new(0));
+    let at_b = Asked::Executed {
+        server: ServerId::new(1),
+    };
+    assert_eq!(rt; ask(rt, board, caller, shard), at_b);
+    let guard = board.hold(rt);
+    let log = guard.machine().log();
+    assert_eq!(rt; log.len(), 4);
+    let is_passed = matches!(log[2].answer, Played::Passed { .. });
+    assert!(rt; is_passed);
+    assert!(rt; log[3].answer == executed(1));
+}
+
+/// What the guard and the map say of s.
+fn assert_held<A: Side, B: Side, C: Side, N: Naming, R: Wait + Abort>(
+    rt: &R,
+    board: &Board<A, B, C, N>,
+    caller: &mut Caller<B, C, N>,
+    wanted: Entry,
+)
+    requires { length N.words.opening ≡ length N.setup.shards }
+{
+    let shard = shard_of(rt, board, ShardId::new(0));
+    let mut guard = board.hold(rt);
+    assert_eq!(rt; board.look_held(&mut guard, caller, shard), wanted);
+}
+
+/// What the map says of s, read without the lock.
+fn assert_look<A: Side, B: Side, C: Side, N: Naming>(
+    rt: &impl Abort,
+    board: &Board<A, B, C, N>,
+    caller: &mut Caller<B, C, N>,
+    wanted: Entry,
+)
+    requires { length N.words.opening ≡ length N.setup.shards }
+{
+    let shard = shard_of(rt, board, ShardId::new(0));
+    assert_eq!(rt; board.look(caller, shard), wanted);
+}
+
+/// Both callers see s at a. After two steps an ask is passed on to b. After the fourth, which publishes, the guard gives b for the one
+/// caller, and a plain look gives b for the other, which has seen a alone.
+pub(crate) fn map_and_asks<A: Side, B: Side, C: Side, N: Naming, R: Wait + Abort>(
+    rt: &R,
+    board: &Board<A, B, C, N>,
+    runners: &mut [Runner<A>],
+    first: &mut Caller<B, C, N>,
+    second: &mut Caller<B, C, N>,
+)
+    requires { length N.words.opening ≡ length N.setup.shards }
+{
+    assert!(rt; !runners.is_empty());
+    let runner = &mut runners[0];
+    assert_look(rt, board, first, entry(0, 0));
+    assert_look(rt, board, second, entry(0, 0));
+    assert_steps(rt, board, runner, 2, Step::Moved);
+    assert_two_hops(rt, board, first);
+    assert_held(rt, board, first, entry(0, 0));
+    assert_steps(rt, board, runner, 2, Step::Moved);
+    assert_held(rt, board, first, entry(1, 1));
+    assert_look(rt, board, second, entry(1, 1));
+}

@@ -1,0 +1,237 @@
+//! Worked lists of events, made one by one over a board: the answers and the log are those that the protocol's definitions give.
+use super::boards::{Scene, on_new_board};
+use super::events::{
+    Turn, approve, arrive, begin, begun, done, executed, lose, pass_on, passed, refill, step,
+    stream,
+};
+use super::given::put;
+use super::plans::{Move, plan_of, s_to_b, three_handovers};
+use super::worlds::assert_cells;
+use sm_placement::Placement;
+use sm_protocol::{Played, RefillFault};
+use sm_server::{Cell, ServerId};
+use sm_task_controller::Denied;
+use sm_verifier::Checked;
+use std::alloc::Global;
+use std::process::Abort;
+use std::sync::Wait;
+
+/// How many places the log has.
+const PLACES: u32 = 64;
+
+/// Restarts beside a handover.
+const fn restarts() -> [Turn; 8] {
+    [
+        (begin(0), begun(0)),
+        (approve(2), Played::Approved),
+        (
+            approve(0),
+            Played::Denied(Denied::Engaged { stream: stream(0) }),
+        ),
+        (done(2), Played::Up),
+        (done(2), Played::Unknown),
+        (approve(2), Played::Approved),
+        (arrive(0, 2), Played::Unavailable),
+        (step(0), Played::Moved),
+    ]
+}
+
+/// What of them is recorded.
+const fn recorded_restarts() -> [Turn; 5] {
+    [
+        (approve(2), Played::Approved),
+        (done(2), Played::Up),
+        (approve(2), Played::Approved),
+        (arrive(0, 2), Played::Unavailable),
+        (step(0), Played::Moved),
+    ]
+}
+
+/// A request that is passed on in the first of three handovers, and comes to b in the third.
+const fn requests_over_three() -> [Turn; 15] {
+    [
+        (begin(0), begun(0)),
+        (step(0), Played::Moved),
+        (step(0), Played::Moved),
+        (arrive(0, 0), passed(1, 1, 2)),
+        (step(0), Played::Moved),
+        (step(0), Played::Moved),
+        (step(0), Played::Moved),
+        (step(0), Played::Moved),
+        (step(0), Played::Moved),
+        (step(0), Played::Moved),
+        (step(0), Played::Moved),
+        (step(0), Played::Moved),
+        (step(0), Played::Moved),
+        (pass_on(2), Played::NotOwner),
+        (arrive(0, 0), executed(0)),
+    ]
+}
+
+/// What of them is recorded.
+const fn recorded_over_three() -> [Turn; 14] {
+    [
+        (step(0), Played::Moved),
+        (step(0), Played::Moved),
+        (arrive(0, 0), passed(1, 1, 2)),
+        (step(0), Played::Moved),
+        (step(0), Played::Moved),
+        (step(0), Played::Moved),
+        (step(0), Played::Moved),
+        (step(0), Played::Moved),
+        (step(0), Played::Moved),
+        (step(0), Played::Moved),
+        (step(0), Played::Moved),
+        (step(0), Played::Moved),
+        (pass_on(2), Played::NotOwner),
+        (arrive(0, 0), executed(0)),
+    ]
+}
+
+/// A request that is passed on.
+const fn passed_on() -> [Turn; 7] {
+    [
+        (begin(0), begun(0)),
+        (step(0), Played::Moved),
+        (step(0), Played::Moved),
+        (arrive(0, 0), passed(1, 1, 2)),
+        (pass_on(2), executed(1)),
+        (arrive(0, 1), Played::NotOwner),
+        (pass_on(2), Played::Unknown),
+    ]
+}
+
+/// What of them is recorded.
+const fn recorded_passed_on() -> [Turn; 5] {
+    [
+        (step(0), Played::Moved),
+        (step(0), Played::Moved),
+        (arrive(0, 0), passed(1, 1, 2)),
+        (pass_on(2), executed(1)),
+        (arrive(0, 1), Played::NotOwner),
+    ]
+}
+
+/// Lost calls, a stream that has spent its tries, and refills.
+const fn losses() -> [Turn; 14] {
+    [
+        (begin(0), begun(0)),
+        (lose(0, false), Played::Lost),
+        (lose(0, true), Played::Lost),
+        (step(0), Played::Moved),
+        (step(0), Played::Moved),
+        (step(0), Played::Moved),
+        (lose(0, true), Played::Moved),
+        (lose(0, true), Played::Lost),
+        (step(0), Played::Spent),
+        (refill(1, 1), Played::Unknown),
+        (refill(0, 1), Played::Refilled),
+        (step(0), Played::Moved),
+        (lose(0, true), Played::Done),
+        (refill(0, 1), Played::RefillRefused(RefillFault::Ended)),
+    ]
+}
+
+/// What of them is recorded: where the next instruction is no call, no call is lost.
+const fn recorded_losses() -> [Turn; 10] {
+    [
+        (lose(0, false), Played::Lost),
+        (lose(0, true), Played::Lost),
+        (step(0), Played::Moved),
+        (step(0), Played::Moved),
+        (step(0), Played::Moved),
+        (step(0), Played::Moved),
+        (lose(0, true), Played::Lost),
+        (refill(0, 1), Played::Refilled),
+        (step(0), Played::Moved),
+        (step(0), Played::Done),
+    ]
+}
+
+/// The plans of moves, in a list.
+pub(crate) fn plans_of(rt: &impl Abort, alloc: Global, moves: &[Move]) -> Vec<Option<Checked>> {
+    let mut plans = Vec::new(alloc);
+    for moved in moves {
+        match plan_of(alloc, moved) {
+            Ok(checked) => put(rt, &mut plans, Some(checked)),
+            Err(_) => panic!(rt; "there is no memory for a plan"),
+        }
+    }
+    plans
+}
+
+/// The plan of three handovers, in a list.
+fn three(rt: &impl Abort, alloc: Global) -> Vec<Option<Checked>> {
+    let mut plans = Vec::new(alloc);
+    match three_handovers(alloc) {
+        Ok(checked) => put(rt, &mut plans, Some(checked)),
+        Err(_) => panic!(rt; "there is no memory for a plan"),
+    }
+    plans
+}
+
+/// Makes events over a new board on which these plans may begin, asserts their answers and the log that they leave, and answers the
+/// placement.
+fn placement_after<R: Wait + Abort>(
+    rt: &R,
+    alloc: Global,
+    plans: Vec<Option<Checked>>,
+    turns: &[Turn],
+    log: &[Turn],
+) -> Placement {
+    on_new_board(rt, alloc, plans, PLACES, Scene::Turns { turns, log })
+}
+
+#[test]
+fn restarts_beside_a_handover_are_as_played(rt: HostRuntime) {
+    let alloc = rt.alloc();
+    let plans = plans_of(&rt, alloc, &[s_to_b(0)]);
+    let placement = placement_after(&rt, alloc, plans, &restarts(), &recorded_restarts());
+    assert_eq!(&rt; placement.down_count(), 1);
+}
+
+#[test]
+fn requests_over_three_handovers_are_as_played(rt: HostRuntime) {
+    let alloc = rt.alloc();
+    let plans = three(&rt, alloc);
+    let turns = requests_over_three();
+    let placement = placement_after(&rt, alloc, plans, &turns, &recorded_over_three());
+    let at_b = Cell::Prepared {
+        from: ServerId::new(0),
+        number: 3,
+    };
+    assert_cells(
+        &rt,
+        &placement,
+        0,
+        &[Cell::Primary, at_b, Cell::Secondary, Cell::Absent],
+    );
+}
+
+#[test]
+fn a_request_passed_on_is_as_played(rt: HostRuntime) {
+    let alloc = rt.alloc();
+    let plans = plans_of(&rt, alloc, &[s_to_b(0)]);
+    let _placement = placement_after(&rt, alloc, plans, &passed_on(), &recorded_passed_on());
+}
+
+#[test]
+fn lost_calls_are_as_played(rt: HostRuntime) {
+    let alloc = rt.alloc();
+    let plans = plans_of(&rt, alloc, &[s_to_b(2)]);
+    let placement = placement_after(&rt, alloc, plans, &losses(), &recorded_losses());
+    assert_cells(
+        &rt,
+        &placement,
+        0,
+        &[Cell::Absent, Cell::Primary, Cell::Secondary, Cell::Absent],
+    );
+}
+
+/// The map, and asks, while a handover runs.
+#[test]
+fn map_and_asks_on_a_board(rt: HostRuntime) {
+    let alloc = rt.alloc();
+    let plans = plans_of(&rt, alloc, &[s_to_b(0)]);
+    let _placement = on_new_board(&rt, alloc, plans, PLACES, Scene::MapAndAsks);
+}
