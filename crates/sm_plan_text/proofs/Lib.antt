@@ -2,15 +2,13 @@ pub mod Lowest
 pub mod NameLemmas
 pub mod ObjectLemmas
 pub mod WalkLemmas
+pub mod RuleLemmas
 pub mod ServerLemmas
 pub mod ShardLemmas
-pub mod CallLemmas
 pub mod KeyLemmas
-pub mod CrownLemmas
 pub mod PlanLemmas
 pub mod DistinctNames
 pub mod DocumentLemmas
-pub mod EventLemmas
 pub mod Texts
 pub mod Faultless
 pub mod FaultlessParcel

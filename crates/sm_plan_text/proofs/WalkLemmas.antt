@@ -66,3 +66,8 @@ mapped_step f items i item start old new h is e inv =
     let front : List Data = take i (map view items) in
     step_on (λ ds. start ++ map f ds) items i item new h is
     (e ∙ ap (λ xs. xs ++ f (view item) ∷ []) inv ∙ append_assoc start (map f front) (f (view item) ∷ []) ∙ ap (λ xs. start ++ xs) (sym (map_push f front (view item))))
+
+-- entries in which nothing can be wrong
+pub none_walked : (best : Option TextFault) (before ds : List Data) → noted best (walked (λ _ _. []) before ds) ≡ best
+none_walked best before [] = refl
+none_walked best before (d ∷ ds) = none_walked best (before ++ d ∷ []) ds

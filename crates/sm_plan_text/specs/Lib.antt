@@ -8,9 +8,11 @@ pub mod Calls
 pub mod Events
 pub mod Moves
 pub mod Parcels
+pub mod Rules
 pub mod Instructions
 pub mod Plans
 pub mod PlanTexts
 pub mod Documents
+pub mod Work
 pub mod Opened
 pub mod Reading

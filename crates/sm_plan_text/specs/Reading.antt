@@ -59,17 +59,17 @@ rows_of d = record {
 -- the same of a document whose servers and shards are not a configuration yet
 abbrev pub rows_of_parts : Parts → DocumentModel
 rows_of_parts p = record {
-  setup = setup_of p.servers.items p.shards.items;
-  cells = p.cells.items;
-  listed = p.listed.items;
-  down = p.down.items;
-  limit = p.limit;
-  log = p.log;
-  calls = option_map (λ calls. calls.items) p.calls;
-  plan = p.plan;
-  plans = option_map (λ plans. plans.items) p.plans;
-  events = option_map (λ events. events.items) p.events;
-  moves = option_map (λ moves. moves.items) p.moves;
-  drain = p.drain;
-  asks = p.asks.items;
+  setup = setup_of p.servers.rows.items p.shards.rows.items;
+  cells = p.shards.cells.items;
+  listed = p.shards.listed.items;
+  down = p.servers.down.items;
+  limit = p.work.limit;
+  log = p.work.log;
+  calls = option_map (λ calls. calls.items) p.work.calls;
+  plan = p.work.plan;
+  plans = option_map (λ plans. plans.items) p.work.plans;
+  events = option_map (λ events. events.items) p.work.events;
+  moves = option_map (λ moves. moves.items) p.work.moves;
+  drain = p.work.drain;
+  asks = p.work.asks.items;
 }

@@ -1,25 +1,17 @@
 //! The calls of a document.
-ghost use Rattle.std.specs.Prelude.{◌≡◌, ◌∷◌, [], ℕ, List, map, option_and_then, IfOk, OnOk, OnSome, IfNone};
-ghost use Rattle.std.specs.List.{flat_map};
+ghost use Rattle.std.specs.Prelude.{◌≡◌};
 ghost use Rattle.json_tree.specs.View.{view};
-ghost use Rattle.sm_plan_text.specs.declared.member.Member.TheVariants as members;
-ghost use Rattle.sm_plan_text.specs.Members.{text_of};
-ghost use Rattle.sm_plan_text.specs.Faults.{noted};
-ghost use Rattle.sm_plan_text.specs.Values.{text_found};
-ghost use Rattle.sm_plan_text.specs.Tables.{row_faults, unlisted_faults, walked};
-ghost use Rattle.sm_plan_text.specs.Calls.{call_word, word_table, call_table, call_faults, call_worded, call_in};
+ghost use Rattle.sm_plan_text.specs.Calls.{call_worded};
 
+use crate::entry::Entry;
 use crate::fault::Faults;
 use crate::member::Member;
-use crate::names::Names;
-use crate::object::{note_unknown, note_unlisted, number, reference, role, text};
-use json_tree::Tree;
+use crate::place::Place;
+use crate::rule::{Form, OTHER, Rule, SERVER, SHARD};
+use crate::word::Word;
 use sm_plan_code::MOST_NUMBER;
 use sm_server::{Call, ServerId, ShardId};
-use std::alloc::{AllocError, Global};
-
-/// A call with the shard that it is for and the server that it is made at.
-type NamedCall = (ShardId, ServerId, Call);
+use std::alloc::AllocError;
 
 /// The word that says which call it is.
 #[derive(Clone, Copy)]
@@ -31,131 +23,83 @@ enum CallWord {
     PrepareDrop,
 }
 
-impl CallWord {
-    fn from_text(text: &str) -> Option<CallWord>
-        ensures { result ≡ call_word text.now }
-    {
-        if text == "add" {
-            Some(CallWord::Add)
-        } else if text == "drop" {
-            Some(CallWord::Drop)
-        } else if text == "change" {
-            Some(CallWord::Change)
-        } else if text == "prepare_add" {
-            Some(CallWord::PrepareAdd)
-        } else if text == "prepare_drop" {
-            Some(CallWord::PrepareDrop)
-        } else {
-            None
+const ROLE: Rule = Rule::One(Member::Role, Form::Role);
+
+const FROM: Rule = Rule::One(Member::From, Form::Role);
+
+const TO: Rule = Rule::One(Member::To, Form::Role);
+
+const NUMBER: Rule = Rule::One(Member::Number, Form::Whole(MOST_NUMBER));
+
+impl Word for CallWord {
+    ghost use Rattle.sm_plan_text.specs.Calls.{call_word, call_table};
+
+    ghost named = { call_word };
+
+    ghost table = { λ scope word. call_table scope.shards.now scope.servers.now word };
+
+    fn from_text(text: &str) -> Option<CallWord> {
+        match text {
+            "add" => Some(CallWord::Add),
+            "drop" => Some(CallWord::Drop),
+            "change" => Some(CallWord::Change),
+            "prepare_add" => Some(CallWord::PrepareAdd),
+            "prepare_drop" => Some(CallWord::PrepareDrop),
+            _ => None,
         }
     }
 
-    /// The members that a call with this word knows.
-    fn members(self) -> &'static [Member]
-        ensures { (shards servers : List (List ℕ)) → map text_of result.now
-            ≡ text_of members.Call ∷ map (λ row. text_of row.member) (call_table shards servers self) }
-    {
+    fn rules(self) -> &'static [Rule] {
         match self {
-            CallWord::Add => &[Member::Call, Member::Shard, Member::Server, Member::Role],
-            CallWord::Drop => &[Member::Call, Member::Shard, Member::Server],
-            CallWord::Change => &[
-                Member::Call,
-                Member::Shard,
-                Member::Server,
-                Member::From,
-                Member::To,
-            ],
-            CallWord::PrepareAdd | CallWord::PrepareDrop => &[
-                Member::Call,
-                Member::Shard,
-                Member::Server,
-                Member::Other,
-                Member::Number,
-            ],
+            CallWord::Add => &[SHARD, SERVER, ROLE],
+            CallWord::Drop => &[SHARD, SERVER],
+            CallWord::Change => &[SHARD, SERVER, FROM, TO],
+            CallWord::PrepareAdd | CallWord::PrepareDrop => &[SHARD, SERVER, OTHER, NUMBER],
         }
     }
-}
-
-/// The word of a call.
-fn read_word(object: &Tree<'_>, faults: &mut Faults) -> Option<CallWord>
-    ensures word { result ≡ option_and_then call_word (text_found members.Call (view object.now)) }
-    ensures listed { OnSome result (faults.new.lowest ≡ faults.old.lowest) }
-    ensures unlisted { IfNone result (faults.new.lowest ≡ noted faults.old.lowest (unlisted_faults members.Calls members.Call (view object.now))) }
-{
-    let found = text(object, Member::Call);
-    let word = match found {
-        Some(found) => CallWord::from_text(found),
-        None => None,
-    };
-    if word.is_none() {
-        note_unlisted(object, Member::Calls, Member::Call, faults);
-    }
-    word
 }
 
 /// What a call with this word is.
-#[tactic(auto, using(crate::proofs::WalkLemmas::noted_append))]
-fn read_rest(word: CallWord, object: &Tree<'_>, servers: &Names, faults: &mut Faults) -> Call
-    ensures call { result ≡ call_worded servers.now (view object.now) word }
-    ensures faults { faults.new.lowest ≡ noted faults.old.lowest (flat_map (row_faults (view object.now)) (word_table servers.now word)) }
+fn call_of(word: CallWord, place: &Place<'_, '_>) -> Call
+    ensures { result ≡ call_worded place.now.scope.servers.now (view place.now.tree.now) word }
 {
+    let other = place.server(Member::Other);
+    let number = u64::from(place.number(Member::Number, MOST_NUMBER));
     match word {
-        CallWord::Add => Call::Add(role(object, Member::Role, faults)),
+        CallWord::Add => Call::Add(place.role(Member::Role)),
         CallWord::Drop => Call::Drop,
-        CallWord::Change => {
-            let from = role(object, Member::From, faults);
-            let to = role(object, Member::To, faults);
-            Call::Change { from, to }
-        }
-        CallWord::PrepareAdd => {
-            let owner = reference(object, Member::Other, servers, faults);
-            let number = number(object, Member::Number, MOST_NUMBER, faults);
-            Call::PrepareAdd {
-                owner: ServerId::new(owner),
-                number: u64::from(number),
-            }
-        }
-        CallWord::PrepareDrop => {
-            let new_owner = reference(object, Member::Other, servers, faults);
-            let number = number(object, Member::Number, MOST_NUMBER, faults);
-            Call::PrepareDrop {
-                new_owner: ServerId::new(new_owner),
-                number: u64::from(number),
-            }
-        }
+        CallWord::Change => Call::Change {
+            from: place.role(Member::From),
+            to: place.role(Member::To),
+        },
+        CallWord::PrepareAdd => Call::PrepareAdd {
+            owner: other,
+            number,
+        },
+        CallWord::PrepareDrop => Call::PrepareDrop {
+            new_owner: other,
+            number,
+        },
     }
 }
 
-/// One call.
-#[tactic(auto, using(crate::proofs::WalkLemmas::noted_append))]
-fn read_call(object: &Tree<'_>, shards: &Names, servers: &Names, faults: &mut Faults) -> NamedCall
-    ensures call { result ≡ call_in shards.now servers.now (view object.now) }
-    ensures faults { faults.new.lowest ≡ noted faults.old.lowest (call_faults shards.now servers.now [] (view object.now)) }
-{
-    let Some(word) = read_word(object, faults) else {
-        return (ShardId::new(0), ServerId::new(0), Call::Drop);
-    };
-    note_unknown(object, Member::Calls, word.members(), faults);
-    let shard = reference(object, Member::Shard, shards, faults);
-    let server = reference(object, Member::Server, servers, faults);
-    let call = read_rest(word, object, servers, faults);
-    (ShardId::new(shard), ServerId::new(server), call)
-}
+/// A call with the shard that it is for and the server that it is made at.
+impl Entry for (ShardId, ServerId, Call) {
+    ghost use Rattle.sm_plan_text.specs.declared.member.Member.TheVariants as members;
+    ghost use Rattle.sm_plan_text.specs.Tables.{worded_faults};
+    ghost use Rattle.sm_plan_text.specs.Calls.{call_word, call_table, call_in};
 
-/// The calls of a list.
-pub fn read_calls(
-    alloc: Global,
-    items: &[Tree<'_>],
-    shards: &Names,
-    servers: &Names,
-    faults: &mut Faults,
-) -> Result<Vec<NamedCall>, AllocError>
-    ensures calls { IfOk result (λ calls. calls.items ≡ map (call_in shards.now servers.now) (map view items.now)) }
-    ensures faults { OnOk result (faults.new.lowest ≡ noted faults.old.lowest (walked (call_faults shards.now servers.now) [] (map view items.now))) }
-{
-    let mut calls = Vec::with_capacity(alloc, items.len())?;
-    for item in items {
-        calls.push(read_call(item, shards, servers, faults))?;
+    ghost value = { λ scope entry. call_in scope.shards.now scope.servers.now entry };
+
+    ghost faults_of = { λ scope parent entry. worded_faults parent members.Call call_word (call_table scope.shards.now scope.servers.now) entry };
+
+    fn read(place: &Place<'_, '_>, faults: &mut Faults) -> Result<Self, AllocError> {
+        match place.word(Member::Call, faults)? {
+            Some(word) => {
+                let (shard, server) = (place.shard(Member::Shard), place.server(Member::Server));
+                Ok((shard, server, call_of(word, place)))
+            }
+            None => Ok((ShardId::new(0), ServerId::new(0), Call::Drop)),
+        }
     }
-    Ok(calls)
 }

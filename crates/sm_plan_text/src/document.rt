@@ -3,28 +3,22 @@ ghost use Rattle.std.specs.Prelude.{◌≡◌, ◌≢◌, ℕ, List, Some, None,
 ghost use Rattle.json_tree.specs.View.{view};
 ghost use Rattle.sm_placement.specs.Config.{setup_of, config_fault};
 ghost use Rattle.sm_plan_text.specs.Faults.{noted};
-ghost use Rattle.sm_plan_text.specs.declared.member.Member.TheVariants as members;
-ghost use Rattle.sm_plan_text.specs.Members.{text_of};
-ghost use Rattle.sm_plan_text.specs.Values.{found, id_named};
-ghost use Rattle.sm_plan_text.specs.Tables.{maybe, known, row_faults, walked};
-ghost use Rattle.sm_plan_text.specs.Calls.{call_faults, call_in};
 ghost use Rattle.sm_plan_text.specs.Documents.{document_table, document_faults, rows_in, IsDocument};
+ghost use Rattle.sm_plan_text.specs.Rules.{HasIds};
+ghost use Rattle.sm_plan_text.specs.Work.{IsWork, work_noted};
 ghost use Rattle.sm_plan_text.specs.Reading.{data_of, read_data, read, rows_of, rows_of_parts};
 
-use crate::asks::read_asks;
-use crate::call::read_calls;
-use crate::event::{EventText, read_events};
+use crate::entry::Entry;
+use crate::event::EventText;
 use crate::fault::{Faults, TextFault};
 use crate::limits::{DOWN_LIMIT, LOG_PLACES, MOST_EVENTS, MOST_MOVES};
 use crate::member::Member;
-use crate::moves::{MoveText, read_moves};
+use crate::moves::MoveText;
 use crate::names::Names;
-use crate::object::{
-    inner_or_none, list, list_or_none, note_unknown, number, number_or, reference_where_there,
-};
-use crate::plan::{read_plan_where_there, read_plans};
-use crate::server::read_servers;
-use crate::shard::read_shards;
+use crate::place::{Place, shard_named};
+use crate::rule::{Form, Rule};
+use crate::server::{Servers, read_servers};
+use crate::shard::{Shards, read_shards};
 use json_tree::{ReadFault, Scratch, Tree};
 use sm_placement::{
     Config, ConfigFault, MOST_SERVERS, MOST_SHARDS, OpenFault, Placement, Server, Shard,
@@ -90,14 +84,9 @@ impl Document {
     }
 }
 
-/// What a document says, before its servers and shards are a configuration.
+/// What a document says beside its servers and shards.
 #[derive(Drop)]
-struct Parts {
-    servers: Vec<Server>,
-    shards: Vec<Shard>,
-    cells: Vec<(ShardId, ServerId, Cell)>,
-    listed: Vec<Option<ServerId>>,
-    down: Vec<ServerId>,
+struct Work {
     limit: u32,
     log: u32,
     calls: Option<Vec<(ShardId, ServerId, Call)>>,
@@ -107,6 +96,14 @@ struct Parts {
     moves: Option<Vec<MoveText>>,
     drain: Option<ServerId>,
     asks: Vec<ShardId>,
+}
+
+/// What a document says, before its servers and shards are a configuration.
+#[derive(Drop)]
+struct Parts {
+    servers: Servers,
+    shards: Shards,
+    work: Work,
 }
 
 /// The JSON value of the bytes.
@@ -130,98 +127,78 @@ pub fn parse<'a>(
     }
 }
 
-/// The calls of a list, where it stands.
-fn calls_of(
-    alloc: Global,
-    items: Option<&[Tree<'_>]>,
-    shards: &Names,
-    servers: &Names,
-    faults: &mut Faults,
-) -> Result<Option<Vec<(ShardId, ServerId, Call)>>, AllocError>
-    ensures calls { IfOk result (λ calls. option_map (λ list. list.items) calls
-        ≡ option_map (map (call_in shards.now servers.now)) (option_map (λ list. map view list.now) items.entry)) }
-    ensures faults { OnOk result (faults.new.lowest
-        ≡ noted faults.old.lowest (walked (call_faults shards.now servers.now) [] (unwrap_or (option_map (λ list. map view list.now) items.entry) []))) }
-{
-    match items {
-        Some(items) => Ok(Some(read_calls(alloc, items, shards, servers, faults)?)),
-        None => Ok(None),
+const DOCUMENT: &[Rule] = &[
+    Rule::One(Member::Limit, Form::Whole(DOWN_LIMIT)),
+    Rule::One(Member::Servers, Form::List(MOST_SERVERS)),
+    Rule::One(Member::Shards, Form::List(MOST_SHARDS)),
+    Rule::Maybe(Member::Log, Form::Whole(MOST_PLACES)),
+    Rule::Maybe(Member::Calls, Form::List(MOST_EVENTS)),
+    Rule::Maybe(Member::Plan, Form::Object),
+    Rule::Maybe(Member::Plans, Form::List(MOST_PLANS)),
+    Rule::Maybe(Member::Events, Form::List(MOST_EVENTS)),
+    Rule::Maybe(Member::Moves, Form::List(MOST_MOVES)),
+    Rule::Maybe(Member::Drain, Form::Server),
+    Rule::Maybe(Member::Asks, Form::Asks),
+];
+
+/// A shard that is asked for. What is wrong with it is a fault of the document itself.
+impl Entry for ShardId {
+    ghost use Rattle.std.specs.Prelude.{[], unwrap_or};
+    ghost use Rattle.sm_plan_text.specs.Values.{id_named};
+
+    ghost value = { λ scope entry. unwrap_or (id_named scope.shards.now entry) 0 };
+
+    ghost faults_of = { λ scope parent entry. [] };
+
+    fn read(place: &Place<'_, '_>, _faults: &mut Faults) -> Result<Self, AllocError> {
+        Ok(shard_named(place.tree, place.scope.shards))
     }
 }
 
-/// The members that a document knows.
-fn members() -> &'static [Member]
-    ensures { (shards servers : List (List ℕ)) → map text_of result.now ≡ map (λ row. text_of row.member) (document_table shards servers) }
+/// What a document says beside its servers and shards, whose names the scope has.
+fn read_work(place: &Place<'_, '_>, faults: &mut Faults) -> Result<Work, AllocError>
+    ensures work { IfOk result (λ work. HasIds place.now.scope → faults.new.lowest ≡ None → IsWork place.now.scope (view place.now.tree.now) work) }
+    ensures faults { OnOk result (faults.new.lowest ≡ work_noted place.now.scope (view place.now.tree.now) faults.old.lowest) }
 {
-    &[
-        Member::Limit,
-        Member::Servers,
-        Member::Shards,
-        Member::Log,
-        Member::Calls,
-        Member::Plan,
-        Member::Plans,
-        Member::Events,
-        Member::Moves,
-        Member::Drain,
-        Member::Asks,
-    ]
-}
-
-/// The server to empty.
-fn read_drain(document: &Tree<'_>, servers: &Names, faults: &mut Faults) -> Option<ServerId>
-    ensures drain { result ≡ option_and_then (id_named servers.now) (found members.Drain (view document.now)) }
-    ensures faults { faults.new.lowest ≡ noted faults.old.lowest (row_faults (view document.now) (maybe members.Drain (known servers.now))) }
-{
-    match reference_where_there(document, Member::Drain, servers, faults) {
-        Some(server) => Some(ServerId::new(server)),
-        None => None,
-    }
+    Ok(Work {
+        limit: place.number(Member::Limit, DOWN_LIMIT),
+        log: place.number_or(Member::Log, MOST_PLACES, LOG_PLACES),
+        calls: place.list_or_none(Member::Calls, faults)?,
+        plan: place.inner(Member::Plan, faults)?,
+        plans: place.list_or_none(Member::Plans, faults)?,
+        events: place.list_or_none(Member::Events, faults)?,
+        moves: place.list_or_none(Member::Moves, faults)?,
+        drain: place.server_found(Member::Drain),
+        asks: place.list(Member::Asks, faults)?,
+    })
 }
 
 /// The parts of a document.
-#[tactic(auto, using(crate::proofs::WalkLemmas::noted_append))]
-fn read_parts(alloc: Global, value: &Tree<'_>, faults: &mut Faults) -> Result<Parts, AllocError>
-    ensures rows { IfOk result (λ parts. faults.new.lowest ≡ None → rows_of_parts parts ≡ rows_in (view value.now)) }
-    ensures faults { OnOk result (faults.new.lowest ≡ noted faults.old.lowest (document_faults (view value.now))) }
+fn read_parts(alloc: Global, tree: &Tree<'_>, faults: &mut Faults) -> Result<Parts, AllocError>
+    ensures rows { IfOk result (λ parts. faults.new.lowest ≡ None → rows_of_parts parts ≡ rows_in (view tree.now)) }
+    ensures faults { OnOk result (faults.new.lowest ≡ noted faults.old.lowest (document_faults (view tree.now))) }
 {
-    note_unknown(value, Member::Document, members(), faults);
-    let limit = number(value, Member::Limit, DOWN_LIMIT, faults);
-    let server_items = list(value, Member::Servers, MOST_SERVERS, faults);
-    let shard_items = list(value, Member::Shards, MOST_SHARDS, faults);
-    let log = number_or(value, Member::Log, LOG_PLACES, MOST_PLACES, faults);
-    let call_items = list_or_none(value, Member::Calls, MOST_EVENTS, faults);
-    let plan_object = inner_or_none(value, Member::Plan, faults);
-    let plan_items = list_or_none(value, Member::Plans, MOST_PLANS, faults);
-    let event_items = list_or_none(value, Member::Events, MOST_EVENTS, faults);
-    let move_items = list_or_none(value, Member::Moves, MOST_MOVES, faults);
     // Some members of the document name what stands in its lists, and their faults come before those of the lists.
-    let mut listed_faults = Faults { lowest: None };
-    let servers = read_servers(alloc, server_items, &mut listed_faults)?;
-    let shards = read_shards(alloc, shard_items, &servers.names, &mut listed_faults)?;
-    let drain = read_drain(value, &servers.names, faults);
-    let asks = read_asks(alloc, value, &shards.names, faults)?;
-    faults.append(listed_faults);
-    let calls = calls_of(alloc, call_items, &shards.names, &servers.names, faults)?;
-    let plan = read_plan_where_there(alloc, plan_object, &shards.names, &servers.names, faults)?;
-    let plans = read_plans(alloc, plan_items, &shards.names, &servers.names, faults)?;
-    let events = read_events(alloc, event_items, &shards.names, &servers.names, faults)?;
-    let moves = read_moves(alloc, move_items, &shards.names, &servers.names, faults)?;
+    let mut listed = Faults { lowest: None };
+    let names = Names::new(alloc);
+    let lists = Place::new(alloc, &*tree, Member::Document, &names, &names);
+    let servers = read_servers(alloc, lists.entries(Member::Servers), &mut listed)?;
+    let shard_items = lists.entries(Member::Shards);
+    let shards = read_shards(alloc, shard_items, &servers.names, &mut listed)?;
+    let place = Place::new(
+        alloc,
+        &*tree,
+        Member::Document,
+        &shards.names,
+        &servers.names,
+    );
+    place.note_own(DOCUMENT, faults)?;
+    faults.append(listed);
+    let work = read_work(&place, faults)?;
     Ok(Parts {
-        servers: servers.rows,
-        shards: shards.rows,
-        cells: shards.cells,
-        listed: shards.listed,
-        down: servers.down,
-        limit,
-        log,
-        calls,
-        plan,
-        plans,
-        events,
-        moves,
-        drain,
-        asks,
+        servers,
+        shards,
+        work,
     })
 }
 
@@ -248,21 +225,26 @@ fn from_value(alloc: Global, value: &Tree<'_>) -> Result<Document, TextFault>
     if let Some(fault) = faults.lowest {
         return Err(fault);
     }
-    let config = configuration(alloc, &parts.servers, &parts.shards)?;
+    let Parts {
+        servers,
+        shards,
+        work,
+    } = parts;
+    let config = configuration(alloc, &servers.rows, &shards.rows)?;
     Ok(Document {
         config,
-        cells: parts.cells,
-        listed: parts.listed,
-        down: parts.down,
-        limit: parts.limit,
-        log: parts.log,
-        calls: parts.calls,
-        plan: parts.plan,
-        plans: parts.plans,
-        events: parts.events,
-        moves: parts.moves,
-        drain: parts.drain,
-        asks: parts.asks,
+        cells: shards.cells,
+        listed: shards.listed,
+        down: servers.down,
+        limit: work.limit,
+        log: work.log,
+        calls: work.calls,
+        plan: work.plan,
+        plans: work.plans,
+        events: work.events,
+        moves: work.moves,
+        drain: work.drain,
+        asks: work.asks,
     })
 }
 

@@ -1,5 +1,5 @@
 //! What is wrong with a text.
-ghost use Rattle.std.specs.Prelude.{◌≡◌, List, [], ◌∷◌, MatchOption};
+ghost use Rattle.std.specs.Prelude.{◌≡◌, List, [], ◌∷◌, MatchOption, if◌then◌else◌};
 ghost use Rattle.sm_plan_text.specs.declared.fault.TextFault.{TextFault};
 ghost use Rattle.sm_plan_text.specs.Faults.{number_of, noted, answered, IsFirstOfLowest};
 
@@ -72,6 +72,15 @@ impl Faults {
                     self.lowest = Some(fault);
                 }
             }
+        }
+    }
+
+    /// Takes the next fault, unless the test holds.
+    pub fn note_unless(&mut self, holds: bool, fault: TextFault)
+        ensures { self.new.lowest ≡ noted self.old.lowest (if holds then [] else fault ∷ []) }
+    {
+        if !holds {
+            self.note(fault);
         }
     }
 

@@ -4,7 +4,6 @@ ghost use Rattle.json_tree.specs.View.{view};
 ghost use Rattle.sm_plan_text.specs.Tables.{texts_found, has_double_key};
 
 use crate::member::Member;
-use crate::object::text;
 use indexmap::IndexSet;
 use json_tree::Tree;
 use std::alloc::{AllocError, Global};
@@ -19,7 +18,10 @@ fn key_of<'t>(
 {
     let mut texts = Vec::with_capacity(alloc, members.len())?;
     for member in members {
-        let Some(text) = text(entry, *member) else {
+        let Some(value) = entry.get(member.text()) else {
+            return Ok(None);
+        };
+        let Some(text) = value.as_str() else {
             return Ok(None);
         };
         texts.push(text)?;

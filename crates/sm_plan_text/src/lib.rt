@@ -1,9 +1,9 @@
 //! Documents and plans as JSON: what they are read as, and how plans are written.
 #![tactic(auto)]
 
-mod asks;
 mod call;
 mod document;
+mod entry;
 mod event;
 mod fault;
 mod instruction;
@@ -12,12 +12,14 @@ mod limits;
 mod member;
 mod moves;
 mod names;
-mod object;
 mod parcel;
+mod place;
 mod plan;
 mod plan_text;
+mod rule;
 mod server;
 mod shard;
+mod word;
 mod writing;
 
 pub use document::{Document, read_document};

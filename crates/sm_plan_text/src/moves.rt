@@ -1,17 +1,11 @@
 //! The moves of a document.
-ghost use Rattle.std.specs.Prelude.{◌≡◌, [], map, option_map, unwrap_or, IfOk, OnOk};
-ghost use Rattle.json_tree.specs.View.{view};
-ghost use Rattle.sm_plan_text.specs.Faults.{noted};
-ghost use Rattle.sm_plan_text.specs.Tables.{walked};
-ghost use Rattle.sm_plan_text.specs.Moves.{move_faults, move_in};
-
+use crate::entry::Entry;
 use crate::fault::Faults;
 use crate::member::Member;
-use crate::names::Names;
-use crate::object::{note_unknown, reference};
-use json_tree::Tree;
+use crate::place::Place;
+use crate::rule::{FROM, Rule, SHARD, TO};
 use sm_server::{ServerId, ShardId};
-use std::alloc::{AllocError, Global};
+use std::alloc::AllocError;
 
 /// A replica of a shard that is to go from one server to another.
 #[derive(Clone, Copy, Debug, PartialEq, Eq)]
@@ -21,61 +15,22 @@ pub struct MoveText {
     pub to: ServerId,
 }
 
-/// One move.
-#[tactic(auto, using(crate::proofs::WalkLemmas::noted_append))]
-fn read_move(object: &Tree<'_>, shards: &Names, servers: &Names, faults: &mut Faults) -> MoveText
-    ensures move_text { result ≡ move_in shards.now servers.now (view object.now) }
-    ensures faults { faults.new.lowest ≡ noted faults.old.lowest (move_faults shards.now servers.now [] (view object.now)) }
-{
-    note_unknown(
-        object,
-        Member::Moves,
-        &[Member::Shard, Member::From, Member::To],
-        faults,
-    );
-    let shard = reference(object, Member::Shard, shards, faults);
-    let from = reference(object, Member::From, servers, faults);
-    let to = reference(object, Member::To, servers, faults);
-    MoveText {
-        shard: ShardId::new(shard),
-        from: ServerId::new(from),
-        to: ServerId::new(to),
-    }
-}
+const MOVE: &[Rule] = &[SHARD, FROM, TO];
 
-/// The moves of a list.
-fn read_list(
-    alloc: Global,
-    items: &[Tree<'_>],
-    shards: &Names,
-    servers: &Names,
-    faults: &mut Faults,
-) -> Result<Vec<MoveText>, AllocError>
-    ensures moves { IfOk result (λ moves. moves.items ≡ map (move_in shards.now servers.now) (map view items.now)) }
-    ensures faults { OnOk result (faults.new.lowest ≡ noted faults.old.lowest (walked (move_faults shards.now servers.now) [] (map view items.now))) }
-{
-    let mut moves = Vec::with_capacity(alloc, items.len())?;
-    for item in items {
-        moves.push(read_move(item, shards, servers, faults))?;
-    }
-    Ok(moves)
-}
+impl Entry for MoveText {
+    ghost use Rattle.sm_plan_text.specs.Tables.{own_faults};
+    ghost use Rattle.sm_plan_text.specs.Moves.{move_table, move_in};
 
-/// The moves of a list, where it stands.
-pub fn read_moves(
-    alloc: Global,
-    items: Option<&[Tree<'_>]>,
-    shards: &Names,
-    servers: &Names,
-    faults: &mut Faults,
-) -> Result<Option<Vec<MoveText>>, AllocError>
-    ensures moves { IfOk result (λ moves. option_map (λ list. list.items) moves
-        ≡ option_map (map (move_in shards.now servers.now)) (option_map (λ list. map view list.now) items.entry)) }
-    ensures faults { OnOk result (faults.new.lowest
-        ≡ noted faults.old.lowest (walked (move_faults shards.now servers.now) [] (unwrap_or (option_map (λ list. map view list.now) items.entry) []))) }
-{
-    match items {
-        Some(items) => Ok(Some(read_list(alloc, items, shards, servers, faults)?)),
-        None => Ok(None),
+    ghost value = { λ scope entry. move_in scope.shards.now scope.servers.now entry };
+
+    ghost faults_of = { λ scope parent entry. own_faults parent (move_table scope.shards.now scope.servers.now) entry };
+
+    fn read(place: &Place<'_, '_>, faults: &mut Faults) -> Result<Self, AllocError> {
+        place.note_own(MOVE, faults)?;
+        Ok(MoveText {
+            shard: place.shard(Member::Shard),
+            from: place.server(Member::From),
+            to: place.server(Member::To),
+        })
     }
 }

@@ -8,10 +8,11 @@ ghost use Rattle.sm_plan_code.specs.Plan.{IsKnownPlan};
 ghost use Rattle.sm_plan_text.specs.Reading.{read_plan, read_plan_data};
 
 use crate::document::parse;
+use crate::entry::Entry;
 use crate::fault::{Faults, TextFault};
 use crate::member::Member;
 use crate::names::Names;
-use crate::plan::read_plan_at;
+use crate::place::Place;
 use json_tree::{Scratch, Tree};
 use sm_placement::Config;
 use sm_plan_code::Plan;
@@ -53,21 +54,12 @@ fn from_value(alloc: Global, config: &Config, value: &Tree<'_>) -> Result<Plan, 
 {
     let shards = shard_names(alloc, config)?;
     let servers = server_names(alloc, config)?;
+    let place = Place::new(alloc, &*value, Member::Document, &shards, &servers);
     let mut faults = Faults { lowest: None };
-    let plan = read_plan_at(
-        alloc,
-        value,
-        Member::Document,
-        &shards,
-        &servers,
-        &mut faults,
-    )?;
-    if let Some(fault) = faults.lowest {
-        return Err(fault);
-    }
-    match plan {
-        Some(plan) => Ok(plan),
-        None => unreachable!(),
+    let plan = Plan::read(&place, &mut faults)?;
+    match faults.lowest {
+        Some(fault) => Err(fault),
+        None => Ok(plan),
     }
 }
 

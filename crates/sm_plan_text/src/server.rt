@@ -14,7 +14,8 @@ use crate::fault::Faults;
 use crate::limits::LOAD_LIMIT;
 use crate::member::Member;
 use crate::names::Names;
-use crate::object::{flag_or_false, id, name, new_name, note_unknown, number};
+use crate::place::{Place, id};
+use crate::rule::{Form, Rule};
 use json_tree::Tree;
 use sm_placement::Server;
 use sm_server::ServerId;
@@ -28,36 +29,12 @@ pub struct Servers {
     pub down: Vec<ServerId>,
 }
 
-/// One server, and whether it is down.
-#[tactic(auto, using(crate::proofs::WalkLemmas::noted_append))]
-fn read_server(
-    alloc: Global,
-    object: &Tree<'_>,
-    taken: &Names,
-    faults: &mut Faults,
-) -> Result<(Server, bool), AllocError>
-    ensures row { IfOk result (λ server. server_row server.0 ≡ server_in (view object.now)) }
-    ensures down { IfOk result (λ server. server.1 ≡ flag_in members.Down (view object.now)) }
-    ensures faults { OnOk result (faults.new.lowest
-        ≡ noted faults.old.lowest (own_faults members.Servers (server_table taken.now) (view object.now))) }
-{
-    note_unknown(
-        object,
-        Member::Servers,
-        &[Member::Name, Member::Region, Member::Room, Member::Down],
-        faults,
-    );
-    let name_text = new_name(alloc, object, Member::Name, taken, faults)?;
-    let region = name(alloc, object, Member::Region, faults)?;
-    let room = number(object, Member::Room, LOAD_LIMIT, faults);
-    let down = flag_or_false(object, Member::Down, faults);
-    let row = Server {
-        name: name_text,
-        region,
-        room: u64::from(room),
-    };
-    Ok((row, down))
-}
+const SERVER: &[Rule] = &[
+    Rule::One(Member::Name, Form::NewServer),
+    Rule::One(Member::Region, Form::Name),
+    Rule::One(Member::Room, Form::Whole(LOAD_LIMIT)),
+    Rule::Maybe(Member::Down, Form::Flag),
+];
 
 /// Adds a server that is down.
 fn add_down(down: &mut Vec<ServerId>, is_down: bool, index: usize) -> Result<(), AllocError>
@@ -84,10 +61,18 @@ fn add_server(
     ensures faults { OnOk result (faults.new.lowest
         ≡ noted faults.old.lowest (own_faults members.Servers (server_table servers.old.names) (view object.now))) }
 {
-    let (row, is_down) = read_server(alloc, object, &servers.names, faults)?;
-    let name = row.name.clone()?;
-    add_down(&mut servers.down, is_down, servers.rows.len())?;
+    let names = &servers.names;
+    let place = Place::new(alloc, object, Member::Servers, names, names);
+    place.note_own(SERVER, faults)?;
+    let row = Server {
+        name: place.name(Member::Name)?,
+        region: place.name(Member::Region)?,
+        room: u64::from(place.number(Member::Room, LOAD_LIMIT)),
+    };
+    let name = place.name(Member::Name)?;
+    let is_down = place.flag(Member::Down);
     servers.names.insert(name)?;
+    add_down(&mut servers.down, is_down, servers.rows.len())?;
     servers.rows.push(row)?;
     Ok(())
 }

@@ -15,9 +15,8 @@ use crate::fault::Faults;
 use crate::limits::{LOAD_LIMIT, WANT_LIMIT};
 use crate::member::Member;
 use crate::names::Names;
-use crate::object::{
-    id, list, new_name, note_unknown, number, reference, reference_or_none, role, whole_number,
-};
+use crate::place::{Place, id};
+use crate::rule::{Form, LISTED, Rule, SERVER};
 use json_tree::Tree;
 use sm_placement::{MOST_CELLS, MOST_REPLICAS, Shard};
 use sm_server::{Cell, Role, ServerId, ShardId};
@@ -36,69 +35,12 @@ pub struct Shards {
 }
 
 /// How many of a shard's replicas may be away at once at most.
-fn cap_limit(object: &Tree<'_>) -> u32
-    ensures { result ≡ cap_limit (view object.now) }
+fn cap_limit(shard: &Place<'_, '_>) -> u32
+    ensures { result ≡ cap_limit (view shard.now.tree.now) }
 {
-    match whole_number(object, Member::Want) {
+    match shard.whole_number(Member::Want) {
         Some(want) => want.min(WANT_LIMIT) as u32,
         None => MOST_REPLICAS,
-    }
-}
-
-/// What a shard says of itself, what the published map says of it, and its cells.
-#[tactic(auto, using(crate::proofs::WalkLemmas::noted_append))]
-fn read_shard<'a, 't>(
-    alloc: Global,
-    object: &'a Tree<'t>,
-    servers: &Names,
-    taken: &Names,
-    most_cells: usize,
-    faults: &mut Faults,
-) -> Result<(Shard, Option<ServerId>, &'a [Tree<'t>]), AllocError>
-    ensures row { IfOk result (λ read. shard_row read.0 ≡ shard_in (view object.now)) }
-    ensures listed { IfOk result (λ read. read.1 ≡ listed_in servers.now (view object.now)) }
-    ensures cells { IfOk result (λ read. map view read.2.now ≡ entries_in members.Cells (view object.now)) }
-    ensures faults { OnOk result (faults.new.lowest
-        ≡ noted faults.old.lowest (own_faults members.Shards (shard_table servers.now taken.now most_cells (view object.now)) (view object.now))) }
-{
-    note_unknown(
-        object,
-        Member::Shards,
-        &[
-            Member::Name,
-            Member::Load,
-            Member::Want,
-            Member::Cap,
-            Member::Spread,
-            Member::Listed,
-            Member::Cells,
-        ],
-        faults,
-    );
-    let name = new_name(alloc, object, Member::Name, taken, faults)?;
-    let load = number(object, Member::Load, LOAD_LIMIT, faults);
-    let want = number(object, Member::Want, MOST_REPLICAS, faults);
-    let cap = number(object, Member::Cap, cap_limit(object), faults);
-    let spread = number(object, Member::Spread, MOST_REPLICAS, faults);
-    let listed = reference_or_none(object, Member::Listed, servers, faults);
-    let cells = list(object, Member::Cells, most_cells, faults);
-    let row = Shard {
-        name,
-        load: u64::from(load),
-        want,
-        cap,
-        spread,
-    };
-    Ok((row, server_id(listed), cells))
-}
-
-/// The id that a number is.
-pub fn server_id(number: Option<u32>) -> Option<ServerId>
-    ensures { result ≡ number }
-{
-    match number {
-        Some(number) => Some(ServerId::new(number)),
-        None => None,
     }
 }
 
@@ -112,38 +54,51 @@ fn cell_of(role: Role) -> Cell
     }
 }
 
-/// One cell of a shard.
-#[tactic(auto, using(crate::proofs::WalkLemmas::noted_append))]
-fn read_cell(object: &Tree<'_>, shard: ShardId, servers: &Names, faults: &mut Faults) -> NamedCell
-    ensures cell { result ≡ named_cell servers.now shard (view object.now) }
-    ensures faults { faults.new.lowest ≡ noted faults.old.lowest (own_faults members.Cells (cell_table servers.now) (view object.now)) }
-{
-    note_unknown(
-        object,
-        Member::Cells,
-        &[Member::Server, Member::State],
-        faults,
-    );
-    let server = reference(object, Member::Server, servers, faults);
-    let state = role(object, Member::State, faults);
-    (shard, ServerId::new(server), cell_of(state))
-}
+const CELL: &[Rule] = &[SERVER, Rule::One(Member::State, Form::Role)];
 
 /// Reads the cells of a shard.
 fn add_cells(
-    items: &[Tree<'_>],
+    place: &Place<'_, '_>,
     shard: ShardId,
-    servers: &Names,
     cells: &mut Vec<NamedCell>,
     faults: &mut Faults,
 ) -> Result<(), AllocError>
-    ensures cells { OnOk result (cells.new.items ≡ cells.old.items ++ map (named_cell servers.now shard) (map view items.now)) }
-    ensures faults { OnOk result (faults.new.lowest ≡ noted faults.old.lowest (walked (cell_faults servers.now) [] (map view items.now))) }
+    ensures cells { OnOk result (cells.new.items ≡ cells.old.items ++ map (named_cell place.now.scope.servers.now shard) (entries_in members.Cells (view place.now.tree.now))) }
+    ensures faults { OnOk result (faults.new.lowest ≡ noted faults.old.lowest (walked (cell_faults place.now.scope.servers.now) [] (entries_in members.Cells (view place.now.tree.now)))) }
 {
-    for item in items {
-        cells.push(read_cell(item, shard, servers, faults))?;
+    let items = place.entries(Member::Cells);
+    for tree in items {
+        let cell = Place {
+            tree,
+            member: Member::Cells,
+            ..*place
+        };
+        cell.note_own(CELL, faults)?;
+        let state = cell_of(cell.role(Member::State));
+        cells.push((shard, cell.server(Member::Server), state))?;
     }
     Ok(())
+}
+
+/// Notes the faults of a shard itself.
+fn note_shard(
+    place: &Place<'_, '_>,
+    most_cells: usize,
+    faults: &mut Faults,
+) -> Result<(), AllocError>
+    ensures { OnOk result (faults.new.lowest ≡ noted faults.old.lowest
+        (own_faults place.now.member (shard_table place.now.scope.servers.now place.now.scope.shards.now most_cells (view place.now.tree.now)) (view place.now.tree.now))) }
+{
+    let rules = [
+        Rule::One(Member::Name, Form::NewShard),
+        Rule::One(Member::Load, Form::Whole(LOAD_LIMIT)),
+        Rule::One(Member::Want, Form::Whole(MOST_REPLICAS)),
+        Rule::One(Member::Cap, Form::Whole(cap_limit(place))),
+        Rule::One(Member::Spread, Form::Whole(MOST_REPLICAS)),
+        LISTED,
+        Rule::One(Member::Cells, Form::List(most_cells)),
+    ];
+    place.note_own(&rules, faults)
 }
 
 /// Reads one shard more.
@@ -163,19 +118,20 @@ fn add_shard(
         ≡ noted faults.old.lowest (faults_of_shard servers.now shards.old.names (length shards.old.cells.items) (view object.now))) }
 {
     let most_cells = MOST_CELLS.saturating_sub(shards.cells.len());
-    let (row, listed, cells) = read_shard(
-        alloc,
-        object,
-        servers,
-        &shards.names,
-        most_cells,
-        faults,
-    )?;
+    let place = Place::new(alloc, object, Member::Shards, &shards.names, servers);
+    note_shard(&place, most_cells, faults)?;
     let shard = ShardId::new(id(shards.rows.len()));
-    add_cells(cells, shard, servers, &mut shards.cells, faults)?;
-    let name = row.name.clone()?;
+    add_cells(&place, shard, &mut shards.cells, faults)?;
+    let row = Shard {
+        name: place.name(Member::Name)?,
+        load: u64::from(place.number(Member::Load, LOAD_LIMIT)),
+        want: place.number(Member::Want, MOST_REPLICAS),
+        cap: place.number(Member::Cap, cap_limit(&place)),
+        spread: place.number(Member::Spread, MOST_REPLICAS),
+    };
+    let name = place.name(Member::Name)?;
+    shards.listed.push(place.server_found(Member::Listed))?;
     shards.names.insert(name)?;
-    shards.listed.push(listed)?;
     shards.rows.push(row)?;
     Ok(())
 }

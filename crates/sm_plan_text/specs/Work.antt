@@ -1,0 +1,38 @@
+-- What a document says beside its servers and shards, whose names a scope has.
+use Rattle.std.specs.Prelude.{◌≡◌, [], Option, option_map, option_and_then, map}
+use Rattle.serde_json.specs.Data.{Data}
+use Rattle.sm_plan_text.specs.declared.fault.TextFault.{TextFault}
+use Rattle.sm_plan_text.specs.declared.document.Work.{Work}
+use Rattle.sm_plan_text.specs.declared.member.Member.TheVariants as members
+use Rattle.sm_plan_text.specs.declared.place.Scope.{Scope}
+use Rattle.sm_plan_text.specs.Faults.{noted}
+use Rattle.sm_plan_text.specs.Values.{found, number_in, number_or, list_in, entries_in, id_named, ids_in}
+use Rattle.sm_plan_text.specs.Tables.{walked}
+use Rattle.sm_plan_text.specs.Calls.{call_faults, call_in}
+use Rattle.sm_plan_text.specs.Plans.{faults_within, plan_faults, plan_in}
+use Rattle.sm_plan_text.specs.Events.{event_faults, event_in}
+use Rattle.sm_plan_text.specs.Moves.{move_faults, move_in}
+use Rattle.sm_plan_text.specs.declared.limits.TheConstants.{LOG_PLACES}
+use Rattle.sm_plan_code.specs.declared.limits.TheConstants.{MOST_PLACES}
+use Rattle.sm_placement.specs.declared.limits.TheConstants.{MOST_SERVERS}
+
+pub record IsWork (scope : Scope) (d : Data) (work : Work) : Type 0 where
+  pub limit : work.limit ≡ number_in members.Limit MOST_SERVERS d
+  pub log : work.log ≡ number_or LOG_PLACES members.Log MOST_PLACES d
+  pub calls : option_map (λ list. list.items) work.calls ≡ option_map (map (call_in scope.shards.now scope.servers.now)) (list_in members.Calls d)
+  pub plan : work.plan ≡ option_map (plan_in scope.shards.now scope.servers.now) (found members.Plan d)
+  pub plans : option_map (λ list. list.items) work.plans ≡ option_map (map (plan_in scope.shards.now scope.servers.now)) (list_in members.Plans d)
+  pub events : option_map (λ list. list.items) work.events ≡ option_map (map (event_in scope.shards.now scope.servers.now)) (list_in members.Events d)
+  pub moves : option_map (λ list. list.items) work.moves ≡ option_map (map (move_in scope.shards.now scope.servers.now)) (list_in members.Moves d)
+  pub drain : work.drain ≡ option_and_then (id_named scope.servers.now) (found members.Drain d)
+  pub asks : work.asks.items ≡ ids_in scope.shards.now members.Asks d
+
+-- what is answered once the faults of the document's lists and of its plan have come too
+abbrev pub work_noted : Scope → Data → Option TextFault → Option TextFault
+work_noted scope d best =
+    noted (noted (noted (noted (noted best
+    (walked (call_faults scope.shards.now scope.servers.now) [] (entries_in members.Calls d)))
+    (faults_within (plan_faults members.Plan scope.shards.now scope.servers.now []) (found members.Plan d)))
+    (walked (plan_faults members.Plans scope.shards.now scope.servers.now) [] (entries_in members.Plans d)))
+    (walked (event_faults scope.shards.now scope.servers.now) [] (entries_in members.Events d)))
+    (walked (move_faults scope.shards.now scope.servers.now) [] (entries_in members.Moves d))

@@ -1,0 +1,108 @@
+//! What stands in a list, or in a member, and is read as one value.
+ghost use Rattle.std.specs.Prelude.{◌≡◌, [], None, map, option_map, IfOk, OnOk};
+ghost use Rattle.json_tree.specs.View.{view};
+ghost use Rattle.sm_plan_text.specs.Faults.{noted};
+ghost use Rattle.sm_plan_text.specs.Values.{found, list_in, entries_in};
+ghost use Rattle.sm_plan_text.specs.Tables.{walked};
+ghost use Rattle.sm_plan_text.specs.Plans.{faults_within};
+ghost use Rattle.sm_plan_text.specs.Rules.{HasIds};
+
+use crate::fault::Faults;
+use crate::member::Member;
+use crate::place::Place;
+use json_tree::Tree;
+use std::alloc::AllocError;
+
+pub trait Entry: Drop {
+    ghost use Rattle.std.specs.Prelude.{◌≡◌, List, None, IfOk, OnOk};
+    ghost use Rattle.serde_json.specs.Data.{Data};
+    ghost use Rattle.json_tree.specs.View.{view};
+    ghost use Rattle.sm_plan_text.specs.declared.fault.TextFault.{TextFault};
+    ghost use Rattle.sm_plan_text.specs.declared.member.Member.{Member};
+    ghost use Rattle.sm_plan_text.specs.declared.place.Scope.{Scope};
+    ghost use Rattle.sm_plan_text.specs.Faults.{noted};
+    ghost use Rattle.sm_plan_text.specs.Rules.{HasIds};
+
+    /// What it is, where nothing is wrong.
+    ghost value: { Scope → Data → Self };
+
+    /// What is wrong with it where it stands in this member, or in a list there.
+    ghost faults_of: { Scope → Member → Data → List TextFault };
+
+    fn read(place: &Place<'_, '_>, faults: &mut Faults) -> Result<Self, AllocError>
+        ensures value { IfOk result (λ read. HasIds place.now.scope → faults.new.lowest ≡ None → read ≡ value place.now.scope (view place.now.tree.now)) }
+        ensures faults { OnOk result (faults.new.lowest ≡ noted faults.old.lowest (faults_of place.now.scope place.now.member (view place.now.tree.now))) };
+}
+
+impl<'p, 't> Place<'p, 't> {
+    /// What a member is, where it stands.
+    pub fn inner<T: Entry>(
+        &self,
+        member: Member,
+        faults: &mut Faults,
+    ) -> Result<Option<T>, AllocError>
+        ensures value { IfOk result (λ inner. HasIds self.now.scope → faults.new.lowest ≡ None
+            → inner ≡ option_map (T.value self.now.scope) (found member (view self.now.tree.now))) }
+        ensures faults { OnOk result (faults.new.lowest
+            ≡ noted faults.old.lowest (faults_within (T.faults_of self.now.scope member) (found member (view self.now.tree.now)))) }
+    {
+        let Some(tree) = self.find(member) else {
+            return Ok(None);
+        };
+        let place = Place {
+            tree,
+            member,
+            ..*self
+        };
+        Ok(Some(T::read(&place, faults)?))
+    }
+
+    /// What the entries of a list are, front to back.
+    fn read_all<T: Entry>(
+        &self,
+        items: &'p [Tree<'t>],
+        member: Member,
+        faults: &mut Faults,
+    ) -> Result<Vec<T>, AllocError>
+        ensures list { IfOk result (λ list. HasIds self.now.scope → faults.new.lowest ≡ None → list.items ≡ map (T.value self.now.scope) (map view items.now)) }
+        ensures faults { OnOk result (faults.new.lowest ≡ noted faults.old.lowest (walked (λ _ entry. T.faults_of self.now.scope member entry) [] (map view items.now))) }
+    {
+        let mut list = Vec::with_capacity(self.alloc, items.len())?;
+        for item in items {
+            let place = Place {
+                tree: item,
+                member,
+                ..*self
+            };
+            list.push(T::read(&place, faults)?)?;
+        }
+        Ok(list)
+    }
+
+    /// What the entries of a list are.
+    pub fn list<T: Entry>(&self, member: Member, faults: &mut Faults) -> Result<Vec<T>, AllocError>
+        ensures list { IfOk result (λ list. HasIds self.now.scope → faults.new.lowest ≡ None
+            → list.items ≡ map (T.value self.now.scope) (entries_in member (view self.now.tree.now))) }
+        ensures faults { OnOk result (faults.new.lowest
+            ≡ noted faults.old.lowest (walked (λ _ entry. T.faults_of self.now.scope member entry) [] (entries_in member (view self.now.tree.now)))) }
+    {
+        self.read_all(self.entries(member), member, faults)
+    }
+
+    /// What the entries of a list are that may be missing.
+    pub fn list_or_none<T: Entry>(
+        &self,
+        member: Member,
+        faults: &mut Faults,
+    ) -> Result<Option<Vec<T>>, AllocError>
+        ensures list { IfOk result (λ list. HasIds self.now.scope → faults.new.lowest ≡ None
+            → option_map (λ list. list.items) list ≡ option_map (map (T.value self.now.scope)) (list_in member (view self.now.tree.now))) }
+        ensures faults { OnOk result (faults.new.lowest
+            ≡ noted faults.old.lowest (walked (λ _ entry. T.faults_of self.now.scope member entry) [] (entries_in member (view self.now.tree.now)))) }
+    {
+        match self.items(member) {
+            Some(items) => Ok(Some(self.read_all(items, member, faults)?)),
+            None => Ok(None),
+        }
+    }
+}

@@ -1,0 +1,220 @@
+//! Where a text is read: a JSON value, the member that it stands in, and what it may name. A member of the value that is missing
+//! or not in its form stands for 0, false, or what is empty.
+ghost use Rattle.std.specs.Prelude.{◌≡◌, [], option_map, option_and_then, unwrap_or, map, false, IfOk, string_bytes};
+ghost use Rattle.json_tree.specs.View.{view};
+ghost use Rattle.sm_plan_text.specs.Values.{found, whole_number_of, text_found, text_in, flag_in, number_in, number_or, number_below, items_of, list_in, entries_in, id_of, id_named, id_in};
+
+use crate::member::Member;
+use crate::names::Names;
+use json_tree::Tree;
+use sm_server::{ServerId, ShardId};
+use std::alloc::{AllocError, Global};
+
+/// The names of the shards and servers, how many signals the plan has, and whether its streams say how many retries they have.
+#[derive(Clone, Copy)]
+pub struct Scope<'p> {
+    pub shards: &'p Names,
+    pub servers: &'p Names,
+    pub signals: usize,
+    pub retries: bool,
+}
+
+#[derive(Clone, Copy)]
+pub struct Place<'p, 't> {
+    pub alloc: Global,
+    pub tree: &'p Tree<'t>,
+    pub member: Member,
+    pub scope: Scope<'p>,
+}
+
+impl<'p, 't> Place<'p, 't> {
+    pub fn new(
+        alloc: Global,
+        tree: &'p Tree<'t>,
+        member: Member,
+        shards: &'p Names,
+        servers: &'p Names,
+    ) -> Self
+        ensures { result ≡ record {
+          alloc = alloc;
+          tree = tree.entry;
+          member = member;
+          scope = record { shards = shards.entry; servers = servers.entry; signals = 0; retries = false };
+        } }
+    {
+        let scope = Scope {
+            shards,
+            servers,
+            signals: 0,
+            retries: false,
+        };
+        Place {
+            alloc,
+            tree,
+            member,
+            scope,
+        }
+    }
+
+    /// The value of a member, where it stands.
+    pub fn find(&self, member: Member) -> Option<&'p Tree<'t>>
+        ensures { option_map (λ v. view v.now) result ≡ found member (view self.now.tree.now) }
+    {
+        self.tree.get(member.text())
+    }
+
+    /// The text of a member.
+    pub fn text(&self, member: Member) -> Option<&'t str>
+        ensures { option_map (λ s. s.now) result ≡ text_found member (view self.now.tree.now) }
+    {
+        self.find(member)?.as_str()
+    }
+
+    /// A copy of the text of a member.
+    pub fn name(&self, member: Member) -> Result<String, AllocError>
+        ensures { IfOk result (λ s. string_bytes s ≡ text_in member (view self.now.tree.now)) }
+    {
+        match self.text(member) {
+            Some(text) => String::from_str(self.alloc, text),
+            None => Ok(String::new(self.alloc)),
+        }
+    }
+
+    /// True or false.
+    pub fn flag(&self, member: Member) -> bool
+        ensures { result ≡ flag_in member (view self.now.tree.now) }
+    {
+        match self.find(member) {
+            Some(value) => value.as_bool().unwrap_or(false),
+            None => false,
+        }
+    }
+
+    /// The whole number that a member is.
+    pub fn whole_number(&self, member: Member) -> Option<u64>
+        ensures { result ≡ option_and_then whole_number_of (found member (view self.now.tree.now)) }
+    {
+        self.find(member)?.as_u64()
+    }
+
+    /// A whole number up to a limit, or the default where it is missing.
+    pub fn number_or(&self, member: Member, limit: u32, default: u32) -> u32
+        ensures { result ≡ number_or default member limit (view self.now.tree.now) }
+    {
+        let Some(value) = self.find(member) else {
+            return default;
+        };
+        match value.as_u64() {
+            Some(n) if n <= u64::from(limit) => n as u32,
+            _ => 0,
+        }
+    }
+
+    /// A whole number up to a limit.
+    pub fn number(&self, member: Member, limit: u32) -> u32
+        ensures { result ≡ number_in member limit (view self.now.tree.now) }
+    {
+        self.number_or(member, limit, 0)
+    }
+
+    /// The signal that a member is the number of.
+    pub fn signal(&self, member: Member) -> u32
+        ensures { result ≡ number_below self.now.scope.signals member (view self.now.tree.now) }
+    {
+        match self.whole_number(member) {
+            Some(n) if n < self.scope.signals as u64 => id(n as usize),
+            _ => 0,
+        }
+    }
+
+    /// The server that a member names, where it does.
+    pub fn server_found(&self, member: Member) -> Option<ServerId>
+        ensures { result ≡ option_and_then (id_named self.now.scope.servers.now) (found member (view self.now.tree.now)) }
+    {
+        let value = self.find(member)?;
+        let server = id_named(value, self.scope.servers)?;
+        Some(ServerId::new(server))
+    }
+
+    /// The server that a member names.
+    pub fn server(&self, member: Member) -> ServerId
+        ensures { result ≡ id_in self.now.scope.servers.now member (view self.now.tree.now) }
+    {
+        match self.find(member) {
+            Some(value) => ServerId::new(id_named(value, self.scope.servers).unwrap_or(0)),
+            None => ServerId::new(0),
+        }
+    }
+
+    /// The shard that a member names.
+    pub fn shard(&self, member: Member) -> ShardId
+        ensures { result ≡ id_in self.now.scope.shards.now member (view self.now.tree.now) }
+    {
+        match self.find(member) {
+            Some(value) => shard_named(value, self.scope.shards),
+            None => ShardId::new(0),
+        }
+    }
+
+    /// The entries of a list that may be missing.
+    pub fn items(&self, member: Member) -> Option<&'p [Tree<'t>]>
+        ensures { option_map (λ items. map view items.now) result ≡ list_in member (view self.now.tree.now) }
+    {
+        let value = self.find(member)?;
+        Some(items_of(value))
+    }
+
+    /// The entries of a list.
+    pub fn entries(&self, member: Member) -> &'p [Tree<'t>]
+        ensures { map view result.now ≡ entries_in member (view self.now.tree.now) }
+    {
+        let Some(value) = self.find(member) else {
+            return no_entries();
+        };
+        items_of(value)
+    }
+}
+
+/// A number as an id, which has 32 bits.
+pub fn id(n: usize) -> u32
+    ensures { result ≡ id_of n }
+{
+    match u32::try_from(n) {
+        Ok(id) => id,
+        Err(_) => 0,
+    }
+}
+
+/// The number of what a value names.
+fn id_named(value: &Tree<'_>, names: &Names) -> Option<u32>
+    ensures { result ≡ id_named names.now (view value.now) }
+{
+    let text = value.as_str()?;
+    let number = names.find(text)?;
+    Some(id(number))
+}
+
+/// The shard that a value names.
+pub fn shard_named(value: &Tree<'_>, shards: &Names) -> ShardId
+    ensures { result ≡ unwrap_or (id_named shards.now (view value.now)) 0 }
+{
+    ShardId::new(id_named(value, shards).unwrap_or(0))
+}
+
+/// The entries of what is no list.
+fn no_entries<'p, 't>() -> &'p [Tree<'t>]
+    ensures { result.now ≡ [] }
+{
+    &[]
+}
+
+/// The entries of a list.
+#[tactic(auto, using(crate::proofs::ObjectLemmas::entries_view))]
+pub fn items_of<'p, 't>(value: &'p Tree<'t>) -> &'p [Tree<'t>]
+    ensures { map view result.now ≡ items_of (view value.now) }
+{
+    let Some(items) = value.as_array() else {
+        return no_entries();
+    };
+    items
+}

@@ -1,0 +1,345 @@
+//! What the members of an object are to be, and the faults of one that is not so.
+ghost use Rattle.std.specs.Prelude.{◌≡◌, ◌∷◌, [], map, option_map, OnOk, if◌then◌else◌};
+ghost use Rattle.std.specs.List.{list_all, flat_map, cons_option};
+ghost use Rattle.serde_json.specs.Find.{as_str};
+ghost use Rattle.json_tree.specs.View.{view, members_view};
+ghost use Rattle.sm_placement.specs.Names.{is_name_byte, is_name};
+ghost use Rattle.sm_plan_text.specs.Members.{text_of};
+ghost use Rattle.sm_plan_text.specs.Faults.{noted};
+ghost use Rattle.sm_plan_text.specs.Tables.{is_among, has_unknown_member, object_faults, own_faults, row_faults, value_faults, entry_faults, whole, below, text, format, list, keyed};
+ghost use Rattle.sm_plan_text.specs.Rules.{has_form, want_of, member_of, row_of};
+
+use crate::fault::{Faults, TextFault};
+use crate::key::has_double_key;
+use crate::limits::MOST_ASKS;
+use crate::member::Member;
+use crate::names::Names;
+use crate::place::{Place, Scope, items_of};
+use crate::word::{after_of, role_of, state_of};
+use json_tree::Tree;
+use sm_plan_code::MOST_RIGHTS;
+use std::alloc::AllocError;
+
+/// What the value of a member is to be.
+#[derive(Clone, Copy)]
+pub enum Form {
+    /// A whole number up to a limit.
+    Whole(u32),
+    Flag,
+    Name,
+    /// A name that no server of the scope has.
+    NewServer,
+    /// A name that no shard of the scope has.
+    NewShard,
+    Role,
+    When,
+    State,
+    /// The name of a shard of the scope.
+    Shard,
+    Server,
+    ServerOrNull,
+    /// A list of at most so many entries.
+    List(usize),
+    /// The names of shards to ask for.
+    Asks,
+    /// A list of rights, no two of which are to the same cell of a shard at a server.
+    ByCell,
+    /// A list of rights, no two of which are of the same shard.
+    ByShard,
+    /// A list of rights, no two of which are of the same server.
+    ByServer,
+    Signal,
+    /// The format of a plan.
+    Format,
+    Object,
+}
+
+/// What a member is to be that may not be missing, or one that may.
+#[derive(Clone, Copy)]
+pub enum Rule {
+    One(Member, Form),
+    Maybe(Member, Form),
+}
+
+pub const SHARD: Rule = Rule::One(Member::Shard, Form::Shard);
+
+pub const SERVER: Rule = Rule::One(Member::Server, Form::Server);
+
+pub const OTHER: Rule = Rule::One(Member::Other, Form::Server);
+
+pub const FROM: Rule = Rule::One(Member::From, Form::Server);
+
+pub const TO: Rule = Rule::One(Member::To, Form::Server);
+
+pub const LISTED: Rule = Rule::Maybe(Member::Listed, Form::ServerOrNull);
+
+impl Rule {
+    fn member(self) -> Member
+        ensures { result ≡ member_of self }
+    {
+        match self {
+            Rule::One(member, _) | Rule::Maybe(member, _) => member,
+        }
+    }
+}
+
+fn is_name_byte(b: u8) -> bool
+    ensures { result ≡ is_name_byte b }
+{
+    b.is_ascii_alphanumeric() || b == b'-' || b == b'.' || b == b'_'
+}
+
+fn has_name_bytes(bytes: &[u8]) -> bool
+    ensures { result ≡ list_all is_name_byte bytes.now }
+{
+    bytes.iter().all(|b| is_name_byte(*b))
+}
+
+/// 1 to 32 letters, digits, `-`, `.` or `_`.
+fn is_name(text: &str) -> bool
+    ensures { result ≡ is_name text.now }
+{
+    1 <= text.len() && text.len() <= 32 && has_name_bytes(text.as_bytes())
+}
+
+/// The text is of the form, which is one of texts.
+fn has_form(text: &str, form: Form, scope: &Scope<'_>) -> bool
+    ensures { result ≡ has_form scope.now form text.now }
+{
+    match form {
+        Form::Name => is_name(text),
+        Form::NewServer => is_name(text) && !scope.servers.contains(text),
+        Form::NewShard => is_name(text) && !scope.shards.contains(text),
+        Form::Role => role_of(text).is_some(),
+        Form::When => after_of(text).is_some(),
+        Form::State => state_of(text).is_some(),
+        _ => false,
+    }
+}
+
+fn note_known(value: &Tree<'_>, member: Member, names: &Names, faults: &mut Faults)
+    ensures { faults.new.lowest ≡ noted faults.old.lowest (entry_faults member names.now (view value.now)) }
+{
+    match value.as_str() {
+        Some(text) => {
+            let is_known = names.find(text).is_some();
+            faults.note_unless(is_known, TextFault::UnknownName { member });
+        }
+        None => faults.note(TextFault::Shape { member }),
+    }
+}
+
+fn note_all_known(items: &[Tree<'_>], member: Member, names: &Names, faults: &mut Faults)
+    ensures { faults.new.lowest ≡ noted faults.old.lowest (flat_map (entry_faults member names.now) (map view items.now)) }
+{
+    for item in items {
+        note_known(item, member, names, faults);
+    }
+}
+
+/// The key is a member with a rule.
+fn has_rule(key: &str, rules: &[Rule]) -> bool
+    ensures { result ≡ is_among (map (λ rule. text_of (member_of rule)) rules.now) key.now }
+{
+    for rule in rules {
+        if key == rule.member().text() {
+            return true;
+        }
+    }
+    false
+}
+
+/// The key is the word, or a member with a rule.
+fn is_known(key: &str, word: Option<Member>, rules: &[Rule]) -> bool
+    ensures { result ≡ is_among (cons_option (option_map text_of word) (map (λ rule. text_of (member_of rule)) rules.now)) key.now }
+{
+    match word {
+        Some(word) => key == word.text() || has_rule(key, rules),
+        None => has_rule(key, rules),
+    }
+}
+
+fn has_unknown(members: &[(&str, Tree<'_>)], word: Option<Member>, rules: &[Rule]) -> bool
+    ensures { result ≡ has_unknown_member (cons_option (option_map text_of word) (map (λ rule. text_of (member_of rule)) rules.now)) (members_view members.now) }
+{
+    for member in members {
+        if !is_known(member.0, word, rules) {
+            return true;
+        }
+    }
+    false
+}
+
+/// Each call notes the faults of the value at a place, as it is to be so.
+impl<'p, 't> Place<'p, 't> {
+    fn note_whole(&self, limit: u32, faults: &mut Faults)
+        ensures { faults.new.lowest ≡ noted faults.old.lowest (value_faults self.now.member (whole limit) (view self.now.tree.now)) }
+    {
+        let member = self.member;
+        if !self.tree.is_number() {
+            faults.note(TextFault::Shape { member });
+            return;
+        }
+        match self.tree.as_u64() {
+            Some(n) if n <= u64::from(limit) => {}
+            _ => faults.note(TextFault::Number { member }),
+        }
+    }
+
+    fn note_signal(&self, faults: &mut Faults)
+        ensures { faults.new.lowest ≡ noted faults.old.lowest (value_faults self.now.member (below self.now.scope.signals) (view self.now.tree.now)) }
+    {
+        let member = self.member;
+        if !self.tree.is_number() {
+            faults.note(TextFault::Shape { member });
+            return;
+        }
+        match self.tree.as_u64() {
+            Some(n) if n < self.scope.signals as u64 => {}
+            Some(_) => faults.note(TextFault::UnknownName { member }),
+            None => faults.note(TextFault::Number { member }),
+        }
+    }
+
+    fn note_format(&self, faults: &mut Faults)
+        ensures { faults.new.lowest ≡ noted faults.old.lowest (value_faults self.now.member format (view self.now.tree.now)) }
+    {
+        let member = self.member;
+        if !self.tree.is_number() {
+            faults.note(TextFault::Shape { member });
+        } else if self.tree.as_u64() != Some(1) && self.tree.as_u64() != Some(2) {
+            faults.note(TextFault::Number { member });
+        }
+    }
+
+    fn note_text(&self, form: Form, faults: &mut Faults)
+        ensures { faults.new.lowest ≡ noted faults.old.lowest (value_faults self.now.member (text (has_form self.now.scope form)) (view self.now.tree.now)) }
+    {
+        let member = self.member;
+        match self.tree.as_str() {
+            Some(text) => {
+                let holds = has_form(text, form, &self.scope);
+                faults.note_unless(holds, TextFault::Shape { member });
+            }
+            None => faults.note(TextFault::Shape { member }),
+        }
+    }
+
+    #[tactic(auto, using(crate::proofs::ObjectLemmas::length_entries))]
+    fn note_list(&self, limit: usize, faults: &mut Faults)
+        ensures { faults.new.lowest ≡ noted faults.old.lowest (value_faults self.now.member (list limit) (view self.now.tree.now)) }
+    {
+        let member = self.member;
+        match self.tree.as_array() {
+            Some(items) => {
+                faults.note_unless(items.len() <= limit, TextFault::TooMany { member });
+            }
+            None => faults.note(TextFault::Shape { member }),
+        }
+    }
+
+    #[tactic(auto, using(crate::proofs::WalkLemmas::noted_append))]
+    fn note_keyed(&self, key: &[Member], faults: &mut Faults) -> Result<(), AllocError>
+        ensures { OnOk result (faults.new.lowest ≡ noted faults.old.lowest (value_faults self.now.member (keyed MOST_RIGHTS key.now) (view self.now.tree.now))) }
+    {
+        let member = self.member;
+        self.note_list(MOST_RIGHTS, faults);
+        let is_double = has_double_key(self.alloc, items_of(self.tree), key)?;
+        faults.note_unless(!is_double, TextFault::Shape { member });
+        Ok(())
+    }
+
+    #[tactic(auto, using(crate::proofs::WalkLemmas::noted_append))]
+    fn note_value(&self, form: Form, faults: &mut Faults) -> Result<(), AllocError>
+        ensures { OnOk result (faults.new.lowest ≡ noted faults.old.lowest (value_faults self.now.member (want_of self.now.scope form) (view self.now.tree.now))) }
+    {
+        let Place {
+            tree,
+            member,
+            scope,
+            ..
+        } = *self;
+        match form {
+            Form::Whole(limit) => self.note_whole(limit, faults),
+            Form::Flag => match tree.as_bool() {
+                Some(_) => {}
+                None => faults.note(TextFault::Shape { member }),
+            },
+            Form::Name | Form::NewServer | Form::NewShard | Form::Role | Form::When | Form::State =>
+                self.note_text(form, faults),
+            Form::Shard => note_known(tree, member, scope.shards, faults),
+            Form::Server => note_known(tree, member, scope.servers, faults),
+            Form::ServerOrNull => {
+                if !tree.is_null() {
+                    note_known(tree, member, scope.servers, faults);
+                }
+            }
+            Form::List(limit) => self.note_list(limit, faults),
+            Form::Asks => {
+                self.note_list(MOST_ASKS, faults);
+                note_all_known(items_of(tree), member, scope.shards, faults);
+            }
+            Form::ByCell => self.note_keyed(&[Member::Shard, Member::Server], faults)?,
+            Form::ByShard => self.note_keyed(&[Member::Shard], faults)?,
+            Form::ByServer => self.note_keyed(&[Member::Server], faults)?,
+            Form::Signal => self.note_signal(faults),
+            Form::Format => self.note_format(faults),
+            Form::Object => faults.note_unless(tree.is_object(), TextFault::Shape { member }),
+        }
+        Ok(())
+    }
+
+    /// One member of an object.
+    fn note_row(&self, rule: &Rule, faults: &mut Faults) -> Result<(), AllocError>
+        ensures { OnOk result (faults.new.lowest ≡ noted faults.old.lowest (row_faults (view self.now.tree.now) (row_of self.now.scope rule.now))) }
+    {
+        let (Rule::One(member, form) | Rule::Maybe(member, form)) = *rule;
+        if let Some(tree) = self.find(member) {
+            let place = Place {
+                tree,
+                member,
+                ..*self
+            };
+            return place.note_value(form, faults);
+        }
+        if let Rule::One(..) = *rule {
+            faults.note(TextFault::Shape { member });
+        }
+        Ok(())
+    }
+
+    /// The members of an object.
+    pub fn note_rows(&self, rules: &[Rule], faults: &mut Faults) -> Result<(), AllocError>
+        ensures { OnOk result (faults.new.lowest
+            ≡ noted faults.old.lowest (flat_map (row_faults (view self.now.tree.now)) (map (row_of self.now.scope) rules.now))) }
+    {
+        for rule in rules {
+            self.note_row(rule, faults)?;
+        }
+        Ok(())
+    }
+
+    /// An object that has no members beside its word and those with a rule.
+    pub fn note_unknown(&self, word: Option<Member>, rules: &[Rule], faults: &mut Faults)
+        ensures { faults.new.lowest ≡ noted faults.old.lowest
+            (object_faults self.now.member (cons_option (option_map text_of word) (map (λ rule. text_of (member_of rule)) rules.now)) (view self.now.tree.now)) }
+    {
+        let fault = TextFault::Shape {
+            member: self.member,
+        };
+        match self.tree.as_object() {
+            Some(members) => faults.note_unless(!has_unknown(members, word, rules), fault),
+            None => faults.note(fault),
+        }
+    }
+
+    /// An object with these members, without what stands in them.
+    pub fn note_own(&self, rules: &[Rule], faults: &mut Faults) -> Result<(), AllocError>
+        ensures { OnOk result (faults.new.lowest
+            ≡ noted faults.old.lowest (own_faults self.now.member (map (row_of self.now.scope) rules.now) (view self.now.tree.now))) }
+    {
+        self.note_unknown(None, rules, faults);
+        self.note_rows(rules, faults)?;
+        Ok(())
+    }
+}
