@@ -1,7 +1,7 @@
 -- The text of a plan, over the names of the shards and servers: what is written for it.
 use Rattle.std.specs.Prelude.{◌≡◌, ℕ, Bool, List, [], ◌∷◌, codes, map, slice_index_or, Option, Some, None, nat_lt, if◌then◌else◌}
 use Rattle.std.specs.List.{list_any}
-use Rattle.serde_json.specs.Data.{Data, Members, null, number, unsigned, string, array, object, no_members, member}
+use Rattle.serde_json.specs.Data.{Data, Members, null, number, unsigned, string, array, object, no_members, member, put}
 use Rattle.serde_json.specs.View.{items_of}
 use Rattle.serde_json.specs.Written.{compact_text}
 use Rattle.sm_server.specs.declared.call.Role.{Role}
@@ -118,6 +118,11 @@ prepare_data shards servers word s v other = saying (
     (Other, name_data servers other) ∷
     (Server, name_data servers v) ∷
     (Shard, name_data shards s) ∷ [])
+
+-- an instruction for a shard at a server, with one member more
+abbrev pub step_data : List (List ℕ) → List (List ℕ) → List ℕ → ℕ → ℕ → List ℕ → List ℕ → Data
+step_data shards servers word s v key text =
+    object (put key (string text) (put (text_of Shard) (name_data shards s) (put (text_of Server) (name_data servers v) (put (text_of Do) (string word) no_members))))
 
 -- an instruction of a shard alone
 abbrev pub entry_data : List (List ℕ) → List ℕ → ℕ → Data

@@ -2,14 +2,12 @@
 ghost use Rattle.std.specs.Prelude.{◌≡◌, ◌<◌, length, map, nat_lt, All, IfOk, IfSome, Some, Ok};
 ghost use Rattle.std.specs.List.{list_any};
 ghost use Rattle.serde_json.specs.View.{view};
-ghost use Rattle.sm_placement.specs.declared.lead.Lead.TheVariants.{Gone, At};
-ghost use Rattle.sm_plan_code.specs.declared.instruction.Instr.TheVariants.{Add, Drop, Change};
 ghost use Rattle.sm_placement.specs.Setup.{Setup, IsSetup, names_of_servers, names_of_shards};
-ghost use Rattle.sm_plan_code.specs.Plan.{PlanModel, IsPlan, IsKnownStream, IsKnownPlan};
+ghost use Rattle.sm_plan_code.specs.Plan.{PlanModel, IsPlan, IsKnownPlan};
 ghost use Rattle.sm_plan_text.specs.declared.member.Member.{Member};
 ghost use Rattle.sm_plan_text.specs.declared.member.Member.TheVariants as members;
 ghost use Rattle.sm_plan_text.specs.Reading.{data_of, read_plan};
-ghost use Rattle.sm_plan_text.specs.PlanTexts.{name_at, list_data, listed_data, role_text, plain_text, right_data, handover_data, crown_by_lead, crown_data, room_data, spare_data, parcel_data, prepare_data, entry_data, signal_data, instr_data, stream_data, plan_data, plan_text, IsReadBack};
+ghost use Rattle.sm_plan_text.specs.PlanTexts.{name_at, list_data, listed_data, role_text, plain_text, handover_data, step_data, plan_data, plan_text, IsReadBack};
 
 use serde_json::{Value, json};
 use sm_placement::{Config, Lead};
@@ -18,22 +16,101 @@ use sm_reservation::{CellRight, Crown, Parcel, PlainCell, Room, Spare};
 use sm_server::{Role, ServerId, ShardId};
 use std::alloc::{AllocError, Global};
 
-/// The name of a shard.
-#[tactic(auto, using(crate::proofs::Written::shard_name_at))]
-fn shard_name(config: &Config, shard: ShardId) -> &str
-    requires { shard < length config.now.shards }
-    ensures { result.now ≡ name_at (names_of_shards config.now) shard }
-{
-    config.shard(shard).name.as_str()
+/// Writes over the names of a configuration, with the retries of streams or without.
+#[derive(Clone, Copy)]
+struct Writer<'c> {
+    alloc: Global,
+    config: &'c Config,
+    retries: bool,
 }
 
-/// The name of a server.
-#[tactic(auto, using(crate::proofs::Written::server_name_at))]
-fn server_name(config: &Config, server: ServerId) -> &str
-    requires { server < length config.now.servers }
-    ensures { result.now ≡ name_at (names_of_servers config.now) server }
-{
-    config.server(server).name.as_str()
+impl<'c> Writer<'c> {
+    #[tactic(auto, using(crate::proofs::Written::shard_name_at))]
+    fn shard(&self, shard: ShardId) -> &'c str
+        requires { shard < length self.now.config.now.shards }
+        ensures { result.now ≡ name_at (names_of_shards self.now.config.now) shard }
+    {
+        let config = self.config;
+        config.shard(shard).name.as_str()
+    }
+
+    #[tactic(auto, using(crate::proofs::Written::server_name_at))]
+    fn server(&self, server: ServerId) -> &'c str
+        requires { server < length self.now.config.now.servers }
+        ensures { result.now ≡ name_at (names_of_servers self.now.config.now) server }
+    {
+        let config = self.config;
+        config.server(server).name.as_str()
+    }
+
+    /// The name of the server that is listed, or null.
+    fn listed(&self, listed: Option<ServerId>) -> Result<Value, AllocError>
+        requires { IfSome listed (λ server. server < length self.now.config.now.servers) }
+        ensures { IfOk result (λ value. view value ≡ listed_data (names_of_servers self.now.config.now) listed) }
+    {
+        match listed {
+            Some(server) => Value::try_from_str(self.alloc, self.server(server)),
+            None => Ok(Value::Null),
+        }
+    }
+
+    /// A crown whose shard is being handed over.
+    fn handover(
+        &self,
+        word: &str,
+        from: ServerId,
+        to: ServerId,
+        crown: &Crown,
+    ) -> Result<Value, AllocError>
+        requires from { from < length self.now.config.now.servers }
+        requires to { to < length self.now.config.now.servers }
+        requires shard { crown.now.shard < length self.now.config.now.shards }
+        requires listed { IfSome crown.now.listed (λ server. server < length self.now.config.now.servers) }
+        ensures { IfOk result (λ value. view value ≡ handover_data (names_of_shards self.now.config.now) (names_of_servers self.now.config.now) word.now from to crown.now) }
+    {
+        let listed = self.listed(crown.listed)?;
+        json!(in self.alloc; {
+            "from": self.server(from),
+            "lead": word,
+            "listed": listed,
+            "shard": self.shard(crown.shard),
+            "to": self.server(to),
+        })
+    }
+
+    /// An instruction for a shard at a server, with one member more.
+    fn step(
+        &self,
+        word: &str,
+        shard: ShardId,
+        server: ServerId,
+        key: &str,
+        text: &str,
+    ) -> Result<Value, AllocError>
+        requires shard { shard < length self.now.config.now.shards }
+        requires server { server < length self.now.config.now.servers }
+        ensures { IfOk result (λ value. view value ≡ step_data (names_of_shards self.now.config.now) (names_of_servers self.now.config.now) word.now shard server key.now text.now) }
+    {
+        json!(in self.alloc; {
+            "do": word,
+            "server": self.server(server),
+            "shard": self.shard(shard),
+            (key): text,
+        })
+    }
+
+    /// A list.
+    fn list<T: PlanPart>(&self, items: &[T]) -> Result<Value, AllocError>
+        requires { All (T.fits (length self.now.config.now.shards) (length self.now.config.now.servers)) items.now }
+        ensures { IfOk result (λ value. view value
+            ≡ list_data (map (T.written_as (names_of_shards self.now.config.now) (names_of_servers self.now.config.now) self.now.retries) items.now)) }
+    {
+        let mut values = Vec::with_capacity(self.alloc, items.len())?;
+        for item in items {
+            values.push(item.value(self)?)?;
+        }
+        Ok(Value::Array(values))
+    }
 }
 
 fn role_word(role: Role) -> &'static str
@@ -54,177 +131,9 @@ fn state_word(state: PlainCell) -> &'static str
     }
 }
 
-/// The name of the server that is listed, or null.
-fn listed_value(
-    alloc: Global,
-    config: &Config,
-    listed: Option<ServerId>,
-) -> Result<Value, AllocError>
-    requires { IfSome listed (λ server. server < length config.now.servers) }
-    ensures { IfOk result (λ value. view value ≡ listed_data (names_of_servers config.now) listed) }
-{
-    match listed {
-        Some(server) => Value::try_from_str(alloc, server_name(config, server)),
-        None => Ok(Value::Null),
-    }
-}
-
-/// A crown whose shard is being handed over.
-fn handover_value(
-    alloc: Global,
-    config: &Config,
-    word: &str,
-    from: ServerId,
-    to: ServerId,
-    crown: &Crown,
-) -> Result<Value, AllocError>
-    requires from { from < length config.now.servers }
-    requires to { to < length config.now.servers }
-    requires shard { crown.now.shard < length config.now.shards }
-    requires listed { IfSome crown.now.listed (λ server. server < length config.now.servers) }
-    ensures { IfOk result (λ value. view value ≡ handover_data (names_of_shards config.now) (names_of_servers config.now) word.now from to crown.now) }
-{
-    let listed = listed_value(alloc, config, crown.listed)?;
-    json!(in alloc; {
-        "from": server_name(config, from),
-        "lead": word,
-        "listed": listed,
-        "shard": shard_name(config, crown.shard),
-        "to": server_name(config, to),
-    })
-}
-
-/// A crown whose shard has no primary.
-fn gone_value(alloc: Global, config: &Config, crown: &Crown) -> Result<Value, AllocError>
-    requires shard { crown.now.shard < length config.now.shards }
-    requires listed { IfSome crown.now.listed (λ server. server < length config.now.servers) }
-    ensures { IfOk result (λ value. view value ≡ crown_by_lead (names_of_shards config.now) (names_of_servers config.now) Gone crown.now) }
-{
-    let listed = listed_value(alloc, config, crown.listed)?;
-    json!(in alloc; {"lead": "gone", "listed": listed, "shard": shard_name(config, crown.shard)})
-}
-
-/// A crown whose shard's primary stands at a server.
-fn at_value(
-    alloc: Global,
-    config: &Config,
-    server: ServerId,
-    crown: &Crown,
-) -> Result<Value, AllocError>
-    requires server { server < length config.now.servers }
-    requires shard { crown.now.shard < length config.now.shards }
-    requires listed { IfSome crown.now.listed (λ server. server < length config.now.servers) }
-    ensures { IfOk result (λ value. view value ≡ crown_by_lead (names_of_shards config.now) (names_of_servers config.now) (At server) crown.now) }
-{
-    let listed = listed_value(alloc, config, crown.listed)?;
-    json!(in alloc; {
-        "lead": "at",
-        "listed": listed,
-        "server": server_name(config, server),
-        "shard": shard_name(config, crown.shard),
-    })
-}
-
-/// A step of a handover.
-fn prepare_value(
-    alloc: Global,
-    config: &Config,
-    word: &str,
-    shard: ShardId,
-    server: ServerId,
-    other: ServerId,
-) -> Result<Value, AllocError>
-    requires shard { shard < length config.now.shards }
-    requires server { server < length config.now.servers }
-    requires other { other < length config.now.servers }
-    ensures { IfOk result (λ value. view value ≡ prepare_data (names_of_shards config.now) (names_of_servers config.now) word.now shard server other) }
-{
-    json!(in alloc; {
-        "do": word,
-        "other": server_name(config, other),
-        "server": server_name(config, server),
-        "shard": shard_name(config, shard),
-    })
-}
-
-fn add_value(
-    alloc: Global,
-    config: &Config,
-    shard: ShardId,
-    server: ServerId,
-    role: Role,
-) -> Result<Value, AllocError>
-    requires shard { shard < length config.now.shards }
-    requires server { server < length config.now.servers }
-    ensures { IfOk result (λ value. view value ≡ instr_data (names_of_shards config.now) (names_of_servers config.now) (Add shard server role)) }
-{
-    json!(in alloc; {
-        "do": "add",
-        "role": role_word(role),
-        "server": server_name(config, server),
-        "shard": shard_name(config, shard),
-    })
-}
-
-fn drop_value(
-    alloc: Global,
-    config: &Config,
-    shard: ShardId,
-    server: ServerId,
-) -> Result<Value, AllocError>
-    requires shard { shard < length config.now.shards }
-    requires server { server < length config.now.servers }
-    ensures { IfOk result (λ value. view value ≡ instr_data (names_of_shards config.now) (names_of_servers config.now) (Drop shard server)) }
-{
-    json!(in alloc; {
-        "do": "drop",
-        "server": server_name(config, server),
-        "shard": shard_name(config, shard),
-    })
-}
-
-fn change_value(
-    alloc: Global,
-    config: &Config,
-    shard: ShardId,
-    server: ServerId,
-    to: Role,
-) -> Result<Value, AllocError>
-    requires shard { shard < length config.now.shards }
-    requires server { server < length config.now.servers }
-    ensures { IfOk result (λ value. view value ≡ instr_data (names_of_shards config.now) (names_of_servers config.now) (Change shard server to)) }
-{
-    json!(in alloc; {
-        "do": "change",
-        "server": server_name(config, server),
-        "shard": shard_name(config, shard),
-        "to": role_word(to),
-    })
-}
-
-/// An instruction of a shard alone.
-fn entry_value(
-    alloc: Global,
-    config: &Config,
-    word: &str,
-    shard: ShardId,
-) -> Result<Value, AllocError>
-    requires { shard < length config.now.shards }
-    ensures { IfOk result (λ value. view value ≡ entry_data (names_of_shards config.now) word.now shard) }
-{
-    json!(in alloc; {"do": word, "shard": shard_name(config, shard)})
-}
-
-/// An instruction of a signal.
-fn signal_value(alloc: Global, word: &str, signal: u32) -> Result<Value, AllocError>
-    ensures { IfOk result (λ value. view value ≡ signal_data word.now signal) }
-{
-    json!(in alloc; {"do": word, "signal": signal})
-}
-
 /// What is written over the names of a configuration.
 trait PlanPart {
-    ghost use Rattle.std.specs.Prelude.{◌≡◌, ℕ, List, length, IfOk};
+    ghost use Rattle.std.specs.Prelude.{◌≡◌, ℕ, Bool, List, length, IfOk};
     ghost use Rattle.serde_json.specs.Data.{Data};
     ghost use Rattle.serde_json.specs.View.{view};
     ghost use Rattle.sm_placement.specs.Setup.{Setup, IsSetup, names_of_servers, names_of_shards};
@@ -232,12 +141,13 @@ trait PlanPart {
     /// Its ids are of so many shards and servers.
     ghost fits: { ℕ → ℕ → Self → Type 0 };
 
-    /// What it is written as over the names of the shards and of the servers.
-    ghost written_as: { List (List ℕ) → List (List ℕ) → Self → Data };
+    /// What it is written as over the names of the shards and of the servers, with retries or without.
+    ghost written_as: { List (List ℕ) → List (List ℕ) → Bool → Self → Data };
 
-    fn value(&self, alloc: Global, config: &Config) -> Result<Value, AllocError>
-        requires { fits (length config.now.shards) (length config.now.servers) self.now }
-        ensures { IfOk result (λ value. view value ≡ written_as (names_of_shards config.now) (names_of_servers config.now) self.now) };
+    fn value(&self, writer: &Writer<'_>) -> Result<Value, AllocError>
+        requires { fits (length writer.now.config.now.shards) (length writer.now.config.now.servers) self.now }
+        ensures { IfOk result (λ value. view value
+            ≡ written_as (names_of_shards writer.now.config.now) (names_of_servers writer.now.config.now) writer.now.retries self.now) };
 }
 
 impl PlanPart for CellRight {
@@ -246,12 +156,12 @@ impl PlanPart for CellRight {
 
     ghost fits = { IsKnownCellRight };
 
-    ghost written_as = { right_data };
+    ghost written_as = { λ shards servers retries right. right_data shards servers right };
 
-    fn value(&self, alloc: Global, config: &Config) -> Result<Value, AllocError> {
-        json!(in alloc; {
-            "server": server_name(config, self.server),
-            "shard": shard_name(config, self.shard),
+    fn value(&self, writer: &Writer<'_>) -> Result<Value, AllocError> {
+        json!(in writer.alloc; {
+            "server": writer.server(self.server),
+            "shard": writer.shard(self.shard),
             "state": state_word(self.state),
         })
     }
@@ -263,15 +173,27 @@ impl PlanPart for Crown {
 
     ghost fits = { IsKnownCrown };
 
-    ghost written_as = { crown_data };
+    ghost written_as = { λ shards servers retries crown. crown_data shards servers crown };
 
-    fn value(&self, alloc: Global, config: &Config) -> Result<Value, AllocError> {
+    fn value(&self, writer: &Writer<'_>) -> Result<Value, AllocError> {
         match self.lead {
-            Lead::Gone => gone_value(alloc, config, self),
-            Lead::At(server) => at_value(alloc, config, server, self),
-            Lead::Ready(from, to) => handover_value(alloc, config, "ready", from, to, self),
-            Lead::Handing(from, to) => handover_value(alloc, config, "handing", from, to, self),
-            Lead::Handed(from, to) => handover_value(alloc, config, "handed", from, to, self),
+            Lead::Gone => {
+                let listed = writer.listed(self.listed)?;
+                let shard = writer.shard(self.shard);
+                json!(in writer.alloc; {"lead": "gone", "listed": listed, "shard": shard})
+            }
+            Lead::At(server) => {
+                let listed = writer.listed(self.listed)?;
+                json!(in writer.alloc; {
+                    "lead": "at",
+                    "listed": listed,
+                    "server": writer.server(server),
+                    "shard": writer.shard(self.shard),
+                })
+            }
+            Lead::Ready(from, to) => writer.handover("ready", from, to, self),
+            Lead::Handing(from, to) => writer.handover("handing", from, to, self),
+            Lead::Handed(from, to) => writer.handover("handed", from, to, self),
         }
     }
 }
@@ -282,10 +204,10 @@ impl PlanPart for Room {
 
     ghost fits = { λ shards servers room. room.server < servers };
 
-    ghost written_as = { λ shards servers room. room_data servers room };
+    ghost written_as = { λ shards servers retries room. room_data servers room };
 
-    fn value(&self, alloc: Global, config: &Config) -> Result<Value, AllocError> {
-        json!(in alloc; {"amount": self.amount, "server": server_name(config, self.server)})
+    fn value(&self, writer: &Writer<'_>) -> Result<Value, AllocError> {
+        json!(in writer.alloc; {"amount": self.amount, "server": writer.server(self.server)})
     }
 }
 
@@ -295,10 +217,10 @@ impl PlanPart for Spare {
 
     ghost fits = { λ shards servers spare. spare.shard < shards };
 
-    ghost written_as = { λ shards servers spare. spare_data shards spare };
+    ghost written_as = { λ shards servers retries spare. spare_data shards spare };
 
-    fn value(&self, alloc: Global, config: &Config) -> Result<Value, AllocError> {
-        json!(in alloc; {"amount": self.amount, "shard": shard_name(config, self.shard)})
+    fn value(&self, writer: &Writer<'_>) -> Result<Value, AllocError> {
+        json!(in writer.alloc; {"amount": self.amount, "shard": writer.shard(self.shard)})
     }
 }
 
@@ -308,14 +230,14 @@ impl PlanPart for Parcel {
 
     ghost fits = { IsKnownParcel };
 
-    ghost written_as = { parcel_data };
+    ghost written_as = { λ shards servers retries parcel. parcel_data shards servers parcel };
 
-    fn value(&self, alloc: Global, config: &Config) -> Result<Value, AllocError> {
-        let cells = list_value(alloc, config, self.cells())?;
-        let crowns = list_value(alloc, config, self.crowns())?;
-        let room = list_value(alloc, config, self.room())?;
-        let spare = list_value(alloc, config, self.spare())?;
-        json!(in alloc; {"cells": cells, "crowns": crowns, "room": room, "spare": spare})
+    fn value(&self, writer: &Writer<'_>) -> Result<Value, AllocError> {
+        let cells = writer.list(self.cells())?;
+        let crowns = writer.list(self.crowns())?;
+        let room = writer.list(self.room())?;
+        let spare = writer.list(self.spare())?;
+        json!(in writer.alloc; {"cells": cells, "crowns": crowns, "room": room, "spare": spare})
     }
 }
 
@@ -325,86 +247,72 @@ impl PlanPart for Instr {
 
     ghost fits = { IsKnownInstr };
 
-    ghost written_as = { instr_data };
+    ghost written_as = { λ shards servers retries instr. instr_data shards servers instr };
 
-    fn value(&self, alloc: Global, config: &Config) -> Result<Value, AllocError> {
+    fn value(&self, writer: &Writer<'_>) -> Result<Value, AllocError> {
+        let alloc = writer.alloc;
         match *self {
             Instr::PrepareAdd {
                 shard,
                 server,
                 owner,
-            } => prepare_value(alloc, config, "prepare_add", shard, server, owner),
+            } => writer.step("prepare_add", shard, server, "other", writer.server(owner)),
             Instr::PrepareDrop {
                 shard,
                 server,
                 new_owner,
-            } => prepare_value(alloc, config, "prepare_drop", shard, server, new_owner),
+            } => writer.step(
+                "prepare_drop",
+                shard,
+                server,
+                "other",
+                writer.server(new_owner),
+            ),
             Instr::Add {
                 shard,
                 server,
                 role,
-            } => add_value(alloc, config, shard, server, role),
-            Instr::Drop { shard, server } => drop_value(alloc, config, shard, server),
-            Instr::Change { shard, server, to } => change_value(alloc, config, shard, server, to),
-            Instr::Publish { shard } => entry_value(alloc, config, "publish", shard),
-            Instr::Unlist { shard } => entry_value(alloc, config, "unlist", shard),
-            Instr::Signal { signal } => signal_value(alloc, "signal", signal),
-            Instr::Wait { signal } => signal_value(alloc, "wait", signal),
+            } => writer.step("add", shard, server, "role", role_word(role)),
+            Instr::Drop { shard, server } => {
+                let (shard, server) = (writer.shard(shard), writer.server(server));
+                json!(in alloc; {"do": "drop", "server": server, "shard": shard})
+            }
+            Instr::Change { shard, server, to } => {
+                writer.step("change", shard, server, "to", role_word(to))
+            }
+            Instr::Publish { shard } => {
+                json!(in alloc; {"do": "publish", "shard": writer.shard(shard)})
+            }
+            Instr::Unlist { shard } => {
+                json!(in alloc; {"do": "unlist", "shard": writer.shard(shard)})
+            }
+            Instr::Signal { signal } => json!(in alloc; {"do": "signal", "signal": signal}),
+            Instr::Wait { signal } => json!(in alloc; {"do": "wait", "signal": signal}),
         }
     }
 }
 
-/// A list.
-fn list_value<T: PlanPart>(alloc: Global, config: &Config, items: &[T]) -> Result<Value, AllocError>
-    requires { All (T.fits (length config.now.shards) (length config.now.servers)) items.now }
-    ensures { IfOk result (λ value. view value ≡ list_data (map (T.written_as (names_of_shards config.now) (names_of_servers config.now)) items.now)) }
-{
-    let mut values = Vec::with_capacity(alloc, items.len())?;
-    for item in items {
-        values.push(item.value(alloc, config)?)?;
-    }
-    Ok(Value::Array(values))
-}
+impl PlanPart for Stream {
+    ghost use Rattle.sm_plan_code.specs.Plan.{IsKnownStream};
+    ghost use Rattle.sm_plan_text.specs.PlanTexts.{stream_data};
 
-/// A stream, with its retries in plans of format 2.
-fn stream_value(
-    alloc: Global,
-    config: &Config,
-    with_retries: bool,
-    stream: &Stream,
-) -> Result<Value, AllocError>
-    requires { IsKnownStream (length config.now.shards) (length config.now.servers) stream.now }
-    ensures { IfOk result (λ value. view value ≡ stream_data (names_of_shards config.now) (names_of_servers config.now) with_retries stream.now) }
-{
-    let code = list_value(alloc, config, stream.code.as_slice())?;
-    let holds = stream.holds.value(alloc, config)?;
-    if with_retries {
-        json!(in alloc; {
-            "budget": stream.budget,
+    ghost fits = { IsKnownStream };
+
+    ghost written_as = { stream_data };
+
+    fn value(&self, writer: &Writer<'_>) -> Result<Value, AllocError> {
+        let code = writer.list(self.code.as_slice())?;
+        let holds = self.holds.value(writer)?;
+        if !writer.retries {
+            return json!(in writer.alloc; {"budget": self.budget, "code": code, "holds": holds});
+        }
+        json!(in writer.alloc; {
+            "budget": self.budget,
             "code": code,
             "holds": holds,
-            "retries": stream.retries,
+            "retries": self.retries,
         })
-    } else {
-        json!(in alloc; {"budget": stream.budget, "code": code, "holds": holds})
     }
-}
-
-/// The streams of a plan.
-fn streams_value(
-    alloc: Global,
-    config: &Config,
-    with_retries: bool,
-    streams: &[Stream],
-) -> Result<Value, AllocError>
-    requires { All (IsKnownStream (length config.now.shards) (length config.now.servers)) streams.now }
-    ensures { IfOk result (λ value. view value ≡ list_data (map (stream_data (names_of_shards config.now) (names_of_servers config.now) with_retries) streams.now)) }
-{
-    let mut values = Vec::with_capacity(alloc, streams.len())?;
-    for stream in streams {
-        values.push(stream_value(alloc, config, with_retries, stream)?)?;
-    }
-    Ok(Value::Array(values))
 }
 
 /// Whether some stream has retries.
@@ -419,10 +327,15 @@ fn plan_value(alloc: Global, config: &Config, plan: &Plan) -> Result<Value, Allo
     requires { IsKnownPlan (length config.now.shards) (length config.now.servers) plan.now }
     ensures { IfOk result (λ value. view value ≡ plan_data (names_of_shards config.now) (names_of_servers config.now) plan.now) }
 {
-    let with_retries = has_retries(plan.streams());
-    let signals = list_value(alloc, config, plan.signals())?;
-    let streams = streams_value(alloc, config, with_retries, plan.streams())?;
-    let format = if with_retries { 2u32 } else { 1u32 };
+    let retries = has_retries(plan.streams());
+    let writer = Writer {
+        alloc,
+        config,
+        retries,
+    };
+    let signals = writer.list(plan.signals())?;
+    let streams = writer.list(plan.streams())?;
+    let format = if retries { 2u32 } else { 1u32 };
     json!(in alloc; {
         "budget": plan.budget(),
         "format": format,
