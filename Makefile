@@ -1,8 +1,9 @@
 # make run: runs the program on a bundled example, before any proof.    make build: proves and builds build/smplan.
 # make test: the gate, and what must run beside it.    make bench: seconds and memory of a large run.
 # make edits: tries all crates' wrong versions of tests/edits, over what the gate has built.
+# make storm: 1,000 runs of a plan of 64 streams beside askers and restarts.
 
-.PHONY: build run test edits check-program check-tests bench
+.PHONY: build run test edits check-program check-tests storm bench
 
 build:
 	mkdir -p build
@@ -35,6 +36,7 @@ check-program:
 	scripts/check-command-line
 	scripts/check-memory
 	scripts/check-threads
+	scripts/storm 20
 
 check-tests:
 	scripts/check-memory-tests sm_tests_json sm_tests_placement sm_tests_rights sm_tests_text sm_tests sm_tests_machine sm_tests_plans sm_tests_play sm_tests_board sm_tests_planner sm_map
@@ -44,6 +46,11 @@ check-tests:
 # (all crates' edits, over what the gate has built)
 edits:
 	scripts/try-edits
+
+# (over the program as it is now, and not as the gate may have built it before)
+storm:
+	rm -f crates/storm/out/storm
+	scripts/storm
 
 bench: build
 	scripts/bench

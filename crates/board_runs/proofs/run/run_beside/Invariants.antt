@@ -1,0 +1,25 @@
+-- The names of the board.
+use Rattle.std.proofs.Common.{◌^◌}
+use Rattle.sm_machine.specs.State.{state_of}
+use Rattle.board_runs.proofs.run.run_beside.Given as goal
+
+abbrev pub ghosts-run_on_ground-A-Side : goal.ghosts-run_on_ground-A-Side
+ghosts-run_on_ground-A-Side g a = record { all = 2 ^ 62 }
+
+abbrev pub ghosts-run_on_ground-A-Ledger : goal.ghosts-run_on_ground-A-Ledger
+ghosts-run_on_ground-A-Ledger g a = record { name = a.ground.steps; parts = 2 ^ 62 }
+
+abbrev pub ghosts-run_on_ground-B-Side : goal.ghosts-run_on_ground-B-Side
+ghosts-run_on_ground-B-Side g a = record { all = 2 ^ 62 }
+
+abbrev pub ghosts-run_on_ground-B-Ledger : goal.ghosts-run_on_ground-B-Ledger
+ghosts-run_on_ground-B-Ledger g a = record { name = a.ground.executed; parts = 2 ^ 62 }
+
+abbrev pub ghosts-run_on_ground-C-Side : goal.ghosts-run_on_ground-C-Side
+ghosts-run_on_ground-C-Side g a = record { all = 2 ^ 62 }
+
+abbrev pub ghosts-run_on_ground-C-Ledger : goal.ghosts-run_on_ground-C-Ledger
+ghosts-run_on_ground-C-Ledger g a = record { name = a.ground.refused; parts = 2 ^ 62 }
+
+abbrev pub ghosts-run_on_ground-N-Naming : goal.ghosts-run_on_ground-N-Naming
+ghosts-run_on_ground-N-Naming g a = record { words = a.ground.words; setup = a.ground.setup; opened = state_of a.machine }

@@ -1,0 +1,124 @@
+//! The places of those who work beside the streams of a run.
+ghost use Rattle.std.specs.Prelude.{◌≡◌, ◌≤◌, ◌+◌, [], length, vec_len, vec_capacity};
+
+use crate::finish::Finish;
+use crate::worker::Worker;
+use sm_executor::{Board, Caller, Naming, Side};
+use sm_machine::Permit;
+use std::alloc::Global;
+use std::mem;
+use std::rt::Clock;
+use std::sync::Wait;
+
+/// A worker's place: a caller for it, and the permit that it has left over. It can be neither copied nor dropped.
+pub(crate) struct Seat<B: Side, C: Side, N: Naming> {
+    caller: Caller<B, C, N>,
+    left: Option<Permit>,
+    ghost shards: { length N.words.opening ≡ length N.setup.shards },
+    ghost servers: { N.words.servers ≡ length N.setup.servers },
+}
+
+impl<B: Side, C: Side, N: Naming> Seat<B, C, N> {
+    fn new(caller: Caller<B, C, N>) -> Seat<B, C, N>
+        requires shards { length N.words.opening ≡ length N.setup.shards }
+        requires servers { N.words.servers ≡ length N.setup.servers }
+    {
+        Seat { caller, left: None }
+    }
+
+    /// A worker works here, if there is one, and none has left a permit over.
+    pub fn work<A: Side, W: Worker, R: Wait + Clock>(
+        &mut self,
+        rt: &R,
+        board: &Board<A, B, C, N>,
+        finish: &Finish,
+        worker: Option<&W>,
+    ) {
+        let Some(worker) = worker else {
+            return;
+        };
+        if self.left.is_some() {
+            return;
+        }
+        let left = worker.work(rt, board, &mut self.caller, finish);
+        match mem::replace(&mut self.left, left) {
+            None => {}
+            Some(_) => unreachable!(),
+        }
+    }
+}
+
+/// The seats of a run, with room for the callers and the permits of all. It can be neither copied nor dropped.
+pub(crate) struct Crew<B: Side, C: Side, N: Naming> {
+    pub seats: Vec<Seat<B, C, N>>,
+    callers: Vec<Caller<B, C, N>>,
+    permits: Vec<Permit>,
+    ghost callers_room: { vec_len callers + vec_len seats ≤ vec_capacity callers },
+    ghost permits_room: { vec_len permits + vec_len seats ≤ vec_capacity permits },
+}
+
+/// Adds so many seats to a list with room for them, if the board has callers for all.
+fn add_seats<A: Side, B: Side, C: Side, N: Naming, R: Wait>(
+    rt: &R,
+    board: &Board<A, B, C, N>,
+    seats: &mut Vec<Seat<B, C, N>>,
+    count: usize,
+)
+    requires none { seats.old.items ≡ [] }
+    requires room { count ≤ vec_capacity seats.old }
+    requires shards { length N.words.opening ≡ length N.setup.shards }
+    requires servers { N.words.servers ≡ length N.setup.servers }
+    ensures { vec_len seats.new ≤ count }
+{
+    for _ in 0..count {
+        if let Some(caller) = board.caller(rt) {
+            seats.push_reserved(Seat::new(caller));
+        }
+    }
+}
+
+impl<B: Side, C: Side, N: Naming> Crew<B, C, N> {
+    /// So many seats at a board, beside permits that were given out already and come back where memory is short.
+    pub fn new<A: Side, R: Wait>(
+        rt: &R,
+        alloc: Global,
+        board: &Board<A, B, C, N>,
+        permits: Vec<Permit>,
+        count: usize,
+    ) -> Result<Self, Vec<Permit>>
+        requires room { vec_len permits + count ≤ vec_capacity permits }
+        requires shards { length N.words.opening ≡ length N.setup.shards }
+        requires servers { N.words.servers ≡ length N.setup.servers }
+    {
+        let Ok(mut seats) = Vec::with_capacity(alloc, count) else {
+            return Err(permits);
+        };
+        let Ok(callers) = Vec::with_capacity(alloc, count) else {
+            seats.destroy_empty();
+            return Err(permits);
+        };
+        add_seats(rt, board, &mut seats, count);
+        Ok(Crew {
+            seats,
+            callers,
+            permits,
+        })
+    }
+
+    /// All callers and permits.
+    pub fn into_parts(self) -> (Vec<Caller<B, C, N>>, Vec<Permit>) {
+        let Crew {
+            mut seats,
+            mut callers,
+            mut permits,
+        } = self;
+        while let Some(Seat { caller, left }) = seats.pop() {
+            callers.push_reserved(caller);
+            if let Some(permit) = left {
+                permits.push_reserved(permit);
+            }
+        }
+        seats.destroy_empty();
+        (callers, permits)
+    }
+}

@@ -1,0 +1,24 @@
+//! The end of a run's streams.
+use std::sync::atomic::{AtomicU64, Ordering};
+
+/// Whether the streams of a run have come to rest, for those who work until then.
+#[derive(Drop)]
+pub struct Finish {
+    reached: AtomicU64,
+}
+
+impl Finish {
+    pub(crate) fn new() -> Finish {
+        Finish {
+            reached: AtomicU64::new(0),
+        }
+    }
+
+    pub(crate) fn reach(&self) {
+        self.reached.store(1, Ordering::SeqCst);
+    }
+
+    pub fn is_reached(&self) -> bool {
+        self.reached.load(Ordering::SeqCst) == 1
+    }
+}

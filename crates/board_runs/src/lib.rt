@@ -1,0 +1,15 @@
+//! Runs of a plan on a board of its own, beside threads that do something else with the board: for programs that try or time a board.
+#![tactic(auto)]
+
+mod crew;
+mod fault;
+mod finish;
+mod run;
+mod scope;
+mod streams;
+mod worker;
+
+pub use fault::Fault;
+pub use finish::Finish;
+pub use run::{is_for, run_beside};
+pub use worker::Worker;

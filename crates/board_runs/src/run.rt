@@ -1,0 +1,201 @@
+//! A run: a board is opened over a machine, a plan runs on it, and it is closed.
+ghost use Rattle.std.specs.Prelude.{◌≡◌, ◌≤◌, ◌<◌, ◌+◌, ◌^◌, IfOk, IsTrue, length, vec_len, vec_capacity};
+ghost use Rattle.sm_machine.specs.State.{state_of};
+ghost use Rattle.sm_executor.specs.Tied.{IsMapOf};
+
+use crate::crew::Crew;
+use crate::fault::Fault;
+use crate::scope::run_all;
+use crate::streams::Streams;
+use crate::worker::Worker;
+use sm_executor::{Board, Gate, Ground, Naming, Side};
+use sm_machine::{Machine, Permit, StreamToken};
+use sm_placement::Placement;
+use sm_verifier::Checked;
+use std::alloc::Global;
+use std::marker::Brand;
+use std::rt::Clock;
+use std::sync::Wait;
+use std::thread::Threads;
+
+/// The plan was checked for the machine's configuration.
+pub fn is_for(machine: &Machine, checked: &Checked) -> bool
+    ensures { IsTrue result → checked.now.setup ≡ machine.now.placement.setup }
+{
+    checked.config() == machine.config()
+}
+
+/// Closes a board with all that it and its machine have given out. An end of the run only where each worker has started.
+fn close<A: Side, B: Side, C: Side, N: Naming>(
+    alloc: Global,
+    board: Board<A, B, C, N>,
+    streams: Streams<A>,
+    crew: Crew<B, C, N>,
+    started: bool,
+) -> Result<Placement, Fault>
+    requires { (A.all ≡ A.parts) × (B.all ≡ B.parts) × (C.all ≡ C.parts) }
+    ensures { IfOk result (λ placement. placement.setup ≡ N.setup) }
+{
+    let ran = if started {
+        streams.ran()
+    } else {
+        Err(Fault::NoThread)
+    };
+    let (ended, tokens) = streams.into_parts();
+    let (callers, permits) = crew.into_parts();
+    match board.close(ended, callers) {
+        Ok(machine) => {
+            let placement = machine.give_up(tokens, permits, Vec::new(alloc));
+            match ran {
+                Ok(()) => Ok(placement),
+                Err(fault) => Err(fault),
+            }
+        }
+        Err(refused) => {
+            let (board, ended, callers) = refused.back();
+            let machine = board.give_up(ended, callers);
+            machine.give_up(tokens, permits, Vec::new(alloc));
+            Err(ran.err().unwrap_or(Fault::NotClosed))
+        }
+    }
+}
+
+/// Runs a plan on a board beside workers, and closes it. There is a list with room for the tokens of the plan's streams.
+fn run_on_board<
+    A: Side + Send + Sync,
+    B: Side + Send + Sync,
+    C: Side + Send + Sync,
+    N: Naming + Send + Sync,
+    W: Worker + Sync,
+    R: Threads + Wait + Clock + Sync,
+    G: Gate + Sync,
+>(
+    rt: &R,
+    alloc: Global,
+    board: Board<A, B, C, N>,
+    mut crew: Crew<B, C, N>,
+    tokens: Vec<StreamToken>,
+    checked: Checked,
+    workers: &[W],
+    gate: &G,
+) -> Result<Placement, Fault>
+    requires sides { (A.all ≡ A.parts) × (B.all ≡ B.parts) × (C.all ≡ C.parts) }
+    requires setup { checked.setup ≡ N.setup }
+    requires room { vec_len tokens + length checked.plan.streams ≤ vec_capacity tokens }
+    ensures { IfOk result (λ placement. placement.setup ≡ N.setup) }
+{
+    match board.begin(rt, alloc, checked) {
+        Ok(runners) => {
+            let mut streams = Streams::new(alloc, runners, tokens);
+            let seats = crew.seats.as_mut_slice();
+            let started = run_all(rt, alloc, &board, workers, gate, seats, &mut streams);
+            close(alloc, board, streams, crew, started)
+        }
+        Err(_) => {
+            let (callers, permits) = crew.into_parts();
+            let machine = board.give_up(Vec::new(alloc), callers);
+            machine.give_up(tokens, permits, Vec::new(alloc));
+            Err(Fault::NotBegun)
+        }
+    }
+}
+
+/// Runs a plan over a machine beside workers, on this ground of the machine.
+fn run_on_ground<
+    A: Side + Send + Sync,
+    B: Side + Send + Sync,
+    C: Side + Send + Sync,
+    N: Naming + Send + Sync,
+    W: Worker + Sync,
+    R: Threads + Wait + Clock + Sync,
+    G: Gate + Sync,
+>(
+    rt: &R,
+    alloc: Global,
+    machine: Machine,
+    permits: Vec<Permit>,
+    tokens: Vec<StreamToken>,
+    ground: Ground,
+    checked: Checked,
+    workers: &[W],
+    gate: &G,
+) -> Result<Placement, Fault>
+    requires map { IsMapOf ground.words (state_of machine) }
+    requires setup { (ground.setup ≡ machine.placement.setup) × (checked.setup ≡ N.setup) }
+    requires names { (ground.words ≡ N.words) × (ground.setup ≡ N.setup) × (state_of machine ≡ N.opened) }
+    requires steps { (ground.steps ≡ A.name) × (A.parts ≡ 2 ^ 62) × (A.all ≡ 2 ^ 62) }
+    requires executed { (ground.executed ≡ B.name) × (B.parts ≡ 2 ^ 62) × (B.all ≡ 2 ^ 62) }
+    requires refused { (ground.refused ≡ C.name) × (C.parts ≡ 2 ^ 62) × (C.all ≡ 2 ^ 62) }
+    requires shards { length N.words.opening ≡ length N.setup.shards }
+    requires servers { N.words.servers ≡ length N.setup.servers }
+    requires tokens { vec_len tokens + length checked.plan.streams ≤ vec_capacity tokens }
+    requires permits { vec_len permits + length workers.now ≤ vec_capacity permits }
+    ensures { IfOk result (λ placement. placement.setup ≡ N.setup) }
+{
+    let board = match Board::<A, B, C, N>::open(alloc, machine, ground) {
+        Ok(board) => board,
+        Err((machine, _ground, _error)) => {
+            machine.give_up(tokens, permits, Vec::new(alloc));
+            return Err(Fault::NoMemory);
+        }
+    };
+    match Crew::new(rt, alloc, &board, permits, workers.len()) {
+        Ok(crew) => run_on_board(rt, alloc, board, crew, tokens, checked, workers, gate),
+        Err(permits) => {
+            let machine = board.give_up(Vec::new(alloc), Vec::new(alloc));
+            machine.give_up(tokens, permits, Vec::new(alloc));
+            Err(Fault::NoMemory)
+        }
+    }
+}
+
+/// What a run needs memory for before its board is opened: the ground of the machine, room for the permits that so many workers may leave
+/// over, and for the tokens of a plan's streams.
+fn prepared(
+    alloc: Global,
+    machine: &Machine,
+    permits: &mut Vec<Permit>,
+    workers: usize,
+    checked: &Checked,
+) -> Result<(Ground, Vec<StreamToken>), Fault>
+    ensures map { IfOk result (λ r. IsMapOf r.0.words (state_of machine.now)) }
+    ensures setup { IfOk result (λ r. r.0.setup ≡ machine.now.placement.setup) }
+    ensures tokens { IfOk result (λ r. vec_len r.1 + length checked.now.plan.streams ≤ vec_capacity r.1) }
+    ensures permits { IfOk result (λ r. vec_len permits.new + workers ≤ vec_capacity permits.new) }
+{
+    if permits.reserve(workers).is_err() {
+        return Err(Fault::NoMemory);
+    }
+    let Ok(ground) = Ground::new(alloc, machine) else {
+        return Err(Fault::NoMemory);
+    };
+    match Vec::with_capacity(alloc, checked.plan().streams().len()) {
+        Ok(tokens) => Ok((ground, tokens)),
+        Err(_) => Err(Fault::NoMemory),
+    }
+}
+
+/// Runs a checked plan on a board over a machine in which none has begun, beside workers, each in a thread of its own. Answers the
+/// placement at which the board is closed, once all streams have made their ends and all workers are done.
+pub fn run_beside<W: Worker + Sync, R: Threads + Wait + Clock + Sync, G: Gate + Sync>(
+    rt: &R,
+    alloc: Global,
+    machine: Machine,
+    mut permits: Vec<Permit>,
+    checked: Checked,
+    workers: &[W],
+    gate: &G,
+) -> Result<Placement, Fault>
+    requires { checked.setup ≡ machine.placement.setup }
+    ensures { IfOk result (λ placement. placement.setup ≡ machine.placement.setup) }
+{
+    match prepared(alloc, &machine, &mut permits, workers.len(), &checked) {
+        Ok((ground, tokens)) => run_on_ground::<Brand, Brand, Brand, Brand, W, R, G>(
+            rt, alloc, machine, permits, tokens, ground, checked, workers, gate,
+        ),
+        Err(fault) => {
+            machine.give_up(Vec::new(alloc), permits, Vec::new(alloc));
+            Err(fault)
+        }
+    }
+}

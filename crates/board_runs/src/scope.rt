@@ -1,0 +1,111 @@
+//! The threads of a run.
+ghost use Rattle.std.specs.Prelude.{◌≡◌, length};
+
+use crate::crew::Seat;
+use crate::finish::Finish;
+use crate::streams::Streams;
+use crate::worker::Worker;
+use sm_executor::{Board, Gate, Naming, Side};
+use std::alloc::Global;
+use std::rt::Clock;
+use std::sync::Wait;
+use std::thread;
+use std::thread::{Scope, Threads};
+
+/// Starts a thread for each seat, in which the worker of the same number works. True only if all have started.
+fn start_workers<
+    's,
+    'r: 's,
+    A: Side + Send + Sync,
+    B: Side + Send + Sync,
+    C: Side + Send + Sync,
+    N: Naming + Send + Sync,
+    W: Worker + Sync,
+    R: Threads + Wait + Clock + Sync,
+>(
+    scope: &'s Scope<'s, &'r ()>,
+    rt: &'r R,
+    board: &'r Board<A, B, C, N>,
+    finish: &'r Finish,
+    workers: &'r [W],
+    seats: &'r mut [Seat<B, C, N>],
+) -> bool {
+    for (i, seat) in seats.iter_mut().enumerate() {
+        let worker = workers.get(i);
+        if scope
+            .spawn(move || seat.work(rt, board, finish, worker))
+            .is_err()
+        {
+            return false;
+        }
+    }
+    true
+}
+
+/// What the threads of a run are lent.
+#[derive(Drop)]
+struct Lent<'r, A: Side, B: Side, C: Side, N: Naming> {
+    seats: &'r mut [Seat<B, C, N>],
+    streams: &'r mut Streams<A>,
+}
+
+/// Starts the workers, and then runs the streams, if each worker has started. True only if each has.
+fn start_beside<
+    's,
+    'r: 's,
+    A: Side + Send + Sync,
+    B: Side + Send + Sync,
+    C: Side + Send + Sync,
+    N: Naming + Send + Sync,
+    W: Worker + Sync,
+    R: Threads + Wait + Clock + Sync,
+    G: Gate + Sync,
+>(
+    scope: &'s Scope<'s, &'r ()>,
+    rt: &'r R,
+    alloc: Global,
+    board: &'r Board<A, B, C, N>,
+    finish: &'r Finish,
+    workers: &'r [W],
+    gate: &'r G,
+    lent: Lent<'r, A, B, C, N>,
+) -> bool {
+    let Lent { seats, streams } = lent;
+    let all = start_workers(scope, rt, board, finish, workers, seats);
+    if all {
+        streams.run(rt, alloc, board, gate);
+    }
+    finish.reach();
+    all
+}
+
+/// Runs the streams beside the workers, each of which has a seat. True only if each worker has started.
+pub(crate) fn run_all<
+    A: Side + Send + Sync,
+    B: Side + Send + Sync,
+    C: Side + Send + Sync,
+    N: Naming + Send + Sync,
+    W: Worker + Sync,
+    R: Threads + Wait + Clock + Sync,
+    G: Gate + Sync,
+>(
+    rt: &R,
+    alloc: Global,
+    board: &Board<A, B, C, N>,
+    workers: &[W],
+    gate: &G,
+    seats: &mut [Seat<B, C, N>],
+    streams: &mut Streams<A>,
+) -> bool
+    ensures { length seats.new ≡ length seats.old }
+{
+    let finish = Finish::new();
+    let end = &finish;
+    let lent = Lent {
+        seats: &mut *seats,
+        streams: &mut *streams,
+    };
+    thread::scope(thread::scope_env(), rt, move |scope| {
+        start_beside(scope, rt, alloc, board, end, workers, gate, lent)
+    })
+}

@@ -1,0 +1,87 @@
+//! What a stream does.
+use crate::layout::{Shape, primary_of, secondary_of};
+use sm_plan_code::Instr;
+use sm_server::{Role, ServerId, ShardId};
+use std::alloc::{AllocError, Global};
+
+/// The stream so many behind another one, where the last is followed by the first.
+pub(crate) fn behind(shape: &Shape, stream: u32, by: u32) -> u32 {
+    stream.wrapping_add(by) % shape.streams.max(1)
+}
+
+/// Adds the handover of a primary from one server to another.
+fn push_handover(
+    code: &mut Vec<Instr>,
+    shard: ShardId,
+    old: ServerId,
+    new: ServerId,
+) -> Result<(), AllocError> {
+    code.push(Instr::PrepareAdd {
+        shard,
+        server: new,
+        owner: old,
+    })?;
+    code.push(Instr::PrepareDrop {
+        shard,
+        server: old,
+        new_owner: new,
+    })?;
+    code.push(Instr::Add {
+        shard,
+        server: new,
+        role: Role::Primary,
+    })?;
+    code.push(Instr::Publish { shard })?;
+    code.push(Instr::Drop { shard, server: old })?;
+    Ok(())
+}
+
+/// Adds a turn with a shard, whose primary was moved so often and is moved so many times more.
+fn push_turn(code: &mut Vec<Instr>, shard: u32, moved: u64, more: u32) -> Result<(), AllocError> {
+    for number in 0..more {
+        let before = moved.wrapping_add(u64::from(number));
+        let old = primary_of(shard, before);
+        let new = primary_of(shard, before.wrapping_add(1));
+        push_handover(code, ShardId::new(shard), old, new)?;
+    }
+    Ok(())
+}
+
+/// Adds that a shard is taken out of the published map and written into it again, and that its rights are given away by a signal
+/// and those of another one are awaited.
+fn push_exchange(
+    code: &mut Vec<Instr>,
+    shard: u32,
+    given: u32,
+    awaited: u32,
+) -> Result<(), AllocError> {
+    let shard = ShardId::new(shard);
+    code.push(Instr::Unlist { shard })?;
+    code.push(Instr::Publish { shard })?;
+    code.push(Instr::Signal { signal: given })?;
+    code.push(Instr::Wait { signal: awaited })?;
+    Ok(())
+}
+
+/// The instructions of a stream: a turn with its own shard, one with that of the next stream and one with that of the stream after
+/// it, which gets a secondary at last.
+pub(crate) fn code_of(alloc: Global, shape: &Shape, stream: u32) -> Result<Vec<Instr>, AllocError> {
+    let (next, last) = (behind(shape, stream, 1), behind(shape, stream, 2));
+    let (first, second) = (u64::from(shape.first), u64::from(shape.second));
+    let mut code = Vec::new(alloc);
+    push_turn(&mut code, stream, 0, shape.first)?;
+    push_exchange(&mut code, stream, stream, next)?;
+    push_turn(&mut code, next, first, shape.second)?;
+    let (given, awaited) = (
+        shape.streams.wrapping_add(stream),
+        shape.streams.wrapping_add(next),
+    );
+    push_exchange(&mut code, next, given, awaited)?;
+    push_turn(&mut code, last, first + second, shape.third)?;
+    code.push(Instr::Add {
+        shard: ShardId::new(last),
+        server: secondary_of(last),
+        role: Role::Secondary,
+    })?;
+    Ok(code)
+}

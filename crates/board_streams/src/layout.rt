@@ -1,0 +1,154 @@
+//! The servers, the shards, and where each of them stands before a plan and after it.
+ghost use Rattle.std.specs.Prelude.{◌<◌, ◌^◌};
+
+use crate::fault::Fault;
+use sm_placement::{Config, Placement, Server, Shard};
+use sm_server::{Cell, ServerId, ShardId};
+use std::alloc::{AllocError, Global};
+
+/// How many streams a plan has, and how often a stream hands a primary over in each of its three turns.
+#[derive(Clone, Copy, Debug, PartialEq, Eq)]
+pub struct Shape {
+    pub streams: u32,
+    pub first: u32,
+    pub second: u32,
+    pub third: u32,
+}
+
+/// How many servers there are.
+pub const SERVERS: u32 = 64;
+
+/// How many shards there are beside one for each stream. No plan touches them, nor the servers that they stand at.
+pub const RESTING: u32 = 16;
+
+/// How many servers the first, the second and the third places of shards are spread over, each.
+const SPREAD: u32 = 16;
+
+/// The server that has the primary of a stream's shard, after so many moves.
+pub(crate) const fn primary_of(shard: u32, moved: u64) -> ServerId {
+    if moved.is_multiple_of(2) {
+        ServerId::new(shard % SPREAD)
+    } else {
+        ServerId::new(SPREAD + shard % SPREAD)
+    }
+}
+
+/// The server that gets a secondary of a stream's shard.
+pub(crate) const fn secondary_of(shard: u32) -> ServerId {
+    ServerId::new(2 * SPREAD + shard % SPREAD)
+}
+
+/// How often the primary of each stream's shard is moved in all.
+pub(crate) const fn moves_of(shape: &Shape) -> u64
+    ensures { result < 2 ^ 34 }
+{
+    shape.first as u64 + shape.second as u64 + shape.third as u64
+}
+
+/// How often each stream's shard is published in all: behind each move, and twice at each of two exchanges.
+pub const fn publications_of(shape: &Shape) -> u64 {
+    moves_of(shape) + 4
+}
+
+/// The servers.
+fn servers_of(alloc: Global) -> Result<Vec<Server>, AllocError> {
+    let mut servers = Vec::new(alloc);
+    for number in 0..SERVERS {
+        servers.push(Server {
+            name: format!(in alloc; "server-{number}")?,
+            region: String::from_str(alloc, "region")?,
+            room: 100,
+        })?;
+    }
+    Ok(servers)
+}
+
+/// The shards: one replica is wanted of each stream's shard, and two of each other one, of which one may be away.
+fn shards_of(alloc: Global, shape: &Shape) -> Result<Vec<Shard>, AllocError> {
+    let mut shards = Vec::new(alloc);
+    for number in 0..shape.streams {
+        shards.push(Shard {
+            name: format!(in alloc; "shard-{number}")?,
+            load: 1,
+            want: 1,
+            cap: 0,
+            spread: 1,
+        })?;
+    }
+    for number in 0..RESTING {
+        shards.push(Shard {
+            name: format!(in alloc; "resting-{number}")?,
+            load: 1,
+            want: 2,
+            cap: 1,
+            spread: 1,
+        })?;
+    }
+    Ok(shards)
+}
+
+/// The configuration.
+pub fn config_of(alloc: Global, shape: &Shape) -> Result<Config, Fault> {
+    let servers = servers_of(alloc)?;
+    let shards = shards_of(alloc, shape)?;
+    Ok(Config::new(alloc, &servers, &shards)?)
+}
+
+/// What stands where, and what the published map lists for each shard.
+#[derive(Drop)]
+struct Rows {
+    cells: Vec<(ShardId, ServerId, Cell)>,
+    listed: Vec<Option<ServerId>>,
+}
+
+/// The rows of the streams' shards, whose primaries were moved so often.
+fn moved_rows(alloc: Global, shape: &Shape, moved: u64) -> Result<Rows, AllocError> {
+    let mut cells = Vec::new(alloc);
+    let mut listed = Vec::new(alloc);
+    for number in 0..shape.streams {
+        let server = primary_of(number, moved);
+        cells.push((ShardId::new(number), server, Cell::Primary))?;
+        listed.push(Some(server))?;
+    }
+    Ok(Rows { cells, listed })
+}
+
+/// Adds the secondaries that the streams add.
+fn push_added(rows: &mut Rows, shape: &Shape) -> Result<(), AllocError> {
+    for number in 0..shape.streams {
+        let shard = ShardId::new(number);
+        rows.cells
+            .push((shard, secondary_of(number), Cell::Secondary))?;
+    }
+    Ok(())
+}
+
+/// Adds the rows of the shards that no plan touches.
+fn push_resting(rows: &mut Rows, shape: &Shape) -> Result<(), AllocError> {
+    for number in 0..RESTING {
+        let shard = ShardId::new(shape.streams.wrapping_add(number));
+        let first = ServerId::new(3 * SPREAD + number);
+        let second = ServerId::new(3 * SPREAD + (number + 1) % SPREAD);
+        rows.cells.push((shard, first, Cell::Primary))?;
+        rows.cells.push((shard, second, Cell::Secondary))?;
+        rows.listed.push(Some(first))?;
+    }
+    Ok(())
+}
+
+/// The placement that a plan of this shape starts at. One server may be down at a time.
+pub fn placement_before(alloc: Global, config: &Config, shape: &Shape) -> Result<Placement, Fault> {
+    let mut rows = moved_rows(alloc, shape, 0)?;
+    push_resting(&mut rows, shape)?;
+    let Rows { cells, listed } = rows;
+    Ok(Placement::open(alloc, config, &cells, &listed, &[], 1)?)
+}
+
+/// The placement that a plan of this shape ends at, but for the versions of the published map (`publications_of`).
+pub fn placement_after(alloc: Global, config: &Config, shape: &Shape) -> Result<Placement, Fault> {
+    let mut rows = moved_rows(alloc, shape, moves_of(shape))?;
+    push_added(&mut rows, shape)?;
+    push_resting(&mut rows, shape)?;
+    let Rows { cells, listed } = rows;
+    Ok(Placement::open(alloc, config, &cells, &listed, &[], 1)?)
+}

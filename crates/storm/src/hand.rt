@@ -1,0 +1,178 @@
+//! Who works beside the streams of a run: those who ask, and who restarts servers.
+ghost use Rattle.std.specs.Prelude.{◌≡◌, ◌<◌, IfSome, length};
+
+use crate::gusts::scattered;
+use crate::world::{RESTED, RESTING};
+use board_runs::{Finish, Worker};
+use sm_executor::{Board, Caller, Naming, Side};
+use sm_machine::Permit;
+use sm_router::ask;
+use sm_server::{ServerId, ShardId};
+use std::rt::Clock;
+use std::sync::Wait;
+use std::sync::atomic::{AtomicU64, Ordering};
+use std::thread;
+
+/// How often each who asks does so in a run.
+const ASKS: u32 = 64;
+
+/// How often a server is restarted that no stream mentions; and as often it is tried with any server.
+pub(crate) const RESTARTS: u64 = 32;
+
+/// One of those who work beside the streams.
+#[derive(Drop)]
+pub(crate) enum Hand {
+    /// Asks for shards at random.
+    Asks {
+        seed: u64,
+    },
+    /// Restarts servers at random, each approved and ended by a guard, and counts the restarts: of those that no stream mentions, and
+    /// of any.
+    Restarts {
+        seed: u64,
+        made: AtomicU64,
+        others: AtomicU64,
+    },
+}
+
+/// One of so many numbers, if there are any.
+fn picked(number: u64, count: u32) -> Option<u32>
+    ensures { IfSome result (λ pick. pick < count) }
+{
+    if count == 0 {
+        None
+    } else {
+        Some((number % u64::from(count)) as u32)
+    }
+}
+
+/// Asks as often as a run has it.
+fn ask_often<A: Side, B: Side, C: Side, N: Naming, R: Wait>(
+    rt: &R,
+    board: &Board<A, B, C, N>,
+    caller: &mut Caller<B, C, N>,
+    seed: u64,
+)
+    requires { length N.words.opening ≡ length N.setup.shards }
+{
+    let shards = board.config().shard_count();
+    let mut number = seed;
+    for _ in 0..ASKS {
+        number = scattered(number);
+        if let Some(shard) = picked(number, shards) {
+            let _asked = ask(rt, board, &mut *caller, ShardId::new(shard));
+        }
+    }
+}
+
+/// The permit to restart a server, where that is approved.
+fn approved<A: Side, B: Side, C: Side, N: Naming, R: Wait>(
+    rt: &R,
+    board: &Board<A, B, C, N>,
+    server: ServerId,
+) -> Option<Permit>
+    requires { server < N.words.servers }
+{
+    let mut guard = board.hold(rt);
+    guard.approve(server).ok()
+}
+
+/// Ends a restart. The permit comes back where it has not ended.
+fn ended<A: Side, B: Side, C: Side, N: Naming, R: Wait>(
+    rt: &R,
+    board: &Board<A, B, C, N>,
+    permit: Permit,
+) -> Option<Permit> {
+    let mut guard = board.hold(rt);
+    guard.done(permit).err()
+}
+
+/// Restarts a server, where that is approved, and counts it. The permit comes back where the restart has not ended.
+fn restart<A: Side, B: Side, C: Side, N: Naming, R: Wait>(
+    rt: &R,
+    board: &Board<A, B, C, N>,
+    server: ServerId,
+    made: &AtomicU64,
+) -> Option<Permit>
+    requires { server < N.words.servers }
+{
+    let Some(permit) = approved(rt, board, server) else {
+        return None;
+    };
+    thread::yield_now();
+    let left = ended(rt, board, permit);
+    if left.is_none() {
+        made.fetch_add(1, Ordering::SeqCst);
+    }
+    left
+}
+
+/// Restarts a server that no stream mentions, and tries to restart any server.
+fn restart_two<A: Side, B: Side, C: Side, N: Naming, R: Wait>(
+    rt: &R,
+    board: &Board<A, B, C, N>,
+    number: u64,
+    made: &AtomicU64,
+    others: &AtomicU64,
+) -> Option<Permit>
+    requires { N.words.servers ≡ length N.setup.servers }
+{
+    let servers = board.config().server_count();
+    let rested = RESTED + (number % RESTING) as u32;
+    if rested < servers {
+        if let Some(permit) = restart(rt, board, ServerId::new(rested), made) {
+            return Some(permit);
+        }
+    }
+    match picked(scattered(number), servers) {
+        Some(server) => restart(rt, board, ServerId::new(server), others),
+        None => None,
+    }
+}
+
+/// Makes all restarts of a run. A permit comes back whose restart has not ended.
+fn restart_all<A: Side, B: Side, C: Side, N: Naming, R: Wait>(
+    rt: &R,
+    board: &Board<A, B, C, N>,
+    seed: u64,
+    made: &AtomicU64,
+    others: &AtomicU64,
+) -> Option<Permit>
+    requires { N.words.servers ≡ length N.setup.servers }
+{
+    for round in 0..RESTARTS {
+        let number = scattered(seed.wrapping_add(round));
+        if let Some(permit) = restart_two(rt, board, number, made, others) {
+            return Some(permit);
+        }
+    }
+    None
+}
+
+impl Worker for Hand {
+    fn work<A: Side, B: Side, C: Side, N: Naming, R: Wait + Clock>(
+        &self,
+        rt: &R,
+        board: &Board<A, B, C, N>,
+        caller: &mut Caller<B, C, N>,
+        _finish: &Finish,
+    ) -> Option<Permit> {
+        match self {
+            Hand::Asks { seed } => {
+                ask_often(rt, board, caller, *seed);
+                None
+            }
+            Hand::Restarts { seed, made, others } => restart_all(rt, board, *seed, made, others),
+        }
+    }
+}
+
+impl Hand {
+    /// How many restarts of servers that no stream mentions it has made.
+    pub fn made(&self) -> u64 {
+        match self {
+            Hand::Asks { .. } => 0,
+            Hand::Restarts { made, .. } => made.load(Ordering::SeqCst),
+        }
+    }
+}

@@ -1,0 +1,100 @@
+//! What all runs have in common: the shape of the plan, and the placements before it and after it.
+ghost use Rattle.std.specs.Prelude.{◌≡◌, ◌<◌, ◌≤◌, length};
+
+use crate::fault::Fault;
+use board_streams::{Shape, config_of, placement_after, placement_before, publications_of};
+use sm_placement::{Config, Placement};
+use sm_server::{ServerId, ShardId};
+use std::alloc::Global;
+
+/// 64 streams of 64 instructions: eleven handovers of five, two exchanges of four, and a secondary.
+pub(crate) const SHAPE: Shape = Shape {
+    streams: 64,
+    first: 5,
+    second: 4,
+    third: 2,
+};
+
+/// The first of the servers that no stream mentions.
+pub(crate) const RESTED: u32 = 48;
+
+/// How many of these there are.
+pub(crate) const RESTING: u64 = 16;
+
+/// The configuration, and the placements before the plan and after it.
+#[derive(Drop)]
+pub(crate) struct World {
+    pub config: Config,
+    pub before: Placement,
+    pub after: Placement,
+}
+
+impl World {
+    pub fn new(alloc: Global) -> Result<World, Fault> {
+        let config = config_of(alloc, &SHAPE)?;
+        let before = placement_before(alloc, &config, &SHAPE)?;
+        let after = placement_after(alloc, &config, &SHAPE)?;
+        Ok(World {
+            config,
+            before,
+            after,
+        })
+    }
+}
+
+/// How many shards and servers a placement has.
+fn counts(placement: &Placement) -> (u32, u32)
+    ensures shards { result.0 ≡ length placement.now.setup.shards }
+    ensures servers { result.1 ≡ length placement.now.setup.servers }
+{
+    let config = placement.config();
+    (config.shard_count(), config.server_count())
+}
+
+/// The shard stands at the same ones of so many servers, and the published map lists the same one.
+fn is_same_shard(ended: &Placement, wanted: &Placement, shard: ShardId, servers: u32) -> bool
+    requires shards { (shard < length ended.now.setup.shards) × (shard < length wanted.now.setup.shards) }
+    requires servers { (servers ≤ length ended.now.setup.servers) × (servers ≤ length wanted.now.setup.servers) }
+{
+    if ended.listed(shard) != wanted.listed(shard) {
+        return false;
+    }
+    for number in 0..servers {
+        let server = ServerId::new(number);
+        if ended.cell(shard, server) != wanted.cell(shard, server) {
+            return false;
+        }
+    }
+    true
+}
+
+/// How often a shard is published in a run.
+fn published(shard: u32) -> u64 {
+    if shard < SHAPE.streams {
+        publications_of(&SHAPE)
+    } else {
+        0
+    }
+}
+
+/// The shards stand at the same servers, the published map lists the same ones, and each was published as often as the plan has it.
+pub(crate) fn is_same(ended: &Placement, wanted: &Placement) -> bool {
+    let (shards, servers) = counts(ended);
+    let (wanted_shards, wanted_servers) = counts(wanted);
+    if shards != wanted_shards || servers != wanted_servers {
+        return false;
+    }
+    if ended.down_count() != wanted.down_count() {
+        return false;
+    }
+    for number in 0..shards {
+        let shard = ShardId::new(number);
+        if !is_same_shard(ended, wanted, shard, servers) {
+            return false;
+        }
+        if ended.version(shard) != published(number) {
+            return false;
+        }
+    }
+    true
+}
