@@ -3,7 +3,7 @@
 # make edits: tries all crates' wrong versions of tests/edits, over what the gate has built.
 # make storm: 1,000 runs of a plan of 64 streams beside askers and restarts.
 
-.PHONY: build run test edits check-program check-tests storm bench
+.PHONY: build run test edits check-caught check-program check-tests storm bench
 
 build:
 	mkdir -p build
@@ -21,11 +21,14 @@ test:
 	rt ci
 	mkdir -p build
 	cp crates/smplan/out/smplan build/smplan
-	$(MAKE) --jobs=2 --output-sync=line check-program check-tests
+	$(MAKE) --jobs=2 --output-sync=line check-caught check-program check-tests
 	scripts/check-try-edits
 	scripts/try-edits --until $$(( $(BEGUN) + 140 * 60 ))
 
-# (the scripts over the program that stands in build, and those over tests)
+# (wrong versions that only tests catch, which take longest; the scripts over the program that stands in build; and those over tests)
+check-caught:
+	scripts/check-caught-by-tests
+
 check-program:
 	scripts/check-examples
 	scripts/check-plans
@@ -41,7 +44,6 @@ check-program:
 check-tests:
 	scripts/check-memory-tests sm_tests_json sm_tests_placement sm_tests_rights sm_tests_text sm_tests sm_tests_machine sm_tests_plans sm_tests_play sm_tests_board sm_tests_planner sm_map
 	scripts/refused-programs
-	scripts/check-caught-by-tests
 
 # (all crates' edits, over what the gate has built)
 edits:
