@@ -58,3 +58,4 @@ bench: build
 	scripts/bench
 	scripts/bench-map
 	scripts/bench-machine
+	scripts/bench-board

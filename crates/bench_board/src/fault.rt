@@ -1,0 +1,34 @@
+//! Why nothing was measured.
+use board_runs::Fault as RunFault;
+use board_streams::Fault as PlanFault;
+use std::alloc::AllocError;
+use thiserror::Error;
+
+/// Why nothing was measured.
+#[derive(Clone, Copy, Debug, PartialEq, Eq, Error)]
+pub(crate) enum Fault {
+    /// Memory was short.
+    #[error("out of memory")]
+    NoMemory,
+    /// The plan was not made.
+    #[error("no plan: {0}")]
+    NoPlan(PlanFault),
+    /// There was no machine for the plan.
+    #[error("no machine")]
+    NoMachine,
+    /// The plan did not run to its end.
+    #[error("{0}")]
+    NotRun(RunFault),
+}
+
+impl From<PlanFault> for Fault {
+    fn from(fault: PlanFault) -> Fault {
+        Fault::NoPlan(fault)
+    }
+}
+
+impl From<AllocError> for Fault {
+    fn from(_error: AllocError) -> Fault {
+        Fault::NoMemory
+    }
+}

@@ -1,0 +1,93 @@
+//! What a look at a board's map costs beside a running plan, and a plain atomic load in the same place.
+//!
+//! Threads look and load in turn, a batch of each, while a plan of 64 streams runs; a batch counts only where the plan has changed
+//! the map since the batch before. It prints the time of a look and of a load, each of the fastest batch, with 1, 2 and 4 such
+//! threads, and ends with status 1 where a look takes more than twice as long. With the argument `check` it prints no times, only whether the plan of a
+//! small run comes to its end beside the looks.
+#![tactic(auto)]
+
+mod fault;
+mod looker;
+mod looks;
+mod measured;
+mod run;
+
+use board_streams::Shape;
+use fault::Fault;
+use measured::Measured;
+use run::{LARGE, SMALL, measure};
+use std::process::ExitCode;
+use std::rt::{Clock, Env};
+use std::sync::Wait;
+use std::thread::Threads;
+use std::{env, io};
+
+/// How many plans are run for each number of threads. The fastest batch of all counts: whatever else the machine does only slows
+/// a batch.
+const PLANS: u32 = 3;
+
+fn is_check(rt: &(impl Alloc + Env)) -> io::Result<bool> {
+    let mut args = env::args(rt)?;
+    let _program = args.next();
+    Ok(match args.next() {
+        Some(word) => word.as_str() == "check",
+        None => false,
+    })
+}
+
+/// The fastest batches beside some plans of a shape.
+fn fastest<R: Threads + Wait + Sync + Clock + AllocGlobal>(
+    rt: &R,
+    shape: &Shape,
+    threads: usize,
+) -> Result<Measured, Fault> {
+    let mut all = Measured::none();
+    for _ in 0..PLANS {
+        all.meet(&measure(rt, rt.alloc(), shape, threads)?);
+    }
+    Ok(all)
+}
+
+/// Tells what was measured with so many threads. True where a look took at most twice as long as a load.
+fn tell<R: Print>(rt: &R, threads: usize, measured: &Measured) -> io::Result<bool> {
+    let (look, load) = (measured.look_picoseconds(), measured.load_picoseconds());
+    println!(rt;
+        "{threads} threads: look {look} ps, load {load} ps, in {} batches",
+        measured.batches
+    )?;
+    let good = measured.is_fast();
+    if !good {
+        println!(rt; "no batch was measured, or a look takes more than twice as long as a load")?;
+    }
+    Ok(good)
+}
+
+/// Measures beside large plans, with more and more threads. True where all looks were fast enough.
+fn measure_all<R: Threads + Wait + Sync + Clock + AllocGlobal + Print>(rt: &R) -> io::Result<bool> {
+    let mut good = true;
+    for threads in [1, 2, 4] {
+        match fastest(rt, &LARGE, threads) {
+            Ok(measured) => good = tell(rt, threads, &measured)? && good,
+            Err(fault) => {
+                println!(rt; "not measured: {fault}")?;
+                return Ok(false);
+            }
+        }
+    }
+    Ok(good)
+}
+
+fn main(rt: HostRuntime) -> io::Result<ExitCode> {
+    let good = if is_check(&rt)? {
+        let ended = measure(&rt, rt.alloc(), &SMALL, 2).is_ok();
+        println!(rt; "the plan ends beside the looks: {ended}")?;
+        ended
+    } else {
+        measure_all(&rt)?
+    };
+    Ok(if good {
+        ExitCode::SUCCESS
+    } else {
+        ExitCode::FAILURE
+    })
+}
