@@ -21,13 +21,13 @@ test:
 	rt ci
 	mkdir -p build
 	cp crates/smplan/out/smplan build/smplan
-	$(MAKE) --jobs=2 --output-sync=line check-caught check-program check-tests
+	$(MAKE) --jobs=2 --output-sync=line BEGUN=$(BEGUN) check-caught check-program check-tests
 	scripts/check-try-edits
 	scripts/try-edits --until $$(( $(BEGUN) + 140 * 60 ))
 
 # (wrong versions that only tests catch, which take longest; the scripts over the program that stands in build; and those over tests)
 check-caught:
-	scripts/check-caught-by-tests
+	scripts/check-caught-by-tests --until $$(( $(BEGUN) + 140 * 60 ))
 
 check-program:
 	scripts/check-examples
