@@ -12,16 +12,20 @@ use Rattle.json_tree.specs.declared.tree.Tree.{Tree, Array, Object, the_lemmas}
 abbrev pub Member : Type 0
 Member = Bor (List ℕ) × Tree
 
+-- an array of trees is seen as the array of what its trees are seen as
 pub view-Array : (v : Vec Tree Global) → view (Array v) ≡ array (items_view v.items)
 view-Array v = search (rules, the_lemmas)
 
+-- an object of trees is seen as the object of what its members are seen as
 pub view-Object : (v : Vec Member Global) → view (Object v) ≡ object (members_view v.items)
 view-Object v = search (rules, the_lemmas)
 
+-- the items that these trees are seen as, and then the rest
 abbrev pub items_before : List Tree → Items → Items
 items_before [] rest = rest
 items_before (t ∷ ts) rest = item (view t) (items_before ts rest)
 
+-- without a rest they are the items of an array of these trees
 pub items_before-no_items : (ts : List Tree) → items_before ts no_items ≡ items_view ts
 items_before-no_items [] = refl
 items_before-no_items (t ∷ ts) = ap (item (view t)) (items_before-no_items ts)
@@ -30,6 +34,7 @@ items_push : (ts : List Tree) (t : Tree) (rest : Items) → items_before ts (ite
 items_push [] t rest = refl
 items_push (u ∷ ts) t rest = ap (item (view u)) (items_push ts t rest)
 
+-- to read an item before the rest is to have one more tree before the rest
 pub one_more_item : (ts : List Tree) (t : Tree) (r : Option (Items × List Token)) → parse_map (items_before ts) (parse_map (item (view t)) r) ≡ parse_map (items_before (ts ++ t ∷ [])) r
 one_more_item ts t None = refl
 one_more_item ts t (Some p) = ap (λ ds. Some (ds, p.1)) (items_push ts t p.0)
@@ -42,6 +47,7 @@ after_push : (found : Members) (ms : List Member) (m : Member) → members_after
 after_push found [] m = refl
 after_push found (e ∷ ms) m = after_push (put e.0.now (view e.1) found) ms m
 
+-- one more member is put to the members before it
 pub one_more_member : (ms : List Member) (m : Member) → members_view (ms ++ m ∷ []) ≡ put m.0.now (view m.1) (members_view ms)
 one_more_member ms m = after_push no_members ms m
 

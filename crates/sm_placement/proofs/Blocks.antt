@@ -18,6 +18,7 @@ unwritten = None
 no_block : (n b : ℕ) → entries_of unwritten (replicate n unwritten) b ≡ unwritten
 no_block n b = ap (λ (f : ℕ → Option ℕ). f b) (entries_of-empty unwritten n)
 
+-- blocks of which none is written have no parties
 pub IsBlocks-empty : (n : ℕ) → IsBlocks (replicate n None) []
 IsBlocks-empty n = record {
   written = let e : count_below (length (replicate n unwritten)) (λ b. is_some (entries_of None (replicate n unwritten) b)) ≡ 0 =
@@ -31,6 +32,7 @@ module _ (starts : List (Option ℕ)) (parties : List Party) (block : ℕ) (h : 
   abbrev now : List (Option ℕ)
   now = set starts block (Some (length parties))
 
+  -- it stands where the list ended
   pub block_here : entries_of None now block ≡ Some (length parties)
   block_here = ap (λ (f : ℕ → Option ℕ). f block) (entries_of-set None starts block (Some (length parties)) l) ∙ put-here (entries_of None starts) block (Some (length parties)) block refl
 
@@ -60,6 +62,7 @@ module _ (starts : List (Option ℕ)) (parties : List Party) (block : ℕ) (h : 
   start_of : (b x : ℕ) → entries_of None now b ≡ Some x → (b ≢ block → entries_of None starts b ≡ Some x)
   start_of b x e d = sym (beside b d) ∙ e
 
+  -- with it each block that was written stands in the list, beside no other
   pub IsBlocks-more : IsBlocks (set starts block (Some (length parties))) (parties ++ replicate 256 no_party)
   IsBlocks-more = record {
     written =
@@ -105,6 +108,7 @@ module _ (starts : List (Option ℕ)) (parties : List Party) (block : ℕ) (h : 
       let z : x + 256 ≤ length parties = w x refl in
       entries_of-is no_party after (x + k) ∙ get_or_append_left parties (replicate 256 no_party) no_party (x + k) (omega arith) ∙ sym (entries_of-is no_party parties (x + k))
 
+  -- with it each place still has the party that it had
   pub party_at-more : party_at (set starts block (Some (length parties))) (parties ++ replicate 256 no_party) ≡ party_at starts parties
   party_at-more = fun_ext (λ k. elim (cases_eq (k / 256) block) [
     | inl e ↦ ap (λ (b : ℕ). party_in (entries_of None now b) after (k % 256)) e ∙ ap (λ (o : Option ℕ). party_in o after (k % 256)) block_here ∙ fresh (k % 256)
@@ -142,6 +146,7 @@ module _ (starts : List (Option ℕ)) (parties : List Party) (place start : ℕ)
       ap (λ (f : ℕ → Party). f (x + k % 256)) (entries_of-set no_party parties (start + place % 256) party at_place)
       ∙ put-apart (entries_of no_party parties) (start + place % 256) party (x + k % 256) (λ s. d (same_place k x e s))
 
+  -- its place has that party then, and each other place the one that it had
   pub party_at-set : party_at starts (set parties (start + place % 256) party) ≡ put (party_at starts parties) place party
   party_at-set = fun_ext (λ k. elim (cases_eq k place) [
     | inl e ↦ ap (λ (q : ℕ). party_at starts (set parties (start + place % 256) party) q) e
@@ -157,6 +162,7 @@ pub start_read : {starts : List (Option ℕ)} {parties : List Party} {now : Part
     x ≡ get_or starts block x → entries_of None starts block ≡ x
 start_read {starts} {parties} {now} block x e l r = sym (entries_of-read None starts block (length starts) x refl (omega (arith, ap (λ (m : PartiesModel). length m.starts) e)) r)
 
+-- what is read in the block of a place is the party of the place
 pub party_read : {starts : List (Option ℕ)} {parties : List Party} {now : PartiesModel} (place start : ℕ) (x : Party) → ◌≡◌ {A = PartiesModel} (record { starts = starts; parties = parties }) now →
     entries_of None starts (place / 256) ≡ Some start → start + place % 256 < length parties → x ≡ get_or parties (start + place % 256) x → x ≡ party_at now.starts now.parties place
 party_read {starts} {parties} {now} place start x e is l r =
@@ -164,6 +170,7 @@ party_read {starts} {parties} {now} place start x e is l r =
     ∙ ap (λ (o : Option ℕ). party_in o parties (place % 256)) (sym is)
     ∙ ap (λ (m : PartiesModel). party_at m.starts m.parties place) e
 
+-- a place whose block was not written has no party
 pub no_party_read : {starts : List (Option ℕ)} {parties : List Party} {now : PartiesModel} (place : ℕ) (x : Party) → ◌≡◌ {A = PartiesModel} (record { starts = starts; parties = parties }) now →
     entries_of None starts (place / 256) ≡ None → x ≡ no_party → x ≡ party_at now.starts now.parties place
 no_party_read {starts} {parties} {now} place x e is n =

@@ -233,6 +233,7 @@ numbered_cases c p s v call number served e = go (not (p.down v)) refl (eqb numb
         let z : ◌≡◌ {A = Result Served Refusal} (Ok served) (Err why) = rw (qu, qt, q1) at e in
         absurd (cc)
 
+-- a numbered call that has its effect now leaves true what every placement keeps
 pub numbered_kept : (c : Sizes) (p : Place) (s v : ℕ) (call : Call) (number : ℕ) (r : Result Served Refusal) → IsPlacement c p → s < c.shards → v < c.servers → IsKnownCall c.servers call →
     r ≡ numbered_answer_at c p s v call number → IfOk r (λ served. served.fresh ≡ true → IsPlacement c (set_cell p s v served.cell))
 numbered_kept c p s v call number (Err why) is hs hv known e = tt
@@ -253,6 +254,7 @@ put2-same {A} f s v = fun_ext (λ r. fun_ext (λ w. at r w))
       | inr d ↦ put2-apart f s v (f s v) r w d
     ]
 
+-- a numbered call that had its effect before changes nothing
 pub numbered_before : (c : Sizes) (p : Place) (s v : ℕ) (call : Call) (number : ℕ) (r : Result Served Refusal) → r ≡ numbered_answer_at c p s v call number →
     IfOk r (λ served. served.fresh ≡ false → set_last (set_cell p s v served.cell) s v served.last ≡ p)
 numbered_before c p s v call number (Err why) e = tt
@@ -273,6 +275,7 @@ with_another c p s v call number d = go (p.down v) refl (answer_at c p s v call)
     go false q (Ok next) qr = let z = rw q at qr in rw (q, ne_eqb number (p.last s v) d, z) refl
     go false q (Err why) qr = let z = rw q at qr in rw (q, ne_eqb number (p.last s v) d, z) refl
 
+-- a numbered call under a new number does what the call alone does, and its number is the last one then
 pub numbered_first : (c : Sizes) (p : Place) (s v : ℕ) (call : Call) (number : ℕ) (q : Place) → number ≢ p.last s v → called c p s v call ≡ Ok q →
     called_numbered c p s v call number ≡ Ok (record { place = set_last q s v number; fresh = true })
 numbered_first c p s v call number q d e = with_another c p s v call number d ∙ ap (with_number s v number) e
@@ -287,6 +290,7 @@ numbered_again c p s v call number up e =
     ap (λ (g : ℕ → ℕ → Cell). record p { cells = g; last = put2 p.last s v (p.last s v) }) cells ∙ ap (λ (g : ℕ → ℕ → ℕ). record p { last = g }) lasts in
     rw (up, eq-eqb number (p.last s v) e) (ap (λ (q : Place). Ok (record { place = q; fresh = false })) same)
 
+-- a numbered call is the call alone under a new number, and changes nothing under the last one
 pub numbered_as_called : (c : Sizes) (p : Place) (s v : ℕ) (call : Call) (number : ℕ) → NumberedAsCalled c p s v call number
 numbered_as_called c p s v call number = record { first = with_another c p s v call number; again = numbered_again c p s v call number }
 
@@ -302,6 +306,7 @@ called_with_lasts c p last s v call = go (answer_at c p s v call)
 pub allowed_with_lasts : (c : Sizes) (p : Place) (last : ℕ → ℕ → ℕ) (s v : ℕ) (call : Call) (to : Cell) → IsAllowed c p s v call to → IsAllowed c (with_lasts last p) s v call to
 allowed_with_lasts c p last s v call to is = record { leads = is.leads; up = is.up; room = is.room }
 
+-- what every placement keeps is kept under any last numbers
 pub placement_with_lasts : (c : Sizes) (p : Place) (last : ℕ → ℕ → ℕ) → IsPlacement c p → IsPlacement c (with_lasts last p)
 placement_with_lasts c p last is = record {
   no_server = is.no_server;

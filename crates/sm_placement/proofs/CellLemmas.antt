@@ -32,6 +32,7 @@ cell_of-named Secondary p h = absurd (none-some p h)
 cell_of-named Primary p h = absurd (none-some p h)
 cell_of-named (Forwarding to number) p h = ap (cell_of state.Forwarding) (sym (same_Some (record { server = to; number = number }) p h))
 
+-- a cell that is in no handover is made of its state, whatever the party
 pub cell_of-unnamed : (cell : Cell) (p : Party) → named_party cell ≡ None → cell_of (state_of_cell cell) p ≡ cell
 cell_of-unnamed Absent p h = refl
 cell_of-unnamed (Prepared from number) p h = absurd (none-some _ (sym h))
@@ -43,6 +44,7 @@ pub with_parties-is : (states : List State) (at : ℕ → Party) → with_partie
 unfolding with_parties
 with_parties-is states at = refl
 
+-- there are as many cells as states
 pub length-with_parties : (states : List State) (at : ℕ → Party) → length (with_parties states at) ≡ length states
 length-with_parties states at = ap length (with_parties-is states at) ∙ length-map-range_with_len (λ k. cell_of (entries_of state.Absent states k) (at k)) 0 (length states)
 

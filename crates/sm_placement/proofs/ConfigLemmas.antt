@@ -14,10 +14,12 @@ prefix_len-map : {X Y : Type 0} (f : X → Y) (p : Y → Bool) (xs : List X) →
 prefix_len-map f p [] = refl
 prefix_len-map f p (x ∷ xs) = ap (λ n. cond (p (f x)) (1 + n) 0) (prefix_len-map f p xs)
 
+-- a mapped list is as long as the list
 pub length_map : {X Y : Type 0} (f : X → Y) (xs : List X) → length (map f xs) ≡ length xs
 length_map f [] = refl
 length_map f (x ∷ xs) = simp (length_map f xs)
 
+-- the first of a mapped list that passes stands where the first does whose image passes
 pub position_map : {X Y : Type 0} (f : X → Y) (p : Y → Bool) (xs : List X) → position p (map f xs) ≡ position (λ x. p (f x)) xs
 position_map f p xs = rw (prefix_len-map f (λ y. not (p y)) xs, length_map f xs) refl
 
@@ -29,15 +31,19 @@ server_at servers i d h = get_or-map server_row servers i d no_server h
 pub shard_at : (shards : List Shard) (i : ℕ) (d : Shard) → i < length shards → get_or (map shard_row shards) i no_shard ≡ shard_row (get_or shards i d)
 shard_at shards i d h = get_or-map shard_row shards i d no_shard h
 
+-- the rows of servers are well named exactly where each server's row is
 pub all_well_named_servers : (servers : List Server) → list_all is_well_named_server (map server_row servers) ≡ list_all (λ s. is_well_named_server (server_row s)) servers
 all_well_named_servers servers = list_all-map is_well_named_server server_row servers
 
+-- the rows of shards are well named exactly where each shard's row is
 pub all_well_named_shards : (shards : List Shard) → list_all is_well_named_shard (map shard_row shards) ≡ list_all (λ s. is_well_named_shard (shard_row s)) shards
 all_well_named_shards shards = list_all-map is_well_named_shard shard_row shards
 
+-- the rows of servers have good numbers exactly where each server's row has
 pub all_good_servers : (servers : List Server) → list_all is_good_server (map server_row servers) ≡ list_all (λ s. is_good_server (server_row s)) servers
 all_good_servers servers = list_all-map is_good_server server_row servers
 
+-- the rows of shards have good numbers exactly where each shard's row has
 pub all_good_shards : (shards : List Shard) → list_all is_good_shard (map shard_row shards) ≡ list_all (λ s. is_good_shard (shard_row s)) shards
 all_good_shards shards = list_all-map is_good_shard shard_row shards
 

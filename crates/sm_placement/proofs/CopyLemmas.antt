@@ -15,17 +15,20 @@ map_copies R f same [] (y ∷ ys) h = absurd h
 map_copies R f same (x ∷ xs) [] h = absurd h
 map_copies R f same (x ∷ xs) (y ∷ ys) h = let e = same x y h.0 in let es = map_copies R f same xs ys h.1 in cc
 
+-- copies of servers have the same rows
 pub server_copies : (xs ys : List Server) → AllZip server_ghosts.is_clone xs ys → map server_row ys ≡ map server_row xs
 server_copies xs ys h = map_copies server_ghosts.is_clone server_row one xs ys h
   where
     one : (x y : Server) → server_ghosts.is_clone x y → server_row y ≡ server_row x
     one x y h = cc
 
+-- copies of shards have the same rows
 pub shard_copies : (xs ys : List Shard) → AllZip shard_ghosts.is_clone xs ys → map shard_row ys ≡ map shard_row xs
 shard_copies xs ys h = map_copies shard_ghosts.is_clone shard_row one xs ys h
   where
     one : (x y : Shard) → shard_ghosts.is_clone x y → shard_row y ≡ shard_row x
     one x y h = cc
 
+-- copies of names have the same bytes
 pub name_copies : (xs ys : List (String Global)) → AllZip (λ s t. string_bytes t ≡ string_bytes s) xs ys → map string_bytes ys ≡ map string_bytes xs
 name_copies xs ys h = map_copies _ string_bytes (λ x y e. e) xs ys h

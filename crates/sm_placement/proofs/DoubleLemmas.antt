@@ -10,6 +10,7 @@ use Rattle.sm_placement.specs.declared.config.Shard.{Shard}
 use Rattle.sm_placement.specs.Names.{has_double}
 use Rattle.sm_placement.specs.Config.{server_row, shard_row, server_names, shard_names}
 
+-- whether one of four tests holds is the same in either order
 pub or_swap : (a b c d : Bool) → ((a || (b || false)) || (c || d)) ≡ ((a || c) || (b || d))
 or_swap true b c d = refl
 or_swap false true true d = refl
@@ -26,6 +27,7 @@ has_double_push (n ∷ names) name =
     or_swap (list_any (bytes_eq n) names) (bytes_eq n name) (has_double names) (list_any (bytes_eq name) names) ∙
     ap (λ b. (list_any (bytes_eq n) names || has_double names) || (b || list_any (bytes_eq name) names)) (nat_list_eq_equiv.symm n name)
 
+-- where one of two tests holds, so does one of the first, of another one and of what the second implies
 pub or_more : (a b c d : Bool) → (a || b) ≡ true → (b ≡ true → d ≡ true) → ((a || c) || d) ≡ true
 or_more true b c d h k = refl
 or_more false b true d h k = refl

@@ -13,6 +13,7 @@ pub grid_of-is : {A : Type 0} (width : ℕ) (none : A) (xs : List A) (s v : ℕ)
 unfolding grid_of
 grid_of-is width none xs s v = refl
 
+-- a list read by place has at each place what stands there, and nothing past its end
 pub entries_of-is : {A : Type 0} (none : A) (xs : List A) (k : ℕ) → entries_of none xs k ≡ get_or xs k none
 unfolding entries_of
 entries_of-is none xs k = refl
@@ -21,15 +22,18 @@ entries_of-is none xs k = refl
 pub grid_of-within : {A : Type 0} (width : ℕ) (none : A) (xs : List A) (s v : ℕ) → v < width → grid_of width none xs s v ≡ get_or xs (s * width + v) none
 grid_of-within width none xs s v l = grid_of-is width none xs s v ∙ rw (lt-ltb v width l) refl
 
+-- past the width of the rows there is nothing
 pub grid_of-beside : {A : Type 0} (width : ℕ) (none : A) (xs : List A) (s v : ℕ) → width ≤ v → grid_of width none xs s v ≡ none
 grid_of-beside width none xs s v l = grid_of-is width none xs s v ∙ rw (le-ltb v width l) refl
 
+-- past the last row there is nothing
 pub grid_of-below : {A : Type 0} (width height : ℕ) (none : A) (xs : List A) (s v : ℕ) → length xs ≡ height * width → height ≤ s → grid_of width none xs s v ≡ none
 grid_of-below width height none xs s v e h = elim (cases_lt v width) [
   | inl l ↦ grid_of-within width none xs s v l ∙ get_or_past xs (s * width + v) none (let m : height * width ≤ s * width = mul-le height width s width h (omega arith) in omega arith)
   | inr l ↦ grid_of-beside width none xs s v l
 ]
 
+-- past the end of a list there is nothing
 pub entries_of-past : {A : Type 0} (none : A) (xs : List A) (k : ℕ) → length xs ≤ k → entries_of none xs k ≡ none
 entries_of-past none xs k l = entries_of-is none xs k ∙ get_or_past xs k none l
 
@@ -37,6 +41,7 @@ entries_of-past none xs k l = entries_of-is none xs k ∙ get_or_past xs k none 
 pub place_within : {A : Type 0} (xs : List A) (width height s v : ℕ) → length xs ≡ height * width → s < height → v < width → s * width + v < length xs
 place_within xs width height s v e l m = let p : s * width + v < width * height = mul-add-lt s width v height l m in grind arith
 
+-- a write at a pair's place changes what stands at that pair alone
 pub grid_of-set : {A : Type 0} (width : ℕ) (none : A) (xs : List A) (s v : ℕ) (x : A) → v < width → s * width + v < length xs →
     grid_of width none (set xs (s * width + v) x) ≡ put2 (grid_of width none xs) s v x
 grid_of-set {A} width none xs s v x l m = fun_ext (λ r. fun_ext (λ q. at r q))
@@ -75,6 +80,7 @@ row-set {A} width none xs s v x l m =
 pub same_row : {A : Type 0} {width count : ℕ} {xs ys : List A} {s r : ℕ} (none : A) → width ≡ count → xs ≡ ys → s ≡ r → grid_of width none xs s ≡ grid_of count none ys r
 same_row none w e k = rw (w, e, k) refl
 
+-- a write at a place changes what stands at that place alone
 pub entries_of-set : {A : Type 0} (none : A) (xs : List A) (k : ℕ) (x : A) → k < length xs → entries_of none (set xs k x) ≡ put (entries_of none xs) k x
 entries_of-set none xs k x l = fun_ext (λ q. at q)
   where
@@ -94,6 +100,7 @@ get_or-empty none n k = elim (cases_lt k n) [
 pub entries_of-empty : {A : Type 0} (none : A) (n : ℕ) → entries_of none (replicate n none) ≡ (λ k. none)
 entries_of-empty none n = fun_ext (λ k. entries_of-is none (replicate n none) k ∙ get_or-empty none n k)
 
+-- a list in which nothing was written has nothing at any pair
 pub grid_of-empty : {A : Type 0} (width : ℕ) (none : A) (n : ℕ) → grid_of width none (replicate n none) ≡ (λ s v. none)
 grid_of-empty width none n = fun_ext (λ s. fun_ext (λ v. at s v))
   where
@@ -108,6 +115,7 @@ pub grid_of-read : {A : Type 0} (width height : ℕ) (none : A) (xs : List A) (s
     x ≡ get_or xs (s * width + v) x → x ≡ grid_of width none xs s v
 grid_of-read width height none xs s v x e l m r = get_or_read xs (s * width + v) x (place_within xs width height s v e l m) r none ∙ sym (grid_of-within width none xs s v m)
 
+-- what is read at a place within a list is what stands there
 pub entries_of-read : {A : Type 0} (none : A) (xs : List A) (k n : ℕ) (x : A) → length xs ≡ n → k < n → x ≡ get_or xs k x → x ≡ entries_of none xs k
 entries_of-read none xs k n x e l r = get_or_read xs k x (omega arith) r none ∙ sym (entries_of-is none xs k)
 
@@ -118,6 +126,7 @@ entries_of-done xs s x f l done here r m = ap (λ (q : ℕ → ℕ). q r) (entri
   | inr e ↦ let k : r < s = omega arith in put-apart (entries_of 0 xs) s x r e ∙ done r k
 ]
 
+-- what is known of the places from s on is known of those behind s after a write at s
 pub entries_of-rest : (xs : List ℕ) (s x : ℕ) (g : ℕ → ℕ) → s < length xs → ((r : ℕ) → s ≤ r → r < length xs → entries_of 0 xs r ≡ g r) → (r : ℕ) → s + 1 ≤ r → r < length (set xs s x) → entries_of 0 (set xs s x) r ≡ g r
 entries_of-rest xs s x g l rest r m k =
     ap (λ (q : ℕ → ℕ). q r) (entries_of-set 0 xs s x l) ∙ put-apart (entries_of 0 xs) s x r (λ e. absurd (omega arith)) ∙ rest r (omega arith) (omega (arith, length-set xs s x))

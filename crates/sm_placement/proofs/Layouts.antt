@@ -14,10 +14,12 @@ pub version_read : {l now : PlacementModel} (s x : ℕ) → length l.versions �
 version_read {l} {now} s x len e = subst (λ (n : PlacementModel). s < length n.setup.shards → x ≡ get_or l.versions s x → x ≡ (place_of n).version s) e
     (λ m r. entries_of-read 0 l.versions s (length l.setup.shards) x len m r)
 
+-- what is read at a shard's number is the server that is listed for it
 pub listed_read : {l now : PlacementModel} (s : ℕ) (x : Option ℕ) → length l.listed ≡ length l.setup.shards → l ≡ now → s < length now.setup.shards → x ≡ get_or l.listed s x → x ≡ (place_of now).listed s
 listed_read {l} {now} s x len e = subst (λ (n : PlacementModel). s < length n.setup.shards → x ≡ get_or l.listed s x → x ≡ (place_of n).listed s) e
     (λ m r. entries_of-read None l.listed s (length l.setup.shards) x len m r)
 
+-- what every placement keeps is kept by the same lists as they are seen
 pub placement_read : {l now : PlacementModel} → IsPlacement (sizes_of l.setup) (place_of l) → l ≡ now → IsPlacement (sizes_of now.setup) (place_of now)
 placement_read {l} {now} is e = subst (λ (n : PlacementModel). IsPlacement (sizes_of n.setup) (place_of n)) e is
 
@@ -59,6 +61,7 @@ published_here {l} {now} s place b x many long e d = subst (λ (n : PlacementMod
     (subst (λ k. s < length l.setup.shards → b ≡ get_or l.versions k b → place_of (record l { listed = set l.listed k x; versions = set l.versions k (b + 1) }) ≡ publish (place_of l) s x) (sym d)
     (λ m r. layout_published l s b x many long m r))
 
+-- a publication that names a known server or none leaves true what every placement keeps
 pub published_keeps : {l now : PlacementModel} (s place b : ℕ) (x : Option ℕ) → length l.listed ≡ length l.setup.shards → length l.versions ≡ length l.setup.shards → IsPlacement (sizes_of l.setup) (place_of l) → l ≡ now → place ≡ s → s < length now.setup.shards →
     ForSome x (λ v. v < length now.setup.servers) → b ≡ get_or l.versions place b →
     IsPlacement (sizes_of l.setup) (place_of (record l { listed = set l.listed place x; versions = set l.versions place (b + 1) }))

@@ -80,6 +80,7 @@ all_parts n row = let same : n ≡ n - 0 = omega arith in ap (λ k. lead_among r
 pub lead_of_none : (n : ℕ) (row : ℕ → Cell) → find (λ v. has_part (row v)) (range_with_len 0 (n - 0)) ≡ None → lead_of n row ≡ Some Gone
 lead_of_none n row e = all_parts n row ∙ ap (lead_among row) (next_none (λ v. has_part (row v)) 0 n e)
 
+-- where one server alone is found to have a part in the lead, its cell tells the lead
 pub lead_of_one : (n : ℕ) (row : ℕ → Cell) (u i : ℕ) → i ≡ u → find (λ v. has_part (row v)) (range_with_len 0 (n - 0)) ≡ Some u → find (λ v. has_part (row v)) (range_with_len (i + 1) (n - (i + 1))) ≡ None →
     lead_of n row ≡ lead_alone u (row u)
 lead_of_one n row u i d e f =
@@ -95,6 +96,7 @@ begin_with n row u i v j d b e f =
     let f' : find t (range_with_len (u + 1) (n - (u + 1))) ≡ Some v = rw (← d) f in
     next_some t 0 n u e ∙ ap (λ xs. u ∷ xs) (next_some t (u + 1) n v f' ∙ ap (λ k. v ∷ filter t (range_with_len (k + 1) (n - (k + 1)))) (sym b))
 
+-- where two servers are found to have a part in it and no third, their two cells tell the lead
 pub lead_of_two : (n : ℕ) (row : ℕ → Cell) (u i v j : ℕ) → i ≡ u → j ≡ v → find (λ v. has_part (row v)) (range_with_len 0 (n - 0)) ≡ Some u → find (λ v. has_part (row v)) (range_with_len (i + 1) (n - (i + 1))) ≡ Some v →
     is_some (find (λ v. has_part (row v)) (range_with_len (j + 1) (n - (j + 1)))) ≡ false → lead_of n row ≡ option_or (lead_of_pair u (row u) v (row v)) (lead_of_pair v (row v) u (row u))
 lead_of_two n row u i v j d b e f g =
@@ -104,6 +106,7 @@ lead_of_two n row u i v j d b e f g =
       | inr q ↦ absurd (let z = rw q.1 at g in cc)
     ]
 
+-- where a third server is found to have a part in it, there is no lead
 pub lead_of_more : (n : ℕ) (row : ℕ → Cell) (u i v j : ℕ) → i ≡ u → j ≡ v → find (λ v. has_part (row v)) (range_with_len 0 (n - 0)) ≡ Some u → find (λ v. has_part (row v)) (range_with_len (i + 1) (n - (i + 1))) ≡ Some v →
     is_some (find (λ v. has_part (row v)) (range_with_len (j + 1) (n - (j + 1)))) ≡ true → lead_of n row ≡ None
 lead_of_more n row u i v j d b e f g =

@@ -9,10 +9,12 @@ use Rattle.sm_placement.proofs.ConfigLemmas.{length_map}
 use Rattle.sm_placement.specs.Names.{has_double}
 use Rattle.sm_placement.specs.Setup.{Setup, ServerRow, ShardRow, IsSetup, names_of_servers, names_of_shards, no_server, no_shard, server_named, shard_named}
 
+-- where neither holds the first one doesn't
 pub or_first : (a b : Bool) → (a || b) ≡ false → a ≡ false
 or_first true b h = absurd (true≢false h)
 or_first false b h = refl
 
+-- where neither holds the second one doesn't
 pub or_second : (a b : Bool) → (a || b) ≡ false → b ≡ false
 or_second true b h = absurd (true≢false h)
 or_second false b h = h

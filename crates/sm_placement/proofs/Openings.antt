@@ -22,12 +22,14 @@ use Rattle.sm_placement.proofs.Sums.{put2-here, put2-row, put2-apart, sum_apart,
 use Rattle.sm_placement.proofs.Searches.{first_none, first_from_none, any_none, count_none}
 use Rattle.sm_placement.proofs.Settling.{settled_from}
 
+-- a named cell that is of a pair names the shard and the server of that pair
 pub is_of-true : (s v : ℕ) (x : NamedCell) → is_of s v x ≡ true → (x.0 ≡ s) × (x.1 ≡ v)
 is_of-true s v x e = let p = and_parts (eqb x.0 s) (eqb x.1 v) e in (eqb-true x.0 s p.0, eqb-true x.1 v p.1)
 
 pub is_of-false : (s v : ℕ) (x : NamedCell) → is_of s v x ≡ false → x.0 ≡ s → x.1 ≡ v → ⊥
 is_of-false s v x e p q = let t : is_of s v x ≡ true = rw (eq-eqb x.0 s p, eq-eqb x.1 v q) refl in cc
 
+-- a named cell is of the pair that it names
 pub is_of-here : (x : NamedCell) → is_of x.0 x.1 x ≡ true
 is_of-here x = rw (eq-eqb x.0 x.0 refl, eq-eqb x.1 x.1 refl) refl
 
@@ -46,6 +48,7 @@ known_shard m n [] i d k l = absurd (omega arith)
 known_shard m n (x ∷ xs) zero d k l = (known_head m n x xs k).0
 known_shard m n (x ∷ xs) (suc i) d k l = known_shard m n xs i d (known_tail m n x xs k) (omega arith)
 
+-- in a list of known cells the server of each is known
 pub known_server : (m n : ℕ) (xs : List NamedCell) (i : ℕ) (d : NamedCell) → AreKnown m n xs → i < length xs → (get_or xs i d).1 < n
 known_server m n [] i d k l = absurd (omega arith)
 known_server m n (x ∷ xs) zero d k l = (known_head m n x xs k).1
@@ -55,6 +58,7 @@ known_server m n (x ∷ xs) (suc i) d k l = known_server m n xs i d (known_tail 
 pub count_yes : {A : Type 0} (p : A → Bool) (x : A) (xs : List A) → p x ≡ true → count_by p (x ∷ xs) ≡ 1 + count_by p xs
 count_yes p x xs e = sum_by-cons (λ y. cond (p y) 1 0) x xs ∙ ap (λ b. cond b 1 0 + count_by p xs) e
 
+-- an element that doesn't pass adds nothing to a count
 pub count_no : {A : Type 0} (p : A → Bool) (x : A) (xs : List A) → p x ≡ false → count_by p (x ∷ xs) ≡ count_by p xs
 count_no p x xs e = sum_by-cons (λ y. cond (p y) 1 0) x xs ∙ ap (λ b. cond b 1 0 + count_by p xs) e ∙ omega arith
 
@@ -209,6 +213,7 @@ listed_known n (x ∷ xs) zero u k e = let z = (or_parts (is_unknown n x) (list_
     at (Some w) z e = let same : w ≡ u = cc in let l : w < n = ltb-true w n (not-false (ltb w n) z) in omega arith
 listed_known n (x ∷ xs) (suc s) u k e = listed_known n xs s u (or_parts (is_unknown n x) (list_any (is_unknown n) xs) k).1 e
 
+-- what a list has at a place is what is got there, or nothing past its end
 pub entries_of-get : {A : Type 0} (none : A) (xs : List A) (k : ℕ) → entries_of none xs k ≡ get_or xs k none
 unfolding entries_of
 entries_of-get none xs k = refl
@@ -247,6 +252,7 @@ pub record AreGood (c : Sizes) (o : Opening) : Type 0 where
   pub pairs : first_from 0 c.shards (double_of c.servers o.cells) ≡ None
   pub leads : first_below c.shards (λ r. has_bad_lead c.servers (cell_named o.cells r)) ≡ None
 
+-- lists in which no fault is found are good
 pub good_lists : (c : Sizes) (o : Opening) → first_fault (list_faults c o) ≡ None → AreGood c o
 good_lists c o e = go (is_wrong_size c o) (has_unknown_id c o) (first_from 0 c.shards (double_of c.servers o.cells)) (first_below c.shards (λ r. has_bad_lead c.servers (cell_named o.cells r))) refl refl refl refl e
   where
@@ -272,6 +278,7 @@ first_none-append (Some x ∷ xs) ys e = cc
 pub fault_of_lists : (c : Sizes) (o : Opening) (why : OpenFault) → first_fault (list_faults c o) ≡ Some why → open_fault c o ≡ Some why
 fault_of_lists c o why e = first_some-append (list_faults c o) (standing_faults c (opened_place o)) why e
 
+-- where the lists have no fault, the first fault is that of the placement that they name
 pub fault_of_rest : (c : Sizes) (o : Opening) → first_fault (list_faults c o) ≡ None → open_fault c o ≡ first_fault (standing_faults c (opened_place o))
 fault_of_rest c o e = first_none-append (list_faults c o) (standing_faults c (opened_place o)) e
 
@@ -282,6 +289,7 @@ pub record Stands (c : Sizes) (p : Place) : Type 0 where
   pub floors : first_below c.shards (is_short c p.cells p.down) ≡ None
   pub few : down_count c p ≤ p.limit
 
+-- a placement in which no fault is found passes each of these tests
 pub stands_from : (c : Sizes) (p : Place) → first_fault (standing_faults c p) ≡ None → Stands c p
 stands_from c p e =
     go (first_below c.shards (λ s. has_bad_listing (p.cells s) (p.listed s))) (first_below c.servers (is_over_room c p.cells)) (first_below c.shards (is_short c p.cells p.down)) (ltb p.limit (down_count c p)) refl refl refl refl e
@@ -329,9 +337,11 @@ opened_settled c o good e =
     let stands = stands_from c (opened_place o) e in
     settled_from c (opened_place o) (opened_nothing c o good.ids) good.leads stands.listings stands.rooms stands.floors stands.few (λ s l. omega arith)
 
+-- where no id is unknown, each listed server is known
 pub listings_known : (c : Sizes) (o : Opening) → has_unknown_id c o ≡ false → list_any (is_unknown c.servers) o.listed ≡ false
 listings_known c o e = (or_parts (list_any (is_unknown c.servers) o.listed) (list_any (λ v. not (ltb v c.servers)) o.down) (or_parts (list_any (is_unknown_cell c.shards c.servers) o.cells) (list_any (is_unknown c.servers) o.listed || list_any (λ v. not (ltb v c.servers)) o.down) e).1).0
 
+-- what is opened from good lists is settled, where no fault is found in the placement that they name
 pub settled_result : (c : Sizes) (o : Opening) (r : Result PlacementModel OpenFault) → AreGood c o → IfOk r (λ p. place_of p ≡ opened_place o) → OnOk r (first_fault (standing_faults c (opened_place o)) ≡ None) →
     IfOk r (λ p. IsSettled c (place_of p))
 settled_result c o (Ok p) good at e = subst (λ (q : Place). IsSettled c q) (sym at) (opened_settled c o good e)

@@ -16,9 +16,11 @@ pointwise-map E f [] (y ∷ ys) = refl
 pointwise-map E f (x ∷ xs) [] = refl
 pointwise-map E f (x ∷ xs) (y ∷ ys) = ap (λ b. E (f x) (f y) && b) (pointwise-map E f xs ys)
 
+-- the rows of two lists of servers agree exactly where the servers agree one by one
 pub same_server_rows : (xs ys : List Server) → pointwise same_server (map server_row xs) (map server_row ys) ≡ pointwise (λ x y. same_server (server_row x) (server_row y)) xs ys
 same_server_rows xs ys = pointwise-map same_server server_row xs ys
 
+-- the rows of two lists of shards agree exactly where the shards agree one by one
 pub same_shard_rows : (xs ys : List Shard) → pointwise same_shard (map shard_row xs) (map shard_row ys) ≡ pointwise (λ x y. same_shard (shard_row x) (shard_row y)) xs ys
 same_shard_rows xs ys = pointwise-map same_shard shard_row xs ys
 

@@ -6,6 +6,7 @@ use Rattle.sm_placement.specs.Sums.{put, sum_below, count_below, bit, any_below,
 use Rattle.sm_placement.specs.Opening.{first_below}
 use Rattle.sm_placement.proofs.Sums.{put-here, put-apart, same_sum, sum_apart, sum_zero, part_of_sum}
 
+-- there is an answer or none
 pub cases_Option : {A : Type 0} (o : Option A) → (o ≡ None) ⊎ ((x : A) × (o ≡ Some x))
 cases_Option None = inl refl
 cases_Option (Some x) = inr (x, refl)
@@ -14,9 +15,11 @@ cases_Option (Some x) = inr (x, refl)
 pub find_range_more : (t : ℕ → Bool) (i n : ℕ) → i < n → find t (range_with_len i (n - i)) ≡ cond (t i) (Some i) (find t (range_with_len (i + 1) (n - (i + 1))))
 find_range_more t i n h = let e : n - i ≡ suc (n - (i + 1)) = omega arith in ap (λ k. find t (range_with_len i k)) e
 
+-- a search that stands at a number that passes finds that number
 pub find_here : (t : ℕ → Bool) (i n : ℕ) → i < n → t i ≡ true → find t (range_with_len i (n - i)) ≡ Some i
 find_here t i n h e = find_range_more t i n h ∙ rw e refl
 
+-- a search that stands at a number that doesn't pass goes on behind it
 pub find_next : (t : ℕ → Bool) (i n : ℕ) → i < n → t i ≡ false → find t (range_with_len i (n - i)) ≡ find t (range_with_len (i + 1) (n - (i + 1)))
 find_next t i n h e = find_range_more t i n h ∙ rw e refl
 
@@ -49,6 +52,7 @@ find_some t a (suc n) u e = elim (cases_Bool (t a)) [
 pub first_none : (n : ℕ) (t : ℕ → Bool) → first_below n t ≡ None → (k : ℕ) → k < n → t k ≡ false
 first_none n t e k l = find_none t 0 n e k (omega arith) (omega arith)
 
+-- where no number below n passes, none is found
 pub first_none_from : (n : ℕ) (t : ℕ → Bool) → ((k : ℕ) → k < n → t k ≡ false) → first_below n t ≡ None
 first_none_from n t h = find_none_from t 0 n (λ k l m. h k (omega arith))
 
@@ -68,6 +72,7 @@ first_same n t r h = find_same t r 0 n (λ k l m. h k (omega arith))
 pub first_from_more : {A : Type 0} (f : ℕ → Option A) (i n : ℕ) (x : A) → i < n → f i ≡ Some x → first_from i (n - i) f ≡ Some x
 first_from_more f i n x h e = let m : n - i ≡ suc (n - (i + 1)) = omega arith in ap (λ k. first_from i k f) m ∙ rw e refl
 
+-- a number without an answer is passed over
 pub first_from_pass : {A : Type 0} (f : ℕ → Option A) (i n : ℕ) → i < n → f i ≡ None → first_from i (n - i) f ≡ first_from (i + 1) (n - (i + 1)) f
 first_from_pass f i n h e = let m : n - i ≡ suc (n - (i + 1)) = omega arith in ap (λ k. first_from i k f) m ∙ rw e refl
 
@@ -93,10 +98,12 @@ any_none (suc n) t e k l = let both = or_parts (t n) (any_below n t) e in elim (
   | inr d ↦ any_none n t both.1 k (omega arith)
 ]
 
+-- where no number below n passes, `any_below` says so
 pub any_none_from : (n : ℕ) (t : ℕ → Bool) → ((k : ℕ) → k < n → t k ≡ false) → any_below n t ≡ false
 any_none_from zero t h = refl
 any_none_from (suc n) t h = or_from (t n) (any_below n t) (h n (omega arith)) (any_none_from n t (λ k l. h k (omega arith)))
 
+-- one number below n that passes is enough
 pub any_some : (n : ℕ) (t : ℕ → Bool) (k : ℕ) → k < n → t k ≡ true → any_below n t ≡ true
 any_some zero t k l e = absurd (omega arith)
 any_some (suc n) t k l e = elim (cases_eq k n) [
@@ -131,6 +138,7 @@ count_one (suc n) t u h = elim (cases_eq n u) [
     bit_small true = omega arith
     bit_small false = omega arith
 
+-- where no number below n passes, the count is 0
 pub count_none : (n : ℕ) (t : ℕ → Bool) → ((k : ℕ) → k < n → t k ≡ false) → count_below n t ≡ 0
 count_none n t h = same_sum n (λ k. bit (t k)) (λ k. 0) (λ k l. rw (h k l) refl) ∙ sum_zero n (λ k. 0) (λ k. refl)
 
@@ -164,6 +172,7 @@ filter_length t a (suc n) =
     shift f zero = omega arith
     shift f (suc n) = let e : sum_below (suc n) f ≡ f 0 + sum_below n (λ k. f (k + 1)) = shift f n in let d : f (suc n) ≡ f (n + 1) = ap f (omega arith) in omega arith
 
+-- of the numbers below n, as many are listed as are counted
 pub filter_count : (n : ℕ) (t : ℕ → Bool) → length (filter t (range_with_len 0 n)) ≡ count_below n t
 filter_count n t = filter_length t 0 n ∙ same_sum n (λ k. bit (t (0 + k))) (λ k. bit (t k)) (λ k l. ap (λ i. bit (t i)) (omega arith))
 
@@ -180,6 +189,7 @@ pub none_listed : (t : ℕ → Bool) (a n : ℕ) → ((k : ℕ) → a ≤ k → 
 none_listed t a zero h = refl
 none_listed t a (suc n) h = rw (h a (omega arith) (omega arith)) (none_listed t (a + 1) n (λ k l m. h k (omega arith) (omega arith)))
 
+-- where the list of those that pass is empty, none passes
 pub none_passes : (t : ℕ → Bool) (a n : ℕ) → filter t (range_with_len a n) ≡ [] → (k : ℕ) → a ≤ k → k < a + n → t k ≡ false
 none_passes t a zero e k l m = absurd (omega arith)
 none_passes t a (suc n) e k l m = elim (cases_Bool (t a)) [
@@ -205,6 +215,7 @@ first_listed t a (suc n) u l m e h = elim (cases_eq a u) [
       rw past (first_listed t (a + 1) n u (omega arith) (omega arith) e (λ k x y. h k (omega arith) y) ∙ ap (λ k. u ∷ filter t (range_with_len (u + 1) k)) same)
 ]
 
+-- the first of the list of those that pass is the lowest one, and the rest of the list are those behind it
 pub first_passes : (t : ℕ → Bool) (a n u : ℕ) (xs : List ℕ) → filter t (range_with_len a n) ≡ u ∷ xs →
     (a ≤ u) × (u < a + n) × (t u ≡ true) × ((k : ℕ) → a ≤ k → k < u → t k ≡ false) × (filter t (range_with_len (u + 1) (a + n - (u + 1))) ≡ xs)
 first_passes t a zero u xs e = cc

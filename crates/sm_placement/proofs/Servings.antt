@@ -12,6 +12,7 @@ use Rattle.sm_placement.specs.Lead.{leader, ServingByLead}
 use Rattle.sm_placement.proofs.Searches.{filter_count, find_filter, none_listed, one_listed}
 use Rattle.sm_placement.proofs.Leads.{leader_serves, others_dont}
 
+-- where the count is 0, nobody serves the shard
 pub serving_none : (n : ℕ) (row : ℕ → Cell) → serving_in n row ≡ 0 → serving_of n row ≡ Nobody
 serving_none n row e = go (filter (serves row) (range_with_len 0 n)) (filter_count n (serves row) ∙ e)
   where
@@ -19,6 +20,7 @@ serving_none n row e = go (filter (serves row) (range_with_len 0 n)) (filter_cou
     go [] e = refl
     go (x ∷ xs) e = absurd (omega arith)
 
+-- where the count is 1, the first server that is found to serve is the one that does
 pub serving_one : (n : ℕ) (row : ℕ → Cell) → serving_in n row ≡ 1 → serving_of n row ≡ option_map_or One (first_below n (serves row)) Nobody
 serving_one n row e = go (filter (serves row) (range_with_len 0 n)) refl (filter_count n (serves row) ∙ e)
   where
@@ -27,6 +29,7 @@ serving_one n row e = go (filter (serves row) (range_with_len 0 n)) refl (filter
     go (x ∷ []) q e = sym (ap (λ (o : Option ℕ). option_map_or One o Nobody) (find_filter (serves row) (range_with_len 0 n) [] x q))
     go (x ∷ (y ∷ xs)) q e = absurd (omega arith)
 
+-- where the count is 2 or more, as many servers serve the shard
 pub serving_several : (n : ℕ) (row : ℕ → Cell) → 2 ≤ serving_in n row → serving_of n row ≡ Several (serving_in n row)
 serving_several n row l = go (filter (serves row) (range_with_len 0 n)) (filter_count n (serves row))
   where

@@ -131,9 +131,11 @@ settled_from c p out leads listings rooms floors down versions = record {
         go true e = refl
         go false e = cc
 
+-- in a settled placement no shard has a bad lead
 pub settled_leads : (c : Sizes) (p : Place) → IsSettled c p → first_below c.shards (λ s. has_bad_lead c.servers (p.cells s)) ≡ None
 settled_leads c p is = first_none_from c.shards (λ s. has_bad_lead c.servers (p.cells s)) (λ s l. let lead = is.leads s l in rest_to c.servers 0 (p.cells s) lead.0 lead.1 lead.2)
 
+-- in a settled placement no shard has a bad listing
 pub settled_listings : (c : Sizes) (p : Place) → IsSettled c p → first_below c.shards (λ s. has_bad_listing (p.cells s) (p.listed s)) ≡ None
 settled_listings c p is = first_none_from c.shards (λ s. has_bad_listing (p.cells s) (p.listed s)) (λ s l. go s l (cases_Option (p.listed s)))
   where
@@ -141,6 +143,7 @@ settled_listings c p is = first_none_from c.shards (λ s. has_bad_listing (p.cel
     go s l (inl q) = rw q refl
     go s l (inr q) = rw (q.1, is.listed s q.0 l q.1) refl
 
+-- in a settled placement no shard has fewer live replicas than its floor
 pub settled_floors : (c : Sizes) (p : Place) → IsSettled c p → first_below c.shards (is_short c p.cells p.down) ≡ None
 settled_floors c p is = first_none_from c.shards (is_short c p.cells p.down) (λ s l. le-ltb _ (c.floor s) (is.floors s l))
 
@@ -152,6 +155,7 @@ rooms_hold c p is = first_none_from c.servers (is_over_room c p.cells) (λ v l. 
 pub versions_low : (n : ℕ) (versions : List ℕ) → length versions ≡ n → All (λ v. v ≤ 2 ^ 40) versions → (s : ℕ) → s < n → entries_of 0 versions s ≤ 2 ^ 40
 versions_low n versions e all s l = rw (entries_of-is 0 versions s) (all s 0 (rw e l))
 
+-- versions that are at most 2^40 at each shard are so throughout their list
 pub low_versions : (n : ℕ) (versions : List ℕ) → length versions ≡ n → ((s : ℕ) → s < n → entries_of 0 versions s ≤ 2 ^ 40) → All (λ v. v ≤ 2 ^ 40) versions
 low_versions n versions e low k d l =
     let at : get_or versions k d ≡ entries_of 0 versions k = get_or_default versions k d 0 l ∙ sym (entries_of-is 0 versions k) in
@@ -163,6 +167,7 @@ pub none_found : {A : Type 0} (o : Option A) (b : Bool) → b ≡ is_some o → 
 none_found None b e f = refl
 none_found (Some x) b e f = cc
 
+-- a search that finds nothing can't be told to have found something
 pub some_found : {A : Type 0} (o : Option A) (b : Bool) → b ≡ is_some o → b ≡ true → o ≡ None → ⊥
 some_found None b e f g = cc
 some_found (Some x) b e f g = cc
@@ -171,8 +176,10 @@ some_found (Some x) b e f g = cc
 pub settled_read : {l now : PlacementModel} → l ≡ now → IsSettled (sizes_of now.setup) (place_of now) → IsSettled (sizes_of l.setup) (place_of l)
 settled_read {l} {now} e = subst (λ (n : PlacementModel). IsSettled (sizes_of n.setup) (place_of n) → IsSettled (sizes_of l.setup) (place_of l)) e (λ is. is)
 
+-- what is settled is settled as it is seen
 pub settled_seen : {l now : PlacementModel} → l ≡ now → IsSettled (sizes_of l.setup) (place_of l) → IsSettled (sizes_of now.setup) (place_of now)
 settled_seen {l} {now} e is = subst (λ (n : PlacementModel). IsSettled (sizes_of n.setup) (place_of n)) e is
 
+-- to answer no is right of what is not settled
 pub not_settled : {l now : PlacementModel} → l ≡ now → (IsSettled (sizes_of l.setup) (place_of l) → ⊥) → IsTrue false ↔ IsSettled (sizes_of now.setup) (place_of now)
 not_settled {l} {now} e never = (λ t. absurd (cc), λ is. absurd (never (settled_read e is)))

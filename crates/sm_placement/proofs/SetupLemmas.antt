@@ -5,10 +5,12 @@ use Rattle.std.proofs.lemmas.List.Sums.{AllPass-from_list_all}
 use Rattle.std.proofs.lemmas.Bool.Decides.{nat_tests}
 use Rattle.sm_placement.specs.Setup.{Setup, ServerRow, ShardRow, IsSetup, is_too_large, has_good_names, has_doubled_name, has_good_numbers, is_good_server, is_good_shard}
 
+-- where both hold the first one does
 pub and_first : (a b : Bool) → (a && b) ≡ true → a ≡ true
 and_first true b h = refl
 and_first false b h = h
 
+-- where both hold the second one does
 pub and_second : (a b : Bool) → (a && b) ≡ true → b ≡ true
 and_second true b h = h
 and_second false b h = absurd (true≢false (sym h))
@@ -38,6 +40,7 @@ shard_within r h =
 sizes_within : (a b : ℕ) → (nat_lt 1024 a || nat_lt 4096 b) ≡ false → (a ≤ 1024) × (b ≤ 4096)
 sizes_within a b h = grind (arith, nat_tests)
 
+-- servers and shards that pass each of these tests are a configuration
 pub setup_from_tests : (setup : Setup) → is_too_large setup ≡ false → has_good_names setup ≡ true → has_doubled_name setup ≡ false → has_good_numbers setup ≡ true → IsSetup setup
 setup_from_tests setup large names doubled numbers =
     let sizes = sizes_within (length setup.servers) (length setup.shards) large in

@@ -23,12 +23,14 @@ room_small setup v h = elim (cases_lt v (length setup.servers)) [
   | inr l ↦ let z : (sizes_of setup).room v ≡ 0 = room_beyond setup v l in omega arith
 ]
 
+-- the load of a shard is below 2^32
 pub load_small : (setup : Setup) (s : ℕ) → IsSetup setup → (sizes_of setup).load s < 2 ^ 32
 load_small setup s h = elim (cases_lt s (length setup.shards)) [
   | inl l ↦ let most : (sizes_of setup).load s ≤ 4294967295 = All-get_or (λ (r : ShardRow). r.load ≤ 4294967295) setup.shards s no_shard l h.good_loads in omega arith
   | inr l ↦ let z : (sizes_of setup).load s ≡ 0 = load_beyond setup s l in omega arith
 ]
 
+-- the floor of a shard is at most 1,024
 pub floor_small : (setup : Setup) (s : ℕ) → IsSetup setup → (sizes_of setup).floor s ≤ 1024
 floor_small setup s h = elim (cases_lt s (length setup.shards)) [
   | inl l ↦ let want : (get_or setup.shards s no_shard).want ≤ 1024 = All-get_or (λ (r : ShardRow). r.want ≤ 1024) setup.shards s no_shard l h.good_wants in omega arith

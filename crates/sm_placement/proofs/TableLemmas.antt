@@ -28,6 +28,7 @@ load-small setup cells v h =
     let b : length setup.shards ≤ 4096 = h.shards in
     omega arith
 
+-- a shard of a configuration has at most 1,024 live replicas
 pub live-small : (setup : Setup) (row : ℕ → Cell) (down : ℕ → Bool) → IsSetup setup → live_in (length setup.servers) row down ≤ 1024
 live-small setup row down h =
     let a : live_in (length setup.servers) row down ≤ length setup.servers = count-le (length setup.servers) (is_live row down) in
@@ -72,15 +73,19 @@ empty_totals setup = record {
   down = 0;
 }
 
+-- in the empty table each cell is absent
 pub cells_of-empty : (setup : Setup) → cells_of (empty_grid setup) ≡ (λ s v. Absent)
 cells_of-empty setup = grid_of-empty (length setup.servers) Absent (length setup.shards * length setup.servers)
 
+-- in the empty table each last number is 0
 pub lasts_of-empty : (setup : Setup) → lasts_of (empty_grid setup) ≡ (λ s v. 0)
 lasts_of-empty setup = grid_of-empty (length setup.servers) 0 (length setup.shards * length setup.servers)
 
+-- in the empty table each server is up
 pub down_of-empty : (setup : Setup) → down_of (empty_grid setup) ≡ (λ v. false)
 down_of-empty setup = entries_of-empty false (length setup.servers)
 
+-- totals of 0 are those of the empty table
 pub IsCounted-empty : (setup : Setup) → IsSetup setup → IsCounted (empty_grid setup) (empty_totals setup)
 IsCounted-empty setup h = record {
   setup = h;
@@ -103,15 +108,18 @@ pub cells_of-read : {g now : TableModel} {t : Totals} (s v : ℕ) (x : Cell) →
 cells_of-read {g} {now} {t} s v x h e = subst (λ (n : TableModel). s < length n.setup.shards → v < length n.setup.servers → x ≡ entries_of Absent g.cells (s * length n.setup.servers + v) → x ≡ cells_of n s v) e
     (λ l m r. r ∙ entries_of-is Absent g.cells (s * length g.setup.servers + v) ∙ sym (grid_of-within (length g.setup.servers) Absent g.cells s v m))
 
+-- what is read in a pair's slot is the pair's last number
 pub lasts_of-read : {g now : TableModel} {t : Totals} (s v x : ℕ) → IsCounted g t → g ≡ now → s < length now.setup.shards → v < length now.setup.servers →
     x ≡ entries_of 0 g.lasts (s * length now.setup.servers + v) → x ≡ lasts_of now s v
 lasts_of-read {g} {now} {t} s v x h e = subst (λ (n : TableModel). s < length n.setup.shards → v < length n.setup.servers → x ≡ entries_of 0 g.lasts (s * length n.setup.servers + v) → x ≡ lasts_of n s v) e
     (λ l m r. r ∙ entries_of-is 0 g.lasts (s * length g.setup.servers + v) ∙ sym (grid_of-within (length g.setup.servers) 0 g.lasts s v m))
 
+-- what is read at a server's number is whether the server is down
 pub down_of-read : {g now : TableModel} {t : Totals} (v : ℕ) (x : Bool) → IsCounted g t → g ≡ now → v < length now.setup.servers → x ≡ get_or g.down v x → x ≡ down_of now v
 down_of-read {g} {now} {t} v x h e = subst (λ (n : TableModel). v < length n.setup.servers → x ≡ get_or g.down v x → x ≡ down_of n v) e
     (λ l r. entries_of-read false g.down v (length g.setup.servers) x h.down_length l r)
 
+-- the total that is read at a server's number is its load
 pub load_of-read : {g now : TableModel} {t : Totals} (v x : ℕ) → IsCounted g t → g ≡ now → v < length now.setup.servers → x ≡ get_or t.loads v x → x ≡ load_of (sizes_of now.setup) (cells_of now) v
 load_of-read {g} {now} {t} v x h e = subst (λ (n : TableModel). v < length n.setup.servers → x ≡ get_or t.loads v x → x ≡ load_of (sizes_of n.setup) (cells_of n) v) e
     (λ l r. entries_of-read 0 t.loads v (length g.setup.servers) x h.loads_length l r ∙ h.loads v l)
@@ -128,17 +136,21 @@ row_within {g} {now} {t} s k w h e l d f =
     let r : s * w + w ≤ length g.setup.shards * length g.setup.servers = row_fits s w (length g.setup.shards) (length g.setup.servers) m (omega (arith, h.down_length)) in
     rw (d, h.cells_length) r
 
+-- the total that is read at a shard's number is how many of its replicas are live
 pub live_in-read : {g now : TableModel} {t : Totals} (s x : ℕ) → IsCounted g t → g ≡ now → s < length now.setup.shards → x ≡ get_or t.lives s x → x ≡ live_in (length now.setup.servers) (cells_of now s) (down_of now)
 live_in-read {g} {now} {t} s x h e = subst (λ (n : TableModel). s < length n.setup.shards → x ≡ get_or t.lives s x → x ≡ live_in (length n.setup.servers) (cells_of n s) (down_of n)) e
     (λ l r. entries_of-read 0 t.lives s (length g.setup.shards) x h.lives_length l r ∙ h.lives s l)
 
+-- the total that is read at a shard's number is how many servers serve it
 pub serving_in-read : {g now : TableModel} {t : Totals} (s x : ℕ) → IsCounted g t → g ≡ now → s < length now.setup.shards → x ≡ get_or t.servings s x → x ≡ serving_in (length now.setup.servers) (cells_of now s)
 serving_in-read {g} {now} {t} s x h e = subst (λ (n : TableModel). s < length n.setup.shards → x ≡ get_or t.servings s x → x ≡ serving_in (length n.setup.servers) (cells_of n s)) e
     (λ l r. entries_of-read 0 t.servings s (length g.setup.shards) x h.servings_length l r ∙ h.servings s l)
 
+-- a counted table has nothing beyond its servers and shards, and each server that its cells name is known
 pub IsGrid-read : {g now : TableModel} {t : Totals} → IsCounted g t → g ≡ now → IsGrid now
 IsGrid-read {g} {now} {t} h e = subst (λ (n : TableModel). IsGrid n) e (IsGrid-from_counted g t h)
 
+-- a counted table is of a configuration
 pub IsSetup-read : {g now : TableModel} {t : Totals} → IsCounted g t → g ≡ now → IsSetup now.setup
 IsSetup-read {g} {now} {t} h e = subst (λ (n : TableModel). IsSetup n.setup) e h.setup
 
@@ -147,10 +159,12 @@ pub same_table : {setup others : Setup} {cells more : List Cell} {lasts numbers 
     ◌≡◌ {A = TableModel} (record { setup = setup; cells = cells; lasts = lasts; down = down }) (record { setup = others; cells = more; lasts = numbers; down = states })
 same_table a b d e = rw (a, b, d, e) refl
 
+-- totals of the same lists are the same
 pub same_totals : {loads a lives b servings d : List ℕ} (down : ℕ) → loads ≡ a → lives ≡ b → servings ≡ d →
     ◌≡◌ {A = Totals} (record { loads = loads; lives = lives; servings = servings; down = down }) (record { loads = a; lives = b; servings = d; down = down })
 same_totals down e f k = rw (e, f, k) refl
 
+-- a table that is the same as a counted one is counted by the same totals
 pub IsCounted-same : {g h : TableModel} {t u : Totals} → IsCounted g t → h ≡ g → u ≡ t → IsCounted h u
 IsCounted-same is e f = rw (e, f) is
 
@@ -266,6 +280,7 @@ pub record IsCorrected (load added removed after : ℕ) : Type 0 where
   pub enough : removed ≤ load + added
   pub is : load + added - removed ≡ after
 
+-- the load of a server once a cell of it is changed: the new cell's weight comes to it, the old one's goes
 pub load_of-corrected : {g : TableModel} {t : Totals} (s v : ℕ) (next : Cell) (load added removed : ℕ) → IsCounted g t → s < length g.setup.shards → v < length g.setup.servers →
     load ≡ get_or t.loads v load → added ≡ weight next ((sizes_of g.setup).load s) → removed ≡ weight (cells_of g s v) ((sizes_of g.setup).load s) →
     IsCorrected load added removed (load_of (sizes_of g.setup) (put2 (cells_of g) s v next) v)
@@ -278,6 +293,7 @@ load_of-corrected {g} {t} s v next load added removed h l m a b d =
     let r : c.load s < 2 ^ 32 = load_small g.setup s h.setup in
     record { fits = omega arith; enough = omega arith; is = omega arith }
 
+-- a write in a pair's slot changes the cell of that pair alone
 pub cells_of-set : {g old : TableModel} {t : Totals} (s v : ℕ) (next : Cell) → IsCounted g t → g ≡ old → s < length old.setup.shards → v < length old.setup.servers →
     grid_of (length g.setup.servers) Absent (set g.cells (s * length g.setup.servers + v) next) ≡ put2 (cells_of old) s v next
 cells_of-set {g} {old} {t} s v next h e = subst (λ (n : TableModel). s < length n.setup.shards → v < length n.setup.servers → grid_of (length g.setup.servers) Absent (set g.cells (s * length g.setup.servers + v) next) ≡ put2 (cells_of n) s v next) e
@@ -294,16 +310,19 @@ count_below-toggle n down v b l e =
     sum_apart n (λ q. bit (put down v b q)) (λ q. bit (down q)) v (bit (not b)) (bit b) l (λ q d. ap bit (put-apart down v b q d))
     (let x : bit (put down v b v) ≡ bit b = ap bit (put-here down v b v refl) in let y : bit (down v) ≡ bit (not b) = ap bit e in omega arith)
 
+-- a write at a server's number changes whether that server is down, and no other
 pub down_of-set : {g old : TableModel} {t : Totals} (v : ℕ) (b : Bool) → IsCounted g t → g ≡ old → v < length old.setup.servers → down_of (record g { down = set g.down v b }) ≡ put (down_of old) v b
 down_of-set {g} {old} {t} v b h e = subst (λ (n : TableModel). v < length n.setup.servers → down_of (record g { down = set g.down v b }) ≡ put (down_of n) v b) e
     (λ l. entries_of-set false g.down v b (omega (arith, h.down_length)))
 
+-- two truth values that compare as equal are equal
 pub same-from_beq : (a b : Bool) → beq a b ≡ true → a ≡ b
 same-from_beq true true e = refl
 same-from_beq true false e = absurd (true≢false (sym e))
 same-from_beq false true e = absurd (true≢false (sym e))
 same-from_beq false false e = refl
 
+-- of two truth values that don't compare as equal the first is the other's negation
 pub not-from_beq : (was b : Bool) → beq was b ≡ false → was ≡ not b
 not-from_beq true true e = absurd (true≢false e)
 not-from_beq true false e = refl
@@ -319,6 +338,7 @@ down-toggled {g} {old} {t} v b was h e l r w =
     let k : count_below (length g.setup.servers) (put (down_of g) v b) + bit (not b) ≡ count_below (length g.setup.servers) (down_of g) + bit b = count_below-toggle (length g.setup.servers) (down_of g) v b m d in
     k ∙ ap (λ (n : ℕ). n + bit b) (sym h.down)
 
+-- in a counted table at most 1,024 servers are down
 pub down_count-small : {g : TableModel} {t : Totals} → IsCounted g t → t.down ≤ 1024
 down_count-small {g} {t} h = rw h.down (down-small g.setup (down_of g) h.setup)
 

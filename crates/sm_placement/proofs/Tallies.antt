@@ -22,6 +22,7 @@ use Rattle.sm_placement.proofs.Searches.{any_by_count}
 abbrev pub ArePairsCounted : ℕ → List NamedCell → ℕ → List ℕ → Type 0
 ArePairsCounted n cells i counts = grid_of n 0 counts ≡ (λ s v. count_by (is_of s v) (take i cells))
 
+-- counts of 0 are those of the pairs before the first cell
 pub pairs_none : (n k : ℕ) (cells : List NamedCell) (counts : List ℕ) → counts ≡ replicate k 0 → ArePairsCounted n cells 0 counts
 pairs_none n k cells counts e = rw e (grid_of-empty n 0 k)
 
@@ -37,6 +38,7 @@ pub pair_count : (m n : ℕ) (cells : List NamedCell) (i : ℕ) (x : NamedCell) 
 pair_count m n cells i x counts b k l e len at r =
     grid_of-read n m 0 counts x.0 x.1 b len (subst (λ y. y.0 < m) (sym e) (known_shard m n cells i x k l)) (subst (λ y. y.1 < n) (sym e) (known_server m n cells i x k l)) r ∙ ap (λ f. f x.0 x.1) at
 
+-- before the i-th cell its pair is counted at most i times
 pub pair_count_small : (m n : ℕ) (cells : List NamedCell) (i : ℕ) (x : NamedCell) (counts : List ℕ) (b : ℕ) → AreKnown m n cells → i < length cells → x ≡ get_or cells i x → length counts ≡ m * n →
     ArePairsCounted n cells i counts → b ≡ get_or counts (x.0 * n + x.1) b → b ≤ i
 pair_count_small m n cells i x counts b k l e len at r =
@@ -45,6 +47,7 @@ pair_count_small m n cells i x counts b k l e len at r =
     let long : length (take i cells) ≡ i = length-take-le i cells (omega arith) in
     omega arith
 
+-- with one more for the pair of the i-th cell, the pairs are counted one cell further
 pub pairs_more : (m n : ℕ) (cells : List NamedCell) (i : ℕ) (x : NamedCell) (counts : List ℕ) (b : ℕ) → AreKnown m n cells → i < length cells → x ≡ get_or cells i x → length counts ≡ m * n →
     ArePairsCounted n cells i counts → b ≡ get_or counts (x.0 * n + x.1) b → ArePairsCounted n cells (i + 1) (set counts (x.0 * n + x.1) (b + 1))
 pairs_more m n cells i x counts b k l e len at r =
@@ -86,6 +89,7 @@ double_found n m cells counts read s r o e a b d f =
     let g : o ≡ first_below n (λ v. ltb 1 (grid_of n 0 counts s v)) = rw (← a, ← b, ← d) f in
     sym (ap (option_map (λ v. DoubleCell s v)) (g ∙ ap (λ (g : ℕ → ℕ → ℕ). first_below n (λ v. ltb 1 (g s v))) e))
 
+-- what is counted where there is no cell
 abbrev pub no_cells : LeadCells
 no_cells = record { primaries = 0; handing = 0 }
 
@@ -93,6 +97,7 @@ no_cells = record { primaries = 0; handing = 0 }
 abbrev pub AreLeadsCounted : List NamedCell → ℕ → List LeadCells → Type 0
 AreLeadsCounted cells i counts = entries_of no_cells counts ≡ lead_cells (take i cells)
 
+-- counts of no cells are those of the leads before the first cell
 pub leads_none : (k : ℕ) (cells : List NamedCell) (counts : List LeadCells) → counts ≡ replicate k no_cells → AreLeadsCounted cells 0 counts
 leads_none k cells counts e = rw e (entries_of-empty no_cells k)
 
@@ -102,6 +107,7 @@ pub lead_count : (m n : ℕ) (cells : List NamedCell) (i : ℕ) (x : NamedCell) 
 lead_count m n cells i x counts b k l e len at r =
     entries_of-read no_cells counts x.0 m b len (subst (λ y. y.0 < m) (sym e) (known_shard m n cells i x k l)) r ∙ ap (λ f. f x.0) at
 
+-- of the first i cells at most i are counted
 pub tally_small : (t : Cell → Bool) (s i : ℕ) (cells : List NamedCell) → i < length cells → tally t s (take i cells) ≤ i
 tally_small t s i cells l =
     let most : tally t s (take i cells) ≤ length (take i cells) = count_by-le-length (λ y. eqb y.0 s && t y.2) (take i cells) in
@@ -119,6 +125,7 @@ pub tally_same : (t : Cell → Bool) (s i : ℕ) (cells : List NamedCell) (x : N
     tally t s (take (i + 1) cells) ≡ tally t s (take i cells)
 tally_same t s i cells x l e d = count_by_more_no (λ y. eqb y.0 s && t y.2) cells i x l (subst (λ y. (eqb y.0 s && t y.2) ≡ false) e (rw (ne_eqb x.0 s (λ g. d (sym g))) refl))
 
+-- with the i-th cell added to its shard's counts, the leads are counted one cell further
 pub leads_more : (m n : ℕ) (cells : List NamedCell) (i : ℕ) (x : NamedCell) (counts : List LeadCells) (b a : LeadCells) → AreKnown m n cells → i < length cells → x ≡ get_or cells i x → length counts ≡ m →
     AreLeadsCounted cells i counts → b ≡ get_or counts x.0 b → a.primaries ≡ b.primaries + bit (is_primary x.2) → a.handing ≡ b.handing + bit (is_handing x.2) →
     AreLeadsCounted cells (i + 1) (set counts x.0 a)

@@ -1,4 +1,5 @@
 -- The parties of a list of places, in blocks of as many places each.
+-- Steps of the code's own way, which private functions' contracts cite: no reader of the public ones must believe them.
 use Rattle.std.specs.Prelude.{◌≡◌, ◌≤◌, ◌<◌, ℕ, ◌+◌, ◌*◌, ◌/◌, ◌%◌, List, length, Option, Some, None, is_some}
 use Rattle.sm_placement.specs.declared.parties.Party.{Party}
 use Rattle.sm_placement.specs.declared.parties.TheConstants.{BLOCK}

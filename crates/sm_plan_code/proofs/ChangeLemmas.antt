@@ -20,10 +20,12 @@ use Rattle.sm_plan_code.specs.After.{after, first_why, line_of, unless_refused, 
 use Rattle.sm_plan_code.specs.Table.{exchanged, exchange_of, gives_of, no_exchange, nothing, IsSmallPortion, add_primary_exchange, drop_held_exchange, drop_led_exchange, publish_exchange, unlist_exchange}
 use Rattle.sm_plan_code.proofs.Exchanges.{lines_exchange, has_neither}
 
+-- what holds of each value that a result may be Ok with holds of it, if it is Ok
 pub each_ok : {X Y : Type 0} (P : X → Type 0) (r : Result X Y) → ((x : X) → r ≡ Ok x → P x) → IfOk r P
 each_ok P (Ok x) f = f x refl
 each_ok P (Err y) f = tt
 
+-- what holds of each error that it may be holds of it, if it is one
 pub each_err : {X Y : Type 0} (P : Y → Type 0) (r : Result X Y) → ((y : Y) → r ≡ Err y → P y) → IfErr r P
 each_err P (Ok x) f = tt
 each_err P (Err y) f = f y refl
@@ -92,6 +94,7 @@ module _ (c : Sizes) (i : Instr) (h : Hold) (r : Result Exchange Why) (own : (si
         left = λ o. absurd (f o);
       })
 
+  -- an answer that is a change is what the table exchanges, and the hold can make it
   pub is_change : (x : Exchange) → r ≡ Ok x → IsChange c i h x
   is_change x e = elim (own_or i) [ inl o ↦ by_line o x e | inr f ↦ by_parcel f x e ]
 
@@ -100,6 +103,7 @@ module _ (c : Sizes) (i : Instr) (h : Hold) (r : Result Exchange Why) (own : (si
       let line = line_of c signals i h in
       ap (λ (w : Option Why). unless_refused w line.change) (unless_err (first_why line.tests) (exchange_of c i h) why (sym (own signals o) ∙ e))
 
+  -- an answer that is a refusal is the reason that `after` gives
   pub is_refusal : (why : Why) → r ≡ Err why → (signals : ℕ → Rights) → after c signals i h ≡ Err why
   is_refusal why e = elim (own_or i) [ inl o ↦ refuses o why e | inr f ↦ absurd (let same = sym (other f) ∙ e in cc) ]
 
@@ -134,6 +138,7 @@ by_unlist : (s : ℕ) (listed : Option ℕ) (o : Option Lead) → IsSmallPortion
 by_unlist s listed None = record { room = tt; spare = tt }
 by_unlist s listed (Some lead) = record { room = tt; spare = tt }
 
+-- an instruction gives one spare replica at most, and room below 2^32 where its shard's load is below it
 pub small_got : (c : Sizes) (h : Hold) (i : Instr) → IfSome (shard_of i) (λ s. c.load s < 2 ^ 32) → IsSmallPortion (gives_of c i h)
 small_got c h (PrepareAdd s v u) l = record { room = tt; spare = tt }
 small_got c h (PrepareDrop s u v) l = record { room = tt; spare = tt }

@@ -65,10 +65,11 @@ module _ (h : Hold) (x : Exchange) (small : IsSmallPortion x.got) where
     spare = λ s. omega (arith, less_spare s, spares s, spare_of x.got small s);
   }
 
-  -- the room grows by 2^32 at most, and the spare replicas by one
+  -- the room of each server grows by 2^32 at most
   pub change_grows_room : (v : ℕ) → (plus (minus h (portion_rights x.out)) (portion_rights x.got)).room v ≤ h.room v + 2 ^ 32
   change_grows_room v = rw (plus_is (minus h (portion_rights x.out)) (portion_rights x.got) (portion_ordered x.got)) (omega (arith, less_room v, room_of x.got small v))
 
+  -- and the spare replicas of each shard by one
   pub change_grows_spare : (s : ℕ) → (plus (minus h (portion_rights x.out)) (portion_rights x.got)).spare s ≤ h.spare s + 1
   change_grows_spare s = rw (plus_is (minus h (portion_rights x.out)) (portion_rights x.got) (portion_ordered x.got)) (omega (arith, less_spare s, spare_of x.got small s))
 

@@ -298,6 +298,7 @@ module _ (c : Sizes) (p : Place) (leads : ℕ → Lead) (numbers : ℕ → ℕ) 
   outcome (Signal k) h' at own e = absurd own
   outcome (Wait k) h' at own e = absurd own
 
+  -- in a scene, an instruction but signal and wait that can be reached has its effect where `after` gives a hold
   pub effect : (i : Instr) (h' : Hold) → IsReachable c p i → IsOwn i → after c signals i h ≡ Ok h' → Effect c p leads numbers h h' i
   effect i h' at own e =
       let o = outcome i h' at own e in

@@ -39,6 +39,7 @@ module _ (c : Sizes) (p : Place) (leads : ℕ → Lead) (n : ℕ → ℕ) (h k :
       let z = named_is_not_plain (leads s) (n s) p s v (d s) (subst (λ l. LeadNames l v) (sym y.0) b.3) in
       absurd (cc)
 
+  -- two holds that are true of a placement beside each other reach no cell together
   pub exclusive : (s v : ℕ) → IsWithinReach h s v → IsWithinReach k s v → ⊥
   exclusive s v (inl a) (inl b) =
       let x = true_cell c p leads h first s v a.0 a.1 in

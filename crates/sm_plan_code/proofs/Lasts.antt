@@ -20,6 +20,7 @@ module _ (c : Sizes) (p : Place) (last : ℕ → ℕ → ℕ) where
   same_bound (OfRoom v) = refl
   same_bound (OfSpare s) = refl
 
+  -- what is said of rights and scenes at a placement is said of it under any last numbers too
   pub lasts_are_unseen : SameRights c p (with_lasts last p)
   lasts_are_unseen = record {
     placement = placement_with_lasts c p last;

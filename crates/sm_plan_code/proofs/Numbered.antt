@@ -38,6 +38,7 @@ moved_by (Ok p) numbers next q e =
     ap (λ (z : Place × (ℕ → ℕ)). Ok z.0) pair
 moved_by (Err why) numbers next q e = cc
 
+-- a call under a number that isn't the last one of its cell has the effect of its instruction
 pub numbered_effect : (c : Sizes) (p : Place) (leads : ℕ → Lead) (numbers : ℕ → ℕ) (signals : ℕ → Rights) (h h' : Hold) (i : Instr) (x : ServerCall) (number : ℕ) →
     IsScene c p leads numbers h → IsReachable c p i → after c signals i h ≡ Ok h' → next_call numbers i ≡ Some x → number ≢ p.last x.shard x.server →
     NumberedEffect c p leads numbers h h' i x number

@@ -21,11 +21,13 @@ apart h p all =
     let parts = and_parts (list_all (lacks_cell h) p.cells) (list_all (lacks_crown h) p.crowns) all in
     passes_apart h p parts.0 parts.1
 
+-- what a signal's parcel has of each right leaves the hold
 pub signal_counts : (h h' : Hold) (p : Rights) → IsOrdered p → decided (signal_line p h) ≡ Ok h' → (r : Right) → count h' r + count (hold_of p) r ≡ count h r
 signal_counts h h' p o e r =
     let ok = passes (signal_line p h) h' e in
     rw (← ok.1) (minus_count h p o (none_of (first_short h p) ok.0.0) r)
 
+-- what a wait's parcel has of each right comes into the hold
 pub wait_counts : (h h' : Hold) (p : Rights) → IsOrdered p → decided (wait_line p h) ≡ Ok h' → (r : Right) → count h' r ≡ count h r + count (hold_of p) r
 wait_counts h h' p o e r =
     let ok = passes (wait_line p h) h' e in

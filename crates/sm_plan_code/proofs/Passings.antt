@@ -42,6 +42,7 @@ passed_by_lead (Handed x y) n row d m h = record {
   ];
 }
 
+-- and what the cells allow the lead does too
 pub passed_of_lead : (lead : Lead) (n : ℕ) (row : ℕ → Cell) → Describes lead n row → (m : ℕ) → CanBePassed row n m → MayHavePassed lead n m
 passed_of_lead Gone n row d m h = (h.most, λ r. absurd r)
 passed_of_lead (At x) n row d m h = (h.most, λ r. absurd r)

@@ -112,6 +112,7 @@ reach_of c signals h h' (Unlist a) e s v t = cc
 reach_of c signals h h' (Signal k) e s v t = cc
 reach_of c signals h h' (Wait k) e s v t = cc
 
+-- the cell of an instruction's call is within reach of the hold before it and of the one after it
 pub within_reach : (c : Sizes) (signals : ℕ → Rights) (h h' : Hold) (i : Instr) → after c signals i h ≡ Ok h' → (s v : ℕ) → touched i ≡ Some (s, v) → IsWithinReach h s v × IsWithinReach h' s v
 within_reach c signals h h' i e s v t =
     let r = reach_of c signals h h' i e s v t in

@@ -83,6 +83,7 @@ module _ (c : Sizes) (p : Place) (leads : ℕ → Lead) (numbers : ℕ → ℕ) 
       let b : c.load s ≤ h.room v = leb-true (c.load s) (h.room v) e in
       omega arith
 
+  -- `add` of a secondary is served: it pays the cell right and the load, and gives a secondary's and a spare
   pub add_secondary : (s v : ℕ) → Reaches c p s v →
       h.cells s v ≡ Some plain.Absent → leb (c.load s) (h.room v) ≡ true →
       Goes c p leads numbers h (get_spare (pay_room (with_cell h s v (Some plain.Secondary)) v (c.load s)) s 1) s v (call.Add role.Secondary) (numbers s)
@@ -114,6 +115,7 @@ module _ (c : Sizes) (p : Place) (leads : ℕ → Lead) (numbers : ℕ → ℕ) 
         passed = λ m h. h;
       }
 
+  -- `prepare_add` is served under a higher number: it pays the cell right and the load, and the lead is ready
   pub prepare_add : (s v u : ℕ) → Reaches c p s v → (l : Option ℕ) →
       h.crowns s ≡ Some (At u, l) → h.cells s v ≡ Some plain.Absent → leb (c.load s) (h.room v) ≡ true → (n : ℕ) → numbers s < n →
       Goes c p leads numbers h (pay_room (with_cell (with_crown h s (Ready u v) l) s v None) v (c.load s)) s v (call.PrepareAdd u n) n
@@ -148,6 +150,7 @@ module _ (c : Sizes) (p : Place) (leads : ℕ → Lead) (numbers : ℕ → ℕ) 
         passed = λ m h. let a = h.0 in (omega arith, λ r. omega arith);
       }
 
+  -- `prepare_drop` is served: the lead that was ready is handing
   pub prepare_drop : (s u v : ℕ) → Reaches c p s u → v < c.servers → p.down v ≡ false → (l : Option ℕ) → h.crowns s ≡ Some (Ready u v, l) →
       Goes c p leads numbers h (with_crown h s (Handing u v) l) s u (call.PrepareDrop v (numbers s)) (numbers s)
   prepare_drop s u v at in_range v_up l crown =
@@ -178,6 +181,7 @@ module _ (c : Sizes) (p : Place) (leads : ℕ → Lead) (numbers : ℕ → ℕ) 
         passed = λ m h. (h.0, λ r. absurd r);
       }
 
+  -- `add` of the primary that is handed over is served: the lead that was handing is handed
   pub add_handing : (s u v : ℕ) → Reaches c p s v → (l : Option ℕ) → h.crowns s ≡ Some (Handing u v, l) →
       Goes c p leads numbers h (with_crown h s (Handed u v) l) s v (call.Add role.Primary) (numbers s)
   add_handing s u v at l crown =
@@ -208,6 +212,7 @@ module _ (c : Sizes) (p : Place) (leads : ℕ → Lead) (numbers : ℕ → ℕ) 
         passed = λ m h. (h.0, λ r. absurd r);
       }
 
+  -- `drop` of an unlisted old primary is served: the lead is at the new one, and it gives cell right and room
   pub drop_handed : (s u w : ℕ) → Reaches c p s u → (l : Option ℕ) → h.crowns s ≡ Some (Handed u w, l) → not (same_listed l (Some u)) ≡ true →
       Goes c p leads numbers h (get_room (with_cell (with_crown h s (At w) l) s u (Some plain.Absent)) u (c.load s)) s u call.Drop (numbers s)
   drop_handed s u w at l crown free =
@@ -238,6 +243,7 @@ module _ (c : Sizes) (p : Place) (leads : ℕ → Lead) (numbers : ℕ → ℕ) 
         passed = λ m h. (h.0, λ r. absurd r);
       }
 
+  -- `drop` of a prepared cell is served: the lead is at the owner again, and it gives cell right and room
   pub drop_ready : (s u w : ℕ) → Reaches c p s w → (l : Option ℕ) → h.crowns s ≡ Some (Ready u w, l) →
       Goes c p leads numbers h (get_room (with_cell (with_crown h s (At u) l) s w (Some plain.Absent)) w (c.load s)) s w call.Drop (numbers s)
   drop_ready s u w at l crown =
@@ -268,6 +274,7 @@ module _ (c : Sizes) (p : Place) (leads : ℕ → Lead) (numbers : ℕ → ℕ) 
         passed = λ m h. (h.0, λ r. absurd r);
       }
 
+  -- `drop` of a primary with none listed is served: the lead is gone, it pays a spare, gives cell right and room
   pub drop_at : (s u : ℕ) → Reaches c p s u → (l : Option ℕ) → h.crowns s ≡ Some (At u, l) → leb 1 (h.spare s) ≡ true → is_none l ≡ true →
       Goes c p leads numbers h (get_room (pay_spare (with_cell (with_crown h s Gone l) s u (Some plain.Absent)) s 1) u (c.load s)) s u call.Drop (numbers s)
   drop_at s u at l crown spare free =
@@ -299,6 +306,7 @@ module _ (c : Sizes) (p : Place) (leads : ℕ → Lead) (numbers : ℕ → ℕ) 
         passed = λ m h. (h.0, λ r. absurd r);
       }
 
+  -- `add` of a primary is served where the lead is gone: it pays the cell right and the load, and gives a spare
   pub add_gone : (s v : ℕ) → Reaches c p s v → (l : Option ℕ) → h.crowns s ≡ Some (Gone, l) → h.cells s v ≡ Some plain.Absent → leb (c.load s) (h.room v) ≡ true →
       Goes c p leads numbers h (get_spare (pay_room (with_cell (with_crown h s (At v) l) s v None) v (c.load s)) s 1) s v (call.Add role.Primary) (numbers s)
   add_gone s v at l crown held room =
@@ -331,6 +339,7 @@ module _ (c : Sizes) (p : Place) (leads : ℕ → Lead) (numbers : ℕ → ℕ) 
         passed = λ m h. (h.0, λ r. absurd r);
       }
 
+  -- `change` to primary is served where the lead is gone: it pays the cell right, and the lead is there
   pub to_primary : (s v : ℕ) → Reaches c p s v → (l : Option ℕ) → h.crowns s ≡ Some (Gone, l) → h.cells s v ≡ Some plain.Secondary →
       Goes c p leads numbers h (with_cell (with_crown h s (At v) l) s v None) s v (call.Change role.Secondary role.Primary) (numbers s)
   to_primary s v at l crown held =
@@ -362,6 +371,7 @@ module _ (c : Sizes) (p : Place) (leads : ℕ → Lead) (numbers : ℕ → ℕ) 
         passed = λ m h. (h.0, λ r. absurd r);
       }
 
+  -- `change` to secondary is served where none is listed: the lead is gone, and it gives the cell right
   pub to_secondary : (s u : ℕ) → Reaches c p s u → (l : Option ℕ) → h.crowns s ≡ Some (At u, l) → is_none l ≡ true →
       Goes c p leads numbers h (with_cell (with_crown h s Gone l) s u (Some plain.Secondary)) s u (call.Change role.Primary role.Secondary) (numbers s)
   to_secondary s u at l crown free =
@@ -392,6 +402,7 @@ module _ (c : Sizes) (p : Place) (leads : ℕ → Lead) (numbers : ℕ → ℕ) 
         passed = λ m h. (h.0, λ r. absurd r);
       }
 
+  -- `drop` of a secondary is served: it pays the cell right and a spare, and gives an absent cell's and room
   pub drop_secondary : (s v : ℕ) → Reaches c p s v → h.cells s v ≡ Some plain.Secondary → leb 1 (h.spare s) ≡ true →
       Goes c p leads numbers h (get_room (pay_spare (with_cell h s v (Some plain.Absent)) s 1) v (c.load s)) s v call.Drop (numbers s)
   drop_secondary s v at held spare =

@@ -34,6 +34,7 @@ pub record IsKept (b : Basis) (moves : List Move) (placed : List ℕ) (marks : L
 
 -- ---- one entry changed
 
+-- once one entry of a list is written, it stands at its place, and at each other place what stood there
 pub at_set : {A : Type 0} (xs : List A) (i : ℕ) (y : A) (v : ℕ) (d : A) → i < length xs → get_or (set xs i y) v d ≡ cond (eqb i v) y (get_or xs v d)
 at_set xs i y v d l = elim (cases_eq v i) [
   | inl e ↦ rw (e, eq-eqb i i refl, get_or-set_same xs i y d l) refl
@@ -99,9 +100,11 @@ after_at setup m room v to from =
       | inr q ↦ rw (ne_eqb m.to v q) (omega arith)
     ]
 
+-- a move takes no more room of a server than its load
 pub taken_small : (setup : Setup) (v : ℕ) (m : Move) → taken_by setup v m ≤ move_load setup m
 taken_small setup v m = elim (cases_Bool (eqb m.to v)) [ inl e ↦ rw e (omega arith) | inr e ↦ rw e (omega arith) ]
 
+-- a move frees no more room of a server than its load
 pub freed_small : (setup : Setup) (v : ℕ) (m : Move) → freed_by setup v m ≤ move_load setup m
 freed_small setup v m = elim (cases_Bool (eqb m.from v)) [ inl e ↦ rw e (omega arith) | inr e ↦ rw e (omega arith) ]
 
@@ -186,12 +189,14 @@ next_is b moves placed marks room kept to =
 
 -- ---- what the code's steps say
 
+-- the first move that isn't marked and whose load is within the room of the account is the first that fits
 pub next_found : (b : Basis) (moves : List Move) (placed : List ℕ) (marks : List Bool) (room : List ℕ) (setup : Setup) (o : Option ℕ) →
     IsKept b moves placed marks room → All (IsMoveOf b.setup) moves → setup ≡ b.setup →
     o ≡ first_below (length moves) (is_next setup moves marks room) → first_fit b moves placed ≡ o
 next_found b moves placed marks room setup o kept known same e =
     sym (e ∙ rw same (next_is b moves placed marks room kept (λ i l. let m = known i no_move l in let t = m.to in let w = kept.wide in omega arith)))
 
+-- the account stays right where the first move that fits is placed, marked and charged
 pub kept_next : (b : Basis) (moves : List Move) (placed : List ℕ) (marks : List Bool) (room : List ℕ) (i : ℕ) (m : Move) (setup : Setup)
     (later : List ℕ) (flags : List Bool) (left : List ℕ) →
     IsKept b moves placed marks room → All (IsMoveOf b.setup) moves → first_fit b moves placed ≡ Some i → m ≡ move_at moves i → setup ≡ b.setup →
@@ -210,11 +215,13 @@ marked_not b moves placed marks room i kept first =
     let fit = fits_in b moves placed i first in
     let e = fewer marks i (let e = kept.long in let l = fit.0 in omega arith) (kept.marked i ∙ fit.1) in omega arith
 
+-- the first move that isn't marked is the first that isn't placed
 pub left_is : (b : Basis) (moves : List Move) (placed : List ℕ) (marks : List Bool) (room : List ℕ) → IsKept b moves placed marks room →
     first_below (length moves) (is_left marks) ≡ first_left moves placed
 left_is b moves placed marks room kept =
     first_same (length moves) (is_left marks) (λ i. not (is_placed placed i)) (λ i l. ap not (kept.marked i))
 
+-- without marks, and with the room of the pool, the account is right before any move is placed
 pub kept_start : (b : Basis) (moves : List Move) (setup : Setup) (placed : List ℕ) (marks : List Bool) (room : List ℕ) → setup ≡ b.setup →
     placed ≡ [] → marks ≡ replicate (length moves) false → room ≡ map b.pool.room (range_with_len 0 (length setup.servers)) → All (λ x. x < 2 ^ 64) room →
     IsKept b moves placed marks room
@@ -222,9 +229,11 @@ kept_start b moves setup placed marks room same p m r small =
     let e : room ≡ map b.pool.room (range_with_len 0 (length b.setup.servers)) = r ∙ ap (λ (x : Setup). map b.pool.room (range_with_len 0 (length x.servers))) same in
     rw (p, m, e) (kept_none b moves (subst (All (λ x. x < 2 ^ 64)) e small))
 
+-- a move that is read in a list of moves of the configuration is of the configuration
 pub known_at : (setup other : Setup) (moves : List Move) (i : ℕ) (m : Move) → All (IsMoveOf setup) moves → other ≡ setup → i < length moves → m ≡ get_or moves i m → IsMoveOf other m
 known_at setup other moves i m known same l is = subst (λ (x : Setup). IsMoveOf x m) (sym same) (subst (λ (x : Move). IsMoveOf setup x) (sym is) (known i m l))
 
+-- with the first move that fits marked, fewer moves are left
 pub marked_less : (b : Basis) (moves : List Move) (placed : List ℕ) (marks : List Bool) (room : List ℕ) (i : ℕ) (flags : List Bool) →
     IsKept b moves placed marks room → first_fit b moves placed ≡ Some i → flags ≡ set marks i true → count_by not flags < count_by not marks
 marked_less b moves placed marks room i flags kept first e = subst (λ (x : List Bool). count_by not x < count_by not marks) (sym e) (marked_not b moves placed marks room i kept first)

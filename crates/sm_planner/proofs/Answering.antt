@@ -16,6 +16,7 @@ use Rattle.sm_planner.specs.Refusal.{no_room, no_spread, too_many, HasReason, Is
 use Rattle.sm_planner.specs.Drain.{may_take, leaving, IsTarget, AreLeaving, IsStuck, IsDrainPlan, IsNoDrainFor}
 use Rattle.sm_planner.proofs.law.Existing.{rule_answers}
 
+-- the same configuration, placement and pool make the same basis
 pub same_basis : (s t : Setup) (p q : Place) (h k : Hold) → s ≡ t → p ≡ q → h ≡ k → basis s p h ≡ basis t q k
 same_basis s t p q h k e f g = rw (e, f, g) refl
 
@@ -27,6 +28,7 @@ no_reason b moves plan why by reason = elim reason [
   | inr refused ↦ (rule_answers b moves).not_both plan why by refused
 ]
 
+-- where moves have a plan, nothing but short memory is a reason for none
 pub memory_alone : {T : Type 0} (b : Basis) (moves : List Move) (r : Result T NoPlan) → IfErr r (IsNoPlanFor b moves) → (plan : PlanModel) → IsPlanOf b moves plan → IfErr r (λ why. why ≡ NoMemory)
 memory_alone b moves (Ok x) said plan by = tt
 memory_alone b moves (Err why) said plan by = elim said [ inl short ↦ short | inr reason ↦ absurd (no_reason b moves plan why by reason) ]
@@ -68,6 +70,7 @@ module _ (b : Basis) (v : ℕ) where
     ]
   ]
 
+  -- where a server has a plan for emptying it, nothing but short memory is a reason for none
   pub memory_alone_drained : {T : Type 0} (r : Result T NoPlan) → IfErr r (IsNoDrainFor b v) → (plan : PlanModel) → IsDrainPlan b v plan → IfErr r (λ why. why ≡ NoMemory)
   memory_alone_drained (Ok x) said plan by = tt
   memory_alone_drained (Err why) said plan by = elim said [

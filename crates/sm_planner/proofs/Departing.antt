@@ -19,6 +19,7 @@ use Rattle.sm_planner.proofs.Accounting.{at_set}
 
 -- ---- the best of the first servers
 
+-- a server that doesn't pass leaves the best one
 pub most_next : (has : ℕ → Bool) (room : ℕ → ℕ) (n : ℕ) (o : Option ℕ) → IsBestOf has room n o → has n ≡ false → IsBestOf has room (n + 1) o
 most_next has room n None best h = λ w l. elim (cases_eq w n) [ inl e ↦ rw e h | inr e ↦ best w (omega arith) ]
 most_next has room n (Some u) best h = record {
@@ -30,6 +31,7 @@ most_next has room n (Some u) best h = record {
   ];
 }
 
+-- a server that passes is the best one, where it has more room than the one before or is the first that passes
 pub most_here : (has : ℕ → Bool) (room : ℕ → ℕ) (n : ℕ) (o : Option ℕ) → IsBestOf has room n o → has n ≡ true →
     MatchOption o (true ≡ true) (λ u. true ≡ ltb (room u) (room n)) → IsBestOf has room (n + 1) (Some n)
 most_here has room n None best h is = record {
@@ -67,6 +69,7 @@ most_stays has room n (Some u) best is = record {
 
 -- ---- the room that is left
 
+-- besides no moves the room that is left is the pool's
 pub room_none : (b : Basis) (setup : Setup) (room : List ℕ) → setup ≡ b.setup → room ≡ map b.pool.room (range_with_len 0 (length setup.servers)) → IsRoomBeside b [] room
 room_none b setup room same is = rw (is, same) (record {
   wide = length-map-range_with_len b.pool.room 0 (length b.setup.servers);
@@ -132,9 +135,11 @@ regrouped true true true true t u = refl
 
 -- ---- plans and refusals
 
+-- the rule's plan of the moves that empty a server is its plan for emptying it
 pub drain_planned : (b : Basis) (v : ℕ) (moves : List Move) (plan : PlanModel) → AreDepartures b v moves → IsPlanOf b moves plan → IsDrainPlan b v plan
 drain_planned b v moves plan d p = (moves, d, p)
 
+-- why the rule has no plan of the moves that empty a server is why it doesn't empty it
 pub drain_refused : (b : Basis) (v : ℕ) (moves : List Move) (why : NoPlan) → AreDepartures b v moves → IsNoPlanFor b moves why → IsNoDrainFor b v why
 drain_refused b v moves why d r = elim r [
   | inl e ↦ inl e

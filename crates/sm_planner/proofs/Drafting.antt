@@ -21,6 +21,7 @@ pub placed_is : (b : Basis) (draft : Draft) (k : ℕ) (p : Placed) → IsDraft b
 placed_is b draft k p d l read =
     read ∙ ap (λ xs. get_or xs k p) d.placed ∙ get_or-map-range_with_len (stretch b draft.moves.items) 0 (length draft.moves.items) k k p l (omega arith)
 
+-- a draft has a stretch for each of its moves
 pub placed_count : (b : Basis) (draft : Draft) → IsDraft b draft → length draft.placed.items ≡ length draft.moves.items
 placed_count b draft d = ap length d.placed ∙ length-map-range_with_len (stretch b draft.moves.items) 0 (length draft.moves.items)
 
@@ -38,6 +39,7 @@ pub record IsPayer (b : Basis) (order : List Move) (k : ℕ) (p : Placed) : Type
   pub light : p.load < 2 ^ 32
   pub pays : overlap p.takes_from p.load 0 p.pool ≡ from_pool b order k
 
+-- what is read of the k-th placed move says what it pays from the pool, and where
 pub payer_is : (b : Basis) (draft : Draft) (k : ℕ) (p : Placed) → IsDraft b draft → k < length draft.moves.items → p ≡ get_or draft.placed.items k p → IsPayer b draft.moves.items k p
 payer_is b draft k p d l read =
     let is = placed_is b draft k p d l read in
@@ -47,6 +49,7 @@ payer_is b draft k p d l read =
 
 -- ---- payments
 
+-- before any placed move nothing is paid at any server
 pub paid_none : (b : Basis) (order : List Move) (setup : Setup) (amounts : List ℕ) → setup ≡ b.setup → amounts ≡ no_amounts (length setup.servers) → ArePayments b order [] amounts
 paid_none b order setup amounts same is = rw (is, same) (record {
   wide = length-map-range_with_len (λ v. 0) 0 (length b.setup.servers);
@@ -57,6 +60,7 @@ paid_none b order setup amounts same is = rw (is, same) (record {
     nothing : (v : ℕ) → v < length b.setup.servers → get_or (no_amounts (length b.setup.servers)) v 0 ≡ 0
     nothing v l = get_or-map-range_with_len (λ v. 0) 0 (length b.setup.servers) v v 0 l (omega arith)
 
+-- what the next placed move pays, added where it goes, makes the payments one move further
 pub paid_more : (b : Basis) (order : List Move) (numbers : List ℕ) (i k : ℕ) (amounts later : List ℕ) (to amount : ℕ) →
     ArePayments b order (take i numbers) amounts → i < length numbers → k ≡ get_or numbers i k → to ≡ (move_at order k).to → to < length b.setup.servers →
     amount ≡ from_pool b order k → amount < 2 ^ 32 → later ≡ room_freed amounts to amount → ArePayments b order (take (i + 1) numbers) later

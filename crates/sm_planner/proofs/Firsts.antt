@@ -12,9 +12,11 @@ use Rattle.sm_placement.proofs.Searches.{find_here, find_next, find_range_end}
 abbrev pub IsLeft : (ℕ → Bool) → ℕ → ℕ → Type 0
 IsLeft t i n = find t (range_with_len i (n - i)) ≡ first_below n t
 
+-- a number that passes, where those below it don't, is the first
 pub found : (t : ℕ → Bool) (i n : ℕ) → IsLeft t i n → i < n → t i ≡ true → first_below n t ≡ Some i
 found t i n left l e = sym left ∙ find_here t i n l e
 
+-- a number that doesn't pass is one more that doesn't
 pub passed : (t : ℕ → Bool) (i n : ℕ) → IsLeft t i n → i < n → t i ≡ false → IsLeft t (i + 1) n
 passed t i n left l e = sym (find_next t i n l e) ∙ left
 

@@ -38,6 +38,7 @@ joined_more f xs i d l = ap (flat_map f) (take_more xs i d l) ∙ flat_map-appen
 pub pushed_more : {A : Type 0} (f : ℕ → A) (xs ys : List A) (n : ℕ) (y : A) → ys ≡ xs ++ y ∷ [] → y ≡ f n → xs ≡ map f (range_with_len 0 n) → ys ≡ map f (range_with_len 0 (n + 1))
 pushed_more f xs ys n y e v is = e ∙ ap (λ z. xs ++ z ∷ []) v ∙ ap (λ zs. zs ++ f n ∷ []) is ∙ sym (mapped_more f n)
 
+-- x, n times over, is x for each number below n
 pub replicate_is : (n x : ℕ) → replicate n x ≡ map (λ v. x) (range_with_len 0 n)
 replicate_is n x = fill_by_all (λ v. x) (replicate n x) n x (length-replicate n x) (λ k l. get_or-replicate n k x x l)
 
@@ -49,18 +50,21 @@ range_joined f xs ys n e is =
     ∙ sym (flat_map-append f (range_with_len 0 n) (n ∷ []))
     ∙ ap (flat_map f) (sym (range_more n))
 
--- a list behind another, after a push or without one
+-- behind another list, a number that passes comes to the end of those that pass
 pub behind_push : {A : Type 0} (before xs ys : List A) (g : ℕ → A) (t : ℕ → Bool) (n : ℕ) → ys ≡ xs ++ g n ∷ [] → t n ≡ true →
     xs ≡ before ++ map g (filter t (range_with_len 0 n)) → ys ≡ before ++ map g (filter t (range_with_len 0 (n + 1)))
 behind_push before xs ys g t n e passes is = e ∙ ap (λ zs. zs ++ g n ∷ []) is ∙ behind_more before g t n passes
 
+-- behind another list, those that pass stay the same where the next number doesn't
 pub behind_kept : {A : Type 0} (before xs : List A) (g : ℕ → A) (t : ℕ → Bool) (n : ℕ) → t n ≡ false →
     xs ≡ before ++ map g (filter t (range_with_len 0 n)) → xs ≡ before ++ map g (filter t (range_with_len 0 (n + 1)))
 behind_kept before xs g t n fails is = is ∙ behind_same before g t n fails
 
+-- a number that passes comes to the end of those that pass
 pub passed_push : (xs ys : List ℕ) (t : ℕ → Bool) (n : ℕ) → ys ≡ xs ++ n ∷ [] → t n ≡ true → xs ≡ filter t (range_with_len 0 n) → ys ≡ filter t (range_with_len 0 (n + 1))
 passed_push xs ys t n e passes is = e ∙ ap (λ zs. zs ++ n ∷ []) is ∙ sym (passed_more t n passes)
 
+-- a number that doesn't pass leaves those that pass as they are
 pub passed_kept : (xs : List ℕ) (t : ℕ → Bool) (n : ℕ) → t n ≡ false → xs ≡ filter t (range_with_len 0 n) → xs ≡ filter t (range_with_len 0 (n + 1))
 passed_kept xs t n fails is = is ∙ sym (passed_same t n fails)
 

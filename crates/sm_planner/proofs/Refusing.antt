@@ -15,6 +15,7 @@ use Rattle.sm_planner.specs.Payment.{signals_of}
 use Rattle.sm_planner.specs.Refusal.{first_refused, no_room, no_spread, too_many, in_placed_order, refusal}
 
 module _ (b : Basis) (moves : List Move) (placed : List ℕ) (open_one : first_refused b moves ≡ None) where
+  -- where a move is left, the reason is the room of the server to which the first such one goes
   pub refused_room : (i : ℕ) (server : ℕ) → first_left moves placed ≡ Some i → server ≡ (move_at moves i).to → refusal b moves placed ≡ Some (NoRoom server)
   refused_room i server e s =
       ap (λ (x : Option NoPlan). option_or x (option_or (no_room moves placed) (option_or (no_spread b moves) (too_many b moves placed)))) open_one
@@ -35,8 +36,10 @@ module _ (b : Basis) (moves : List Move) (placed : List ℕ) (open_one : first_r
   pub refused_moves : first_left moves placed ≡ None → first_too_close b moves ≡ None → MOST_MOVES < length moves → refusal b moves placed ≡ Some TooMany
   refused_moves e s l = refused_last e s ∙ rw (or_left (ltb MOST_MOVES (length moves)) (ltb MOST_SIGNALS (length (signals_of b (in_placed_order moves placed)))) (lt-ltb MOST_MOVES (length moves) l)) refl
 
+  -- where no move is left and no spread is broken, more signals than a plan has are too many
   pub refused_signals : first_left moves placed ≡ None → first_too_close b moves ≡ None → MOST_SIGNALS < length (signals_of b (in_placed_order moves placed)) → refusal b moves placed ≡ Some TooMany
   refused_signals e s l = refused_last e s ∙ rw (or_right (ltb MOST_MOVES (length moves)) (ltb MOST_SIGNALS (length (signals_of b (in_placed_order moves placed)))) (lt-ltb MOST_SIGNALS (length (signals_of b (in_placed_order moves placed))) l)) refl
 
+  -- where no move is left, no spread is broken and moves and signals are few enough, there is no reason
   pub refused_not : first_left moves placed ≡ None → first_too_close b moves ≡ None → length moves ≤ MOST_MOVES → length (signals_of b (in_placed_order moves placed)) ≤ MOST_SIGNALS → refusal b moves placed ≡ None
   refused_not e s l m = refused_last e s ∙ rw (or_from (ltb MOST_MOVES (length moves)) (ltb MOST_SIGNALS (length (signals_of b (in_placed_order moves placed)))) (le-ltb MOST_MOVES (length moves) l) (le-ltb MOST_SIGNALS (length (signals_of b (in_placed_order moves placed))) m)) refl

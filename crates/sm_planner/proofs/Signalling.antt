@@ -43,6 +43,7 @@ paid_is b order placed k j is l m = ap (λ x. ltb 0 x && not (eqb (stream_of k) 
     earlier true t x e = refl
     earlier false t x e = cc
 
+-- the signals that are made of the stretches are those of the rule
 pub signals_are : (b : Basis) (order : List Move) (placed : List Placed) (signals : List Handed) → placed ≡ map (stretch b order) (range_with_len 0 (length order)) →
     signals ≡ flat_map (handed_to placed) (range_with_len 0 (length placed)) → signals ≡ signals_of b order
 signals_are b order placed signals is s =
@@ -50,6 +51,7 @@ signals_are b order placed signals is s =
     ∙ same_joined (handed_to placed) (λ k. map (handed k) (filter (is_handed b order k) (range_with_len 0 k))) 0 (length order)
     (λ k l m. ap (map (handed k)) (same_filter (is_paid_by placed k) (is_handed b order k) 0 k (λ j x y. paid_is b order placed k j is (omega arith) (omega arith))))
 
+-- the room of each signal of the rule is handed on by an earlier move, and there is some
 pub signals_given : (b : Basis) (order : List Move) → All (IsGiven b order) (signals_of b order)
 signals_given b order =
     all_joined (IsGiven b order) (λ k. map (handed k) (filter (is_handed b order k) (range_with_len 0 k))) 0 (length order)

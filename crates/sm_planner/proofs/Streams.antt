@@ -32,9 +32,11 @@ use Rattle.sm_planner.proofs.Drafting.{placed_is}
 
 -- ---- the placed moves of a stream
 
+-- of the numbers below n each that passes is below n
 pub passed_known : (t : ℕ → Bool) (n : ℕ) → All (λ k. k < n) (filter t (range_with_len 0 n))
 passed_known t n = All-filter t (λ k. k < n) (range_with_len 0 n) (λ k d l. let e = get_or-range_with_len 0 n k d (let w = length-range_with_len 0 n in omega arith) in let w = length-range_with_len 0 n in omega arith)
 
+-- of the numbers below n at most n pass
 pub passed_few : (t : ℕ → Bool) (n : ℕ) → length (filter t (range_with_len 0 n)) ≤ n
 passed_few t n = let a = length-filter t (range_with_len 0 n) in let b = count_by-le-length t (range_with_len 0 n) in let w = length-range_with_len 0 n in omega arith
 
@@ -63,6 +65,7 @@ code_short p order signals k few =
     let f = length-append (instructions p (move_at order k)) (posts_of signals k) in
     omega arith
 
+-- the code of a stream has at most 2^22 instructions
 pub code_small : (p : Place) (order : List Move) (signals : List Handed) (numbers : List ℕ) (code : List Instr) → length signals ≤ 256 → length numbers ≤ 4096 →
     code ≡ flat_map (drafted_code p order signals) numbers → length code ≤ 2 ^ 22
 code_small p order signals numbers code few count is =
@@ -76,6 +79,7 @@ code_small p order signals numbers code few count is =
 abbrev pub streamed : ℕ → Rights → List Instr → StreamModel
 streamed budget holds code = record { budget = budget; retries = 0; holds = holds; code = code }
 
+-- a stream that is drafted from its moves is that of the plan
 pub stream_is : (b : Basis) (order : List Move) (signals : List Handed) (number : ℕ) (numbers : List ℕ) (code : List Instr) (budget : ℕ) (holds : Rights) →
     signals ≡ signals_of b order → numbers ≡ moves_of order number → code ≡ flat_map (drafted_code b.place order signals) numbers → budget ≡ count_by is_call code →
     holds ≡ holds_by b order numbers → streamed budget holds code ≡ stream b order number
@@ -88,6 +92,7 @@ stream_is b order signals number numbers code budget holds s n c k h =
 
 -- ---- what signals carry
 
+-- the stretches of a draft say of a signal where its room is and how much of it the rule hands on
 pub handed_is : (b : Basis) (draft : Draft) (h : Handed) (payer source : Placed) → IsDraft b draft → IsGiven b draft.moves.items h →
     payer ≡ get_or draft.placed.items h.payer payer → source ≡ get_or draft.placed.items h.source source →
     (payer.wanted.to ≡ (move_at draft.moves.items h.payer).to) × (paid_from payer source ≡ from_move b draft.moves.items h.payer h.source)
@@ -102,6 +107,7 @@ handed_is b draft h payer source d g p q =
     earlier true t x e = refl
     earlier false t x e = cc
 
+-- a parcel of that room alone is the one that the signal carries
 pub carried_is : (b : Basis) (order : List Move) (h : Handed) (server amount : ℕ) (cells : List CellRight) (crowns : List Crown) (room : List Room) (spare : List Spare) → IsGiven b order h →
     server ≡ (move_at order h.payer).to → amount ≡ from_move b order h.payer h.source → cells ≡ [] → crowns ≡ [] → room ≡ record { server = server; amount = amount } ∷ [] → spare ≡ [] →
     in_order (record { cells = cells; crowns = crowns; room = room; spare = spare }) ≡ handed_parcel b order h

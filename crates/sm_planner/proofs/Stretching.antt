@@ -39,6 +39,7 @@ summed_none b small = record {
     nothing : (v : ℕ) → v < length b.setup.servers → get_or (no_amounts (length b.setup.servers)) v 0 ≡ 0
     nothing v l = get_or-map-range_with_len (λ v. 0) 0 (length b.setup.servers) v v 0 l (omega arith)
 
+-- an amount that is added at a server comes to the room of that server alone
 pub put_at : (room : List ℕ) (u amount v : ℕ) → u < length room → get_or (room_freed room u amount) v 0 ≡ get_or room v 0 + cond (eqb u v) amount 0
 put_at room u amount v l = at_set room u (get_or room u 0 + amount) v 0 l ∙ elim (cases_eq u v) [
   | inl e ↦ rw (eq-eqb u v e) (ap (λ x. get_or room x 0 + amount) e)
@@ -59,6 +60,7 @@ summed_more b order taken freed m s to from load = record {
 
 -- ---- what the code's steps say
 
+-- before any move is placed nothing is taken, and the room of the pool is free
 pub summed_start : (b : Basis) (setup : Setup) (taken freed : List ℕ) → setup ≡ b.setup → taken ≡ no_amounts (length setup.servers) →
     freed ≡ map b.pool.room (range_with_len 0 (length setup.servers)) → All (λ x. x < 2 ^ 64) freed → IsSummed b [] taken freed
 summed_start b setup taken freed same t f small =
@@ -69,6 +71,7 @@ summed_start b setup taken freed same t f small =
 abbrev pub placed : Move → ℕ → ℕ → ℕ → ℕ → Placed
 placed m load pool t f = record { wanted = m; load = load; pool = pool; takes_from = t; frees_from = f }
 
+-- what is made of the amounts so far is the stretch of the next placed move
 pub stretch_is : (b : Basis) (setup : Setup) (order : List Move) (k : ℕ) (m : Move) (taken freed : List ℕ) (load pool t f : ℕ) → IsSummed b (take k order) taken freed →
     setup ≡ b.setup → IsMoveOf setup m → m ≡ move_at order k → load ≡ move_load setup m → pool ≡ b.pool.room m.to → t ≡ get_or taken m.to 0 → f ≡ get_or freed m.from 0 →
     placed m load pool t f ≡ stretch b order k
@@ -78,6 +81,7 @@ stretch_is b setup order k m taken freed load pool t f s same known is a b' c d 
     let fr : f ≡ frees_from b order k = d ∙ ap (λ (x : Move). get_or freed x.from 0) is ∙ s.freed (move_at order k).from move.from in
     rw (a, b', ta, fr, same, is) refl
 
+-- the amounts stay right where the next placed move takes its load and frees it
 pub summed_next : (b : Basis) (setup : Setup) (order : List Move) (k : ℕ) (m : Move) (taken freed later after : List ℕ) (load : ℕ) → IsSummed b (take k order) taken freed →
     k < length order → setup ≡ b.setup → IsMoveOf setup m → m ≡ move_at order k → load ≡ move_load setup m → load < 2 ^ 32 →
     later ≡ room_freed taken m.to load → after ≡ room_freed freed m.from load → IsSummed b (take (k + 1) order) later after
@@ -87,6 +91,7 @@ summed_next b setup order k m taken freed later after load s l same known is a s
     let e : take (k + 1) order ≡ take k order ++ m ∷ [] = take_more order k no_move l ∙ ap (λ x. take k order ++ x ∷ []) (sym is) in
     rw (e, t, f, load_is) (summed_more b (take k order) taken freed m s move.to move.from (rw load_is at small))
 
+-- with the load of one more move the amounts stay below 2^128
 pub fits_more : (b : Basis) (setup : Setup) (order : List Move) (m : Move) (taken freed : List ℕ) (load : ℕ) → IsSummed b order taken freed → setup ≡ b.setup → IsMoveOf setup m →
     length order < 2 ^ 64 → load < 2 ^ 32 → (get_or taken m.to 0 + load < 2 ^ 128) × (get_or freed m.from 0 + load < 2 ^ 128)
 fits_more b setup order m taken freed load s same known long small =

@@ -15,15 +15,19 @@ pub record Changed2 {A : Type 0} (f g : ℕ → ℕ → A) (s v : ℕ) (x : A) :
   pub row : (q : ℕ) → q ≢ v → g s q ≡ f s q
   pub apart : (r q : ℕ) → r ≢ s → g r q ≡ f r q
 
+-- a value put into a function at a number changes it there alone
 pub put_changed : {A : Type 0} (f : ℕ → A) (k : ℕ) (x : A) → Changed f (put f k x) k x
 put_changed f k x = record { here = put-here f k x k refl; apart = λ q e. put-apart f k x q e }
 
+-- a value put into a function of pairs at one pair changes it there alone
 pub put2_changed : {A : Type 0} (f : ℕ → ℕ → A) (s v : ℕ) (x : A) → Changed2 f (put2 f s v x) s v x
 put2_changed f s v x = record { here = put2-here f s v x; row = λ q e. put2-row f s v x q e; apart = λ r q e. put2-apart f s v x r q e }
 
+-- a function that stays as it is counts as changed to the value that it has
 pub unchanged : {A : Type 0} (f : ℕ → A) (k : ℕ) → Changed f f k (f k)
 unchanged f k = record { here = refl; apart = λ q e. refl }
 
+-- where a value changes at one pair, what is made of the values changes there alone
 pub mapped2 : {A B : Type 0} (m : A → B) (f g : ℕ → ℕ → A) (s v : ℕ) (x : A) → Changed2 f g s v x → Changed2 (λ r q. m (f r q)) (λ r q. m (g r q)) s v (m x)
 mapped2 m f g s v x ch = record { here = ap m ch.here; row = λ q e. ap m (ch.row q e); apart = λ r q e. ap m (ch.apart r q e) }
 

@@ -46,6 +46,7 @@ traded_sum f c n b i p q can =
 carried_count : (r : Right) → IsCarried (λ h. count h r)
 carried_count r = record { out = λ h p o none. minus_count h p o none r; into = λ h p o can. plus_count h p o can r }
 
+-- what the holders have after the calls, with what trades gave up, is what they had, with what trades got
 pub add_up : (n : ℕ) (b : ℕ → Hold) (ms : List Move) → CanMakeAll n b ms → (r : Right) → total n (after_moves b ms) r + given_up ms r ≡ total n b r + gained ms r
 add_up n b [] can r = refl
 add_up n b (Moves i j p ∷ ms) can r =
@@ -84,6 +85,7 @@ still_one : {A : Type 0} (k : Option A) (now before out : ℕ) → now + out ≡
 still_one None now before out e fresh one = omega arith
 still_one (Some x) now before out e fresh one = let f = fresh refl in omega arith
 
+-- each cell right and each crown stays with one holder, where trades bring only what is nowhere else
 pub one_place : (n : ℕ) (b : ℕ → Hold) (ms : List Move) → CanMakeAll n b ms → AllFresh n b ms → HasOneHolder n b → HasOneHolder n (after_moves b ms)
 one_place n b [] can fresh one = one
 one_place n b (Moves i j p ∷ ms) can fresh one =

@@ -66,6 +66,7 @@ at_most_once s (key.Crown t) o = once_at key_of_crown (t, 0) s.crowns o.crowns
 at_most_once s (key.Room w) o = once_at key_of_room (w, 0) s.room o.room
 at_most_once s (key.Spare t) o = once_at key_of_spare (t, 0) s.spare o.spare
 
+-- where no neighbours of the lists put in order share a key, no key of the lists stands twice
 pub once : (r s : Rights) → IsInOrder r s → first_double s ≡ None → IsOnce r
 once r s o e k = rw (count_is r s k o) (at_most_once s k (ordered r s o e))
 
@@ -132,6 +133,7 @@ found s k None None None (Some p) u v w x ea eb ec ed e =
     rw (← it) (record { twice = twice_flat key_of_spare s.spare p (λ y. refl) ed; lowest = λ j l. lower_spare s p j r q n x ed l })
 found s k None None None None u v w x ea eb ec ed e = cc
 
+-- the key that neighbours of the lists put in order share first is the lowest that stands twice
 pub lowest_double : (r s : Rights) (k : Key) → IsInOrder r s → first_double s ≡ Some k → IsLowestDouble r k
 unfolding answer
 lowest_double r s k o e =
@@ -140,6 +142,7 @@ lowest_double r s k o e =
 
 -- ---- the parcel of lists in order
 
+-- lists that rise still do without their amounts of 0
 pub parcel_ordered : (s : Rights) (n : List Room) (m : List Spare) → n ≡ filter (λ x. nat_lt 0 x.amount) s.room → m ≡ filter (λ x. nat_lt 0 x.amount) s.spare → IsOrdered s → IsOrdered (record s { room = n; spare = m })
 parcel_ordered s n m en em o = record {
   cells = o.cells;
@@ -148,12 +151,14 @@ parcel_ordered s n m en em o = record {
   spare = rw em (rises_kept key_of_spare (λ x. nat_lt 0 x.amount) s.spare o.spare);
 }
 
+-- and all amounts are positive then
 pub parcel_positive : (s : Rights) (n : List Room) (m : List Spare) → n ≡ filter (λ x. nat_lt 0 x.amount) s.room → m ≡ filter (λ x. nat_lt 0 x.amount) s.spare → IsPositive (record s { room = n; spare = m })
 parcel_positive s n m en em = record {
   room = rw en (positive_kept (λ (x : Room). x.amount) s.room);
   spare = rw em (positive_kept (λ (x : Spare). x.amount) s.spare);
 }
 
+-- lists put in order, without their amounts of 0, have the rights of those that they were made of
 pub parcel_sorted : (r s : Rights) (n : List Room) (m : List Spare) → n ≡ filter (λ x. nat_lt 0 x.amount) s.room → m ≡ filter (λ x. nat_lt 0 x.amount) s.spare → IsInOrder r s → IsSortedFrom r (record s { room = n; spare = m })
 parcel_sorted r s n m en em o = record {
   cells = same_elements r.cells s.cells o.cells;

@@ -31,6 +31,7 @@ front_length (Some z) xs = omega arith
 
 -- ---- what stands at each key
 
+-- what the edit leaves stands at the key of the row worked in, and at each other key what stood there
 pub row_at-edited : {T : Type 0} (key_of : T → ℕ × ℕ) (edit : Option T → T → Option T) (y : T) (q : ℕ × ℕ) (xs : List T) → StaysAt key_of edit → Rises key_of xs →
     row_at key_of (edited key_of edit xs y) q ≡ cond (same (key_of y) q) (edit (row_at key_of xs (key_of y)) y) (row_at key_of xs q)
 row_at-edited key_of edit y q [] stays r = front_at key_of (key_of y) q (edit None y) [] (stays None y) (λ s. refl)
@@ -69,6 +70,7 @@ AllAfter-edited key_of edit j y (x ∷ xs) stays b a = elim (cases_Bool (before 
   ]
 ]
 
+-- rows that rise still do once a row is worked in
 pub Rises-edited : {T : Type 0} (key_of : T → ℕ × ℕ) (edit : Option T → T → Option T) (y : T) (xs : List T) → StaysAt key_of edit → Rises key_of xs → Rises key_of (edited key_of edit xs y)
 Rises-edited key_of edit y [] stays r = front_rises key_of (key_of y) (edit None y) [] (stays None y) tt tt
 Rises-edited key_of edit y (x ∷ xs) stays r = elim (cases_Bool (before (key_of x) (key_of y))) [
@@ -83,6 +85,7 @@ Rises-edited key_of edit y (x ∷ xs) stays r = elim (cases_Bool (before (key_of
 
 -- ---- how many rows there are
 
+-- there is one row more where one is left and none stood, and one fewer where it is the other way round
 pub length-edited : {T : Type 0} (key_of : T → ℕ × ℕ) (edit : Option T → T → Option T) (y : T) (xs : List T) → Rises key_of xs →
     length (edited key_of edit xs y) + bit (is_some (row_at key_of xs (key_of y))) ≡ length xs + bit (is_some (edit (row_at key_of xs (key_of y)) y))
 length-edited key_of edit y [] r = omega (arith, front_length (edit None y) [])
@@ -121,6 +124,7 @@ front_positive : {T : Type 0} (amount : T → ℕ) (o : Option T) (xs : List T) 
 front_positive amount None xs h all = all
 front_positive amount (Some z) xs h all = (h z refl, all)
 
+-- amounts stay positive where the edit leaves none of 0
 pub positive-edited : {T : Type 0} (key_of : T → ℕ × ℕ) (edit : Option T → T → Option T) (amount : T → ℕ) (y : T) (xs : List T) → ((held : Option T) (z : T) → edit held y ≡ Some z → 0 < amount z) → HasPositive amount xs → HasPositive amount (edited key_of edit xs y)
 positive-edited key_of edit amount y [] h all = front_positive amount (edit None y) [] (h None) tt
 positive-edited key_of edit amount y (x ∷ xs) h all = elim (cases_Bool (before (key_of x) (key_of y))) [
@@ -133,16 +137,19 @@ positive-edited key_of edit amount y (x ∷ xs) h all = elim (cases_Bool (before
 
 -- ---- all rows of a list
 
+-- rows that rise still do once the rows of a list are worked in
 pub Rises-edited_all : {T : Type 0} (key_of : T → ℕ × ℕ) (edit : Option T → T → Option T) (xs ys : List T) → StaysAt key_of edit → Rises key_of xs → Rises key_of (edited_all key_of edit xs ys)
 Rises-edited_all key_of edit xs [] stays r = r
 Rises-edited_all key_of edit xs (y ∷ ys) stays r = Rises-edited_all key_of edit (edited key_of edit xs y) ys stays (Rises-edited key_of edit y xs stays r)
 
+-- and their amounts stay positive, where the edit leaves none of 0
 pub positive-edited_all : {T : Type 0} (key_of : T → ℕ × ℕ) (edit : Option T → T → Option T) (amount : T → ℕ) (xs ys : List T) → ((held : Option T) (y z : T) → edit held y ≡ Some z → 0 < amount z) → HasPositive amount xs → HasPositive amount (edited_all key_of edit xs ys)
 positive-edited_all key_of edit amount xs [] h all = all
 positive-edited_all key_of edit amount xs (y ∷ ys) h all = positive-edited_all key_of edit amount (edited key_of edit xs y) ys h (positive-edited key_of edit amount y xs (λ held z. h held y z) all)
 
 -- ---- two edits that leave the same
 
+-- two edits that leave the same of the row at the key make the same rows
 pub edited_same : {T : Type 0} (key_of : T → ℕ × ℕ) (f g : Option T → T → Option T) (y : T) (xs : List T) → Rises key_of xs → f (row_at key_of xs (key_of y)) y ≡ g (row_at key_of xs (key_of y)) y → edited key_of f xs y ≡ edited key_of g xs y
 edited_same key_of f g y [] r e = ap (λ o. in_front o []) e
 edited_same {T} key_of f g y (x ∷ xs) r e = elim (cases_Bool (before (key_of x) (key_of y))) [
@@ -164,6 +171,7 @@ at_place key_of P q x (y ∷ ys) all e = elim (cases_Bool (same (key_of y) q)) [
   | inr s ↦ at_place key_of P q x ys all.1 (rw s at e)
 ]
 
+-- what holds of all rows holds of them once a list is worked in, where the edit keeps it
 pub all-edited_all : {T : Type 0} (key_of : T → ℕ × ℕ) (edit : Option T → T → Option T) (P : T → Type 0) (xs ys : List T) → StaysAt key_of edit → Rises key_of xs → ((held : Option T) (y z : T) → ((x : T) → held ≡ Some x → P x) → edit held y ≡ Some z → P z) → AllByRecursion P xs → AllByRecursion P (edited_all key_of edit xs ys)
 all-edited_all key_of edit P xs [] stays r h all = all
 all-edited_all key_of edit P xs (y ∷ ys) stays r h all =

@@ -21,12 +21,15 @@ use Rattle.sm_reservation.proofs.EditLemmas.{row_at-edited, Rises-edited, length
 
 -- ---- what each edit leaves
 
+-- a cell right or a crown that is taken out leaves no row, and so none at another key
 pub stays_out : {T : Type 0} (key_of : T → ℕ × ℕ) → StaysAt key_of row_out
 stays_out key_of held y z e = cc
 
+-- one that is put in stands at its key
 pub stays_in : {T : Type 0} (key_of : T → ℕ × ℕ) → StaysAt key_of row_in
 stays_in key_of held y z e = let d : y ≡ z = cc in ap key_of (sym d)
 
+-- a row made of an amount of room has the key of the row that it was made for, and is not of 0
 pub room_stays : (y z : Room) (n : ℕ) → room_of y n ≡ Some z → (key_of_room z ≡ key_of_room y) × (0 < z.amount)
 room_stays y z n e = elim (cases_Bool (eqb n 0)) [
   | inl b ↦ let f = rw b at e in absurd cc
@@ -38,6 +41,7 @@ room_stays y z n e = elim (cases_Bool (eqb n 0)) [
       (key_of, (let some : 0 < n = grind (arith, nat_tests) in omega arith))
 ]
 
+-- so it is of spare replicas
 pub spare_stays : (y z : Spare) (n : ℕ) → spare_of y n ≡ Some z → (key_of_spare z ≡ key_of_spare y) × (0 < z.amount)
 spare_stays y z n e = elim (cases_Bool (eqb n 0)) [
   | inl b ↦ let f = rw b at e in absurd cc
@@ -49,27 +53,35 @@ spare_stays y z n e = elim (cases_Bool (eqb n 0)) [
       (key_of, (let some : 0 < n = grind (arith, nat_tests) in omega arith))
 ]
 
+-- what is left of room stands at its key
 pub room_stays_out : StaysAt key_of_room room_row_out
 room_stays_out held y z e = (room_stays y z (amount_of (λ x. x.amount) held - y.amount) e).0
 
+-- and so does room that some is added to
 pub room_stays_in : StaysAt key_of_room room_row_in
 room_stays_in held y z e = (room_stays y z (amount_of (λ x. x.amount) held + y.amount) e).0
 
+-- what is left of spare replicas stands at their key
 pub spare_stays_out : StaysAt key_of_spare spare_row_out
 spare_stays_out held y z e = (spare_stays y z (amount_of (λ x. x.amount) held - y.amount) e).0
 
+-- and so do those that some are added to
 pub spare_stays_in : StaysAt key_of_spare spare_row_in
 spare_stays_in held y z e = (spare_stays y z (amount_of (λ x. x.amount) held + y.amount) e).0
 
+-- a row of what is left of room is not of 0
 pub room_some_out : (held : Option Room) (y z : Room) → room_row_out held y ≡ Some z → 0 < z.amount
 room_some_out held y z e = (room_stays y z (amount_of (λ x. x.amount) held - y.amount) e).1
 
+-- nor is one of room that some is added to
 pub room_some_in : (held : Option Room) (y z : Room) → room_row_in held y ≡ Some z → 0 < z.amount
 room_some_in held y z e = (room_stays y z (amount_of (λ x. x.amount) held + y.amount) e).1
 
+-- a row of what is left of spare replicas is not of 0
 pub spare_some_out : (held : Option Spare) (y z : Spare) → spare_row_out held y ≡ Some z → 0 < z.amount
 spare_some_out held y z e = (spare_stays y z (amount_of (λ x. x.amount) held - y.amount) e).1
 
+-- nor is one of those that some are added to
 pub spare_some_in : (held : Option Spare) (y z : Spare) → spare_row_in held y ≡ Some z → 0 < z.amount
 spare_some_in held y z e = (spare_stays y z (amount_of (λ x. x.amount) held + y.amount) e).1
 
@@ -110,6 +122,7 @@ room_taken r y o = room_put r (edited key_of_room room_row_out r.room y) y.serve
     ∙ amount_cond (λ (x : Room). x.amount) (same (key_of_room y) q) (room_row_out (row_at key_of_room r.room (key_of_room y)) y) (row_at key_of_room r.room q)
     ∙ ap (λ (n : ℕ). cond (same (key_of_room y) q) n (amount_at key_of_room (λ (x : Room). x.amount) r.room q)) (amount_of_room y (amount_of (λ (x : Room). x.amount) (row_at key_of_room r.room (key_of_room y)) - y.amount)))
 
+-- a row of room worked into the list is room that the hold gets
 pub room_put_in : (r : Rights) (y : Room) → Rises key_of_room r.room → hold_of (record r { room = edited key_of_room room_row_in r.room y }) ≡ get_room (hold_of r) y.server y.amount
 unfolding hold_of
 room_put_in r y o = room_put r (edited key_of_room room_row_in r.room y) y.server ((hold_of r).room y.server + y.amount) (λ q.
@@ -124,6 +137,7 @@ spare_taken r y o = spare_put r (edited key_of_spare spare_row_out r.spare y) y.
     ∙ amount_cond (λ (x : Spare). x.amount) (same (key_of_spare y) q) (spare_row_out (row_at key_of_spare r.spare (key_of_spare y)) y) (row_at key_of_spare r.spare q)
     ∙ ap (λ (n : ℕ). cond (same (key_of_spare y) q) n (amount_at key_of_spare (λ (x : Spare). x.amount) r.spare q)) (amount_of_spare y (amount_of (λ (x : Spare). x.amount) (row_at key_of_spare r.spare (key_of_spare y)) - y.amount)))
 
+-- a row of spare replicas worked into the list is what the hold gets of them
 pub spare_put_in : (r : Rights) (y : Spare) → Rises key_of_spare r.spare → hold_of (record r { spare = edited key_of_spare spare_row_in r.spare y }) ≡ get_spare (hold_of r) y.shard y.amount
 unfolding hold_of
 spare_put_in r y o = spare_put r (edited key_of_spare spare_row_in r.spare y) y.shard ((hold_of r).spare y.shard + y.amount) (λ q.
@@ -133,34 +147,42 @@ spare_put_in r y o = spare_put r (edited key_of_spare spare_row_in r.spare y) y.
 
 -- ---- all rows of a list
 
+-- with cell rights taken out of the list, the lists are the hold without them
 pub cells_taken : (r : Rights) (ys : List CellRight) → Rises key_of_cell r.cells → hold_of (record r { cells = edited_all key_of_cell row_out r.cells ys }) ≡ minus_cells (hold_of r) ys
 cells_taken r [] o = refl
 cells_taken r (y ∷ ys) o = cells_taken (record r { cells = edited key_of_cell row_out r.cells y }) ys (Rises-edited key_of_cell row_out y r.cells (stays_out key_of_cell) o) ∙ ap (λ (h : Hold). minus_cells h ys) (cell_taken r y o)
 
+-- with cell rights put into the list, they are the hold with them
 pub cells_put_in : (r : Rights) (ys : List CellRight) → Rises key_of_cell r.cells → hold_of (record r { cells = edited_all key_of_cell row_in r.cells ys }) ≡ plus_cells (hold_of r) ys
 cells_put_in r [] o = refl
 cells_put_in r (y ∷ ys) o = cells_put_in (record r { cells = edited key_of_cell row_in r.cells y }) ys (Rises-edited key_of_cell row_in y r.cells (stays_in key_of_cell) o) ∙ ap (λ (h : Hold). plus_cells h ys) (cell_put_in r y o)
 
+-- with crowns taken out of the list, the lists are the hold without them
 pub crowns_taken : (r : Rights) (ys : List Crown) → Rises key_of_crown r.crowns → hold_of (record r { crowns = edited_all key_of_crown row_out r.crowns ys }) ≡ minus_crowns (hold_of r) ys
 crowns_taken r [] o = refl
 crowns_taken r (y ∷ ys) o = crowns_taken (record r { crowns = edited key_of_crown row_out r.crowns y }) ys (Rises-edited key_of_crown row_out y r.crowns (stays_out key_of_crown) o) ∙ ap (λ (h : Hold). minus_crowns h ys) (crown_taken r y o)
 
+-- with crowns put into the list, they are the hold with them
 pub crowns_put_in : (r : Rights) (ys : List Crown) → Rises key_of_crown r.crowns → hold_of (record r { crowns = edited_all key_of_crown row_in r.crowns ys }) ≡ plus_crowns (hold_of r) ys
 crowns_put_in r [] o = refl
 crowns_put_in r (y ∷ ys) o = crowns_put_in (record r { crowns = edited key_of_crown row_in r.crowns y }) ys (Rises-edited key_of_crown row_in y r.crowns (stays_in key_of_crown) o) ∙ ap (λ (h : Hold). plus_crowns h ys) (crown_put_in r y o)
 
+-- with room taken out of the list, the lists are the hold that has paid it
 pub rooms_taken : (r : Rights) (ys : List Room) → Rises key_of_room r.room → hold_of (record r { room = edited_all key_of_room room_row_out r.room ys }) ≡ minus_room (hold_of r) ys
 rooms_taken r [] o = refl
 rooms_taken r (y ∷ ys) o = rooms_taken (record r { room = edited key_of_room room_row_out r.room y }) ys (Rises-edited key_of_room room_row_out y r.room room_stays_out o) ∙ ap (λ (h : Hold). minus_room h ys) (room_taken r y o)
 
+-- with room put into the list, they are the hold that has got it
 pub rooms_put_in : (r : Rights) (ys : List Room) → Rises key_of_room r.room → hold_of (record r { room = edited_all key_of_room room_row_in r.room ys }) ≡ plus_room (hold_of r) ys
 rooms_put_in r [] o = refl
 rooms_put_in r (y ∷ ys) o = rooms_put_in (record r { room = edited key_of_room room_row_in r.room y }) ys (Rises-edited key_of_room room_row_in y r.room room_stays_in o) ∙ ap (λ (h : Hold). plus_room h ys) (room_put_in r y o)
 
+-- with spare replicas taken out of the list, the lists are the hold that has paid them
 pub spares_taken : (r : Rights) (ys : List Spare) → Rises key_of_spare r.spare → hold_of (record r { spare = edited_all key_of_spare spare_row_out r.spare ys }) ≡ minus_spare (hold_of r) ys
 spares_taken r [] o = refl
 spares_taken r (y ∷ ys) o = spares_taken (record r { spare = edited key_of_spare spare_row_out r.spare y }) ys (Rises-edited key_of_spare spare_row_out y r.spare spare_stays_out o) ∙ ap (λ (h : Hold). minus_spare h ys) (spare_taken r y o)
 
+-- with spare replicas put into the list, they are the hold that has got them
 pub spares_put_in : (r : Rights) (ys : List Spare) → Rises key_of_spare r.spare → hold_of (record r { spare = edited_all key_of_spare spare_row_in r.spare ys }) ≡ plus_spare (hold_of r) ys
 spares_put_in r [] o = refl
 spares_put_in r (y ∷ ys) o = spares_put_in (record r { spare = edited key_of_spare spare_row_in r.spare y }) ys (Rises-edited key_of_spare spare_row_in y r.spare spare_stays_in o) ∙ ap (λ (h : Hold). plus_spare h ys) (spare_put_in r y o)
@@ -183,6 +205,7 @@ none_crown : (o : Option Crown) → bit (is_none (crown_of o)) + bit (is_some o)
 none_crown None = refl
 none_crown (Some x) = refl
 
+-- the list has as many rows fewer as the hold loses rights to cells
 pub cells_lost : (r : Rights) (ys : List CellRight) → Rises key_of_cell r.cells → length (edited_all key_of_cell row_out r.cells ys) + count_steps out_cell loses_cell (hold_of r) ys ≡ length r.cells
 unfolding hold_of
 cells_lost r [] o = omega arith
@@ -194,6 +217,7 @@ cells_lost r (y ∷ ys) o =
     let here = ap bit (some_state (row_at key_of_cell r.cells (y.shard, y.server))) in
     omega arith
 
+-- and as many more as there are cells that it had no right to
 pub cells_gained : (r : Rights) (ys : List CellRight) → Rises key_of_cell r.cells → length (edited_all key_of_cell row_in r.cells ys) ≡ length r.cells + count_steps in_cell lacks_cell (hold_of r) ys
 unfolding hold_of
 cells_gained r [] o = omega arith
@@ -205,6 +229,7 @@ cells_gained r (y ∷ ys) o =
     let here = none_state (row_at key_of_cell r.cells (y.shard, y.server)) in
     omega arith
 
+-- the list has as many rows fewer as the hold loses crowns
 pub crowns_lost : (r : Rights) (ys : List Crown) → Rises key_of_crown r.crowns → length (edited_all key_of_crown row_out r.crowns ys) + count_steps out_crown loses_crown (hold_of r) ys ≡ length r.crowns
 unfolding hold_of
 crowns_lost r [] o = omega arith
@@ -216,6 +241,7 @@ crowns_lost r (y ∷ ys) o =
     let here = ap bit (some_crown (row_at key_of_crown r.crowns (y.shard, 0))) in
     omega arith
 
+-- and as many more as there are shards whose crown it had not
 pub crowns_gained : (r : Rights) (ys : List Crown) → Rises key_of_crown r.crowns → length (edited_all key_of_crown row_in r.crowns ys) ≡ length r.crowns + count_steps in_crown lacks_crown (hold_of r) ys
 unfolding hold_of
 crowns_gained r [] o = omega arith
@@ -255,6 +281,7 @@ some_room y n = elim (cases_Bool (eqb n 0)) [
   | inr b ↦ rw (b, (let z : nat_lt 0 n ≡ true = grind (arith, nat_tests) in z)) refl
 ]
 
+-- the list has as many rows fewer as there are servers of which the hold pays all its room
 pub rooms_lost : (r : Rights) (ys : List Room) → Rises key_of_room r.room → HasPositive (λ x. x.amount) r.room → AllSteps out_room HasRoom (hold_of r) ys → length (edited_all key_of_room room_row_out r.room ys) + count_steps out_room loses_room (hold_of r) ys ≡ length r.room
 unfolding hold_of
 rooms_lost r [] o p has = omega arith
@@ -270,6 +297,7 @@ rooms_lost r (y ∷ ys) o p has =
     let parts = left_over had y.amount has.0 in
     omega arith
 
+-- and as many more as there are servers of which it had none
 pub rooms_gained : (r : Rights) (ys : List Room) → Rises key_of_room r.room → HasPositive (λ x. x.amount) r.room → length (edited_all key_of_room room_row_in r.room ys) ≡ length r.room + count_steps in_room lacks_room (hold_of r) ys
 unfolding hold_of
 rooms_gained r [] o p = omega arith
@@ -291,6 +319,7 @@ some_spare y n = elim (cases_Bool (eqb n 0)) [
   | inr b ↦ rw (b, (let z : nat_lt 0 n ≡ true = grind (arith, nat_tests) in z)) refl
 ]
 
+-- the list has as many rows fewer as there are shards of which the hold pays all its spare replicas
 pub spares_lost : (r : Rights) (ys : List Spare) → Rises key_of_spare r.spare → HasPositive (λ x. x.amount) r.spare → AllSteps out_spare HasSpare (hold_of r) ys → length (edited_all key_of_spare spare_row_out r.spare ys) + count_steps out_spare loses_spare (hold_of r) ys ≡ length r.spare
 unfolding hold_of
 spares_lost r [] o p has = omega arith
@@ -306,6 +335,7 @@ spares_lost r (y ∷ ys) o p has =
     let parts = left_over had y.amount has.0 in
     omega arith
 
+-- and as many more as there are shards of which it had none
 pub spares_gained : (r : Rights) (ys : List Spare) → Rises key_of_spare r.spare → HasPositive (λ x. x.amount) r.spare → length (edited_all key_of_spare spare_row_in r.spare ys) ≡ length r.spare + count_steps in_spare lacks_spare (hold_of r) ys
 unfolding hold_of
 spares_gained r [] o p = omega arith

@@ -7,6 +7,7 @@ use Rattle.std.proofs.lemmas.List.Sorted.{Contains-permutation, IsPermutation-sy
 use Rattle.sm_reservation.specs.Rows.{AllAfter, Rises, HasPositive}
 use Rattle.sm_reservation.specs.Key.{SameElements}
 
+-- what a list contains it contains with one element more in front
 pub later : {T : Type 0} (x y : T) (xs : List T) → Contains xs x → Contains (y ∷ xs) x
 later x y xs h = (suc h.0, omega (arith, h.1), h.2)
 
@@ -37,9 +38,11 @@ moved p xs ys x perm h =
     let there = Contains-permutation xs ys x perm r.0 in
     kept p x ys there.0 there.1 there.2 r.1
 
+-- a list and what it becomes in another order have the same elements
 pub same_elements : {T : Type 0} (xs ys : List T) → IsPermutation xs ys → SameElements xs ys
 same_elements xs ys perm x = (Contains-permutation xs ys x perm, Contains-permutation ys xs x (IsPermutation-sym xs ys perm))
 
+-- and so have those elements of the two that pass a test
 pub same_kept : {T : Type 0} (p : T → Bool) (xs ys : List T) → IsPermutation xs ys → SameElements (filter p xs) (filter p ys)
 same_kept p xs ys perm x = (moved p xs ys x perm, moved p ys xs x (IsPermutation-sym xs ys perm))
 
@@ -52,6 +55,7 @@ after_kept key_of p k (x ∷ xs) a = elim (cases_Bool (p x)) [
   | inr s ↦ rw s (after_kept key_of p k xs a.1)
 ]
 
+-- rows that rise still do where some of them are left out
 pub rises_kept : {T : Type 0} (key_of : T → ℕ × ℕ) (p : T → Bool) (xs : List T) → Rises key_of xs → Rises key_of (filter p xs)
 rises_kept key_of p [] r = tt
 rises_kept key_of p (x ∷ xs) r = elim (cases_Bool (p x)) [
@@ -59,6 +63,7 @@ rises_kept key_of p (x ∷ xs) r = elim (cases_Bool (p x)) [
   | inr s ↦ rw s (rises_kept key_of p xs r.1)
 ]
 
+-- where rows of 0 are left out, all amounts are positive
 pub positive_kept : {T : Type 0} (amount : T → ℕ) (xs : List T) → HasPositive amount (filter (λ x. nat_lt 0 (amount x)) xs)
 positive_kept amount [] = tt
 positive_kept amount (x ∷ xs) = elim (cases_Bool (nat_lt 0 (amount x))) [

@@ -71,6 +71,7 @@ pub record Moves (c : Sizes) (p : Place) (leads : ℕ → Lead) (h h' : Hold) (s
   pub spare_moves : Changed h.spare h'.spare s (h'.spare s)
   pub spare_here : h'.spare s + (bit (is_secondary (p.cells s v)) + up_if p.down (leader (leads s))) ≡ h.spare s + (bit (is_secondary y) + up_if p.down (leader lead'))
 
+-- what there is of each right moves as what is bound of it and what is held of it do together
 pub exchange : (c : Sizes) (p : Place) (leads : ℕ → Lead) (h h' : Hold) (s v : ℕ) (y : Cell) (lead' : Lead) (n n' : ℕ) → Moves c p leads h h' s v y lead' n n' →
     (r : Right) → stock c (set_cell p s v y) (put leads s lead') r + bound c p r + count h r ≡ stock c p leads r + bound c (set_cell p s v y) r + count h' r
 exchange c p leads h h' s v y lead' n n' m (OfCell r q state) =

@@ -47,10 +47,12 @@ all_at key_of P q y (x ∷ xs) all e = elim (cases_Bool (same (key_of x) q)) [
 none_test : {A : Type 0} (o : Option A) → o ≡ None → is_none o ≡ true
 none_test o e = rw e refl
 
+-- the hold has no right to any cell of the parcel
 pub cells_pass : (h : Hold) (p : Rights) → IsOrdered p → CanJoin h (hold_of p) → list_all (lacks_cell h) p.cells ≡ true
 unfolding hold_of
 cells_pass h p o can = all_pass (lacks_cell h) p.cells (all_map (IsFound key_of_cell p.cells) (λ x. lacks_cell h x ≡ true) p.cells (λ x e. none_test (h.cells x.shard x.server) (can.cells x.shard x.server x.state (ap plain_state_of e))) (all_found key_of_cell p.cells o.cells))
 
+-- nor a crown of any of its shards
 pub crowns_pass : (h : Hold) (p : Rights) → IsOrdered p → CanJoin h (hold_of p) → list_all (lacks_crown h) p.crowns ≡ true
 unfolding hold_of
 crowns_pass h p o can = all_pass (lacks_crown h) p.crowns (all_map (IsFound key_of_crown p.crowns) (λ x. lacks_crown h x ≡ true) p.crowns (λ x e. none_test (h.crowns x.shard) (can.crowns x.shard (x.lead, x.listed) (ap crown_of e))) (all_found key_of_crown p.crowns o.crowns))
@@ -58,14 +60,17 @@ crowns_pass h p o can = all_pass (lacks_crown h) p.crowns (all_map (IsFound key_
 below_test : (n m : ℕ) → n < m → nat_lt n m ≡ true
 below_test n m l = grind (arith, nat_tests)
 
+-- each amount of room of the parcel, added to the hold's, stays a u64
 pub rooms_pass : (h : Hold) (p : Rights) → IsOrdered p → CanJoin h (hold_of p) → list_all (λ x. nat_lt (h.room x.server + x.amount) (2 ^ 64)) p.room ≡ true
 rooms_pass h p o can = all_pass (λ x. nat_lt (h.room x.server + x.amount) (2 ^ 64)) p.room (all_map (RoomFits h) (λ x. nat_lt (h.room x.server + x.amount) (2 ^ 64) ≡ true) p.room (λ x l. below_test (h.room x.server + x.amount) (2 ^ 64) l) (rooms_fit h p o can))
 
+-- and so does each amount of spare replicas
 pub spares_pass : (h : Hold) (p : Rights) → IsOrdered p → CanJoin h (hold_of p) → list_all (λ x. nat_lt (h.spare x.shard + x.amount) (2 ^ 64)) p.spare ≡ true
 spares_pass h p o can = all_pass (λ x. nat_lt (h.spare x.shard + x.amount) (2 ^ 64)) p.spare (all_map (SpareFits h) (λ x. nat_lt (h.spare x.shard + x.amount) (2 ^ 64) ≡ true) p.spare (λ x l. below_test (h.spare x.shard + x.amount) (2 ^ 64) l) (spares_fit h p o can))
 
 -- ---- where all rows pass, a parcel can be put
 
+-- what is found to be none is none
 pub none_of : {A : Type 0} (o : Option A) → is_none o ≡ true → o ≡ None
 none_of None e = refl
 none_of (Some x) e = cc
@@ -195,6 +200,7 @@ tests_both a b m n e = let p = and_parts (nat_lt a m) (nat_lt b n) e in (ltb-tru
 pub cells_pass_known : (shards servers : ℕ) (xs : List CellRight) → AllByRecursion (λ x. (x.shard < shards) × (x.server < servers)) xs → list_all (λ x. nat_lt x.shard shards && nat_lt x.server servers) xs ≡ true
 cells_pass_known shards servers xs h = all_pass (λ x. nat_lt x.shard shards && nat_lt x.server servers) xs (all_map (λ x. (x.shard < shards) × (x.server < servers)) (λ x. (nat_lt x.shard shards && nat_lt x.server servers) ≡ true) xs (λ x l. both_tests x.shard x.server shards servers l.0 l.1) h)
 
+-- rows that all pass them are of known shards and servers
 pub cells_known_by_test : (shards servers : ℕ) (xs : List CellRight) → list_all (λ x. nat_lt x.shard shards && nat_lt x.server servers) xs ≡ true → AllByRecursion (λ x. (x.shard < shards) × (x.server < servers)) xs
 cells_known_by_test shards servers xs e = all_map (λ x. (nat_lt x.shard shards && nat_lt x.server servers) ≡ true) (λ x. (x.shard < shards) × (x.server < servers)) xs (λ x t. tests_both x.shard x.server shards servers t) (each_passes (λ x. nat_lt x.shard shards && nat_lt x.server servers) xs e)
 
@@ -202,5 +208,6 @@ cells_known_by_test shards servers xs e = all_map (λ x. (nat_lt x.shard shards 
 pub pass_below : {T : Type 0} (number : T → ℕ) (count : ℕ) (xs : List T) → AllByRecursion (λ x. number x < count) xs → list_all (λ x. nat_lt (number x) count) xs ≡ true
 pass_below number count xs h = all_pass (λ x. nat_lt (number x) count) xs (all_map (λ x. number x < count) (λ x. nat_lt (number x) count ≡ true) xs (λ x l. below_test (number x) count l) h)
 
+-- where all rows pass it, each has a number below the count
 pub below_by_test : {T : Type 0} (number : T → ℕ) (count : ℕ) (xs : List T) → list_all (λ x. nat_lt (number x) count) xs ≡ true → AllByRecursion (λ x. number x < count) xs
 below_by_test number count xs e = all_map (λ x. nat_lt (number x) count ≡ true) (λ x. number x < count) xs (λ x t. ltb-true (number x) count t) (each_passes (λ x. nat_lt (number x) count) xs e)

@@ -22,6 +22,7 @@ use Rattle.sm_reservation.proofs.EditedHolds.{room_stays, spare_stays, room_stay
 
 -- ---- how many rows come in
 
+-- no row comes in where an edit leaves nothing at a key without a row
 pub none_come : {T : Type 0} (key_of : T → ℕ × ℕ) (edit : Option T → T → Option T) (xs ys : List T) → ((y : T) → edit None y ≡ None) → new_rows key_of edit xs ys ≡ 0
 none_come key_of edit xs [] h = refl
 none_come key_of edit xs (y ∷ ys) h = rw (h y, none_come key_of edit xs ys h) (both_none (is_none (row_at key_of xs (key_of y))))
@@ -43,16 +44,19 @@ none_crown : (o : Option Crown) → bit (is_none o && true) ≤ bit (is_none (cr
 none_crown None = omega arith
 none_crown (Some x) = omega arith
 
+-- no more cell rights come in than there are cells that the hold has no right to
 pub cells_come : (r : Rights) (ys : List CellRight) → Rises key_of_cell ys → new_rows key_of_cell row_in r.cells ys ≤ count_steps in_cell lacks_cell (hold_of r) ys
 unfolding hold_of
 cells_come r ys o = rw (lacks-cells (hold_of r) ys o, ← tally_is (lacks_cell (hold_of r)) ys) (few_come key_of_cell row_in (lacks_cell (hold_of r)) r.cells ys (λ y. none_state (row_at key_of_cell r.cells (key_of_cell y))))
 
+-- no more crowns come in than there are shards whose crown the hold has not
 pub crowns_come : (r : Rights) (ys : List Crown) → Rises key_of_crown ys → new_rows key_of_crown row_in r.crowns ys ≤ count_steps in_crown lacks_crown (hold_of r) ys
 unfolding hold_of
 crowns_come r ys o = rw (lacks-crowns (hold_of r) ys o, ← tally_is (lacks_crown (hold_of r)) ys) (few_come key_of_crown row_in (lacks_crown (hold_of r)) r.crowns ys (λ y. none_crown (row_at key_of_crown r.crowns (key_of_crown y))))
 
 -- ---- room
 
+-- of no room nothing is left
 pub room_never : (y : Room) → room_row_out None y ≡ None
 room_never y = rw (let z : 0 - y.amount ≡ 0 = omega arith in z) refl
 
@@ -67,13 +71,16 @@ room_come y None = elim (cases_Bool (nat_lt 0 y.amount)) [
     one_at_most true = omega arith
     one_at_most false = omega arith
 
+-- no more rows of room come in than there are servers of which the hold has none
 pub rooms_come : (r : Rights) (ys : List Room) → Rises key_of_room ys → new_rows key_of_room room_in_word r.room ys ≤ count_steps in_room lacks_room (hold_of r) ys
 unfolding hold_of
 rooms_come r ys o = rw (lacks-room (hold_of r) ys o, ← tally_is (lacks_room (hold_of r)) ys) (few_come key_of_room room_in_word (lacks_room (hold_of r)) r.room ys (λ y. room_come y (row_at key_of_room r.room (key_of_room y))))
 
+-- room that is added as a machine word stands at its key
 pub room_stays_in_word : StaysAt key_of_room room_in_word
 room_stays_in_word held y z e = (room_stays y z ((amount_of (λ x. x.amount) held + y.amount) % 2 ^ 64) e).0
 
+-- and its row is not of 0
 pub room_some_in_word : (held : Option Room) (y z : Room) → room_in_word held y ≡ Some z → 0 < z.amount
 room_some_in_word held y z e = (room_stays y z ((amount_of (λ x. x.amount) held + y.amount) % 2 ^ 64) e).1
 
@@ -83,9 +90,11 @@ room_is y z n e = elim (cases_Bool (eqb n 0)) [
   | inr b ↦ let f = rw b at e in let d : record y { amount = n } ≡ z = cc in sym (ap (λ (x : Room). x.amount) d)
 ]
 
+-- and its amount is a u64
 pub room_word_small : (held : Option Room) (y z : Room) → ((x : Room) → held ≡ Some x → x.amount < 2 ^ 64) → room_in_word held y ≡ Some z → z.amount < 2 ^ 64
 room_word_small held y z h e = let is = room_is y z ((amount_of (λ x. x.amount) held + y.amount) % 2 ^ 64) e in omega arith
 
+-- what is left of a u64 of room is one
 pub room_out_small : (held : Option Room) (y z : Room) → ((x : Room) → held ≡ Some x → x.amount < 2 ^ 64) → room_row_out held y ≡ Some z → z.amount < 2 ^ 64
 room_out_small None y z h e = let is = room_is y z (0 - y.amount) e in omega arith
 room_out_small (Some x) y z h e = let is = room_is y z (x.amount - y.amount) e in let l : x.amount < 2 ^ 64 = h x refl in omega arith
@@ -102,6 +111,7 @@ rooms_in_word r (y ∷ ys) o fits =
 
 -- ---- spare
 
+-- of no spare replicas nothing is left
 pub spare_never : (y : Spare) → spare_row_out None y ≡ None
 spare_never y = rw (let z : 0 - y.amount ≡ 0 = omega arith in z) refl
 
@@ -116,13 +126,16 @@ spare_come y None = elim (cases_Bool (nat_lt 0 y.amount)) [
     one_at_most true = omega arith
     one_at_most false = omega arith
 
+-- no more rows of spare replicas come in than there are shards of which the hold has none
 pub spares_come : (r : Rights) (ys : List Spare) → Rises key_of_spare ys → new_rows key_of_spare spare_in_word r.spare ys ≤ count_steps in_spare lacks_spare (hold_of r) ys
 unfolding hold_of
 spares_come r ys o = rw (lacks-spare (hold_of r) ys o, ← tally_is (lacks_spare (hold_of r)) ys) (few_come key_of_spare spare_in_word (lacks_spare (hold_of r)) r.spare ys (λ y. spare_come y (row_at key_of_spare r.spare (key_of_spare y))))
 
+-- spare replicas that are added as a machine word stand at their key
 pub spare_stays_in_word : StaysAt key_of_spare spare_in_word
 spare_stays_in_word held y z e = (spare_stays y z ((amount_of (λ x. x.amount) held + y.amount) % 2 ^ 64) e).0
 
+-- and their row is not of 0
 pub spare_some_in_word : (held : Option Spare) (y z : Spare) → spare_in_word held y ≡ Some z → 0 < z.amount
 spare_some_in_word held y z e = (spare_stays y z ((amount_of (λ x. x.amount) held + y.amount) % 2 ^ 64) e).1
 
@@ -132,9 +145,11 @@ spare_is y z n e = elim (cases_Bool (eqb n 0)) [
   | inr b ↦ let f = rw b at e in let d : record y { amount = n } ≡ z = cc in sym (ap (λ (x : Spare). x.amount) d)
 ]
 
+-- and their amount is a u64
 pub spare_word_small : (held : Option Spare) (y z : Spare) → ((x : Spare) → held ≡ Some x → x.amount < 2 ^ 64) → spare_in_word held y ≡ Some z → z.amount < 2 ^ 64
 spare_word_small held y z h e = let is = spare_is y z ((amount_of (λ x. x.amount) held + y.amount) % 2 ^ 64) e in omega arith
 
+-- what is left of a u64 of spare replicas is one
 pub spare_out_small : (held : Option Spare) (y z : Spare) → ((x : Spare) → held ≡ Some x → x.amount < 2 ^ 64) → spare_row_out held y ≡ Some z → z.amount < 2 ^ 64
 spare_out_small None y z h e = let is = spare_is y z (0 - y.amount) e in omega arith
 spare_out_small (Some x) y z h e = let is = spare_is y z (x.amount - y.amount) e in let l : x.amount < 2 ^ 64 = h x refl in omega arith

@@ -31,6 +31,7 @@ state_put : (y : Option CellRight) (b : Bool) (o : Option CellRight) → plain_s
 state_put y true o = refl
 state_put y false o = refl
 
+-- a list of cell rights that differs at one key alone is the hold with that cell changed
 pub cells_put : (r : Rights) (xs : List CellRight) (s v : ℕ) (o : Option CellRight) → ((q : ℕ × ℕ) → row_at key_of_cell xs q ≡ cond (same (s, v) q) o (row_at key_of_cell r.cells q)) →
     hold_of (record r { cells = xs }) ≡ with_cell (hold_of r) s v (plain_state_of o)
 unfolding hold_of
@@ -47,6 +48,7 @@ crown_put : (y : Option Crown) (b : Bool) (o : Option Crown) → crown_of (cond 
 crown_put y true o = refl
 crown_put y false o = refl
 
+-- a list of crowns that differs at one shard alone is the hold with that shard's crown changed
 pub crowns_put : (r : Rights) (xs : List Crown) (s : ℕ) (o : Option Crown) → ((q : ℕ × ℕ) → row_at key_of_crown xs q ≡ cond (same (s, 0) q) o (row_at key_of_crown r.crowns q)) →
     hold_of (record r { crowns = xs }) ≡ record (hold_of r) { crowns = put ((hold_of r).crowns) s (crown_of o) }
 unfolding hold_of
@@ -56,11 +58,13 @@ crowns_put r xs s o is =
     let f : (λ a. crown_of (row_at key_of_crown xs (a, 0))) ≡ put ((hold_of r).crowns) s (crown_of o) = fun_ext (λ a. at a) in
     ap (λ g. record (hold_of r) { crowns = g }) f
 
+-- a list of room that differs at one server alone is the hold with that server's room changed
 pub room_put : (r : Rights) (xs : List Room) (v n : ℕ) → ((q : ℕ × ℕ) → amount_at key_of_room (λ x. x.amount) xs q ≡ cond (same (v, 0) q) n (amount_at key_of_room (λ x. x.amount) r.room q)) →
     hold_of (record r { room = xs }) ≡ record (hold_of r) { room = put ((hold_of r).room) v n }
 unfolding hold_of
 room_put r xs v n is = let f : (λ q. amount_at key_of_room (λ x. x.amount) xs (q, 0)) ≡ put ((hold_of r).room) v n = fun_ext (λ q. rw (← same_front v q) (is (q, 0))) in ap (λ g. record (hold_of r) { room = g }) f
 
+-- a list of spare replicas that differs at one shard alone is the hold with that shard's changed
 pub spare_put : (r : Rights) (xs : List Spare) (s n : ℕ) → ((q : ℕ × ℕ) → amount_at key_of_spare (λ x. x.amount) xs q ≡ cond (same (s, 0) q) n (amount_at key_of_spare (λ x. x.amount) r.spare q)) →
     hold_of (record r { spare = xs }) ≡ record (hold_of r) { spare = put ((hold_of r).spare) s n }
 unfolding hold_of

@@ -26,6 +26,7 @@ taken-2 r p = record (taken-1 r p) { crowns = edited_all key_of_crown row_out r.
 abbrev taken-3 : Rights → Rights → Rights
 taken-3 r p = record (taken-2 r p) { room = edited_all key_of_room room_row_out r.room p.room }
 
+-- all four lists, with those of the parcel taken out of them
 abbrev pub taken : Rights → Rights → Rights
 taken r p = record (taken-3 r p) { spare = edited_all key_of_spare spare_row_out r.spare p.spare }
 
@@ -38,6 +39,7 @@ hold-2 r p o = crowns_taken (taken-1 r p) p.crowns o.crowns ∙ ap (λ (h : Hold
 hold-3 : (r p : Rights) → IsOrdered r → hold_of (taken-3 r p) ≡ take-3 (hold_of r) p
 hold-3 r p o = rooms_taken (taken-2 r p) p.room o.room ∙ ap (λ (h : Hold). minus_room h p.room) (hold-2 r p o)
 
+-- they are the hold without the parcel
 pub hold-taken : (r p : Rights) → IsOrdered r → hold_of (taken r p) ≡ minus (hold_of r) p
 hold-taken r p o = spares_taken (taken-3 r p) p.spare o.spare ∙ ap (λ (h : Hold). minus_spare h p.spare) (hold-3 r p o)
 
@@ -49,12 +51,14 @@ ordered-taken r p o = record {
   spare = Rises-edited_all key_of_spare spare_row_out r.spare p.spare spare_stays_out o.spare;
 }
 
+-- no amount of them is 0, if none was
 pub positive-taken : (r p : Rights) → IsPositive r → IsPositive (taken r p)
 positive-taken r p s = record {
   room = positive-edited_all key_of_room room_row_out (λ x. x.amount) r.room p.room room_some_out s.room;
   spare = positive-edited_all key_of_spare spare_row_out (λ x. x.amount) r.spare p.spare spare_some_out s.spare;
 }
 
+-- they have as many keys fewer as the hold loses
 pub sizes-taken : (r p : Rights) → IsOrdered r → IsPositive r → IsOrdered p → first_short (hold_of r) p ≡ None → add_counts (key_counts (taken r p)) (lost_keys (hold_of r) p) ≡ key_counts r
 sizes-taken r p o s q none =
     let h = hold_of r in
@@ -79,6 +83,7 @@ given-2 r p = record (given-1 r p) { crowns = edited_all key_of_crown row_in r.c
 abbrev given-3 : Rights → Rights → Rights
 given-3 r p = record (given-2 r p) { room = edited_all key_of_room room_row_in r.room p.room }
 
+-- all four lists, with those of the parcel put into them
 abbrev pub given : Rights → Rights → Rights
 given r p = record (given-3 r p) { spare = edited_all key_of_spare spare_row_in r.spare p.spare }
 
@@ -91,6 +96,7 @@ more-2 r p o = crowns_put_in (given-1 r p) p.crowns o.crowns ∙ ap (λ (h : Hol
 more-3 : (r p : Rights) → IsOrdered r → hold_of (given-3 r p) ≡ put-3 (hold_of r) p
 more-3 r p o = rooms_put_in (given-2 r p) p.room o.room ∙ ap (λ (h : Hold). plus_room h p.room) (more-2 r p o)
 
+-- they are the hold with the parcel
 pub hold-given : (r p : Rights) → IsOrdered r → hold_of (given r p) ≡ plus (hold_of r) p
 hold-given r p o = spares_put_in (given-3 r p) p.spare o.spare ∙ ap (λ (h : Hold). plus_spare h p.spare) (more-3 r p o)
 
@@ -102,12 +108,14 @@ ordered-given r p o = record {
   spare = Rises-edited_all key_of_spare spare_row_in r.spare p.spare spare_stays_in o.spare;
 }
 
+-- no amount of them is 0, if none was
 pub positive-given : (r p : Rights) → IsPositive r → IsPositive (given r p)
 positive-given r p s = record {
   room = positive-edited_all key_of_room room_row_in (λ x. x.amount) r.room p.room room_some_in s.room;
   spare = positive-edited_all key_of_spare spare_row_in (λ x. x.amount) r.spare p.spare spare_some_in s.spare;
 }
 
+-- they have as many keys more as are new to the hold
 pub sizes-given : (r p : Rights) → IsOrdered r → IsPositive r → IsOrdered p → key_counts (given r p) ≡ add_counts (key_counts r) (new_keys (hold_of r) p)
 sizes-given r p o s q =
     let h = hold_of r in

@@ -26,6 +26,7 @@ same_rights r q a b c d =
     ∙ ap (λ (xs : List Room). record q { room = xs; spare = r.spare }) c
     ∙ ap (λ (xs : List Spare). record q { spare = xs }) d
 
+-- rights in order rise, where no key of the lists stands twice
 pub in_order_is_ordered : (r : Rights) → IsOnce r → IsOrdered (in_order r)
 in_order_is_ordered r once = record {
   cells = sorted_rises key_of_cell r.cells (λ x. once (key.CellRight x.shard x.server));
@@ -34,12 +35,14 @@ in_order_is_ordered r once = record {
   spare = rises_kept key_of_spare (λ x. nat_lt 0 x.amount) (sorted key_of_spare r.spare) (sorted_rises key_of_spare r.spare (λ x. once (key.Spare x.shard)));
 }
 
+-- rights in order have no amount of 0
 pub in_order_is_positive : (r : Rights) → IsPositive (in_order r)
 in_order_is_positive r = record {
   room = positive_kept (λ (x : Room). x.amount) (sorted key_of_room r.room);
   spare = positive_kept (λ (x : Spare). x.amount) (sorted key_of_spare r.spare);
 }
 
+-- rights that rise and have no amount of 0 are in order already
 pub in_order_of_ordered : (r : Rights) → IsOrdered r → IsPositive r → in_order r ≡ r
 in_order_of_ordered r o p = same_rights (in_order r) r
     (sorted_of_rising key_of_cell r.cells o.cells)
@@ -101,6 +104,7 @@ spares_read xs p = record { row = λ x y s e. row x y (same_is (key_of_spare y) 
     some : (x : Spare) → Contains xs x → 0 ≡ x.amount → ⊥
     some x h e = omega (arith, positive_each (λ (y : Spare). y.amount) xs x p h)
 
+-- lists that rise, without amounts of 0, are the same where they are the same hold
 pub rights_by_hold : (r q : Rights) → IsOrdered r → IsPositive r → IsOrdered q → IsPositive q → hold_of r ≡ hold_of q → r ≡ q
 unfolding hold_of
 rights_by_hold r q a p b w e = same_rights r q

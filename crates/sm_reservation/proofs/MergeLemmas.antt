@@ -34,10 +34,11 @@ front_past key_of edit k (Some z) xs ys stays a = edited_past key_of edit z xs y
 before_then_after : {T : Type 0} (key_of : T → ℕ × ℕ) (x y : T) (ys : List T) → before (key_of x) (key_of y) ≡ true → Rises key_of (y ∷ ys) → AllAfter key_of (key_of x) (y ∷ ys)
 before_then_after key_of x y ys b r = (b, AllAfter-trans key_of (key_of x) (key_of y) ys b r.0)
 
--- the rows that do not come before a key, and those of them that stand behind it
+-- the rows that do not come before a key
 abbrev pub from : {T : Type 0} → (T → ℕ × ℕ) → List T → ℕ × ℕ → List T
 from key_of xs k = drop (count_before key_of k xs) xs
 
+-- those of them that stand behind the key
 abbrev pub behind : {T : Type 0} → (T → ℕ × ℕ) → List T → ℕ × ℕ → List T
 behind key_of xs k = drop (bit (is_some (head_at key_of (from key_of xs k) k))) (from key_of xs k)
 
@@ -100,6 +101,7 @@ Rises-drop key_of (suc n) (x ∷ xs) r = Rises-drop key_of n xs r.1
 regrouped : {T : Type 0} (a b c d : List T) → ((a ++ b) ++ c) ++ d ≡ a ++ ((b ++ c) ++ d)
 regrouped a b c d = simp append_assoc
 
+-- a turn leaves the rows behind the key to be gone through, and all comes to the same list in the end
 pub turn_total : {T : Type 0} (key_of : T → ℕ × ℕ) (edit : Option T → T → Option T) (y : T) (ys cur cur1 cur2 : List T) (write read n h b : ℕ) (held : Option T) → StaysAt key_of edit → Rises key_of (y ∷ ys) →
     n ≡ count_before key_of (key_of y) (drop read cur) → drop (read + n) cur1 ≡ drop n (drop read cur) → held ≡ head_at key_of (drop (read + n) cur1) (key_of y) → h ≡ bit (is_some held) →
     take (write + n) cur1 ≡ take write cur ++ take n (drop read cur) → take ((write + n) + b) cur2 ≡ take (write + n) cur1 ++ in_front (edit held y) [] → drop (read + (n + h)) cur2 ≡ drop (read + (n + h)) cur1 →
@@ -131,6 +133,7 @@ turn_room {T} key_of edit y ys xs write read n (Some x) o r e room =
 
 -- ---- one turn of a loop that moves rows down
 
+-- the row that is moved is the next one, it stands behind those moved before, and the rest stays to be moved
 pub shift_turn : {T : Type 0} (cur front xs : List T) (write read n : ℕ) (row : T) → write ≤ read → read + n < length cur → take (write + n) cur ≡ front ++ take n xs → drop (read + n) cur ≡ drop n xs → row ≡ get_or cur (read + n) row →
     (drop n xs ≡ row ∷ drop (n + 1) xs) × (take (write + (n + 1)) (set cur (write + n) row) ≡ front ++ take (n + 1) xs) × (drop (read + (n + 1)) (set cur (write + n) row) ≡ drop (n + 1) xs)
 shift_turn {T} cur front xs write read n row le lt done rest is =
@@ -151,5 +154,6 @@ pub here_within : {T : Type 0} (held : Option T) (number count : ℕ) → number
 here_within None number count le lt = omega arith
 here_within (Some x) number count le lt = let l = lt refl in omega arith
 
+-- the rows behind a key rise, as all do
 pub Rises-behind : {T : Type 0} (key_of : T → ℕ × ℕ) (xs : List T) (k : ℕ × ℕ) → Rises key_of xs → Rises key_of (behind key_of xs k)
 Rises-behind key_of xs k r = Rises-drop key_of (bit (is_some (head_at key_of (from key_of xs k) k))) (from key_of xs k) (Rises-drop key_of (count_before key_of k xs) xs r)

@@ -16,6 +16,7 @@ abbrev pub count_at : {T : Type 0} → (T → ℕ × ℕ) → ℕ × ℕ → Lis
 count_at key_of q [] = 0
 count_at key_of q (x ∷ xs) = cond (same (key_of x) q) (1 + count_at key_of q xs) (count_at key_of q xs)
 
+-- it is the number of rows that pass the test of the key
 pub count_at_is : {T : Type 0} (key_of : T → ℕ × ℕ) (q : ℕ × ℕ) (xs : List T) → count_at key_of q xs ≡ count_by (λ x. same (key_of x) q) xs
 count_at_is key_of q xs = is_count_by (count_at key_of q) (λ x. same (key_of x) q) refl (λ x ys. refl) xs
 
@@ -36,6 +37,7 @@ climbs_all : {T : Type 0} (key_of : T → ℕ × ℕ) (xs : List T) → ((k : �
 climbs_all key_of [] h = tt
 climbs_all key_of (x ∷ xs) h = climbs_from key_of x xs h
 
+-- rows climb where none is less than the one ahead of it, in the order that they were sorted by
 pub climbs : {T : Type 0} (key_of : T → ℕ × ℕ) (xs : List T) → ((k : ℕ) (d : T) → 0 ≤ k → k + 1 < length xs → is_lt (ordering_then (nat_cmp (key_of (get_or xs (k + 1) d)).0 (key_of (get_or xs k d)).0) (nat_cmp (key_of (get_or xs (k + 1) d)).1 (key_of (get_or xs k d)).1)) ≡ false) → Climbs key_of xs
 climbs key_of xs h = climbs_all key_of xs (λ k d lt. not_before (key_of (get_or xs (suc k) d)) (key_of (get_or xs k d)) (rw add-one at (h k d (omega arith) (omega arith))))
 
@@ -47,9 +49,11 @@ two_at xs k a b lt ea eb =
     let second : drop (suc k) xs ≡ get_or xs (suc k) b ∷ drop (suc (suc k)) xs = drop-cons xs (suc k) b lt in
     first ∙ (rw (← ea, second, ← eb) refl)
 
+-- where the rows at a position and behind it share a key, it is the first that is shared from there on
 pub twin_here : {T : Type 0} (key_of : T → ℕ × ℕ) (xs : List T) (k : ℕ) (a b : T) → suc k < length xs → a ≡ get_or xs k a → b ≡ get_or xs (suc k) b → same (key_of a) (key_of b) ≡ true → first_twin key_of (drop k xs) ≡ Some (key_of b)
 twin_here key_of xs k a b lt ea eb s = rw (two_at xs k a b lt ea eb, s) refl
 
+-- where they do not, the first that is shared is found from the next position on
 pub twin_past : {T : Type 0} (key_of : T → ℕ × ℕ) (xs : List T) (k : ℕ) (a b : T) → suc k < length xs → a ≡ get_or xs k a → b ≡ get_or xs (suc k) b → same (key_of a) (key_of b) ≡ false → first_twin key_of (drop k xs) ≡ first_twin key_of (drop (suc k) xs)
 twin_past key_of xs k a b lt ea eb s =
     let second : drop (suc k) xs ≡ get_or xs (suc k) b ∷ drop (suc (suc k)) xs = drop-cons xs (suc k) b lt in
@@ -60,6 +64,7 @@ short_no_twin key_of [] le = refl
 short_no_twin key_of (x ∷ []) le = refl
 short_no_twin key_of (x ∷ y ∷ ys) le = absurd (omega arith)
 
+-- from the last row on no key is shared
 pub no_twin_left : {T : Type 0} (key_of : T → ℕ × ℕ) (xs : List T) (k : ℕ) → length xs ≤ suc k → first_twin key_of (drop k xs) ≡ None
 no_twin_left key_of xs k le = short_no_twin key_of (drop k xs) (omega (arith, length-drop k xs))
 
@@ -75,6 +80,7 @@ rises_from key_of x (y ∷ ys) c none = elim (cases_Bool (same (key_of x) (key_o
       ((up, AllAfter-trans key_of (key_of x) (key_of y) ys up rest.0), rest)
 ]
 
+-- rows that climb, of which no neighbours share a key, rise
 pub rises : {T : Type 0} (key_of : T → ℕ × ℕ) (xs : List T) → Climbs key_of xs → first_twin key_of xs ≡ None → Rises key_of xs
 rises key_of [] c none = tt
 rises key_of (x ∷ xs) c none = rises_from key_of x xs c none
@@ -83,6 +89,7 @@ none_at : {T : Type 0} (key_of : T → ℕ × ℕ) (k q : ℕ × ℕ) (xs : List
 none_at key_of k q [] a s = refl
 none_at key_of k q (x ∷ xs) a s = rw (apart_above k (key_of x) q a.0 s) (none_at key_of k q xs a.1 s)
 
+-- in rows that rise no key stands twice
 pub once_at : {T : Type 0} (key_of : T → ℕ × ℕ) (q : ℕ × ℕ) (xs : List T) → Rises key_of xs → count_at key_of q xs ≤ 1
 once_at key_of q [] r = omega arith
 once_at key_of q (x ∷ xs) r = elim (cases_Bool (same (key_of x) q)) [
@@ -135,10 +142,12 @@ lowest_from key_of x (y ∷ ys) p q c e b = elim (cases_Bool (same (key_of x) (k
       ]
 ]
 
+-- the first key that neighbours share stands twice
 pub twice : {T : Type 0} (key_of : T → ℕ × ℕ) (xs : List T) (p : ℕ × ℕ) → first_twin key_of xs ≡ Some p → 2 ≤ count_at key_of p xs
 twice key_of [] p e = cc
 twice key_of (x ∷ xs) p e = twice_from key_of x xs p e
 
+-- and in rows that climb no lower key does
 pub lowest : {T : Type 0} (key_of : T → ℕ × ℕ) (xs : List T) (p q : ℕ × ℕ) → Climbs key_of xs → first_twin key_of xs ≡ Some p → before q p ≡ true → count_at key_of q xs ≤ 1
 lowest key_of [] p q c e b = cc
 lowest key_of (x ∷ xs) p q c e b = lowest_from key_of x xs p q c e b
@@ -151,6 +160,7 @@ flat_from key_of x (y ∷ ys) p flat e = elim (cases_Bool (same (key_of x) (key_
   | inr s ↦ flat_from key_of y ys p flat (rw s at e)
 ]
 
+-- where all keys have 0 as their second part, a key that is found has it too
 pub flat : {T : Type 0} (key_of : T → ℕ × ℕ) (xs : List T) (p : ℕ × ℕ) → ((y : T) → (key_of y).1 ≡ 0) → first_twin key_of xs ≡ Some p → p.1 ≡ 0
 flat key_of [] p h e = cc
 flat key_of (x ∷ xs) p h e = flat_from key_of x xs p h e

@@ -40,10 +40,12 @@ found_behind : {T : Type 0} (key_of : T → ℕ × ℕ) (x : T) (xs ys : List T)
 found_behind key_of x xs [] after all = tt
 found_behind key_of x xs (y ∷ ys) after all = (rw (before_not_same (key_of x) (key_of y) after.0) all.0, found_behind key_of x xs ys after.1 all.1)
 
+-- in rows that rise each row is found at its key
 pub all_found : {T : Type 0} (key_of : T → ℕ × ℕ) (xs : List T) → Rises key_of xs → AllByRecursion (IsFound key_of xs) xs
 all_found key_of [] r = tt
 all_found key_of (x ∷ xs) r = (rw (same_here (key_of x)) refl, found_behind key_of x xs xs r.0 (all_found key_of xs r.1))
 
+-- what follows for each element from a property that all have holds of all
 pub all_map : {T : Type 0} (P Q : T → Type 0) (xs : List T) → ((x : T) → P x → Q x) → AllByRecursion P xs → AllByRecursion Q xs
 all_map P Q [] h all = tt
 all_map P Q (x ∷ xs) h all = (h x all.0, all_map P Q xs h all.1)
@@ -55,6 +57,7 @@ both key_of amount ys (x ∷ xs) some all = ((some.0, all.0), both key_of amount
 
 -- ---- a parcel of known shards and servers
 
+-- the rows of cell rights are of known shards and servers, where the hold that they are is
 pub cells_known : (shards servers : ℕ) (p : Rights) → Rises key_of_cell p.cells → IsKnownHold shards servers (hold_of p) → AllByRecursion (λ x. (x.shard < shards) × (x.server < servers)) p.cells
 unfolding hold_of
 cells_known shards servers p o is = all_map (IsFound key_of_cell p.cells) (λ x. (x.shard < shards) × (x.server < servers)) p.cells (λ x e. (shard x e, server x e)) (all_found key_of_cell p.cells o)
@@ -65,6 +68,7 @@ cells_known shards servers p o is = all_map (IsFound key_of_cell p.cells) (λ x.
     server : (x : CellRight) → IsFound key_of_cell p.cells x → x.server < servers
     server x e = elim (cases_lt x.server servers) [ inl l ↦ l | inr l ↦ absurd (let z = is.no_server x.shard x.server l in let y = ap plain_state_of e in cc) ]
 
+-- and so are the rows of crowns
 pub crowns_known : (shards servers : ℕ) (p : Rights) → Rises key_of_crown p.crowns → IsKnownHold shards servers (hold_of p) → AllByRecursion (λ x. x.shard < shards) p.crowns
 unfolding hold_of
 crowns_known shards servers p o is = all_map (IsFound key_of_crown p.crowns) (λ x. x.shard < shards) p.crowns shard (all_found key_of_crown p.crowns o)
@@ -72,6 +76,7 @@ crowns_known shards servers p o is = all_map (IsFound key_of_crown p.crowns) (λ
     shard : (x : Crown) → IsFound key_of_crown p.crowns x → x.shard < shards
     shard x e = elim (cases_lt x.shard shards) [ inl l ↦ l | inr l ↦ absurd (let z = is.crowns x.shard l in let y = ap crown_of e in cc) ]
 
+-- and those of room, where none is of 0
 pub rooms_known : (shards servers : ℕ) (p : Rights) → Rises key_of_room p.room → HasPositive (λ x. x.amount) p.room → IsKnownHold shards servers (hold_of p) → AllByRecursion (λ x. x.server < servers) p.room
 unfolding hold_of
 rooms_known shards servers p o some is =
@@ -83,6 +88,7 @@ rooms_known shards servers p o some is =
       | inr m ↦ absurd (let z = is.room x.server m in let y : amount_of (λ (r : Room). r.amount) (row_at key_of_room p.room (x.server, 0)) ≡ x.amount = ap (amount_of (λ (r : Room). r.amount)) e in omega arith)
     ]
 
+-- and those of spare replicas, where none is of 0
 pub spares_known : (shards servers : ℕ) (p : Rights) → Rises key_of_spare p.spare → HasPositive (λ x. x.amount) p.spare → IsKnownHold shards servers (hold_of p) → AllByRecursion (λ x. x.shard < shards) p.spare
 unfolding hold_of
 spares_known shards servers p o some is =
@@ -114,6 +120,7 @@ covered_below shards servers h k is c = record {
 
 -- ---- a parcel that can be put in
 
+-- where a parcel can be joined to a hold, each amount of its room fits beside the hold's
 pub rooms_fit : (h : Hold) (p : Rights) → IsOrdered p → CanJoin h (hold_of p) → AllByRecursion (RoomFits h) p.room
 unfolding hold_of
 rooms_fit h p o is = all_map (IsFound key_of_room p.room) (RoomFits h) p.room fits (all_found key_of_room p.room o.room)
@@ -121,6 +128,7 @@ rooms_fit h p o is = all_map (IsFound key_of_room p.room) (RoomFits h) p.room fi
     fits : (x : Room) → IsFound key_of_room p.room x → h.room x.server + x.amount < 2 ^ 64
     fits x e = let z = is.room x.server in let y : amount_of (λ (r : Room). r.amount) (row_at key_of_room p.room (x.server, 0)) ≡ x.amount = ap (amount_of (λ (r : Room). r.amount)) e in omega arith
 
+-- and each amount of its spare replicas
 pub spares_fit : (h : Hold) (p : Rights) → IsOrdered p → CanJoin h (hold_of p) → AllByRecursion (SpareFits h) p.spare
 unfolding hold_of
 spares_fit h p o is = all_map (IsFound key_of_spare p.spare) (SpareFits h) p.spare fits (all_found key_of_spare p.spare o.spare)
@@ -134,6 +142,7 @@ rooms_fit_in h p o is =
     let at : AllByRecursion (RoomFits (put-2 h p)) p.room = subst (λ (f : ℕ → ℕ). AllByRecursion (λ x. f x.server + x.amount < 2 ^ 64) p.room) (sym (put-room h p)) (rooms_fit h p o is) in
     RoomFits-steps (put-2 h p) p.room o.room at
 
+-- and so do the spare replicas, after the room
 pub spares_fit_in : (h : Hold) (p : Rights) → IsOrdered p → CanJoin h (hold_of p) → AllSteps in_spare SpareFits (put-3 h p) p.spare
 spares_fit_in h p o is =
     let at : AllByRecursion (SpareFits (put-3 h p)) p.spare = subst (λ (f : ℕ → ℕ). AllByRecursion (λ x. f x.shard + x.amount < 2 ^ 64) p.spare) (sym (put-spare h p)) (spares_fit h p o is) in

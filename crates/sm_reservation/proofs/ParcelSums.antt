@@ -30,34 +30,42 @@ use Rattle.sm_placement.proofs.Searches.{cases_Option as cases_of}
 
 -- ---- one list at a time: what the others say stays
 
+-- cell rights taken out leave all other rights as they were
 pub cells_alone : (h : Hold) (xs : List CellRight) → minus_cells h xs ≡ record h { cells = (minus_cells h xs).cells }
 cells_alone h [] = refl
 cells_alone h (x ∷ xs) = cells_alone (with_cell h x.shard x.server None) xs
 
+-- crowns taken out leave all other rights as they were
 pub crowns_alone : (h : Hold) (xs : List Crown) → minus_crowns h xs ≡ record h { crowns = (minus_crowns h xs).crowns }
 crowns_alone h [] = refl
 crowns_alone h (x ∷ xs) = crowns_alone (without_crown h x.shard) xs
 
+-- room taken out leaves all other rights as they were
 pub room_alone : (h : Hold) (xs : List Room) → minus_room h xs ≡ record h { room = (minus_room h xs).room }
 room_alone h [] = refl
 room_alone h (x ∷ xs) = room_alone (pay_room h x.server x.amount) xs
 
+-- spare replicas taken out leave all other rights as they were
 pub spare_alone : (h : Hold) (xs : List Spare) → minus_spare h xs ≡ record h { spare = (minus_spare h xs).spare }
 spare_alone h [] = refl
 spare_alone h (x ∷ xs) = spare_alone (pay_spare h x.shard x.amount) xs
 
+-- cell rights put in leave all other rights as they were
 pub more_cells_alone : (h : Hold) (xs : List CellRight) → plus_cells h xs ≡ record h { cells = (plus_cells h xs).cells }
 more_cells_alone h [] = refl
 more_cells_alone h (x ∷ xs) = more_cells_alone (with_cell h x.shard x.server (Some x.state)) xs
 
+-- crowns put in leave all other rights as they were
 pub more_crowns_alone : (h : Hold) (xs : List Crown) → plus_crowns h xs ≡ record h { crowns = (plus_crowns h xs).crowns }
 more_crowns_alone h [] = refl
 more_crowns_alone h (x ∷ xs) = more_crowns_alone (with_crown h x.shard x.lead x.listed) xs
 
+-- room put in leaves all other rights as they were
 pub more_room_alone : (h : Hold) (xs : List Room) → plus_room h xs ≡ record h { room = (plus_room h xs).room }
 more_room_alone h [] = refl
 more_room_alone h (x ∷ xs) = more_room_alone (get_room h x.server x.amount) xs
 
+-- spare replicas put in leave all other rights as they were
 pub more_spare_alone : (h : Hold) (xs : List Spare) → plus_spare h xs ≡ record h { spare = (plus_spare h xs).spare }
 more_spare_alone h [] = refl
 more_spare_alone h (x ∷ xs) = more_spare_alone (get_spare h x.shard x.amount) xs
@@ -173,6 +181,7 @@ plus_crowns_at h (x ∷ xs) s r =
       | inr e ↦ rest ∙ ap (λ (o : Option (Lead × Option ℕ)). option_or (crown_of (row_at key_of_crown xs (s, 0))) o) (rw e at here) ∙ rw e refl
     ]
 
+-- a server's room is more by the amount that the list has of it
 pub plus_room_at : (h : Hold) (xs : List Room) (v : ℕ) → Rises key_of_room xs → (plus_room h xs).room v ≡ h.room v + amount_at key_of_room (λ x. x.amount) xs (v, 0)
 plus_room_at h [] v r = omega arith
 plus_room_at h (x ∷ xs) v r =
@@ -192,6 +201,7 @@ plus_room_at h (x ∷ xs) v r =
           omega arith
     ]
 
+-- a shard's spare replicas are more by the amount that the list has of them
 pub plus_spare_at : (h : Hold) (xs : List Spare) (s : ℕ) → Rises key_of_spare xs → (plus_spare h xs).spare s ≡ h.spare s + amount_at key_of_spare (λ x. x.amount) xs (s, 0)
 plus_spare_at h [] s r = omega arith
 plus_spare_at h (x ∷ xs) s r =
@@ -213,7 +223,7 @@ plus_spare_at h (x ∷ xs) s r =
 
 -- ---- a whole parcel
 
--- one hold taken out of another, and put into it
+-- one hold taken out of another
 abbrev pub parted : Hold → Hold → Hold
 parted h k = record {
   cells = λ s v. left (k.cells s v) (h.cells s v);
@@ -222,6 +232,7 @@ parted h k = record {
   spare = λ s. h.spare s - k.spare s;
 }
 
+-- one hold put into another
 abbrev pub joined : Hold → Hold → Hold
 joined h k = record {
   cells = λ s v. option_or (k.cells s v) (h.cells s v);
@@ -237,6 +248,7 @@ same_hold h k a b c d =
     ∙ ap (λ (f : ℕ → ℕ). record k { room = f; spare = h.spare }) (fun_ext c)
     ∙ ap (λ (f : ℕ → ℕ). record k { spare = f }) (fun_ext d)
 
+-- taking a parcel out, row after row, is taking out the hold that it is
 pub minus_is : (h : Hold) (p : Rights) → IsOrdered p → minus h p ≡ parted h (hold_of p)
 unfolding hold_of
 minus_is h p o =
@@ -253,6 +265,7 @@ minus_is h p o =
     (λ v. ap (λ (k : Hold). k.room v) ee ∙ minus_room_at b p.room v o.room ∙ ap (λ (n : ℕ). n - amount_at key_of_room (λ x. x.amount) p.room (v, 0)) (ap (λ (k : Hold). k.room v) be ∙ ap (λ (k : Hold). k.room v) ae))
     (λ s. minus_spare_at d p.spare s o.spare ∙ ap (λ (n : ℕ). n - amount_at key_of_spare (λ x. x.amount) p.spare (s, 0)) (ap (λ (k : Hold). k.spare s) de ∙ ap (λ (k : Hold). k.spare s) be ∙ ap (λ (k : Hold). k.spare s) ae))
 
+-- putting a parcel in, row after row, is putting in the hold that it is
 pub plus_is : (h : Hold) (p : Rights) → IsOrdered p → plus h p ≡ joined h (hold_of p)
 unfolding hold_of
 plus_is h p o =
@@ -291,6 +304,7 @@ found_passes key_of f (y ∷ ys) q x none is =
       | inr e ↦ found_passes key_of f ys q x both.1 (rw e at is)
     ]
 
+-- a crown that passes the test of a lead and a listed server has these
 pub crown_is : (o : Option (Lead × Option ℕ)) (lead : Lead) (listed : Option ℕ) → is_crown lead listed o ≡ true → o ≡ Some (lead, listed)
 crown_is None lead listed e = cc
 crown_is (Some c) lead listed e =
@@ -349,6 +363,7 @@ covers h p none =
 
 -- ---- how much there is of each right
 
+-- where there is no right to a cell, there is none in any state
 pub no_cell : (state : PlainCell) → bit (is_cell state None) ≡ 0
 no_cell Absent = refl
 no_cell Secondary = refl

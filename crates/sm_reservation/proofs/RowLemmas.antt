@@ -8,6 +8,7 @@ use Rattle.sm_reservation.proofs.Places.{same_here, same_trans, before_not_same,
 some_not_none : {A : Type 0} {x : A} → Some x ≡ None → ⊥
 some_not_none e = cc
 
+-- no more rows come before a key than there are
 pub count_before-le-length : {T : Type 0} (key_of : T → ℕ × ℕ) (k : ℕ × ℕ) (xs : List T) → count_before key_of k xs ≤ length xs
 count_before-le-length key_of k [] = omega arith
 count_before-le-length key_of k (x ∷ xs) = elim (cases_Bool (before (key_of x) k)) [
@@ -25,6 +26,7 @@ none_after key_of k q (x ∷ xs) a e =
     ] in
     rw apart (none_after key_of k q xs a.1 e)
 
+-- rows that come after a key come after each key before it
 pub AllAfter-trans : {T : Type 0} (key_of : T → ℕ × ℕ) (j k : ℕ × ℕ) (xs : List T) → before j k ≡ true → AllAfter key_of k xs → AllAfter key_of j xs
 AllAfter-trans key_of j k [] b a = tt
 AllAfter-trans key_of j k (x ∷ xs) b a = (before_trans j k (key_of x) b a.0, AllAfter-trans key_of j k xs b a.1)
@@ -54,6 +56,7 @@ AllAfter-insert key_of j k y (x ∷ xs) b a = elim (cases_Bool (before (key_of x
   | inr e ↦ rw e (b, a)
 ]
 
+-- rows that rise still do with a row put in where its key belongs, if none stood there
 pub Rises-insert : {T : Type 0} (key_of : T → ℕ × ℕ) (y : T) (xs : List T) → Rises key_of xs → row_at key_of xs (key_of y) ≡ None → Rises key_of (insert xs (count_before key_of (key_of y) xs) y)
 Rises-insert key_of y [] r none = (tt, tt)
 Rises-insert key_of y (x ∷ xs) r none = elim (cases_Bool (before (key_of x) (key_of y))) [
@@ -74,15 +77,18 @@ found key_of xs k i v e lt is s =
     let at : v ≡ get_or xs (count_before key_of k xs) v = rw (← e) is in
     row_here key_of k xs v (rw (← e) lt) (rw (← at) s) ∙ ap Some (sym at)
 
+-- no row stands at a key where the search ends at a row of another key
 pub not_found : {T : Type 0} (key_of : T → ℕ × ℕ) (xs : List T) (k : ℕ × ℕ) (i : ℕ) (v : T) → Rises key_of xs → i ≡ count_before key_of k xs → v ≡ get_or xs i v → same (key_of v) k ≡ false → row_at key_of xs k ≡ None
 not_found key_of xs k i v r e is s =
     let at : v ≡ get_or xs (count_before key_of k xs) v = rw (← e) is in
     no_row_here key_of k xs v r (λ _. rw (← at) s)
 
+-- nor where it ends behind the last row
 pub not_found_past : {T : Type 0} (key_of : T → ℕ × ℕ) (xs : List T) (k : ℕ × ℕ) (i : ℕ) → Rises key_of xs → i ≡ count_before key_of k xs → length xs ≤ i → row_at key_of xs k ≡ None
 not_found_past key_of [] k i r e le = refl
 not_found_past key_of (x ∷ xs) k i r e le = no_row_here key_of k (x ∷ xs) x r (λ lt. absurd (omega (arith, e)))
 
+-- what is there has a value
 pub some_of : {T : Type 0} (o : Option T) → IsSome o → (v : T) × (o ≡ Some v)
 some_of (Some v) h = (v, refl)
 some_of None h = cc

@@ -17,6 +17,7 @@ rows_before_first key_of k (x ∷ xs) r zero (suc j) d le lt e = before_trans (k
 rows_before_first key_of k (x ∷ xs) r (suc i) zero d le lt e = absurd (omega arith)
 rows_before_first key_of k (x ∷ xs) r (suc i) (suc j) d le lt e = rows_before_first key_of k xs r.1 i j d (omega arith) (omega arith) e
 
+-- a number that parts the rows before a key from all others is the number of those before it
 pub count_at_partition : {T : Type 0} (key_of : T → ℕ × ℕ) (k : ℕ × ℕ) (xs : List T) (i : ℕ) → i ≤ length xs → IsPartitionPoint (λ x. before (key_of x) k ≡ true) (λ x. before (key_of x) k ≡ false) xs i → i ≡ count_before key_of k xs
 count_at_partition key_of k [] i le h = omega arith
 count_at_partition key_of k (x ∷ xs) zero le h = rw (h.1 0 x (omega arith) (omega arith)) refl

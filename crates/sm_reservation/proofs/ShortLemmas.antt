@@ -20,10 +20,12 @@ pub record HasAll (h : Hold) (p : Rights) : Type 0 where
   pub room : AllByRecursion (HasRoom h) p.room
   pub spare : AllByRecursion (HasSpare h) p.spare
 
+-- of two answers there is no first one only where there is neither
 pub no_answer : {X : Type 0} (a b : Option X) → option_or a b ≡ None → (a ≡ None) × (b ≡ None)
 no_answer None b e = (refl, e)
 no_answer (Some x) b e = cc
 
+-- where nothing is short, the test has passed
 pub not_short : {X : Type 0} (b : Bool) (x : X) → cond b None (Some x) ≡ None → b ≡ true
 not_short true x e = refl
 not_short false x e = cc
@@ -44,6 +46,7 @@ has_room h x e = leb-true x.amount (h.room x.server) (not_short (leb x.amount (h
 has_spare : (h : Hold) (x : Spare) → spare_short h x ≡ None → HasSpare h x
 has_spare h x e = leb-true x.amount (h.spare x.shard) (not_short (leb x.amount (h.spare x.shard)) _ e)
 
+-- a hold that is short of nothing of a parcel has each right of it
 pub has_all : (h : Hold) (p : Rights) → first_short h p ≡ None → HasAll h p
 has_all h p none =
     let a = first_answer (cell_short h) p.cells in

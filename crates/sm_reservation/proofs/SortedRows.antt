@@ -65,6 +65,7 @@ same_list key_of (x ∷ xs) (y ∷ ys) r q s =
 
 -- ---- the rows in order
 
+-- putting rows in order changes nothing but where they stand
 pub sorted_permutes : {T : Type 0} (key_of : T → ℕ × ℕ) (xs : List T) → IsPermutation xs (sorted key_of xs)
 sorted_permutes key_of [] = IsPermutation-refl []
 sorted_permutes key_of (x ∷ xs) =
@@ -82,6 +83,7 @@ none_there key_of q (x ∷ xs) e = elim (cases_Bool (same (key_of x) q)) [
 abbrev pub IsOnceEach : {T : Type 0} → (T → ℕ × ℕ) → List T → Type 0
 IsOnceEach {T} key_of xs = (x : T) → count_by (λ y. same (key_of y) (key_of x)) xs ≤ 1
 
+-- rows in order rise, where no key stands twice
 pub sorted_rises : {T : Type 0} (key_of : T → ℕ × ℕ) (xs : List T) → IsOnceEach key_of xs → Rises key_of (sorted key_of xs)
 sorted_rises key_of [] once = tt
 sorted_rises {T} key_of (x ∷ xs) once = Rises-insert key_of x (sorted key_of xs) (sorted_rises key_of xs fewer) (none_there key_of (key_of x) (sorted key_of xs) none)
@@ -109,9 +111,11 @@ sorted_is key_of xs ys p r =
     let perm = IsPermutation-trans (sorted key_of xs) xs ys (IsPermutation-sym xs (sorted key_of xs) (sorted_permutes key_of xs)) p in
     same_list key_of (sorted key_of xs) ys (sorted_rises key_of xs once) r (same_elements (sorted key_of xs) ys perm)
 
+-- rows that rise are in order already
 pub sorted_of_rising : {T : Type 0} (key_of : T → ℕ × ℕ) (xs : List T) → Rises key_of xs → sorted key_of xs ≡ xs
 sorted_of_rising key_of xs r = sorted_is key_of xs xs (IsPermutation-refl xs) r
 
+-- where no amount is 0, no row is left out for it
 pub kept_positive : {T : Type 0} (amount : T → ℕ) (xs : List T) → HasPositive amount xs → filter (λ x. nat_lt 0 (amount x)) xs ≡ xs
 kept_positive amount [] p = refl
 kept_positive amount (x ∷ xs) p =
@@ -134,6 +138,7 @@ row_of_each key_of (y ∷ ys) x r h = elim (which x y ys h) [
   | inr there ↦ rw (before_not_same (key_of y) (key_of x) (after_each key_of (key_of y) ys x r.0 there)) (row_of_each key_of ys x r.1 there)
 ]
 
+-- each row has a positive amount, where all have one
 pub positive_each : {T : Type 0} (amount : T → ℕ) (xs : List T) (x : T) → HasPositive amount xs → Contains xs x → 0 < amount x
 positive_each amount [] x p h = absurd (omega (arith, h.1))
 positive_each amount (y ∷ ys) x p h = elim (which x y ys h) [
@@ -159,5 +164,6 @@ has_each {T} key_of read xs ys r is e x h = by_row (row_at key_of ys (key_of x))
         let it : y ≡ x = is.row x y there.1 (sym (said ∙ ap read f)) in
         subst (λ (z : T). Contains ys z) it there.0
 
+-- rows that rise are the same where the same is read of them at each key
 pub same_reading : {T V : Type 0} (key_of : T → ℕ × ℕ) (read : Option T → V) (xs ys : List T) → Rises key_of xs → Rises key_of ys → IsRead key_of read xs → IsRead key_of read ys → ((q : T) → read (row_at key_of xs (key_of q)) ≡ read (row_at key_of ys (key_of q))) → xs ≡ ys
 same_reading key_of read xs ys r q a b e = same_list key_of xs ys r q (λ x. (has_each key_of read xs ys r a e x, has_each key_of read ys xs q b (λ z. sym (e z)) x))

@@ -15,6 +15,7 @@ bit_more : (b : Bool) (n : ℕ) → bit b + n ≡ cond b (1 + n) n
 bit_more true n = refl
 bit_more false n = omega arith
 
+-- it is std's `count_by`
 pub tally_is : {T : Type 0} (test : T → Bool) (xs : List T) → tally test xs ≡ count_by test xs
 unfolding tally
 tally_is test xs = is_count_by (tally test) test refl (λ x ys. bit_more (test x) (tally test ys)) xs

@@ -18,6 +18,7 @@ use Rattle.sm_reservation.specs.Truth.{IsTrueOf}
 
 -- ---- tests that pass
 
+-- a right to a cell that passes the test of a state has that state
 pub is_cell_true : (state : PlainCell) (o : Option PlainCell) → is_cell state o ≡ true → o ≡ Some state
 is_cell_true Absent (Some Absent) e = refl
 is_cell_true Secondary (Some Secondary) e = refl
@@ -26,6 +27,7 @@ is_cell_true Absent (Some Secondary) e = cc
 is_cell_true Secondary None e = cc
 is_cell_true Secondary (Some Absent) e = cc
 
+-- and it passes the test of its own state
 pub is_cell_self : (state : PlainCell) → is_cell state (Some state) ≡ true
 is_cell_self Absent = refl
 is_cell_self Secondary = refl
@@ -33,6 +35,7 @@ is_cell_self Secondary = refl
 pair_of : (x y u v : ℕ) → (eqb x u && eqb y v) ≡ true → (x ≡ u) × (y ≡ v)
 pair_of x y u v e = let q = and_parts (eqb x u) (eqb y v) e in (eqb-true x u q.0, eqb-true y v q.1)
 
+-- leads that test as the same are equal
 pub same_lead_true : (a b : Lead) → same_lead a b ≡ true → a ≡ b
 same_lead_true Gone Gone e = refl
 same_lead_true (At x) (At u) e = ap At (eqb-true x u e)
@@ -41,6 +44,7 @@ same_lead_true (Handing x y) (Handing u v) e = let q = pair_of x y u v e in rw (
 same_lead_true (Handed x y) (Handed u v) e = let q = pair_of x y u v e in rw (q.0, q.1)
 same_lead_true _ _ e = cc
 
+-- listed servers that test as the same are equal
 pub same_server_true : (a b : Option ℕ) → same_listed a b ≡ true → a ≡ b
 same_server_true None None e = refl
 same_server_true (Some x) (Some y) e = ap Some (eqb-true x y e)
@@ -50,6 +54,7 @@ same_server_true (Some x) None e = cc
 itself : (x : ℕ) → eqb x x ≡ true
 itself x = eq-eqb x x refl
 
+-- a lead tests as the same as itself
 pub same_lead_self : (a : Lead) → same_lead a a ≡ true
 same_lead_self Gone = refl
 same_lead_self (At x) = itself x
@@ -57,16 +62,19 @@ same_lead_self (Ready x y) = rw (itself x, itself y)
 same_lead_self (Handing x y) = rw (itself x, itself y)
 same_lead_self (Handed x y) = rw (itself x, itself y)
 
+-- and so does a listed server, or none
 pub same_server_self : (a : Option ℕ) → same_listed a a ≡ true
 same_server_self None = refl
 same_server_self (Some x) = itself x
 
+-- a test that counts as 1 has passed
 pub bit_true : (b : Bool) → 1 ≤ bit b → b ≡ true
 bit_true true h = refl
 bit_true false h = absurd (omega arith)
 
 -- ---- rights that are true
 
+-- a true right to a cell says what is there
 pub true_cell : (c : Sizes) (p : Place) (leads : ℕ → Lead) (h : Hold) → IsTrueOf c p leads h → (s v : ℕ) (state : PlainCell) → h.cells s v ≡ Some state → plain_of (p.cells s v) ≡ Some state
 true_cell c p leads h o s v state e =
     let a : bit (is_cell state (h.cells s v)) + 0 ≤ bit (is_cell state (plain_of (p.cells s v))) = o.rights (OfCell s v state) in
@@ -81,6 +89,7 @@ no_true_cell c p leads h o s v e = go (h.cells s v) refl
     go None q = refl
     go (Some state) q = let d = true_cell c p leads h o s v state q in cc
 
+-- a true crown says the shard's lead and its listed server
 pub true_crown : (c : Sizes) (p : Place) (leads : ℕ → Lead) (h : Hold) → IsTrueOf c p leads h → (s : ℕ) (lead : Lead) (listed : Option ℕ) → h.crowns s ≡ Some (lead, listed) → (leads s ≡ lead) × (p.listed s ≡ listed)
 true_crown c p leads h o s lead listed e =
     let a : bit (is_crown lead listed (h.crowns s)) + 0 ≤ bit (same_lead lead (leads s) && same_listed listed (p.listed s)) = o.rights (OfCrown s lead listed) in
@@ -89,6 +98,7 @@ true_crown c p leads h o s lead listed e =
     let q = and_parts (same_lead lead (leads s)) (same_listed listed (p.listed s)) t in
     (sym (same_lead_true lead (leads s) q.0), sym (same_server_true listed (p.listed s) q.1))
 
+-- a cell is absent where the right to it would say so
 pub absent_from : (x : Cell) → plain_of x ≡ Some Absent → x ≡ cell.Absent
 absent_from cell.Absent e = refl
 absent_from cell.Secondary e = cc
@@ -96,6 +106,7 @@ absent_from cell.Primary e = cc
 absent_from (cell.Prepared a b) e = cc
 absent_from (cell.Forwarding a b) e = cc
 
+-- and a secondary where it would say that
 pub secondary_from : (x : Cell) → plain_of x ≡ Some Secondary → x ≡ cell.Secondary
 secondary_from cell.Absent e = cc
 secondary_from cell.Secondary e = refl

@@ -17,6 +17,7 @@ use Rattle.sm_reservation.proofs.HoldSizes.{taken, given}
 pub room_given : (r p : Rights) → IsOrdered r → IsOrdered p → SumsFit (hold_of r) p → edited_all key_of_room room_in_word r.room p.room ≡ edited_all key_of_room room_row_in r.room p.room
 room_given r p o q fits = rooms_in_word r p.room o.room (RoomFits-steps (hold_of r) p.room q.room fits.room)
 
+-- so it is of spare replicas
 pub spare_given : (r p : Rights) → IsOrdered r → IsOrdered p → SumsFit (hold_of r) p → edited_all key_of_spare spare_in_word r.spare p.spare ≡ edited_all key_of_spare spare_row_in r.spare p.spare
 spare_given r p o q fits = spares_in_word r p.spare o.spare (SpareFits-steps (hold_of r) p.spare q.spare fits.spare)
 
@@ -27,6 +28,7 @@ bounded-taken r p o b = record {
   spare = all-edited_all key_of_spare spare_row_out (λ x. x.amount < 2 ^ 64) r.spare p.spare spare_stays_out o.spare spare_out_small b.spare;
 }
 
+-- and so they do once a parcel is put in, where its sums are u64s
 pub bounded-given : (r p : Rights) → IsOrdered r → IsOrdered p → SumsFit (hold_of r) p → AreU64 r → AreU64 (given r p)
 bounded-given r p o q fits b = record {
   room = rw (← room_given r p o q fits) (all-edited_all key_of_room room_in_word (λ x. x.amount < 2 ^ 64) r.room p.room room_stays_in_word o.room room_word_small b.room);
@@ -40,9 +42,11 @@ pub one_more : (b : Bool) (capacity : ℕ) {n : ℕ} → n ≤ capacity → (b �
 one_more true capacity l more = let m = more refl in omega arith
 one_more false capacity l more = omega arith
 
+-- what is found to be none is none
 pub none_lacks : {A : Type 0} (o : Option A) → is_none o ≡ true → o ≡ None
 none_lacks None t = refl
 none_lacks (Some x) t = cc
 
+-- an amount that is new to a hold is positive, and the hold had none
 pub amount_lacks : (n had : ℕ) → nat_lt 0 n && (had == 0) ≡ true → (0 < n) × (had ≡ 0)
 amount_lacks n had t = ((let l : 0 < n = grind (arith, nat_tests) in l), (let z : had ≡ 0 = grind (arith, nat_tests) in z))

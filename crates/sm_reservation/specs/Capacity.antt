@@ -1,4 +1,4 @@
--- Rights that are kept in lists with room: how many keys the lists take, and how the lists grow and shrink.
+-- Rights that are kept in lists of a capacity: how many keys the lists take, and how the lists grow and shrink.
 use Rattle.std.specs.Prelude.{◌≡◌, ℕ, ◌+◌, ◌≤◌, length, max, count_by}
 use Rattle.std.specs.List.{AllByRecursion}
 use Rattle.sm_reservation.specs.Rights.{Rights}
@@ -6,7 +6,7 @@ use Rattle.sm_reservation.specs.Hold.{Hold, minus}
 use Rattle.sm_reservation.specs.HoldOf.{hold_of}
 use Rattle.sm_reservation.specs.Turns.{lacks_cell, lacks_crown, lacks_room, lacks_spare, loses_cell, loses_crown, loses_room, loses_spare, RoomFits, SpareFits}
 
--- rights, and for how many keys each list has room
+-- rights, and how many keys each list can take
 pub record HoldModel : Type 0 where
   pub rights : Rights
   pub capacity : ℕ
@@ -46,14 +46,14 @@ lost_keys h p = record {
 abbrev pub add_counts : KeyCounts → KeyCounts → KeyCounts
 add_counts a b = record { cells = a.cells + b.cells; crowns = a.crowns + b.crowns; room = a.room + b.room; spare = a.spare + b.spare }
 
--- no list has more keys than there is room for
+-- no list has more keys than the capacity
 pub record IsWithin (a : KeyCounts) (capacity : ℕ) : Type 0 where
   pub cells : a.cells ≤ capacity
   pub crowns : a.crowns ≤ capacity
   pub room : a.room ≤ capacity
   pub spare : a.spare ≤ capacity
 
--- there is room for the keys of a parcel that are new
+-- there is capacity for the keys of a parcel that are new
 abbrev pub HasCapacity : HoldModel → Rights → Type 0
 HasCapacity k p = IsWithin (add_counts (key_counts k.rights) (new_keys (hold_of k.rights) p)) k.capacity
 
@@ -72,7 +72,7 @@ pub record SumsFit (h : Hold) (p : Rights) : Type 0 where
   pub room : AllByRecursion (RoomFits h) p.room
   pub spare : AllByRecursion (SpareFits h) p.spare
 
--- there is room for the new keys of what is got, once what is given is out
+-- there is capacity for the new keys of what is got, once what is given is out
 pub record HasCapacityAfter (k : HoldModel) (out got : Rights) : Type 0 where
   pub cells : length k.rights.cells + (new_keys (minus (hold_of k.rights) out) got).cells ≤ k.capacity + (lost_keys (hold_of k.rights) out).cells
   pub crowns : length k.rights.crowns + (new_keys (minus (hold_of k.rights) out) got).crowns ≤ k.capacity + (lost_keys (hold_of k.rights) out).crowns

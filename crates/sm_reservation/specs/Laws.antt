@@ -1,4 +1,4 @@
--- Laws of holds, as the machine uses them: what is below the counts, what can be put together, and how much room a change takes.
+-- Laws of holds, as the machine uses them: what is below the counts, what can be put together, and how much capacity a change takes.
 use Rattle.std.specs.Prelude.{◌≡◌, ◌≤◌, ◌<◌, ◌+◌, ℕ, None, length}
 use Rattle.std.specs.List.{All}
 use Rattle.sm_placement.specs.declared.lead.Lead.{Lead}
@@ -42,10 +42,10 @@ pub record RightsStayKnown : Type 0 where
 abbrev pub JoinsInPlacement : Type 0
 JoinsInPlacement = (setup : Setup) (p : Place) (leads : ℕ → Lead) (h k : Hold) → IsSetup setup → IsKnownHold (length setup.shards) (length setup.servers) h → IsKnownHold (length setup.shards) (length setup.servers) k → ((r : Right) → IsKnownRight (sizes_of setup) r → count h r + count k r ≤ stock (sizes_of setup) p leads r) → CanJoin h k
 
--- ---- room for a change, from what is held then
+-- ---- capacity for a change, from what is held then
 
--- Where lists in order of what there is then have no more keys than there is room for, there is room to put a parcel
--- in, and for a trade.
+-- Where lists in order of what there is then have no more keys than the capacity, there is capacity to put a parcel in,
+-- and for a trade.
 pub record CapacityByHold : Type 0 where
   pub put : (k : HoldModel) (p q : Rights) → IsOrdered k.rights → IsPositive k.rights → IsOrdered p → IsOrdered q → IsPositive q → hold_of q ≡ plus (hold_of k.rights) p → most_keys q ≤ k.capacity → HasCapacity k p
   pub trade : (k : HoldModel) (out got q : Rights) → IsOrdered k.rights → IsPositive k.rights → IsOrdered out → IsOrdered got → first_short (hold_of k.rights) out ≡ None → IsOrdered q → IsPositive q → hold_of q ≡ plus (minus (hold_of k.rights) out) got → most_keys q ≤ k.capacity → HasCapacityAfter k out got

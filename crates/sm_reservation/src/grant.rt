@@ -24,7 +24,7 @@ use std::marker::Model;
 /// Rights that must be spent: a grant can be neither copied nor dropped.
 ///
 /// Rights come out of a pool, move between grants, and go back into the pool. All calls but `empty` and `reserve` take
-/// no memory, and ask for room where a list gains a key that it did not have.
+/// no memory, and ask for capacity where a list gains a key that it did not have.
 pub struct Grant {
     hold: Hold,
 }
@@ -89,7 +89,7 @@ impl Grant {
         Ok(())
     }
 
-    /// A law: the lists are in order, no amount is 0 or above what a u64 holds, and no list is longer than its room.
+    /// A law: the lists are in order, no amount is 0 or above what a u64 holds, and no list is longer than the capacity.
     pub fn rights_in_order(&self)
         ensures order { IsOrdered self.now.rights }
         ensures positive { IsPositive self.now.rights }

@@ -28,7 +28,7 @@ use sm_server::{ServerId, ShardId};
 use std::alloc::{AllocError, Global};
 use std::marker::Model;
 
-/// Rights that can be read and edited by their keys, with room for a number of keys in each list.
+/// Rights that can be read and edited by their keys, with a capacity of so many keys in each list.
 ///
 /// A hold is a plain value: it says what is held, and nothing is held by having one.
 #[derive(Drop)]
@@ -291,7 +291,7 @@ impl Hold {
         )
     }
 
-    /// Whether there is room for the keys of a parcel that are new here.
+    /// Whether there is capacity for the keys of a parcel that are new here.
     pub fn has_capacity(&self, parcel: &Parcel) -> bool
         ensures { IsTrue result ↔ HasCapacity self.now parcel.now }
     {
@@ -308,7 +308,7 @@ impl Hold {
             && self.spare.is_empty()
     }
 
-    /// A law: the lists are in order, no amount is 0 or above what a u64 holds, and no list is longer than its room.
+    /// A law: the lists are in order, no amount is 0 or above what a u64 holds, and no list is longer than the capacity.
     pub fn rights_in_order(&self)
         ensures order { IsOrdered self.now.rights }
         ensures positive { IsPositive self.now.rights }
@@ -321,7 +321,7 @@ impl Hold {
         let _ = self.spare.as_slice();
     }
 
-    /// For how many keys each list has room.
+    /// The capacity: how many keys each list can take.
     pub fn capacity(&self) -> usize
         ensures capacity { result ≡ self.now.capacity }
         ensures within { IsWithin (key_counts self.now.rights) result }

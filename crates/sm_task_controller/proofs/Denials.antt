@@ -31,6 +31,7 @@ pub record IsGranted (c : Sizes) (p : Place) (pool : Hold) (engaged : Option Str
   pub spare : first_without_spare c p pool v ≡ None
   pub places : 2 ≤ log_free
 
+-- where no reason is given against it, none of the reasons holds
 pub granted : (c : Sizes) (p : Place) (pool : Hold) (engaged : Option StreamId) (log_free v : ℕ) → denial c p pool engaged log_free v ≡ None → IsGranted c p pool engaged log_free v
 granted c p pool engaged log_free v e =
     let a = or_none (denied_if (p.down v) AlreadyDown) _ e in
@@ -47,6 +48,7 @@ granted c p pool engaged log_free v e =
       places = elim (cases_lt log_free 2) [ inl l ↦ absurd (let t = lt-ltb log_free 2 l in cc) | inr l ↦ l ];
     }
 
+-- where none of the reasons holds, none is given
 pub not_denied : (c : Sizes) (p : Place) (pool : Hold) (engaged : Option StreamId) (log_free v : ℕ) → IsGranted c p pool engaged log_free v → denial c p pool engaged log_free v ≡ None
 not_denied c p pool engaged log_free v g =
     let cap : nat_le p.limit (down_count c p) ≡ false = elim (cases_Bool (nat_le p.limit (down_count c p))) [ inl t ↦ absurd (let l = leb-true p.limit (down_count c p) t in let h = g.cap in omega arith) | inr f ↦ f ] in

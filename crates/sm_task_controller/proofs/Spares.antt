@@ -20,12 +20,14 @@ without_spare p pool v s = if is_short p pool v s then Some s else None
 abbrev pub IsLeft : Sizes → Place → Hold → ℕ → ℕ → Type 0
 IsLeft c p pool v n = first_from n (c.shards - n) (without_spare p pool v) ≡ first_without_spare c p pool v
 
+-- a shard that is short, where those before it are not, is the first without a spare
 pub found : (c : Sizes) (p : Place) (pool : Hold) (v n s : ℕ) → IsLeft c p pool v n → n < c.shards → s ≡ n → is_short p pool v s ≡ true → Some s ≡ first_without_spare c p pool v
 found c p pool v n s left l e short =
     let at : without_spare p pool v s ≡ Some s = rw short refl in
     let here : without_spare p pool v n ≡ Some s = subst (λ k. without_spare p pool v k ≡ Some s) e at in
     sym (first_from_more (without_spare p pool v) n c.shards s l here) ∙ left
 
+-- a shard that is not short is passed over
 pub passed : (c : Sizes) (p : Place) (pool : Hold) (v n s : ℕ) → IsLeft c p pool v n → n < c.shards → s ≡ n → is_short p pool v s ≡ false → IsLeft c p pool v (n + 1)
 passed c p pool v n s left l e short =
     let at : without_spare p pool v s ≡ None = rw short refl in

@@ -17,6 +17,7 @@ one_positive : {T : Type 0} (amount : T → ℕ) (o : Option T) → IfSome o (λ
 one_positive amount None p = tt
 one_positive amount (Some x) p = (p, tt)
 
+-- the rights of a portion are in order already
 pub portion_in_order : (p : Portion) → IfSome p.room (λ x. 0 < x.amount) → IfSome p.spare (λ x. 0 < x.amount) → in_order (portion_rights p) ≡ portion_rights p
 portion_in_order p room spare = in_order_of_ordered (portion_rights p)
     (record { cells = one_rises key_of_cell p.cell; crowns = one_rises key_of_crown p.crown; room = one_rises key_of_room p.room; spare = one_rises key_of_spare p.spare })

@@ -41,8 +41,10 @@ sum_none f P zeroes (x ∷ xs) all =
     let d = sum_none f P zeroes xs all.1 in
     omega arith
 
+-- streams of known servers declare no room of any other
 pub no_room_beyond : (shards servers v : ℕ) (xs : List StreamModel) → servers ≤ v → All (IsKnownStream shards servers) xs → declared_room xs v ≡ 0
 no_room_beyond shards servers v xs past fits = sum_none (λ stream. (hold_of stream.holds).room v) (IsKnownStream shards servers) (λ x. room_beyond shards servers v x past) xs (recursion_from_All (IsKnownStream shards servers) xs fits)
 
+-- streams of known shards declare no spare replicas of any other
 pub no_spare_beyond : (shards servers s : ℕ) (xs : List StreamModel) → shards ≤ s → All (IsKnownStream shards servers) xs → declared_spare xs s ≡ 0
 no_spare_beyond shards servers s xs past fits = sum_none (λ stream. (hold_of stream.holds).spare s) (IsKnownStream shards servers) (λ x. spare_beyond shards servers s x past) xs (recursion_from_All (IsKnownStream shards servers) xs fits)

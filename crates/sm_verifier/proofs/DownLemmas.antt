@@ -159,8 +159,10 @@ none_least : (p : Place) (streams : List StreamModel) (o : Option ℕ) → IsLea
 none_least p streams None least = λ v. up_from p streams v (least v)
 none_least p streams (Some v) least = tt
 
+-- a server that is found is the lowest that is mentioned and down
 pub lowest_down : (p : Place) (streams : List StreamModel) (o : Option ℕ) → o ≡ down_in_streams p.down None streams → IfSome o (IsLowest (IsUpWhereMentioned p streams))
 lowest_down p streams o e = lowest_least p streams o (subst (IsLeast (InStreams p.down nothing streams)) (sym e) (least_down p.down streams))
 
+-- where none is found, all servers that are mentioned are up
 pub none_down : (p : Place) (streams : List StreamModel) (o : Option ℕ) → o ≡ down_in_streams p.down None streams → IfNone o (AreUp p streams)
 none_down p streams o e = none_least p streams o (subst (IsLeast (InStreams p.down nothing streams)) (sym e) (least_down p.down streams))

@@ -45,6 +45,7 @@ module _ (A : Type 0) (set : Hold → A → A) (reaches : Hold → Type 0) (unse
       streams_same (f n) (g n) (final n) (count n) (set_plans g final count n old) (λ i l. each n i (omega arith) l)
       ∙ ap (set_streams (f n) (final n) (count n)) (plans_same f g final count n old (λ k i l. each k i (omega arith)))
 
+  -- where none of the streams that have made their ends reaches it, nothing is set
   pub streams_past : (f : ℕ → Bool) (final : ℕ → Hold) (n : ℕ) (z : A) → ((i : ℕ) → f i ≡ true → reaches (final i) → ⊥) → set_streams f final n z ≡ z
   streams_past f final zero z none = refl
   streams_past f final (suc n) z none = elim (cases_Bool (f n)) [
@@ -89,5 +90,6 @@ module _ (A : Type 0) (set : Hold → A → A) (reaches : Hold → Type 0) (unse
     plan_sets plan zero p = refl
     plan_sets plan (suc n) p = by_set (finals plan n) (set_by_streams c plan n p) ∙ ap (set (finals plan n)) (plan_sets plan n p)
 
+    -- the end of a plan is as the final holds of all its streams set it, one after another
     pub end_sets : (plan : PlanModel) (p : Place) → now (end_of c plan p) ≡ set_streams (λ i. true) (finals plan) (length plan.streams) (now p)
     end_sets plan p = no_version (set_by_streams c plan (length plan.streams) p) (λ s. p.version s + publications plan s) ∙ plan_sets plan (length plan.streams) p

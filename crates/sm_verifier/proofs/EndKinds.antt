@@ -93,21 +93,26 @@ crown_moves c p leads numbers h h' i e s = elim (cases_Bool (same_lead (leads s)
 
 -- ---- who is listed
 
+-- the server that a placement lists for the shard
 abbrev pub listed_now : ℕ → Place → Option ℕ
 listed_now s p = p.listed s
 
+-- the one that a hold lists for it, or the old one where the hold has not its crown
 abbrev pub listed_set : ℕ → Hold → Option ℕ → Option ℕ
 listed_set s h old = listed_by (h.crowns s) old
 
+-- a hold reaches it that has the shard's crown
 abbrev pub listed_reaches : ℕ → Hold → Type 0
 listed_reaches s h = HoldsCrown h s
 
+-- it stands under the crown that is true of the placement
 abbrev pub listed_rule : ℕ → (ℕ → Lead) → Place → Right
 listed_rule s leads p = OfCrown s (leads s) (p.listed s)
 
 crown_one : (lead : Lead) (listed : Option ℕ) → bit (same_lead lead lead && same_listed listed listed) ≤ 1
 crown_one lead listed = rw (same_lead_self lead, same_server_self listed) (omega arith)
 
+-- who is listed moves only with the shard's crown, and is at the end what the hold with the crown says
 pub listed_kind : (s : ℕ) → IsKind (Option ℕ) (listed_now s) (listed_set s) (listed_reaches s) (listed_rule s)
 listed_kind s = record {
   unset = λ h old n. go h old n (h.crowns s) refl;
@@ -129,12 +134,15 @@ listed_kind s = record {
 
 -- ---- cells
 
+-- the cell of a placement
 abbrev pub cell_now : ℕ → ℕ → Place → Cell
 cell_now s v p = p.cells s v
 
+-- the one that a hold's right to it or its shard's crown says, or the old one where neither does
 abbrev pub cell_set : ℕ → ℕ → Hold → Cell → Cell
 cell_set s v h old = cell_by_right (h.cells s v) (cell_by_crown (h.crowns s) v old)
 
+-- a hold reaches it where it is within reach
 abbrev pub cell_reaches : ℕ → ℕ → Hold → Type 0
 cell_reaches s v h = IsWithinReach h s v
 
@@ -291,6 +299,7 @@ cell_one c p leads s v = go (plain_of (p.cells s v)) refl
     go None e = crown_one (leads s) (p.listed s)
     go (Some state) e = let f : bit (is_cell state (plain_of (p.cells s v))) ≡ 1 = rw (e, is_cell_self state) refl in omega arith
 
+-- a cell moves only with the right that it stands under, and is at the end what the hold with that says
 pub cell_kind : (s v : ℕ) → IsKind Cell (cell_now s v) (cell_set s v) (cell_reaches s v) (cell_rule s v)
 cell_kind s v = record {
   unset = cell_unset s v;

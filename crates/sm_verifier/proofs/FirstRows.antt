@@ -77,10 +77,12 @@ pub record Judges (r : Rights) (cell : CellRight → Bool) (crown : Crown → Bo
   pub room : (v : ℕ) → Kept (key.Room v)
   pub spare : (s : ℕ) → Kept (key.Spare s)
 
+-- a test fails where its opposite passes
 pub not_true : (b : Bool) → not b ≡ true → b ≡ false
 not_true true e = cc
 not_true false e = refl
 
+-- a test passes where its opposite fails
 pub not_false : (b : Bool) → not b ≡ false → b ≡ true
 not_false true e = refl
 not_false false e = cc
@@ -166,6 +168,7 @@ pub crowns_lowest : (r : Rights) (cell : CellRight → Bool) (crown : Crown → 
 crowns_lowest r cell crown Kept j rises cells None e = tt
 crowns_lowest r cell crown Kept j rises cells (Some k) e = crown_lowest r cell crown Kept j rises cells k (sym e)
 
+-- where all cell rights pass and the crowns give no answer, everything is kept
 pub crowns_none : (r : Rights) (cell : CellRight → Bool) (crown : Crown → Bool) (Kept : Key → Type 0) → Judges r cell crown Kept → first_cell cell r.cells ≡ None → (o : Option Key) → o ≡ first_crown crown r.crowns → IfNone o ((k : Key) → Kept k)
 crowns_none r cell crown Kept j cells None e = all_kept r cell crown Kept j cells (sym e)
 crowns_none r cell crown Kept j cells (Some k) e = tt

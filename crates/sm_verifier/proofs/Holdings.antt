@@ -263,6 +263,7 @@ module _ (c : Sizes) (p : Place) (pool : Hold) (plan : PlanModel) (ordered : Has
         ]
   ]
 
+  -- what is found is what holds the plan up, and nothing is found exactly where the plan is admitted
   pub finds_holding : DecidesHolding c p pool plan
   finds_holding = record {
     none = (none_found, λ admitted. admitted_none admitted (first_holding c p pool plan) refl);

@@ -1,4 +1,4 @@
--- What the tests of cell rights and crowns say: whether they are in another hold, and whether failed earlier stream declares them.
+-- What the tests of cell rights and crowns say: whether they are in another hold, and whether no earlier stream declares them.
 use Rattle.std.proofs.Common.{◌≡◌, ℕ, zero, suc, ◌<◌, ◌≤◌, Bool, true, false, Option, Some, None, List, [], ◌∷◌, get_or, take, length, refl, sym, inl, inr, arith}
 use Rattle.std.specs.Prelude.{is_some, not}
 use Rattle.std.specs.List.{list_any}
@@ -24,7 +24,7 @@ use Rattle.sm_verifier.specs.Finding.{holds_cell, holds_crown, is_free_cell, is_
 use Rattle.sm_verifier.specs.Admission.{IsIn, Has, declared, IsFreeAt, IsLowestKey}
 use Rattle.sm_verifier.proofs.FirstRows.{Judges, not_true, not_false}
 
--- a crown that passes, and that it passes itself
+-- a crown that passes the test of a lead and a listed server has these
 pub crown_true : (lead : Lead) (listed : Option ℕ) (o : Option (Lead × Option ℕ)) → is_crown lead listed o ≡ true → o ≡ Some (lead, listed)
 crown_true lead listed None e = cc
 crown_true lead listed (Some c) e =
@@ -33,6 +33,7 @@ crown_true lead listed (Some c) e =
     let b : listed ≡ c.1 = same_server_true listed c.1 both.1 in
     rw (a, b) refl
 
+-- and it passes the test of its own lead and listed server
 pub crown_self : (lead : Lead) (listed : Option ℕ) → is_crown lead listed (Some (lead, listed)) ≡ true
 crown_self lead listed = rw (same_lead_self lead, same_server_self listed) refl
 
@@ -164,6 +165,7 @@ at_free pool xs i r k is free = rw is (λ has.
     let both = free has in
     (both.0, λ j d. let s = same_before xs i j k d in both.1 j s.0 s.1))
 
+-- so the lowest key that is not free behind the first streams is the lowest at its number
 pub lowest_free : (pool : Hold) (xs : List StreamModel) (i : ℕ) (r : Rights) (k : Key) → r ≡ (get_or xs i no_stream).holds → IsLowestKey (IsFree pool (take i xs) r) k → IsLowestKey (IsFreeAt pool xs i) k
 lowest_free pool xs i r k is lowest = record {
   broken = λ kept. lowest.broken (at_free pool xs i r k is kept);

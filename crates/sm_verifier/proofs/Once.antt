@@ -179,6 +179,7 @@ stands plan test instr passes same once =
       only = λ i p e. let at = only_here test plan.streams once i p instr passes e in (at.0 ∙ sym stream_is, at.1 ∙ sym place_is);
     }
 
+-- a signal that is used once has one step that posts it and one that waits for it
 pub stand_once : (plan : PlanModel) (k : ℕ) → IsUsedOnce plan k → StandsOnce plan k
 unfolding post_of wait_of
 stand_once plan k used = record {
@@ -199,5 +200,6 @@ knows plan i p instr all e =
     let within = slice_get_within (code_at plan i) p instr e in
     rw (get_or_from_slice_get (code_at plan i) p instr instr e) at (all i no_stream (code_known plan i p instr e) p instr within)
 
+-- what an instruction of a plan posts or waits for is a signal of the plan
 pub are_of_plan : (plan : PlanModel) (i p k : ℕ) → KnowsSignals plan → IsOfPlan plan i p k
 are_of_plan plan i p k all = record { post = λ e. knows plan i p (Signal k) all e; wait = λ e. knows plan i p (Wait k) all e }

@@ -22,7 +22,7 @@ put_each f q z P here apart k = elim (cases_eq k q) [
   | inr e ↦ subst (P k) (sym (put-apart f q z k e)) (apart k e)
 ]
 
--- how many numbers pass, where one is set: at most one more; one less where it passed and doesn't
+-- where one number is set, at most one more passes
 pub count_put : (n : ℕ) (down : ℕ → Bool) (v : ℕ) (b : Bool) → count_below n (put down v b) ≤ count_below n down + 1
 count_put zero down v b = omega arith
 count_put (suc n) down v b = elim (cases_eq n v) [
@@ -33,6 +33,7 @@ count_put (suc n) down v b = elim (cases_eq n v) [
   | inr e ↦ let f : bit (put down v b n) ≡ bit (down n) = ap bit (put-apart down v b n e) in let a = count_put n down v b in omega arith
 ]
 
+-- where one that passed no longer does, one fewer passes
 pub count_put_down : (n : ℕ) (down : ℕ → Bool) (v : ℕ) → v < n → down v ≡ true → count_below n (put down v false) + 1 ≡ count_below n down
 count_put_down n down v l e =
     let a : bit (put down v false v) ≡ 0 = ap bit (put-here down v false v refl) in

@@ -8,15 +8,18 @@ use Rattle.sm_reservation.specs.Capacity.{most_keys}
 use Rattle.sm_verifier.specs.Stream.{Course, hold_before}
 use Rattle.sm_verifier.specs.Peak.{IsListing, IsPeakUpTo}
 
+-- lists in order are a listing of every hold that equals theirs
 pub listing_at : (r : Rights) (h : Hold) → IsListing r (hold_of r) → hold_of r ≡ h → IsListing r h
 listing_at r h l e = record { ordered = l.ordered; positive = l.positive; hold = e }
 
+-- at the start the peak is how many keys the longest list has there
 pub peak_start : (s : Course) (n : ℕ) (r : Rights) → IsListing r (hold_before s 0) → n ≡ most_keys r → IsPeakUpTo s 0 n
 peak_start s n r listing e = record {
   bound = λ p l. let z : p ≡ 0 = omega arith in rw z (r, listing, rw e (omega arith));
   attained = (0, omega arith, r, listing, sym e);
 }
 
+-- at the next position it is what it was or how many keys the longest list has there, whichever is more
 pub peak_next : (s : Course) (p n m : ℕ) (r : Rights) → IsPeakUpTo s p n → IsListing r (hold_before s (p + 1)) → m ≡ most_keys r → IsPeakUpTo s (p + 1) (max n m)
 peak_next s p n m r peak listing e = record {
   bound = λ q l. elim (cases_lt q (p + 1)) [

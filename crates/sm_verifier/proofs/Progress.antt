@@ -63,6 +63,7 @@ module _ (plan : PlanModel) (steps : List PlanStep) (order : IsOrder plan steps)
 
 -- ---- where each signal is used once
 
+-- wherever the streams of a sound plan stand, one can make its next step until all have made their ends
 pub some_goes_on : (c : Sizes) (plan : PlanModel) (to : ℕ → ℕ) (j : ℕ) → KnowsSignals plan → IsSound c plan → j < length plan.streams → to j ≤ length (code_at plan j) → (i : ℕ) × CanMakeNext plan to i
 some_goes_on c plan to j knows sound known left =
     let next = some_next plan sound.order.0 sound.order.1 to j known left in (

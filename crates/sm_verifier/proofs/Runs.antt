@@ -13,15 +13,18 @@ use Rattle.sm_verifier.specs.Walk.{CanGoOn}
 
 -- ---- the positions of a stream
 
+-- a step of the stream is one position more in front of its others
 pub own_step : (i p : ℕ) (steps : List PlanStep) → positions_of i ((i, p) ∷ steps) ≡ p ∷ positions_of i steps
 own_step i p steps = rw (eq-eqb i i refl) refl
 
 other_step : (i j p : ℕ) (steps : List PlanStep) → (j ≡ i → ⊥) → positions_of i ((j, p) ∷ steps) ≡ positions_of i steps
 other_step i j p steps other = rw (ne_eqb j i other) refl
 
+-- a stream's positions in two lists of steps are those in the one, then those in the other
 pub positions_append : (i : ℕ) (xs ys : List PlanStep) → positions_of i (xs ++ ys) ≡ positions_of i xs ++ positions_of i ys
 positions_append i xs ys = rw filter-append (map-append _ _ _)
 
+-- each position of a stream is that of one of its steps
 pub from_positions : (i q : ℕ) (steps : List PlanStep) → Contains (positions_of i steps) q → Contains steps (i, q)
 from_positions i q [] (k, l, e) = absurd (omega arith)
 from_positions i q ((j, p) ∷ steps) h = elim (cases_eq j i) [
@@ -51,6 +54,7 @@ pub record IsSplit (n : ℕ) (xs : List ℕ) (p : ℕ) : Type 0 where
   pub below : p < n
   pub front : (q : ℕ) → q < p → Contains xs q
 
+-- of the numbers below n in a row, one stands behind all that are lower
 pub split_range : (n p : ℕ) (xs ys : List ℕ) → xs ++ p ∷ ys ≡ range_with_len 0 n → IsSplit n xs p
 split_range n p xs ys e =
     let long : length xs + suc (length ys) ≡ n = sym (length-append xs (p ∷ ys)) ∙ ap length e ∙ length-range_with_len 0 n in
@@ -62,6 +66,7 @@ split_range n p xs ys e =
 
 -- ---- what a run has made
 
+-- a run has each step of a stream below the number that it takes the stream to
 pub in_run : (plan : PlanModel) (steps : List PlanStep) (to : ℕ → ℕ) (i q : ℕ) → IsRun plan steps to → i < length plan.streams → q < to i → Contains steps (i, q)
 in_run plan steps to i q run known l = from_positions i q steps (rw (run.own i known) (in_range (to i) q l))
 
@@ -95,6 +100,7 @@ posts_first plan steps i p first here before after step k e wait = elim (last_sp
   | inr more ↦ first before more.0 step k more.1 wait
 ]
 
+-- a run with the next step of a stream that can go on is a run that takes this stream one step further
 pub one_more : (plan : PlanModel) (steps : List PlanStep) (to by : ℕ → ℕ) (i : ℕ) → IsRun plan steps to → CanGoOn plan steps to i → i < length plan.streams → by i ≡ suc (to i) → ((j : ℕ) → j ≢ i → by j ≡ to j) → IsRun plan (steps ++ (i, to i) ∷ []) by
 one_more plan steps to by i run go known next others = record {
   known = All-push (λ step. step.0 < length plan.streams) steps (i, to i) run.known known;
@@ -143,6 +149,7 @@ module _ (plan : PlanModel) (steps : List PlanStep) (to : ℕ → ℕ) (run : Is
   all_made before [] e all = rw (e ∙ append-nil before) all
   all_made before ((i, p) ∷ after) e all = all_made (before ++ (i, p) ∷ []) after (e ∙ sym (append_assoc before ((i, p) ∷ []) after)) (All-push IsMade before (i, p) all (next_made before after i p e all))
 
+  -- no other run takes a stream further than one after which no stream can go on
   pub no_further : (i : ℕ) → i < length plan.streams → by i ≤ to i
   no_further i known = elim (cases_lt (to i) (by i)) [
     | inl less ↦ absurd (let l = All-contains IsMade others (i, to i) (all_made [] others refl (All-nil IsMade)) (in_run plan others by i (to i) other known less) in omega arith)

@@ -33,10 +33,12 @@ all_rest (x ∷ xs) rises at =
     ] in
     (rw (same_here (x.shard, 0)) at (at x.shard), all_rest xs rises.1 rest)
 
+-- where all crowns of the list are at rest, so are those of the hold
 pub settled_from_rows : (r : Rights) → AllByRecursion (λ x. is_at_rest x.lead ≡ true) r.crowns → HasCrownsAtRest (hold_of r)
 unfolding hold_of
 settled_from_rows r all s = rests_at r.crowns s all
 
+-- where those of the hold are, so are all of the list
 pub rows_from_settled : (r : Rights) → Rises key_of_crown r.crowns → HasCrownsAtRest (hold_of r) → AllByRecursion (λ x. is_at_rest x.lead ≡ true) r.crowns
 unfolding hold_of
 rows_from_settled r rises settled = all_rest r.crowns rises settled

@@ -44,6 +44,7 @@ said_of s i h = after s.sizes (parcels_of s.signals) i h
 here_is : (s : Course) (p n : ℕ) (h : Hold) (i : Instr) → IsFollowed s p n h → made_at s p i ≡ within_budget s.budget n i (said_of s i h)
 here_is s p n h i f = rw (f.calls, f.hold) refl
 
+-- with the instruction at a position there is one call more, if it is a call
 pub one_more : (s : Course) (p : ℕ) (i : Instr) → slice_get s.code p ≡ Some i → calls_before s (p + 1) ≡ calls_before s p + bit (is_call i)
 one_more s p i e =
     let less : p < length s.code = slice_get_within s.code p i e in
@@ -70,6 +71,7 @@ made_of budget n i said h l e = elim (cases_Bool (is_call i && nat_le budget n))
 pub next_hold : (s : Course) (p : ℕ) (i : Instr) (h : Hold) → slice_get s.code p ≡ Some i → said_of s i (hold_before s p) ≡ Ok h → h ≡ hold_before s (suc p)
 next_hold s p i h e said = rw e (rw said refl)
 
+-- where the instruction at a position may be made, the stream is followed to the next position
 pub next : (s : Course) (p n : ℕ) (h h' : Hold) (i : Instr) → IsFollowed s p n h → slice_get s.code p ≡ Some i → within_budget s.budget n i (said_of s i h) ≡ Ok h' → Grows (2 ^ 32) h h' → IsFollowed s (p + 1) (n + bit (is_call i)) h'
 next s p n h h' i f e made grows =
     let parts = made_of s.budget n i (said_of s i h) h' f.within made in
@@ -89,6 +91,7 @@ next s p n h h' i f e made grows =
 
 -- ---- a stream that breaks off
 
+-- a stream does not break off at an instruction that may be made
 pub no_break : (s : Course) (q : ℕ) (w : Why) (o : Option Instr) → q < length s.code → IfSome o (λ i. IsOk (made_at s q i)) → ¬ BreaksBy s q o w
 no_break s q w (Some i) l ok broken = let wrong = rw broken at ok in cc
 no_break s q w None l ok broken = let wrong : q ≡ length s.code = broken.0 in absurd (omega arith)
@@ -99,6 +102,7 @@ over_budget s p i e call over within =
     let most : calls_before s (p + 1) ≤ count_by is_call s.code = sum_by-take-le _ s.code (p + 1) in
     absurd (omega arith)
 
+-- a stream that breaks off is not good
 pub not_good : (s : Course) (p : ℕ) (why : Why) → BreaksAt s p why → ¬ IsGood s
 not_good s p why broken good = go (slice_get s.code p) refl broken (good.made p)
   where
@@ -126,6 +130,7 @@ breaks_by s p n at h h' i (Refused why) here f e answer = rw here (breaks s p n 
 
 -- ---- a stream at its end
 
+-- a stream that was followed to its end breaks off there, where a crown is not at rest
 pub unsettled : (s : Course) (p n : ℕ) (h : Hold) → p ≡ length s.code → IsFollowed s p n h → ¬ HasCrownsAtRest h → IsFirstBreak s p Unsettled
 unsettled s p n h end f open_handover =
     let past : slice_get s.code p ≡ None = slice_get_past s.code p (omega arith) in
@@ -137,6 +142,7 @@ unsettled s p n h end f open_handover =
       bad = not_good s p Unsettled here;
     }
 
+-- what may be made within the budget passes the tests of its line of the table
 pub made_ok : (s : Course) (p : ℕ) (o : Option Instr) → IfSome o (λ i. IsOk (made_at s p i)) → IfSome o (λ i. IsOk (said_of s i (hold_before s p)))
 made_ok s p None ok = tt
 made_ok s p (Some i) ok = elim (cases_Bool (is_call i && nat_le s.budget (calls_before s p))) [
@@ -144,6 +150,7 @@ made_ok s p (Some i) ok = elim (cases_Bool (is_call i && nat_le s.budget (calls_
   | inr under ↦ rw under at ok
 ]
 
+-- a stream that was followed to its end is good, where all crowns are at rest there
 pub good : (s : Course) (p n : ℕ) (h : Hold) → p ≡ length s.code → IsFollowed s p n h → HasCrownsAtRest h → IsGood s
 good s p n h end f settled = record {
   made = λ q. elim (cases_lt q p) [

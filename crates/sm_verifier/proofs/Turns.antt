@@ -26,6 +26,7 @@ ok_is : (said : Result Hold Why) → IsOk said → (h : Hold) × (said ≡ Ok h)
 ok_is (Ok h) ok = (h, refl)
 ok_is (Err why) ok = cc
 
+-- each instruction leads from the hold before it to the one before the next, within the budget
 pub in_turn : (s : Course) (p : ℕ) (i : Instr) → IsGood s → slice_get s.code p ≡ Some i → IsInTurn s p i
 in_turn s p i good e =
     let said = ok_is (said_of s i (hold_before s p)) (rw e at (good.made p)) in
@@ -47,6 +48,7 @@ mentioned_known : (shards servers : ℕ) (instr : Instr) → IsKnownInstr shards
 mentioned_known shards servers instr fits v (inl first) = one_of (names_of instr).first (λ v. v < servers) v fits.1 first
 mentioned_known shards servers instr fits v (inr second) = one_of (names_of instr).second (λ v. v < servers) v fits.2 second
 
+-- each instruction of a plan of the configuration can be made, where the servers that are mentioned are up
 pub reachable : (c : Sizes) (p : Place) (plan : PlanModel) (i at : ℕ) (instr : Instr) → IsKnownPlan c.shards c.servers plan → AreUp p plan.streams → slice_get (code_at plan i) at ≡ Some instr → IsReachable c p instr
 reachable c p plan i at instr fits up e =
     let known : i < length plan.streams = code_known plan i at instr e in

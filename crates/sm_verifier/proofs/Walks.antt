@@ -15,12 +15,14 @@ use Rattle.sm_verifier.proofs.Runs.{posted_more, one_more, no_further}
 abbrev pub IsMarkedBy : Option Instr → List Bool → List Bool → Type 0
 IsMarkedBy next old new = (k : ℕ) → IsTrue (get_or new k false) ↔ (IsTrue (get_or old k false) ⊎ (next ≡ Some (Signal k)))
 
+-- so it is where an instruction is next that marks them so
 pub marked_by : (next : Option Instr) (instr : Instr) (old new : List Bool) → next ≡ Some instr → IsMarked instr old new → IsMarkedBy next old new
 marked_by next instr old new is marked k = (
   λ h. elim ((marked k).0 h) [ inl was ↦ inl was | inr posts ↦ inr (rw (is, posts) refl) ],
   λ h. elim h [ inl was ↦ (marked k).1 (inl was) | inr posts ↦ (marked k).1 (inr (let same = rw is at posts in cc)) ],
 )
 
+-- and where none is next, and the flags stay as they are
 pub none_marked : (next : Option Instr) (flags : List Bool) → next ≡ None → IsMarkedBy next flags flags
 none_marked next flags is k = (λ h. inl h, λ h. elim h [ inl was ↦ was | inr posts ↦ absurd (let wrong = rw is at posts in cc) ])
 
@@ -31,6 +33,7 @@ pub record IsNext (plan : PlanModel) (i : ℕ) (old new : Walk) : Type 0 where
   pub count : length new.posted.items ≡ length old.posted.items
   pub marked : IsMarkedBy (slice_get (code_at plan i) (steps_made old i)) old.posted.items new.posted.items
 
+-- a walk with one more step of a stream that can go is a walk
 pub next_walk : (plan : PlanModel) (i : ℕ) (old new : Walk) → IsWalk plan old → i < length plan.streams → CanGo plan old i → IsNext plan i old new → IsWalk plan new
 next_walk plan i old new walk known go next =
     let here : steps_made new i ≡ suc (steps_made old i) = rw next.positions (get_or-set_same old.positions.items i (steps_made old i + 1) 0 (let l = walk.streams in omega arith) ∙ add-one (steps_made old i)) in
@@ -55,15 +58,18 @@ pub record IsSwept (plan : PlanModel) (count : ℕ) (moved : Bool) (first now : 
 stuck_more : (plan : PlanModel) (i : ℕ) (walk : Walk) → AreStuck plan walk i → ¬ CanGo plan walk i → AreStuck plan walk (i + 1)
 stuck_more plan i walk stuck here j l = elim (cases_eq j i) [ inl same ↦ rw same here | inr other ↦ stuck j (omega arith) ]
 
+-- a sweep goes past a stream that cannot go as it was
 pub sweep_kept : (plan : PlanModel) (i : ℕ) (was : Bool) (first old new : Walk) → IsSwept plan i was first old → new ≡ old → ¬ CanGo plan new i → IsSwept plan (i + 1) was first new
 sweep_kept plan i true first old new swept same stuck = record { less = rw same swept.less; so_far = rw same swept.so_far }
 sweep_kept plan i false first old new swept same stuck = record { less = rw same swept.less; so_far = stuck_more plan i new (rw same swept.so_far) stuck }
 
+-- a sweep that has moved a stream leaves fewer steps
 pub sweep_moved : (plan : PlanModel) (i : ℕ) (was : Bool) (first old new : Walk) → IsSwept plan i was first old → left new < left old → IsSwept plan (i + 1) true first new
 sweep_moved plan i was first old new swept less = let l = swept.less in record { less = omega arith; so_far = omega arith }
 
 -- ---- the end of a walk
 
+-- a run goes as far as every function says that says the same of the plan's streams
 pub same_run : (plan : PlanModel) (steps : List PlanStep) (to by : ℕ → ℕ) → IsRun plan steps to → ((i : ℕ) → i < length plan.streams → by i ≡ to i) → IsRun plan steps by
 same_run plan steps to by run same = record {
   known = run.known;
@@ -72,9 +78,11 @@ same_run plan steps to by run same = record {
   posted = run.posted;
 }
 
+-- a walk in which all streams have made their ends is an order
 pub order_at_end : (plan : PlanModel) (walk : Walk) → IsWalk plan walk → HaveEnded plan walk.positions.items → IsOrder plan walk.steps.items
 order_at_end plan walk is ended = same_run plan walk.steps.items (steps_made walk) (λ i. suc (length (code_at plan i))) is.run (λ i l. let low : length (code_at plan i) < steps_made walk i = ended i l in let high = is.run.within i l in omega arith)
 
+-- where no stream can go and some have not ended, the plan is stuck where the walk stands
 pub stuck_at_end : (plan : PlanModel) (walk : Walk) (positions : List ℕ) → IsWalk plan walk → AreStuck plan walk (length plan.streams) → ¬ HaveEnded plan walk.positions.items → AreStops plan walk.positions.items positions → IsStuckAt plan positions
 stuck_at_end plan walk positions is stuck open_end stops =
     let most : (steps : List PlanStep) (by : ℕ → ℕ) → IsRun plan steps by → (i : ℕ) → i < length plan.streams → by i ≤ steps_made walk i = λ steps by run. no_further plan walk.steps.items (steps_made walk) is.run stuck steps by run in

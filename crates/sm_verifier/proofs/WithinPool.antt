@@ -101,6 +101,7 @@ module _ (c : Sizes) (p : Place) (pool : Hold) (plan : PlanModel) (admitted : Is
       let enough = admitted.spare s in
       omega arith
 
+  -- an admitted plan declares no more than the pool has, and each cell right and crown in one stream
   pub admitted_within : AreWithin pool plan.streams × AreDeclaredOnce plan.streams
   admitted_within = (within, declared_once)
 
@@ -202,6 +203,7 @@ module _ (c : Sizes) (p : Place) (leads : ℕ → Lead) (numbers : ℕ → ℕ) 
   free_at i (key.Room v) has = absurd has
   free_at i (key.Spare s) has = absurd has
 
+  -- a plan that declares no more than a true pool has is admitted where the servers it mentions are up
   pub within_admitted : AreUp p plan.streams → IsAdmitted c p pool plan
   within_admitted up = record {
     true_ones = true_at;

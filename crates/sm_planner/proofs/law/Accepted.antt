@@ -72,6 +72,7 @@ module _ (b : Basis) (order : List Move) (apart : AreAllApart b order) (opened :
       (λ i d l. All-from_recursion Up (stream b order (get_or (range_with_len 0 (width order)) i d)).code (all_of_parts Up (move_code b order) (moves_of order (get_or (range_with_len 0 (width order)) i d))
       (λ k s. up_move k (stands_below (length order) k (stood (λ j. stream_of j == get_or (range_with_len 0 (width order)) i d) k (range_with_len 0 (length order)) s)))))
 
+  -- each server that the plan mentions is up
   pub are_up : AreUp b.place (planned b order).streams
   are_up v m = All-contains Up m.0.code m.1 (All-contains (λ (s : StreamModel). All Up s.code) (planned b order).streams m.0 up_streams m.2) m.3 v m.4
 
@@ -83,6 +84,7 @@ module _ (b : Basis) (order : List Move) (apart : AreAllApart b order) (opened :
     positive = record { room = (ltb-true 0 (from_move b order h.payer h.source) (and_parts (nat_lt 0 (from_move b order h.payer h.source)) (not (stream_of h.payer == stream_of h.source)) on.handed).0, tt); spare = tt };
   }
 
+  -- what the plan's streams declare and its signals carry is in order
   pub parcels_ordered : HasOrderedParcels (planned b order)
   parcels_ordered = record {
     streams = All-map (λ (s : StreamModel). IsOrderedParcel s.holds) (stream b order) (range_with_len 0 (width order)) (λ i d l. ordered b order apart opened (get_or (range_with_len 0 (width order)) i d));

@@ -146,6 +146,7 @@ module _ (b : Basis) (order : List Move) (apart : AreAllApart b order) (opened :
       let has = pool_pays_what_it_has b order v in
       omega arith
 
+  -- the plan's streams declare together no more of any right than the pool has
   pub are_within : AreWithin b.pool (planned b order).streams
   are_within (OfCell s v state) = (let is = declared_sum_is (OfCell s v state) in let most = cell_within s v state in omega arith)
   are_within (OfCrown s lead listed) = (let is = declared_sum_is (OfCrown s lead listed) in let most = crown_within s lead listed in omega arith)

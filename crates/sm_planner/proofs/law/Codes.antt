@@ -21,9 +21,11 @@ code_to b order n i = gathered stream_of (move_code b order) n i
 abbrev pub width : List Move → ℕ
 width order = min (length order) MOST_STREAMS
 
+-- the plan has so many streams
 pub stream_count : (b : Basis) (order : List Move) → length (streams_of b order) ≡ width order
 stream_count b order = length-map-range_with_len (stream b order) 0 (width order)
 
+-- the stream at a number is that of the moves of this number
 pub stream_is : (b : Basis) (order : List Move) (i : ℕ) → i < width order → get_or (streams_of b order) i no_stream ≡ stream b order i
 stream_is b order i l = get_or-map-range_with_len (stream b order) 0 (width order) i i no_stream l (omega arith)
 

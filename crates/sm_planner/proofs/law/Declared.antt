@@ -39,12 +39,15 @@ use Rattle.sm_planner.proofs.law.Opened.{IsOpened, not_both}
 
 -- ---- the rights of one move
 
+-- the right to the cell of a shard at a server, which is in this state
 abbrev pub cell_right : ℕ → ℕ → PlainCell → CellRight
 cell_right s v state = record { shard = s; server = v; state = state }
 
+-- the crown of a shard whose primary stands at a server, with what the published map lists
 abbrev pub crown_right : ℕ → ℕ → Option ℕ → Crown
 crown_right s v listed = record { shard = s; lead = At v; listed = listed }
 
+-- a move needs no other cell rights than to the new cell and, where it moves no primary, to the old one
 pub needed_cases : (p : Place) (m : Move) (x : CellRight) → StandsIn x (cells_needed p m) → (cell_right m.shard m.to Absent ≡ x) ⊎ ((is_primary (left_cell p m) ≡ false) × (cell_right m.shard m.from Secondary ≡ x))
 needed_cases p m x s = elim s [
   | inl here ↦ inl here
@@ -54,18 +57,22 @@ needed_cases p m x s = elim s [
   ]
 ]
 
+-- each move needs the right to the new cell, absent
 pub needs_absent : (p : Place) (m : Move) → StandsIn (cell_right m.shard m.to Absent) (cells_needed p m)
 needs_absent p m = inl refl
 
+-- where it moves no primary, it needs the right to the old cell, secondary
 pub needs_secondary : (p : Place) (m : Move) → is_primary (left_cell p m) ≡ false → StandsIn (cell_right m.shard m.from Secondary) (cells_needed p m)
 needs_secondary p m follows = inr (rw follows (inl refl))
 
+-- only the move of a primary needs a crown, and it is that of its shard
 pub crown_case : (p : Place) (m : Move) (x : Crown) → StandsIn x (crowns_of p m) → (is_primary (left_cell p m) ≡ true) × (crown_right m.shard m.from (p.listed m.shard) ≡ x)
 crown_case p m x s = elim (cases_Bool (is_primary (left_cell p m))) [
   | inl leads ↦ elim (rw leads at s) [ inl it ↦ (leads, it) | inr none ↦ absurd none ]
   | inr follows ↦ absurd (rw follows at s)
 ]
 
+-- the move of a primary needs the crown of its shard
 pub needs_crown : (p : Place) (m : Move) → is_primary (left_cell p m) ≡ true → StandsIn (crown_right m.shard m.from (p.listed m.shard)) (crowns_of p m)
 needs_crown p m leads = rw leads (inl refl)
 
@@ -145,6 +152,7 @@ module _ (b : Basis) (order : List Move) (apart : AreAllApart b order) (opened :
     abbrev lists : Rights
     lists = record { cells = cells; crowns = crowns; room = rooms; spare = [] }
 
+    -- what the stream declares, as a hold
     abbrev pub declares : Hold
     declares = hold_of (holds_of b order i)
 
@@ -171,17 +179,20 @@ module _ (b : Basis) (order : List Move) (apart : AreAllApart b order) (opened :
     rooms_once : IsKeyedOnce key_of_room rooms
     rooms_once = rows_once (sizes_of b.setup).servers
 
+    -- no key stands twice in what its moves need
     pub lists_once : IsOnce lists
     lists_once (key.CellRight s v) = cells_once (s, v)
     lists_once (key.Crown s) = crowns_once (s, 0)
     lists_once (key.Room v) = rooms_once (v, 0)
     lists_once (key.Spare s) = omega arith
 
+    -- the parcel that it declares is in order
     pub ordered : IsOrderedParcel (holds_of b order i)
     ordered = record { ordered = in_order_is_ordered lists lists_once; positive = in_order_is_positive lists }
 
     -- ---- cells
 
+    -- it declares each cell right that a move of its own needs
     pub cell_there : (k : ℕ) → k < length order → stream_of k ≡ i → (x : CellRight) → StandsIn x (needed k) → declares.cells x.shard x.server ≡ Some x.state
     unfolding hold_of
     cell_there k l own x s = ap plain_state_of (sorted_row_is key_of_cell cells x cells_once (stands_gathered stream_of needed i k (length order) x l own s))
@@ -200,6 +211,7 @@ module _ (b : Basis) (order : List Move) (apart : AreAllApart b order) (opened :
         let is : x ≡ cell_right s v x.state = ap (λ (q : ℕ × ℕ). cell_right q.0 q.1 x.state) found.1 in
         record { move = by.0; known = by.1; own = by.2; there = subst (λ y. StandsIn y (needed by.0)) is by.3 }
 
+    -- each cell right that it declares is one that a move of its own needs
     pub cell_from : (s v : ℕ) (state : PlainCell) → declares.cells s v ≡ Some state → IsNeeded s v state
     unfolding hold_of
     cell_from s v state e = go (row_at key_of_cell (sorted key_of_cell cells) (s, v)) refl e
@@ -208,11 +220,13 @@ module _ (b : Basis) (order : List Move) (apart : AreAllApart b order) (opened :
         go None f e = absurd cc
         go (Some x) f e = let is : x.state ≡ state = cc in subst (λ st. IsNeeded s v st) is (needed_by s v x f)
 
+    -- it declares no cell right that no move of its own needs
     pub cell_none : (s v : ℕ) → ((state : PlainCell) → IsNeeded s v state → ⊥) → declares.cells s v ≡ None
     cell_none s v never = elim (cases_Option (declares.cells s v)) [ inl none ↦ none | inr some ↦ absurd (never some.0 (cell_from s v some.0 some.1)) ]
 
     -- ---- crowns
 
+    -- it declares each crown that a move of its own needs
     pub crown_there : (k : ℕ) → k < length order → stream_of k ≡ i → (x : Crown) → StandsIn x (crowned k) → declares.crowns x.shard ≡ Some (x.lead, x.listed)
     unfolding hold_of
     crown_there k l own x s = ap crown_of (sorted_row_is key_of_crown crowns x crowns_once (stands_gathered stream_of crowned i k (length order) x l own s))
@@ -240,6 +254,7 @@ module _ (b : Basis) (order : List Move) (apart : AreAllApart b order) (opened :
           crown_is = ap (λ t. (At (from b order by.0), b.place.listed t)) (sym so) ∙ ap (λ (z : Crown). (z.lead, z.listed)) it.1;
         }
 
+    -- each crown that it declares is one that a move of its own needs
     pub crown_from : (s : ℕ) (crown : Lead × Option ℕ) → declares.crowns s ≡ Some crown → IsCrowned s crown
     unfolding hold_of
     crown_from s crown e = go (row_at key_of_crown (sorted key_of_crown crowns) (s, 0)) refl e
@@ -248,6 +263,7 @@ module _ (b : Basis) (order : List Move) (apart : AreAllApart b order) (opened :
         go None f e = absurd cc
         go (Some x) f e = let is : (x.lead, x.listed) ≡ crown = cc in subst (λ c. IsCrowned s c) is (crowned_by s x f)
 
+    -- it declares no crown that no move of its own needs
     pub crown_none : (s : ℕ) → ((crown : Lead × Option ℕ) → IsCrowned s crown → ⊥) → declares.crowns s ≡ None
     crown_none s never = elim (cases_Option (declares.crowns s)) [ inl none ↦ none | inr some ↦ absurd (never some.0 (crown_from s some.0 some.1)) ]
 
@@ -256,6 +272,7 @@ module _ (b : Basis) (order : List Move) (apart : AreAllApart b order) (opened :
     abbrev kept_rooms : List Room
     kept_rooms = filter (λ x. nat_lt 0 x.amount) (sorted key_of_room rooms)
 
+    -- it declares at least the room that its moves pay from the pool
     pub room_least : (v : ℕ) → v < (sizes_of b.setup).servers → room_paid b order i v ≤ declares.room v
     unfolding hold_of
     room_least v l = elim (cases_lt 0 (room_paid b order i v)) [
@@ -275,6 +292,7 @@ module _ (b : Basis) (order : List Move) (apart : AreAllApart b order) (opened :
         mapped : (u : ℕ) → u < (sizes_of b.setup).servers → StandsIn (room_row u) rooms
         mapped u m = in_map u (range_with_len 0 (sizes_of b.setup).servers) (stands_in_range (sizes_of b.setup).servers u m)
 
+    -- it declares at most the room that its moves pay from the pool
     pub room_most : (v : ℕ) → declares.room v ≤ room_paid b order i v
     unfolding hold_of
     room_most v = go (row_at key_of_room kept_rooms (v, 0)) refl
@@ -291,6 +309,7 @@ module _ (b : Basis) (order : List Move) (apart : AreAllApart b order) (opened :
             let is = ap (amount_of (λ (z : Room). z.amount)) e in
             omega arith
 
+    -- it declares no spare replica
     pub no_spare : (s : ℕ) → declares.spare s ≡ 0
     unfolding hold_of
     no_spare s = refl

@@ -70,6 +70,7 @@ module _ (b : Basis) (v : ℕ) (known : v < (sizes_of b.setup).servers) where
     pub leaving_known : All (IsMoveOf b.setup) moves
     leaving_known = All-weaker (IsAway (sizes_of b.setup).shards) (IsMoveOf b.setup) (λ m is. record { shard = is.shard; from = (let e = is.from in omega arith); to = is.to }) moves away
 
+    -- at the end of the rule's plan for emptying it the server has nothing of any shard
     pub is_emptied : (plan : PlanModel) → IsPlanOf b moves plan → (s : ℕ) → s < (sizes_of b.setup).shards → (end_of (sizes_of b.setup) plan b.place).cells s v ≡ cell.Absent
     is_emptied plan by s l =
         let moved = has_moved b moves plan leaving_known by in

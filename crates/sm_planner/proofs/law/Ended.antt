@@ -40,6 +40,7 @@ search_below (suc n) test = elim (cases_Bool (test n)) [
   ]
 ]
 
+-- the cell that the test of a primary passes is the primary's
 pub primary_is : (x : Cell) → is_primary x ≡ true → x ≡ cell.Primary
 primary_is cell.Absent e = cc
 primary_is (cell.Prepared from number) e = cc
@@ -47,6 +48,7 @@ primary_is cell.Secondary e = cc
 primary_is cell.Primary e = refl
 primary_is (cell.Forwarding to number) e = cc
 
+-- the cell that the test of a secondary passes is the secondary's
 pub secondary_is : (x : Cell) → is_secondary x ≡ true → x ≡ cell.Secondary
 secondary_is cell.Absent e = cc
 secondary_is (cell.Prepared from number) e = cc
@@ -164,6 +166,7 @@ module _ (b : Basis) (order : List Move) (apart : AreAllApart b order) (opened :
 
 -- ---- of the moves as they were listed
 
+-- the end of the rule's plan has each replica where its move was to bring it
 pub has_moved : (b : Basis) (moves : List Move) (plan : PlanModel) → All (IsMoveOf b.setup) moves → IsPlanOf b moves plan → HasMoved b.place (end_of (sizes_of b.setup) plan b.place) moves
 has_moved b moves plan all by = subst (λ p. HasMoved b.place (end_of (sizes_of b.setup) p b.place) moves) (sym by.3) (go by.0 by.1 by.2)
   where

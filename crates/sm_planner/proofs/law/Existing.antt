@@ -64,6 +64,7 @@ place_rest b moves (suc fuel) placed l greedy = elim (cases_Option (first_fit b 
       place_rest b moves fuel (placed ++ some.0 ∷ []) (omega arith) (one_more b moves placed some.0 greedy some.1)
 ]
 
+-- any moves can be placed as the rule says
 pub are_placed : (b : Basis) (moves : List Move) → (placed : List ℕ) × IsPlacing b moves placed
 are_placed b moves = place_rest b moves (suc (length moves)) [] (omega arith) (λ k l. absurd (omega arith))
 
@@ -93,6 +94,7 @@ one_placing b moves xs ys one two =
     let same : length xs ≡ length ys = omega arith in
     sym (take-length xs) ∙ same_front b moves xs ys one.greedy two.greedy (length xs) (omega arith) (omega arith) ∙ ap (λ n. take n ys) same ∙ take-length ys
 
+-- the rule has a plan for the moves or a reason why not, never both, and never two of either
 pub rule_answers : (b : Basis) (moves : List Move) → AnswersOnce b moves
 rule_answers b moves = record {
   some =

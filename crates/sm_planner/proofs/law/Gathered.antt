@@ -10,6 +10,7 @@ pub range_push : (from n : ℕ) → range_with_len from (suc n) ≡ range_with_l
 range_push from zero = let e : from + 0 ≡ from = omega arith in rw e refl
 range_push from (suc n) = let e : from + 1 + n ≡ from + suc n = omega arith in ap (λ l. from ∷ l) (range_push (from + 1) n ∙ rw e refl)
 
+-- the numbers below n + 1 are those below n, and n
 pub range_more : (n : ℕ) → range_with_len 0 (suc n) ≡ range_with_len 0 n ++ n ∷ []
 range_more n = rw (zero-add n) at (range_push 0 n)
 
@@ -24,9 +25,11 @@ module _ {X : Type 0} (class : ℕ → ℕ) (part : ℕ → List X) where
       ∙ ap (flat_map part) (filter-append (λ k. class k == i) (range_with_len 0 n) (n ∷ []))
       ∙ flat_map-append part (filter (λ k. class k == i) (range_with_len 0 n)) (filter (λ k. class k == i) (n ∷ []))
 
+  -- a part of the class comes to the end of what is gathered
   pub gathered_own : (n i : ℕ) → class n ≡ i → gathered (suc n) i ≡ gathered n i ++ part n
   gathered_own n i own = one_part n i ∙ rw (eq-eqb (class n) i own) (rw (append-nil (part n)) refl)
 
+  -- a part of another class leaves what is gathered as it is
   pub gathered_other : (n i : ℕ) → class n ≢ i → gathered (suc n) i ≡ gathered n i
   gathered_other n i other = one_part n i ∙ rw (ne_eqb (class n) i other) (append-nil (gathered n i))
 
@@ -48,14 +51,17 @@ abbrev pub StandsIn : {X : Type 0} → X → List X → Type 0
 StandsIn x [] = ⊥
 StandsIn x (y ∷ ys) = (y ≡ x) ⊎ StandsIn x ys
 
+-- what stands in the first of two lists stands in both put together
 pub stands_left : {X : Type 0} (x : X) (xs ys : List X) → StandsIn x xs → StandsIn x (xs ++ ys)
 stands_left x [] ys s = absurd s
 stands_left x (y ∷ xs) ys s = elim s [ inl here ↦ inl here | inr there ↦ inr (stands_left x xs ys there) ]
 
+-- what stands in the second of two lists stands in both put together
 pub stands_right : {X : Type 0} (x : X) (xs ys : List X) → StandsIn x ys → StandsIn x (xs ++ ys)
 stands_right x [] ys s = s
 stands_right x (y ∷ xs) ys s = inr (stands_right x xs ys s)
 
+-- each number below n stands among those below n
 pub stands_in_range : (n k : ℕ) → k < n → StandsIn k (range_with_len 0 n)
 stands_in_range zero k l = absurd (omega arith)
 stands_in_range (suc n) k l = subst (λ ks. StandsIn k ks) (sym (range_more n)) (elim (cases_eq n k) [
@@ -63,6 +69,7 @@ stands_in_range (suc n) k l = subst (λ ks. StandsIn k ks) (sym (range_more n)) 
   | inr other ↦ stands_left k (range_with_len 0 n) (n ∷ []) (stands_in_range n k (omega arith))
 ])
 
+-- the image of an element that passes stands among the images of those that pass
 pub stands_picked : {X Y : Type 0} (f : X → Y) (test : X → Bool) (x : X) (xs : List X) → test x ≡ true → StandsIn x xs → StandsIn (f x) (map f (filter test xs))
 stands_picked f test x [] passes s = absurd s
 stands_picked {X} {Y} f test x (y ∷ xs) passes s = elim s [
@@ -75,10 +82,12 @@ stands_picked {X} {Y} f test x (y ∷ xs) passes s = elim s [
 
 -- ---- what holds of each element
 
+-- what holds throughout two lists holds throughout both put together
 pub all_both : {X : Type 0} (P : X → Type 0) (xs ys : List X) → AllByRecursion P xs → AllByRecursion P ys → AllByRecursion P (xs ++ ys)
 all_both P [] ys a b = b
 all_both P (x ∷ xs) ys a b = (a.0, all_both P xs ys a.1 b)
 
+-- what holds of the image of each element that passes holds throughout the images of those that pass
 pub all_picked : {X Y : Type 0} (P : Y → Type 0) (f : X → Y) (test : X → Bool) (xs : List X) → ((x : X) → StandsIn x xs → test x ≡ true → P (f x)) → AllByRecursion P (map f (filter test xs))
 all_picked P f test [] each = tt
 all_picked P f test (x ∷ xs) each = elim (cases_Bool (test x)) [
@@ -86,6 +95,7 @@ all_picked P f test (x ∷ xs) each = elim (cases_Bool (test x)) [
   | inr failed ↦ rw failed (all_picked P f test xs (λ y s. each y (inr s)))
 ]
 
+-- what holds throughout the list of each element holds throughout all these lists put together
 pub all_of_parts : {X Y : Type 0} (P : Y → Type 0) (f : X → List Y) (xs : List X) → ((x : X) → StandsIn x xs → AllByRecursion P (f x)) → AllByRecursion P (flat_map f xs)
 all_of_parts P f [] each = tt
 all_of_parts P f (x ∷ xs) each = all_both P (f x) (flat_map f xs) (each x (inl refl)) (all_of_parts P f xs (λ y s. each y (inr s)))
@@ -101,5 +111,6 @@ below_range n = go n n (omega arith)
     go zero n l = tt
     go (suc m) n l = subst (λ ks. AllByRecursion (λ k. k < n) ks) (sym (range_more m)) (all_both (λ k. k < n) (range_with_len 0 m) (m ∷ []) (go m n (omega arith)) (omega arith, tt))
 
+-- what stands among the numbers below n is below n
 pub stands_below : (n k : ℕ) → StandsIn k (range_with_len 0 n) → k < n
 stands_below n k s = all_stand (λ j. j < n) k (range_with_len 0 n) (below_range n) s

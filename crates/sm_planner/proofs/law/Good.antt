@@ -34,6 +34,7 @@ use Rattle.sm_planner.proofs.law.Declared.{needed_cases, needs_absent, needs_sec
 
 -- ---- room that is paid from the pool
 
+-- what a stream's moves pay from the pool at a server, as a sum over all placed moves
 pub room_paid_is : (b : Basis) (order : List Move) (i v : ℕ) → room_paid b order i v ≡ sum_below (length order) (λ k. cond (stream_of k == i) (cond (to b order k == v) (from_pool b order k) 0) 0)
 room_paid_is b order i v =
     ap (sum_by (λ k. cond (to b order k == v) (from_pool b order k) 0)) (sym (map-id (moves_of order i)))
@@ -121,6 +122,7 @@ module _ (b : Basis) (order : List Move) (apart : AreAllApart b order) (opened :
   pub ends : (g : Hold) × Leads c parcels start (code_to b order (length order) i) g × IsAt b order i (length order) g
   ends = follows b order apart fits i start begins (length order) (omega arith)
 
+  -- the stream's course ends with that hold
   pub ends_there : final_hold (course_of c (planned b order).signals (stream b order i)) ≡ ends.0
   ends_there = leads_end c parcels (code_to b order (length order) i) start ends.0 ends.1
 
@@ -131,6 +133,7 @@ module _ (b : Basis) (order : List Move) (apart : AreAllApart b order) (opened :
     within = omega arith;
   }
 
+-- each stream of a plan of open moves that are apart and fitted when they were placed is good
 pub are_good : (b : Basis) (order : List Move) → AreAllApart b order → ((k : ℕ) → k < length order → IsOpened b (move_at order k)) → ((k : ℕ) → k < length order → to b order k < (sizes_of b.setup).servers) → IsAffordable b order → AreGood (sizes_of b.setup) (planned b order) (length (planned b order).streams)
 are_good b order apart opened known fits i l =
     let count = stream_count b order in

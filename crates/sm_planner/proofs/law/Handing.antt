@@ -26,6 +26,7 @@ use Rattle.sm_planner.proofs.law.Leading.{Leads}
 
 -- ---- sums
 
+-- the sum over the numbers below n is `sum_below`
 pub sum_of_range : (n : ℕ) (f : ℕ → ℕ) → sum_by f (range_with_len 0 n) ≡ sum_below n f
 sum_of_range zero f = refl
 sum_of_range (suc n) f =
@@ -47,6 +48,7 @@ picked_in f test x xs passes = rw passes refl
 picked_out : {X Y : Type 0} (f : X → Y) (test : X → Bool) (x : X) (xs : List X) → test x ≡ false → map f (filter test (x ∷ xs)) ≡ map f (filter test xs)
 picked_out f test x xs fails = rw fails refl
 
+-- the sum over those that pass is the sum over all, with 0 for each that doesn't
 pub sum_of_picked : {X Y : Type 0} (g : Y → ℕ) (f : X → Y) (test : X → Bool) (xs : List X) → sum_by g (map f (filter test xs)) ≡ sum_by (λ x. cond (test x) (g (f x)) 0) xs
 sum_of_picked g f test [] = refl
 sum_of_picked g f test (x ∷ xs) =
@@ -213,6 +215,7 @@ module _ (c : Sizes) (b : Basis) (order : List Move) where
   parcel_is : (q : ℕ) → q < length (signals_of b order) → parcels q ≡ one_room (to b order (signal_at (signals_of b order) q).payer) (amount b order q)
   parcel_is q l = get_or-map (handed_parcel b order) (signals_of b order) q (handed 0 0) no_rights l
 
+  -- the waits of a move can all be made, and bring the room that others hand to it
   pub wait_for_room : (n : ℕ) → n < length order → (h : Hold) → (g : Hold) × Leads c parcels h (waits_of (signals_of b order) n) g × IsRoomChanged h g (to b order n) × (g.room (to b order n) ≡ h.room (to b order n) + sum_below n (of_others b order n))
   wait_for_room n l h =
       let all = wait_for_all c parcels (to b order n) (amount b order) (λ q. (signal_at (signals_of b order) q).payer == n) (range_with_len 0 (length (signals_of b order))) h
@@ -228,6 +231,7 @@ module _ (c : Sizes) (b : Basis) (order : List Move) where
         | inr other ↦ absurd (let none = from_move_other b order k j other in omega arith)
       ]
 
+  -- where there is room enough, the posts of a move can all be made, and take what it hands on
   pub hand_on_room : (n : ℕ) (h : Hold) → sum_below (length order) (λ k. of_others b order k n) ≤ h.room (from b order n) → (g : Hold) × Leads c parcels h (posts_of (signals_of b order) n) g × IsRoomChanged h g (from b order n) × (g.room (from b order n) + sum_below (length order) (λ k. of_others b order k n) ≡ h.room (from b order n))
   hand_on_room n h enough =
       let sums = handed_on b order n in

@@ -25,6 +25,7 @@ use Rattle.sm_planner.proofs.law.Sorting.{from_sorted, gathered_from, stands_map
 use Rattle.sm_planner.proofs.law.Uses.{handing}
 use Rattle.sm_planner.proofs.law.Declared.{needed_cases, crown_case}
 
+-- what holds of each element that stands in a list holds throughout the list
 pub all_standing : {T : Type 0} (P : T → Type 0) (xs : List T) → ((x : T) → StandsIn x xs → P x) → AllByRecursion P xs
 all_standing P [] each = tt
 all_standing P (x ∷ xs) each = (each x (inl refl), all_standing P xs (λ y s. each y (inr s)))
@@ -113,6 +114,7 @@ module _ (b : Basis) (order : List Move) (known : (k : ℕ) → k < length order
     spare = All-from_recursion (λ x. x.shard < c.shards) [] tt;
   }
 
+  -- the plan of such moves is of the configuration
   pub fits_plan : IsKnownPlan c.shards c.servers (planned b order)
   fits_plan = record {
     streams = All-map (IsKnownStream c.shards c.servers) (stream b order) (range_with_len 0 (width order)) (λ i d l. fits_stream (get_or (range_with_len 0 (width order)) i d));

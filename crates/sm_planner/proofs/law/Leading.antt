@@ -14,6 +14,7 @@ module _ (c : Sizes) (signals : ℕ → Rights) where
   Leads h [] g = g ≡ h
   Leads h (i ∷ is) g = (next : Hold) × (after c signals i h ≡ Ok next) × Leads next is g
 
+  -- what leads to a hold and what leads on from there lead on together
   pub leads_on : (xs ys : List Instr) (h m g : Hold) → Leads h xs m → Leads m ys g → Leads h (xs ++ ys) g
   leads_on [] ys h m g first rest = subst (λ (k : Hold). Leads k ys g) first rest
   leads_on (x ∷ xs) ys h m g first rest = (first.0, first.1, leads_on xs ys first.0 m g first.2 rest)
@@ -35,6 +36,7 @@ module _ (c : Sizes) (signals : ℕ → Rights) where
   leads_made (i ∷ is) h g leads zero = ok (after c signals i h) leads.0 leads.1
   leads_made (i ∷ is) h g leads (suc p) = subst (λ (k : Hold). IfSome (slice_get is p) (λ j. IsOk (after c signals j k))) (sym (hold_later i is h leads.0 leads.1 p)) (leads_made is leads.0 g leads.2 p)
 
+  -- behind the last of them the hold is the one to which they lead
   pub leads_end : (is : List Instr) (h g : Hold) → Leads h is g → hold_at c signals is h (length is) ≡ g
   leads_end [] h g leads = sym leads
   leads_end (i ∷ is) h g leads = hold_later i is h leads.0 leads.1 (length is) ∙ leads_end is leads.0 g leads.2

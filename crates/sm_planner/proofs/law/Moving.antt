@@ -195,6 +195,7 @@ module _ (c : Sizes) (signals : ℕ → Rights) (p : Place) (m : Move) (h : Hold
           (ap (λ l. named_after l m.to) (sym is)) in
           (end.0, (told, published c signals s m.from m.to before (Some x) crown, (end.0, end.1, refl)), end.2)
 
+  -- the instructions of the move can all be made, and leave what is held once it is made
   pub makes_the_move : Done (instructions p m)
   makes_the_move = elim (cases_Bool (is_primary (left_cell p m))) [
     | inl primary ↦ rw primary (move_primary primary (p.listed s) refl)

@@ -61,6 +61,7 @@ pub record ApartMoves (p : Place) (m n : Move) : Type 0 where
   pub from_from : m.from ≢ n.from
   pub crowns : is_primary (left_cell p m) ≡ true → is_primary (left_cell p n) ≡ true → ⊥
 
+-- no cell is absent and a replica
 pub not_both : (x : Cell) → is_absent x ≡ true → is_replica x ≡ true → ⊥
 not_both cell.Absent e r = cc
 not_both (cell.Prepared from number) e r = cc
@@ -68,6 +69,7 @@ not_both cell.Secondary e r = cc
 not_both cell.Primary e r = cc
 not_both (cell.Forwarding to number) e r = cc
 
+-- a replica is a primary or a secondary
 pub one_of_two : (x : Cell) → is_replica x ≡ true → (is_primary x ≡ true) ⊎ (is_secondary x ≡ true)
 one_of_two x r = or_cases (is_primary x) (is_secondary x) r
 
@@ -197,9 +199,11 @@ module _ (b : Basis) (moves : List Move) (placed : List ℕ) (is : IsPlacing b m
   third : too_many b moves placed ≡ None
   third = (neither (no_spread b moves) (too_many b moves placed) second.1).1
 
+  -- no move is left
   pub none_left : first_left moves placed ≡ None
   none_left = none_mapped (λ i. NoRoom (move_at moves i).to) (first_left moves placed) second.0
 
+  -- there are no more moves and signals than a plan may have
   pub few : (length moves ≤ MOST_MOVES) × (length (signals_of b order) ≤ MOST_SIGNALS)
   few = go (nat_lt MOST_MOVES (length moves)) (nat_lt MOST_SIGNALS (length (signals_of b order))) refl refl third
     where
@@ -208,11 +212,13 @@ module _ (b : Basis) (moves : List Move) (placed : List ℕ) (is : IsPlacing b m
       go true y e f w = absurd cc
       go false true e f w = absurd cc
 
+  -- what is known of a move that is not refused is known of each placed one
   pub order_opened : (k : ℕ) → k < length order → IsOpened b (move_at order k)
   order_opened k l =
       let count = count_is b moves placed is.greedy in
       subst (λ m. IsOpened b m) (sym (move_is b moves placed is.greedy k (omega arith))) (is_opened b moves first.0 (get_or placed k 0) (place_known b moves placed is.greedy k (omega arith)))
 
+  -- two placed moves of a shard have no server and no crown in common
   pub order_apart : AreAllApart b order
   order_apart j k l m apart same =
       let count = count_is b moves placed is.greedy in

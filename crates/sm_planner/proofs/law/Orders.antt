@@ -206,6 +206,7 @@ module _ (plan : PlanModel) (class : ℕ → ℕ) (part : ℕ → List Instr) (c
             ]),
       )
 
+  -- a plan of such parts has an order
   pub has_order : HasOrder plan
   has_order =
       let all = ends (length plan.streams) (omega arith) in

@@ -10,6 +10,7 @@ use Rattle.sm_planner.specs.Payment.{from_pool, from_move, stream_of}
 use Rattle.sm_planner.proofs.law.Payments.{load, to, from, from_move_other, IsAffordable, pays_its_load, hands_what_it_freed}
 use Rattle.sm_planner.proofs.law.Handing.{of_others}
 
+-- a function that is nowhere above another has no higher sum
 pub sum_each : (n : ℕ) (f g : ℕ → ℕ) → ((k : ℕ) → k < n → f k ≤ g k) → sum_below n f ≤ sum_below n g
 sum_each zero f g each = omega arith
 sum_each (suc n) f g each = let low = sum_each n f g (λ k l. each k (omega arith)) in let one = each n (omega arith) in omega arith
@@ -37,6 +38,7 @@ module _ (b : Basis) (order : List Move) (i : ℕ) where
   abbrev pub own_pay : ℕ → ℕ → ℕ
   own_pay n k = from_pool b order k + sum_below n (λ j. cond (stream_of j == i) (from_move b order k j) 0)
 
+  -- what the moves of the stream from the n-th on pay in this way at the server
   abbrev pub owed : ℕ → ℕ → ℕ
   owed n v = sum_below (length order) (λ k. cond (comes n v k) (own_pay n k) 0)
 
@@ -48,6 +50,7 @@ module _ (b : Basis) (order : List Move) (i : ℕ) where
   abbrev pub gain : ℕ → ℕ → ℕ
   gain n v = sum_below (length order) (λ k. cond (comes (suc n) v k) (cond (stream_of n == i) (from_move b order k n) 0) 0)
 
+  -- once the n-th is made, the moves behind it pay as before and with the room of the n-th
   pub owed_then : (n v : ℕ) → owed (suc n) v ≡ rest n v + gain n v
   owed_then n v =
       same_sum (length order) (λ k. cond (comes (suc n) v k) (own_pay (suc n) k) 0) (λ k. cond (comes (suc n) v k) (own_pay n k) 0 + cond (comes (suc n) v k) (cond (stream_of n == i) (from_move b order k n) 0) 0)
@@ -91,6 +94,7 @@ module _ (b : Basis) (order : List Move) (i : ℕ) where
 
   -- ---- what a move of the stream leaves
 
+  -- with the room of a move nothing is paid at another server than the one that it leaves
   pub gain_elsewhere : (n v : ℕ) → from b order n ≢ v → gain n v ≡ 0
   gain_elsewhere n v apart = sum_zero (length order) (λ k. cond (comes (suc n) v k) (cond (stream_of n == i) (from_move b order k n) 0) 0) (λ k. elim (cases_Bool (comes (suc n) v k)) [
     | inl does ↦
@@ -99,6 +103,7 @@ module _ (b : Basis) (order : List Move) (i : ℕ) where
     | inr not_so ↦ rw not_so refl
   ])
 
+  -- with the room of a move of another stream nothing is paid in this way
   pub gain_of_other : (n v : ℕ) → stream_of n ≢ i → gain n v ≡ 0
   gain_of_other n v other = sum_zero (length order) (λ k. cond (comes (suc n) v k) (cond (stream_of n == i) (from_move b order k n) 0) 0) (λ k. rw (ne_eqb (stream_of n) i other) (cond_nothing (comes (suc n) v k)))
 

@@ -27,19 +27,23 @@ whole : (a n x : ℕ) → a + n ≤ x → overlap a n 0 x ≡ n
 whole a n x l = omega arith
 
 module _ (b : Basis) (order : List Move) where
+  -- the load of the k-th placed move
   abbrev pub load : ℕ → ℕ
   load k = move_load b.setup (move_at order k)
 
+  -- the server to which it goes
   abbrev pub to : ℕ → ℕ
   to k = (move_at order k).to
 
+  -- the server that it leaves
   abbrev pub from : ℕ → ℕ
   from k = (move_at order k).from
 
-  -- what the first n placed moves take of a server's room, and what they free there
+  -- what the first n placed moves take of a server's room
   abbrev pub taken : ℕ → ℕ → ℕ
   taken v n = sum_by (taken_by b.setup v) (take n order)
 
+  -- what they free there
   abbrev pub freed : ℕ → ℕ → ℕ
   freed v n = sum_by (freed_by b.setup v) (take n order)
 
@@ -72,12 +76,14 @@ module _ (b : Basis) (order : List Move) where
       let e : b.pool.room (from j) + freed (from j) j ≡ b.pool.room (to k) + freed (to k) j = ap (λ v. b.pool.room v + freed v j) own in
       rw (lt-ltb j k l, eq-eqb (from j) (to k) own) (ap (λ c. overlap (takes_from b order k) (load k) c (load j)) e)
 
+  -- a move pays nothing with room that is freed at another server than the one to which it goes
   pub from_move_other : (k j : ℕ) → from j ≢ to k → from_move b order k j ≡ 0
   from_move_other k j other = elim (cases_lt j k) [
     | inl less ↦ rw (lt-ltb j k less, ne_eqb (from j) (to k) other) refl
     | inr more ↦ rw (le-ltb j k more) refl
   ]
 
+  -- a move pays nothing with the room of one that is not placed before it
   pub from_move_early : (k j : ℕ) → k ≤ j → from_move b order k j ≡ 0
   from_move_early k j l = rw (le-ltb j k l) refl
 
@@ -100,6 +106,7 @@ module _ (b : Basis) (order : List Move) where
             omega arith
       ]
 
+  -- where each move fitted, what it pays from the pool and with the room of earlier ones is its whole load
   pub pays_its_load : IsAffordable → (k : ℕ) → k < length order → from_pool b order k + sum_below k (from_move b order k) ≡ load k
   pays_its_load fits k l =
       let all = paid_so_far k k l (omega arith) in
@@ -132,6 +139,7 @@ module _ (b : Basis) (order : List Move) where
             omega arith
       ]
 
+  -- all moves together pay no more with the room of one than it freed
   pub hands_what_it_freed : (j : ℕ) → sum_below (length order) (λ k. from_move b order k j) ≤ load j
   hands_what_it_freed j =
       let all = handed_so_far j (length order) (omega arith) in
@@ -160,6 +168,7 @@ module _ (b : Basis) (order : List Move) where
             omega arith
       ]
 
+  -- all moves together pay no more from the pool at a server than the pool has there
   pub pool_pays_what_it_has : (v : ℕ) → sum_below (length order) (pool_paid v) ≤ b.pool.room v
   pool_pays_what_it_has v =
       let all = pool_so_far v (length order) (omega arith) in

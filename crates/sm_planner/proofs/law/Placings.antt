@@ -13,6 +13,7 @@ use Rattle.sm_planner.proofs.law.Payments.{IsAffordable, load, to, taken, freed}
 
 -- ---- numbers in a list
 
+-- a number that stands at a place among the placed ones is placed
 pub any_there : (i : ℕ) (xs : List ℕ) (k : ℕ) → k < length xs → get_or xs k 0 ≡ i → is_placed xs i ≡ true
 any_there i [] k l e = absurd (omega arith)
 any_there i (x ∷ xs) zero l e = rw (eq-eqb x i e) refl
@@ -28,6 +29,7 @@ there_any i (x ∷ xs) e = elim (cases_Bool (x == i)) [
   | inr apart ↦ (let more = there_any i xs (rw apart at e) in let l = more.1 in (suc more.0, omega arith, more.2))
 ]
 
+-- the sum over a mapped list is the sum of the images
 pub sum_of_map : {X Y : Type 0} (f : Y → ℕ) (g : X → Y) (xs : List X) → sum_by f (map g xs) ≡ sum_by (λ x. f (g x)) xs
 sum_of_map f g [] = refl
 sum_of_map f g (x ∷ xs) =
@@ -47,9 +49,11 @@ module _ (b : Basis) (moves : List Move) (placed : List ℕ) (greedy : IsGreedy 
   abbrev place_of : ℕ → ℕ
   place_of k = get_or placed k 0
 
+  -- the order has as many moves as are placed
   pub count_is : length order ≡ length placed
   count_is = length-map placed (move_at moves)
 
+  -- the k-th move of the order is the one that is placed k-th
   pub move_is : (k : ℕ) → k < length placed → move_at order k ≡ move_at moves (place_of k)
   move_is k l = get_or-map (move_at moves) placed k 0 no_move l
 
@@ -70,6 +74,7 @@ module _ (b : Basis) (moves : List Move) (placed : List ℕ) (greedy : IsGreedy 
         fits = leb-true (move_load b.setup (move_at moves i)) (room_left b moves (take k placed) (move_at moves i).to) both.1;
       }
 
+  -- what is placed is a move of the list
   pub place_known : (k : ℕ) → k < length placed → place_of k < length moves
   place_known k l = (placed_at k l).known
 
@@ -80,6 +85,7 @@ module _ (b : Basis) (moves : List Move) (placed : List ℕ) (greedy : IsGreedy 
       let there = any_there (place_of k) (take k placed) j (omega arith) (get_or-take k placed j 0 l ∙ same) in
       both_ways (is_placed (take k placed) (place_of k)) (placed_at k m).anew there
 
+  -- no move is placed at two places
   pub placed_once : (j k : ℕ) → j < length placed → k < length placed → place_of j ≡ place_of k → j ≡ k
   placed_once j k l m same = elim (cases_lt j k) [
     | inl less ↦ absurd (not_before j k less m same)
@@ -130,6 +136,7 @@ module _ (b : Basis) (moves : List Move) (placed : List ℕ) (greedy : IsGreedy 
             omega arith
       ]
 
+  -- each move fitted when it was placed
   pub affordable : IsAffordable b order
   affordable = record {
     fits = λ k l.
@@ -141,5 +148,6 @@ module _ (b : Basis) (moves : List Move) (placed : List ℕ) (greedy : IsGreedy 
 
   -- ---- none is left
 
+  -- where none is left each move is placed
   pub all_placed : first_left moves placed ≡ None → (i : ℕ) → i < length moves → (k : ℕ) × (k < length placed) × (place_of k ≡ i)
   all_placed none i l = there_any i placed (not-false (is_placed placed i) (first_none (length moves) (λ i. not (is_placed placed i)) none i l))

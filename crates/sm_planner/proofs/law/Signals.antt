@@ -22,6 +22,7 @@ pub record IsHandedOn (b : Basis) (order : List Move) (h : Handed) : Type 0 wher
   pub source : h.source < h.payer
   pub handed : is_handed b order h.payer h.source ≡ true
 
+-- all signals are of a placed move that pays and of one placed before it
 pub are_handed_on : (b : Basis) (order : List Move) → AllByRecursion (IsHandedOn b order) (signals_of b order)
 are_handed_on b order = all_of_parts (IsHandedOn b order) (λ k. map (handed k) (filter (is_handed b order k) (range_with_len 0 k))) (range_with_len 0 (length order))
     (λ k s. all_picked (IsHandedOn b order) (handed k) (is_handed b order k) (range_with_len 0 k) (λ j t passes. record {
@@ -30,6 +31,7 @@ are_handed_on b order = all_of_parts (IsHandedOn b order) (λ k. map (handed k) 
       handed = passes;
     }))
 
+-- so is the signal at each number
 pub is_handed_on : (b : Basis) (order : List Move) (q : ℕ) → q < length (signals_of b order) → IsHandedOn b order (signal_at (signals_of b order) q)
 is_handed_on b order q l = All-get_or (IsHandedOn b order) (signals_of b order) q (handed 0 0) l (All-from_recursion (IsHandedOn b order) (signals_of b order) (are_handed_on b order))
 
@@ -78,6 +80,7 @@ module _ (b : Basis) (order : List Move) where
       (all_both (Served n) (instructions b.place (move_at order n)) (posts_of signals n) (served_instructions n (move_at order n))
       (all_picked (Served n) Signal (λ q. (signal_at signals q).source == n) (range_with_len 0 (length signals)) (λ q s own. tt)))
 
+  -- the plan's codes are gathered from those of its moves, and each wait stands in a later one than its post
   pub is_of_parts : IsOfParts (planned b order) stream_of (move_code b order) (length order)
   is_of_parts = record {
     known = λ n l. let count = stream_count b order in let known = stream_known order n l in omega arith;

@@ -258,6 +258,7 @@ module _ (b : Basis) (order : List Move) (few : length order ≤ 4096) (few_sign
       spare_amounts = All-from_recursion (λ x. x.amount ≤ MOST_AMOUNT) [] tt;
     }
 
+    -- the plan's numbers are within the limits of a plan
     pub is_small : IsSmallPlan (planned b order)
     is_small = record {
       budget = (let total = short_total in omega arith);

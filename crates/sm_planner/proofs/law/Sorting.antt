@@ -16,6 +16,7 @@ pub contains_from : {T : Type 0} (x : T) (xs : List T) → StandsIn x xs → Con
 contains_from x [] s = absurd s
 contains_from x (y ∷ xs) s = elim s [ inl here ↦ (0, omega arith, here) | inr there ↦ later x y xs (contains_from x xs there) ]
 
+-- what a list contains stands in it
 pub stands_from : {T : Type 0} (x : T) (xs : List T) → Contains xs x → StandsIn x xs
 stands_from x xs c = go xs c.0 c.1 c.2
   where
@@ -31,6 +32,7 @@ stands_either x (y ∷ xs) ys s = elim s [
   | inr there ↦ elim (stands_either x xs ys there) [ inl front ↦ inl (inr front) | inr back ↦ inr back ]
 ]
 
+-- an element that passes stands among those that pass
 pub stands_kept : {T : Type 0} (test : T → Bool) (x : T) (xs : List T) → test x ≡ true → StandsIn x xs → StandsIn x (filter test xs)
 stands_kept test x [] passes s = absurd s
 stands_kept test x (y ∷ xs) passes s = elim s [
@@ -41,6 +43,7 @@ stands_kept test x (y ∷ xs) passes s = elim s [
   ]
 ]
 
+-- what stands among those that pass stands in the list
 pub stood : {T : Type 0} (test : T → Bool) (x : T) (xs : List T) → StandsIn x (filter test xs) → StandsIn x xs
 stood test x [] s = absurd s
 stood test x (y ∷ xs) s = elim (cases_Bool (test y)) [
@@ -48,6 +51,7 @@ stood test x (y ∷ xs) s = elim (cases_Bool (test y)) [
   | inr failed ↦ inr (stood test x xs (rw failed at s))
 ]
 
+-- what stands in a mapped list is the image of an element that stands in the list
 pub stands_mapped : {T U : Type 0} (f : U → T) (x : T) (xs : List U) → StandsIn x (map f xs) → (u : U) × StandsIn u xs × (f u ≡ x)
 stands_mapped f x [] s = absurd s
 stands_mapped f x (u ∷ xs) s = elim s [
@@ -55,6 +59,7 @@ stands_mapped f x (u ∷ xs) s = elim s [
   | inr there ↦ (let more = stands_mapped f x xs there in (more.0, inr more.1, more.2))
 ]
 
+-- what stands in a part stands in the list that is gathered for the part's class
 pub stands_gathered : {T : Type 0} (class : ℕ → ℕ) (part : ℕ → List T) (i k n : ℕ) (x : T) → k < n → class k ≡ i → StandsIn x (part k) → StandsIn x (gathered class part n i)
 stands_gathered class part i k zero x l own s = absurd (omega arith)
 stands_gathered class part i k (suc n) x l own s = elim (cases_eq k n) [
@@ -69,6 +74,7 @@ stands_gathered class part i k (suc n) x l own s = elim (cases_eq k n) [
       ]
 ]
 
+-- what stands in a gathered list stands in a part of its class
 pub gathered_from : {T : Type 0} (class : ℕ → ℕ) (part : ℕ → List T) (i n : ℕ) (x : T) → StandsIn x (gathered class part n i) → (k : ℕ) × (k < n) × (class k ≡ i) × StandsIn x (part k)
 gathered_from class part i zero x s = absurd s
 gathered_from class part i (suc n) x s = elim (cases_eq (class n) i) [
@@ -99,6 +105,7 @@ counted_there test (x ∷ xs) l = elim (cases_Bool (test x)) [
       (more.0, inr more.1, more.2)
 ]
 
+-- two lists with no key twice, and none in common, have no key twice together
 pub once_both : {T : Type 0} (key_of : T → ℕ × ℕ) (xs ys : List T) → IsKeyedOnce key_of xs → IsKeyedOnce key_of ys → ((x y : T) → StandsIn x xs → StandsIn y ys → same (key_of x) (key_of y) ≡ false) → IsKeyedOnce key_of (xs ++ ys)
 once_both key_of xs ys one two apart q =
     let a = sum_by-append (λ y. hit (same (key_of y) q)) xs ys in
@@ -115,9 +122,11 @@ once_both key_of xs ys one two apart q =
       ]
     ]
 
+-- one row alone has no key twice
 pub once_single : {T : Type 0} (key_of : T → ℕ × ℕ) (x : T) → IsKeyedOnce key_of (x ∷ [])
 once_single key_of x q = elim (cases_Bool (same (key_of x) q)) [ inl yes_so ↦ rw yes_so (omega arith) | inr not_so ↦ rw not_so (omega arith) ]
 
+-- parts with no key twice, and none in common, have no key twice once they are gathered
 pub once_gathered : {T : Type 0} (key_of : T → ℕ × ℕ) (class : ℕ → ℕ) (part : ℕ → List T) (i n : ℕ) → ((k : ℕ) → k < n → IsKeyedOnce key_of (part k)) →
     ((j k : ℕ) → j < n → k < n → j ≢ k → (x y : T) → StandsIn x (part j) → StandsIn y (part k) → same (key_of x) (key_of y) ≡ false) → IsKeyedOnce key_of (gathered class part n i)
 once_gathered key_of class part i zero each apart = λ q. omega arith
@@ -137,6 +146,7 @@ after_all : {T : Type 0} (key_of : T → ℕ × ℕ) (p : ℕ × ℕ) (xs : List
 after_all key_of p [] x a s = absurd s
 after_all key_of p (y ∷ xs) x a s = elim s [ inl here ↦ subst (λ z. before p (key_of z) ≡ true) here a.0 | inr there ↦ after_all key_of p xs x a.1 there ]
 
+-- in rows in order the row at an element's key is the element
 pub row_is : {T : Type 0} (key_of : T → ℕ × ℕ) (xs : List T) (x : T) → Rises key_of xs → StandsIn x xs → row_at key_of xs (key_of x) ≡ Some x
 row_is key_of [] x r s = absurd s
 row_is key_of (y ∷ xs) x r s = elim s [
@@ -144,6 +154,7 @@ row_is key_of (y ∷ xs) x r s = elim s [
   | inr there ↦ (let past : same (key_of y) (key_of x) ≡ false = before_not_same (key_of y) (key_of x) (after_all key_of (key_of y) xs x r.0 there) in rw past (row_is key_of xs x r.1 there))
 ]
 
+-- the row at a key stands in the rows and has that key
 pub row_from : {T : Type 0} (key_of : T → ℕ × ℕ) (xs : List T) (q : ℕ × ℕ) (x : T) → row_at key_of xs q ≡ Some x → StandsIn x xs × (key_of x ≡ q)
 row_from key_of [] q x e = absurd cc
 row_from key_of (y ∷ xs) q x e = elim (cases_Bool (same (key_of y) q)) [
@@ -151,15 +162,19 @@ row_from key_of (y ∷ xs) q x e = elim (cases_Bool (same (key_of y) q)) [
   | inr other ↦ (let more = row_from key_of xs q x (rw other at e) in (inr more.0, more.1))
 ]
 
+-- what stands in a list stands in it in order
 pub in_sorted : {T : Type 0} (key_of : T → ℕ × ℕ) (xs : List T) (x : T) → StandsIn x xs → StandsIn x (sorted key_of xs)
 in_sorted key_of xs x s = stands_from x (sorted key_of xs) ((same_elements xs (sorted key_of xs) (sorted_permutes key_of xs) x).0 (contains_from x xs s))
 
+-- what stands in a list in order stands in the list
 pub from_sorted : {T : Type 0} (key_of : T → ℕ × ℕ) (xs : List T) (x : T) → StandsIn x (sorted key_of xs) → StandsIn x xs
 from_sorted key_of xs x s = stands_from x xs ((same_elements xs (sorted key_of xs) (sorted_permutes key_of xs) x).1 (contains_from x (sorted key_of xs) s))
 
+-- where no key stands twice, the row at an element's key in the sorted list is the element
 pub sorted_row_is : {T : Type 0} (key_of : T → ℕ × ℕ) (xs : List T) (x : T) → IsKeyedOnce key_of xs → StandsIn x xs → row_at key_of (sorted key_of xs) (key_of x) ≡ Some x
 sorted_row_is key_of xs x once s = row_is key_of (sorted key_of xs) x (sorted_rises key_of xs (λ y. once (key_of y))) (in_sorted key_of xs x s)
 
+-- the row at a key in the sorted list stands in the list and has that key
 pub sorted_row_from : {T : Type 0} (key_of : T → ℕ × ℕ) (xs : List T) (q : ℕ × ℕ) (x : T) → row_at key_of (sorted key_of xs) q ≡ Some x → StandsIn x xs × (key_of x ≡ q)
 sorted_row_from key_of xs q x e =
     let found = row_from key_of (sorted key_of xs) q x e in

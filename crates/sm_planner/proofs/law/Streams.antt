@@ -26,9 +26,11 @@ use Rattle.sm_planner.proofs.law.Handing.{IsRoomChanged, of_others, wait_for_roo
 use Rattle.sm_planner.proofs.law.Owing.{owed, owed_then, owed_skips, owed_takes, gain_elsewhere, gain_of_other, keeps_enough, pays_with_both}
 
 module _ (b : Basis) (order : List Move) where
+  -- the shard of the k-th placed move
   abbrev pub shard : ℕ → ℕ
   shard k = (move_at order k).shard
 
+  -- the k-th placed move is of a primary
   abbrev pub leads_shard : ℕ → Bool
   leads_shard k = is_primary (left_cell b.place (move_at order k))
 

@@ -393,6 +393,7 @@ module _ (b : Basis) (v : ℕ) (moves : List Move) (setup : IsSetup b.setup) (le
       let none = no_signals in
       rw (le-ltb MOST_MOVES (length moves) (omega arith), le-ltb MOST_SIGNALS (length (signals_of b order)) (omega arith)) refl)))
 
+-- a server that may be emptied, and whose replicas have targets, has a plan for emptying it
 pub drain_has_plan : (b : Basis) (v : ℕ) (moves : List Move) → IsSetup b.setup → drain_refusal b v ≡ None → AreLeaving b v (sizes_of b.setup).shards moves → (plan : PlanModel) × IsPlanOf b moves plan
 drain_has_plan b v moves setup free leave =
     let all = are_placed b moves in

@@ -101,6 +101,7 @@ module _ (b : Basis) (leads : ℕ → Lead) (numbers : ℕ → ℕ) (moves : Lis
         free = (finds_holding (sizes_of b.setup) b.place b.pool (planned b order) is_plan.parcels fits).none.1 admitted;
       }
 
+-- at a pool that is true of the placement the rule's plan passes the check, and nothing holds it up
 pub plan_is_usable : (b : Basis) (leads : ℕ → Lead) (numbers : ℕ → ℕ) (moves : List Move) (plan : PlanModel) → IsSetup b.setup → IsScene (sizes_of b.setup) b.place leads numbers b.pool → All (IsMoveOf b.setup) moves → IsPlanOf b moves plan → IsUsable b plan
 plan_is_usable b leads numbers moves plan setup scene all by = subst (λ p. IsUsable b p) (sym by.3) (is_usable b leads numbers moves by.0 setup scene all by.1 by.2)
 
@@ -118,6 +119,7 @@ pool_scene setup w reached =
       }),
     )
 
+-- so it is at the placement and the pool of each state that events lead to
 pub plan_is_usable_at : (setup : Setup) (w : State) (moves : List Move) (plan : PlanModel) → IsReached setup w → All (IsMoveOf setup) moves → IsPlanOf (basis setup w.place (pool w)) moves plan → IsUsable (basis setup w.place (pool w)) plan
 plan_is_usable_at setup w moves plan reached all by =
     let scene = pool_scene setup w reached in
@@ -134,9 +136,11 @@ scene_at setup own w place free reached sizes there is =
 
 -- ---- plans that are drafted
 
+-- so it is of the plan that is drafted
 pub draft_is_usable : (b : Basis) (moves : List Move) (draft : Draft) → HasScene b → All (IsMoveOf b.setup) moves → IsDraftOf b moves draft → IsUsable b (planned b draft.moves.items)
 draft_is_usable b moves draft scene all by =
     subst (λ order. IsUsable b (planned b order)) (sym by.3) (is_usable b scene.0 scene.1 moves by.0 by.4.setup scene.2 all by.1 by.2)
 
+-- a plan that passes the check and that nothing holds up is admitted
 pub usable_is_admitted : (b : Basis) (plan : PlanModel) → IsUsable b plan → IsAdmitted (sizes_of b.setup) b.place b.pool plan
 usable_is_admitted b plan is = (finds_holding (sizes_of b.setup) b.place b.pool plan is.checked.parts.parcels is.checked.fits).none.0 is.free

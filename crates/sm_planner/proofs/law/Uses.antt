@@ -195,6 +195,7 @@ module _ (b : Basis) (order : List Move) (q : ℕ) (known : q < length (signals_
       ∙ sum_one (length order) (λ k. count_by (is_wait q) (move_code b order k)) payer on.payer (λ j apart. waits_other j (λ e. apart (sym e)))
       ∙ waits_own payer refl
 
+-- each signal of the plan is posted once and awaited once
 pub used_once : (b : Basis) (order : List Move) → AreUsedOnce (planned b order) (length (planned b order).signals)
 used_once b order q l =
     let known : q < length (signals_of b order) = (let e = length-map (signals_of b order) (handed_parcel b order) in omega arith) in
@@ -202,6 +203,7 @@ used_once b order q l =
 
 -- ---- budgets
 
+-- the budgets of the plan's streams add up to no more than the plan's
 pub keeps_budget : (b : Basis) (order : List Move) → KeepsBudget (planned b order)
 keeps_budget b order = (let e = same (range_with_len 0 (width order)) in omega arith)
   where
@@ -238,6 +240,7 @@ module _ (b : Basis) (order : List Move) where
       (all_both Knows (instructions b.place (move_at order k)) (posts_of signals k) (knows_instructions (move_at order k))
       (all_picked Knows Signal (λ q. (signal_at signals q).source == k) (range_with_len 0 (length signals)) (λ q s own. (let l = stands_below (length signals) q s in omega arith))))
 
+  -- each signal that the plan's codes name is one of the plan's
   pub knows_signals : KnowsSignals (planned b order)
   knows_signals = All-map (λ (s : StreamModel). All Knows s.code) (stream b order) (range_with_len 0 (width order))
       (λ i d l. All-from_recursion Knows (stream b order (get_or (range_with_len 0 (width order)) i d)).code (all_of_parts Knows (move_code b order) (moves_of order (get_or (range_with_len 0 (width order)) i d)) (λ k s. knows_move k)))
