@@ -12,8 +12,8 @@ use Rattle.sm_verifier.specs.Checked.{CheckedModel}
 use Rattle.sm_protocol.specs.State.{fresh, no_mark}
 use Rattle.sm_protocol.specs.Happens.{started}
 use Rattle.sm_protocol.proofs.Starts.{get_push_old, get_push_new}
-use Rattle.sm_machine.specs.Course.{CourseParts, no_course, hold_in, capacity_in}
-use Rattle.sm_machine.specs.Begun.{BegunParts, no_begun, no_carried, start_of, course_at, carried_at}
+use Rattle.sm_machine.specs.Course.{CourseModel, no_course, hold_in, capacity_in}
+use Rattle.sm_machine.specs.Begun.{BegunModel, no_begun, no_carried, start_of, course_at, carried_at}
 use Rattle.sm_machine.specs.Machine.{MachineModel, begun_at}
 use Rattle.sm_machine.specs.State.{whole_of}
 use Rattle.sm_machine.specs.Tied.{declares, pool_left}
@@ -22,7 +22,7 @@ use Rattle.sm_machine.proofs.Readied.{first_count, first_at}
 use Rattle.sm_machine.proofs.Tables.{inner, inner-more}
 use Rattle.sm_machine.proofs.ties.Carrying.{no_rights_hold}
 
-module _ (p : CheckedModel) (courses : List CourseParts) (f : AreFilled p.plan.streams (length p.plan.streams) (ready_courses p) courses) where
+module _ (p : CheckedModel) (courses : List CourseModel) (f : AreFilled p.plan.streams (length p.plan.streams) (ready_courses p) courses) where
   abbrev rooms : ℕ → ℕ
   rooms i = slice_index p.peaks i
 
@@ -35,15 +35,15 @@ module _ (p : CheckedModel) (courses : List CourseParts) (f : AreFilled p.plan.s
   -- no stream has made anything
   pub courses_fresh : (i : ℕ) → (get_or courses i no_course).progress ≡ fresh
   courses_fresh i = elim (cases_lt i streams) [
-    | inl l ↦ (f.filled i l).progress ∙ ap (λ (x : CourseParts). x.progress) (ready_at i l)
-    | inr l ↦ ap (λ (x : CourseParts). x.progress) (f.left i l ∙ get_or_past (ready_courses p) i no_course (subst (λ k. k ≤ i) (sym (first_count rooms streams)) l))
+    | inl l ↦ (f.filled i l).progress ∙ ap (λ (x : CourseModel). x.progress) (ready_at i l)
+    | inr l ↦ ap (λ (x : CourseModel). x.progress) (f.left i l ∙ get_or_past (ready_courses p) i no_course (subst (λ k. k ≤ i) (sym (first_count rooms streams)) l))
   ]
 
   -- each stream has what it declares
   pub courses_granted : (i : ℕ) → i < streams → IsGranted (declares p.plan.streams i) (rooms i) (get_or courses i no_course).grant
   courses_granted i l = record {
-    hold = (f.filled i l).hold ∙ ap (λ (x : CourseParts). plus (hold_in x.grant) (declares p.plan.streams i)) (ready_at i l) ∙ ap (λ h. plus h (declares p.plan.streams i)) (no_rights_hold);
-    capacity = (f.filled i l).capacity ∙ ap (λ (x : CourseParts). capacity_in x.grant) (ready_at i l);
+    hold = (f.filled i l).hold ∙ ap (λ (x : CourseModel). plus (hold_in x.grant) (declares p.plan.streams i)) (ready_at i l) ∙ ap (λ h. plus h (declares p.plan.streams i)) (no_rights_hold);
+    capacity = (f.filled i l).capacity ∙ ap (λ (x : CourseModel). capacity_in x.grant) (ready_at i l);
   }
 
 -- no signal was posted
@@ -57,24 +57,24 @@ signals_granted [] q l = absurd (omega arith)
 signals_granted (x ∷ ps) zero l = refl
 signals_granted (x ∷ ps) (suc q) l = signals_granted ps q (omega arith)
 
-abbrev pub added : MachineModel → BegunParts → PoolModel → MachineModel
+abbrev pub added : MachineModel → BegunModel → PoolModel → MachineModel
 added b n free = record b { plans = b.plans ++ n ∷ []; pool = free }
 
-state_added : (b : MachineModel) (n : BegunParts) (free : PoolModel) → n.since ≡ length b.journal.log →
+state_added : (b : MachineModel) (n : BegunModel) (free : PoolModel) → n.since ≡ length b.journal.log →
     ((i : ℕ) → (course_at n i).progress ≡ fresh) → ((q : ℕ) → (carried_at n q).mark ≡ no_mark) → (whole_of (added b n free)).state ≡ started (whole_of b).state n.plan
 unfolding whole_of
 state_added b n free e u v =
-    let ns : List BegunParts = b.plans ++ n ∷ [] in
+    let ns : List BegunModel = b.plans ++ n ∷ [] in
     let a1 : map start_of ns ≡ map start_of b.plans ++ record { plan = n.plan; since = length b.journal.log } ∷ [] =
     map-append start_of b.plans (n ∷ []) ∙ ap (λ k. map start_of b.plans ++ record { plan = n.plan; since = k } ∷ []) e in
     let a2 : inner (λ n. n.courses) (λ x. x.progress) no_begun no_course ns ≡ (whole_of b).state.progress = inner-more (λ n. n.courses) (λ x. x.progress) no_begun no_course b.plans n u in
     let a3 : inner (λ n. n.signals) (λ x. x.mark) no_begun no_carried ns ≡ (whole_of b).state.marks = inner-more (λ n. n.signals) (λ x. x.mark) no_begun no_carried b.plans n v in
     cc
 
-old_begun : (b : MachineModel) (n : BegunParts) (k : ℕ) → k < length b.plans → begun_at (b.plans ++ n ∷ []) k ≡ begun_at b.plans k
+old_begun : (b : MachineModel) (n : BegunModel) (k : ℕ) → k < length b.plans → begun_at (b.plans ++ n ∷ []) k ≡ begun_at b.plans k
 old_begun b n k l = get_push_old b.plans n k no_begun l
 
-new_begun : (b : MachineModel) (n : BegunParts) → begun_at (b.plans ++ n ∷ []) (length b.plans) ≡ n
+new_begun : (b : MachineModel) (n : BegunModel) → begun_at (b.plans ++ n ∷ []) (length b.plans) ≡ n
 new_begun b n = get_push_new b.plans n no_begun
 
 plans_length : (b : MachineModel) → length (whole_of b).state.plans ≡ length b.plans
@@ -84,14 +84,14 @@ plans_length b = length-map b.plans start_of
 old_here : (b : MachineModel) (k : ℕ) → k < length (whole_of b).state.plans → k < length b.plans
 old_here b k l = subst (λ n. k < n) (plans_length b) l
 
-new_here : (b : MachineModel) (n : BegunParts) → begun_at (b.plans ++ n ∷ []) (length (whole_of b).state.plans) ≡ n
+new_here : (b : MachineModel) (n : BegunModel) → begun_at (b.plans ++ n ∷ []) (length (whole_of b).state.plans) ≡ n
 new_here b n = ap (begun_at (b.plans ++ n ∷ [])) (plans_length b) ∙ new_begun b n
 
 -- a plan more, whose streams have taken what they declare
-abbrev filled_plan : MachineModel → CheckedModel → List CourseParts → BegunParts
+abbrev filled_plan : MachineModel → CheckedModel → List CourseModel → BegunModel
 filled_plan b p courses = record (begun_of p (length b.journal.log)) { courses = courses }
 
-begun_in : (b : MachineModel) (p : CheckedModel) (courses : List CourseParts) (free : PoolModel) →
+begun_in : (b : MachineModel) (p : CheckedModel) (courses : List CourseModel) (free : PoolModel) →
     AreFilled p.plan.streams (length p.plan.streams) (ready_courses p) courses →
     pool_hold free ≡ pool_left (pool_hold b.pool) p.plan.streams (length p.plan.streams) → IsBegunIn (whole_of b) p (whole_of (added b (filled_plan b p courses) free))
 unfolding whole_of
@@ -99,23 +99,24 @@ begun_in b p courses free f h = record {
   state = state_added b (filled_plan b p courses) free refl (courses_fresh p courses f) (signals_fresh p.plan.signals);
   setup = refl;
   pool = h;
-  grants = λ k i l. ap (λ (m : BegunParts). (course_at m i).grant) (old_begun b (filled_plan b p courses) k (old_here b k l));
-  granted = λ i l. subst (λ (m : BegunParts). IsGranted (declares p.plan.streams i) (slice_index p.peaks i) (course_at m i).grant) (sym (new_here b (filled_plan b p courses))) (courses_granted p courses f i l);
-  parcels = λ k q l. ap (λ (m : BegunParts). (carried_at m q).grant) (old_begun b (filled_plan b p courses) k (old_here b k l));
-  parceled = λ q l. ap (λ (m : BegunParts). (carried_at m q).grant) (new_here b (filled_plan b p courses)) ∙ signals_granted p.plan.signals q l;
-  unfinished = λ k l. ap (λ (m : BegunParts). m.unfinished) (old_begun b (filled_plan b p courses) k (old_here b k l));
-  counted = ap (λ (m : BegunParts). m.unfinished) (new_here b (filled_plan b p courses));
+  grants = λ k i l. ap (λ (m : BegunModel). (course_at m i).grant) (old_begun b (filled_plan b p courses) k (old_here b k l));
+  granted = λ i l. subst (λ (m : BegunModel). IsGranted (declares p.plan.streams i) (slice_index p.peaks i) (course_at m i).grant) (sym (new_here b (filled_plan b p courses))) (courses_granted p courses f i l);
+  parcels = λ k q l. ap (λ (m : BegunModel). (carried_at m q).grant) (old_begun b (filled_plan b p courses) k (old_here b k l));
+  parceled = λ q l. ap (λ (m : BegunModel). (carried_at m q).grant) (new_here b (filled_plan b p courses)) ∙ signals_granted p.plan.signals q l;
+  unfinished = λ k l. ap (λ (m : BegunModel). m.unfinished) (old_begun b (filled_plan b p courses) k (old_here b k l));
+  counted = ap (λ (m : BegunModel). m.unfinished) (new_here b (filled_plan b p courses));
   running = refl;
   free = refl;
 }
 
-pub begun_from : (b w : MachineModel) (z : b ≡ w) (p : CheckedModel) (old n : BegunParts) (free : PoolModel) (since : ℕ) (plans : List BegunParts) → old ≡ begun_of p since → since ≡ length b.journal.log →
+-- where the plan is put behind the others and its streams have what they declare from the pool, it is begun
+pub begun_from : (b w : MachineModel) (z : b ≡ w) (p : CheckedModel) (old n : BegunModel) (free : PoolModel) (since : ℕ) (plans : List BegunModel) → old ≡ begun_of p since → since ≡ length b.journal.log →
     n ≡ record old { courses = n.courses } → AreFilled old.plan.streams (length old.plan.streams) old.courses n.courses →
     pool_hold free ≡ pool_left (pool_hold b.pool) old.plan.streams (length old.plan.streams) → plans ≡ b.plans ++ n ∷ [] → IsBegunIn (whole_of w) p (whole_of (record b { plans = plans; pool = free }))
 begun_from b w z p old n free since plans is at kept f h added_is =
     let is' : old ≡ begun_of p (length b.journal.log) = is ∙ ap (begun_of p) at in
-    let n_is : n ≡ record (begun_of p (length b.journal.log)) { courses = n.courses } = kept ∙ ap (λ (m : BegunParts). record m { courses = n.courses }) is' in
-    let f' : AreFilled p.plan.streams (length p.plan.streams) (ready_courses p) n.courses = subst (λ (m : BegunParts). AreFilled m.plan.streams (length m.plan.streams) m.courses n.courses) is' f in
-    let h' : pool_hold free ≡ pool_left (pool_hold b.pool) p.plan.streams (length p.plan.streams) = subst (λ (m : BegunParts). pool_hold free ≡ pool_left (pool_hold b.pool) m.plan.streams (length m.plan.streams)) is' h in
+    let n_is : n ≡ record (begun_of p (length b.journal.log)) { courses = n.courses } = kept ∙ ap (λ (m : BegunModel). record m { courses = n.courses }) is' in
+    let f' : AreFilled p.plan.streams (length p.plan.streams) (ready_courses p) n.courses = subst (λ (m : BegunModel). AreFilled m.plan.streams (length m.plan.streams) m.courses n.courses) is' f in
+    let h' : pool_hold free ≡ pool_left (pool_hold b.pool) p.plan.streams (length p.plan.streams) = subst (λ (m : BegunModel). pool_hold free ≡ pool_left (pool_hold b.pool) m.plan.streams (length m.plan.streams)) is' h in
     subst (λ (x : MachineModel). IsBegunIn (whole_of x) p (whole_of (record b { plans = plans; pool = free }))) z
-    (subst (λ (ns : List BegunParts). IsBegunIn (whole_of b) p (whole_of (record b { plans = ns; pool = free }))) (sym added_is) (subst (λ (m : BegunParts). IsBegunIn (whole_of b) p (whole_of (added b m free))) (sym n_is) (begun_in b p n.courses free f' h')))
+    (subst (λ (ns : List BegunModel). IsBegunIn (whole_of b) p (whole_of (record b { plans = ns; pool = free }))) (sym added_is) (subst (λ (m : BegunModel). IsBegunIn (whole_of b) p (whole_of (added b m free))) (sym n_is) (begun_in b p n.courses free f' h')))

@@ -196,6 +196,7 @@ steps_begin w id passage number e = elim (cases_Bool w.halted) [
   | inr runs ↦ absurd (subst IsOfStep e (step_goes w id passage runs))
 ]
 
+-- where an event is answered that a plan has begun, it is one of the plans that there are then
 pub begun_is_there : (w : State) (e : Happening) → HasBegun (happens w e)
 begun_is_there w (Step id) = steps_begin w id Through
 begun_is_there w (Lose id after) = steps_begin w id (if after then LostAfter else LostBefore)

@@ -6,10 +6,12 @@ use Rattle.sm_protocol.specs.Hand.{without_first}
 use Rattle.sm_machine.specs.Hand.{IsFirstPlace}
 
 module _ {T : Type 0} (test : T → Bool) where
+  -- where no place is the first that passes, nothing is found
   pub find_none : (xs : List T) → IsFirstPlace test xs None → find test xs ≡ None
   find_none [] h = refl
   find_none (x ∷ xs) h = rw (h 0 x (omega arith)) (find_none xs (λ k d l. h (suc k) d (omega arith)))
 
+  -- what is found stands at the first place that passes
   pub find_some : (xs : List T) (i : ℕ) (d : T) → IsFirstPlace test xs (Some i) → find test xs ≡ Some (slice_index_or xs i d)
   find_some [] i d h = absurd (let l = h.0 in omega arith)
   find_some (x ∷ xs) zero d h = rw (h.1 x) refl
@@ -18,15 +20,18 @@ module _ {T : Type 0} (test : T → Bool) where
       later : (xs : List T) (i : ℕ) → IsFirstPlace test (x ∷ xs) (Some (suc i)) → IsFirstPlace test xs (Some i)
       later xs i h = (let l = h.0 in omega arith, λ e. h.1 e, λ k e l. h.2 (suc k) e (omega arith))
 
+  -- where no place is the first that passes, no element passes
   pub any_none : (xs : List T) → IsFirstPlace test xs None → list_any test xs ≡ false
   any_none [] h = refl
   any_none (x ∷ xs) h = rw (h 0 x (omega arith)) (any_none xs (λ k d l. h (suc k) d (omega arith)))
 
+  -- where some place is the first that passes, some element passes
   pub any_some : (xs : List T) (i : ℕ) → IsFirstPlace test xs (Some i) → list_any test xs ≡ true
   any_some [] i h = absurd (let l = h.0 in omega arith)
   any_some (x ∷ xs) zero h = rw (h.1 x) refl
   any_some (x ∷ xs) (suc i) h = rw (h.2 0 x (omega arith)) (any_some xs i (let l = h.0 in omega arith, λ e. h.1 e, λ k e l. h.2 (suc k) e (omega arith)))
 
+  -- the list without its first element that passes is the one without what stands at that place
   pub without_some : (xs : List T) (i : ℕ) → IsFirstPlace test xs (Some i) → without_first test xs ≡ remove xs i
   without_some [] i h = absurd (let l = h.0 in omega arith)
   without_some (x ∷ xs) zero h = rw (h.1 x) refl
@@ -39,6 +44,7 @@ module _ {T : Type 0} where
   insert_removed (x ∷ xs) zero d l = refl
   insert_removed (x ∷ xs) (suc i) d l = ap (λ ys. x ∷ ys) (insert_removed xs i d (omega arith))
 
+  -- so is what was taken out and left None in its place
   pub set_back : (xs : List (Option T)) (i : ℕ) (x : T) → slice_index_or xs i None ≡ Some x → slice_set (slice_set xs i None) i (Some x) ≡ xs
   set_back [] i x e = refl
   set_back (y ∷ ys) zero x e = ap (λ z. z ∷ ys) (sym e)

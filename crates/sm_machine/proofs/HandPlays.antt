@@ -1,6 +1,6 @@
 -- Lists of events, played with a hand.
 use Rattle.std.proofs.Common.{◌≡◌, ◌≢◌, ◌<◌, ◌≤◌, ◌+◌, ◌-◌, ◌++◌, ◌∷◌, [], ℕ, zero, suc, List, Option, Some, None, length, map, refl, sym, ap, ◌∙◌, subst, arith, take, drop, inl, inr}
-use Rattle.std.specs.Prelude.{slice_index_or, min, IfSome, ◌^◌}
+use Rattle.std.specs.Prelude.{slice_index_or, min, IfSome, ◌^◌, ◌==◌, count_by}
 use Rattle.std.specs.List.{AllByRecursion, sum_by}
 use Rattle.std.proofs.lemmas.Bool.{cases_eq, cases_lt}
 use Rattle.std.proofs.lemmas.List.{get_or_default}
@@ -13,7 +13,7 @@ use Rattle.sm_protocol.specs.declared.event.Played.{Played}
 use Rattle.sm_protocol.specs.Steps.{Outcome, Answered, Refused}
 use Rattle.sm_protocol.specs.Safe.{IsSafe, SomeCanStep, SomeCanStepOrSpent}
 use Rattle.sm_protocol.specs.Hand.{Game, play, plays, played_events}
-use Rattle.sm_protocol.specs.Laws.{IsReached, IsCheckedPlan, NamesKnown, AreChecked, IsPlayed, AllFit, AsksNoLoss, HasNoLost}
+use Rattle.sm_protocol.specs.Laws.{IsReached, IsCheckedPlan, NamesKnown, AreChecked, IsPlayed, AllFit, AsksNoLoss, HasNoLost, effect_numbers}
 use Rattle.sm_protocol.proofs.Plays.{plays_are_safe}
 use Rattle.sm_protocol.proofs.Whole.{reached_keeps}
 use Rattle.sm_machine.specs.declared.hand.Hand as declared
@@ -22,10 +22,12 @@ use Rattle.sm_machine.specs.State.{whole_of, state_of}
 use Rattle.sm_machine.specs.Hand.{hand_plan, hand_of, game_of, AreFor, AreLeft, token_count, HasHandRoom, IsTurn}
 use Rattle.sm_machine.proofs.HandStarts.{plan_there, beyond}
 
+-- the numbers of a machine's state are those of its configuration
 pub sizes_are : (m : MachineModel) → (state_of m).sizes ≡ sizes_of m.placement.setup
 unfolding whole_of
 sizes_are m = refl
 
+-- machines of one configuration have the same numbers
 pub same_sizes : (m n : MachineModel) → n.placement.setup ≡ m.placement.setup → (state_of n).sizes ≡ (state_of m).sizes
 same_sizes m n e = sizes_are n ∙ ap sizes_of e ∙ sym (sizes_are m)
 
@@ -46,9 +48,11 @@ pub names_at : (m n : MachineModel) (es : List Event) (i : ℕ) (e : Event) → 
 names_at m n es i e all l is s =
     subst (λ c. NamesKnown c e) (sym (same_sizes m n s)) (subst (NamesKnown (state_of m).sizes) (sym is) (known_at (NamesKnown (state_of m).sizes) es i e all l))
 
+-- where a hand's plans were checked for the machine's configuration, so were those that are left
 pub plans_for : (m n : MachineModel) (h k : declared.Hand) → AreFor m.placement.setup h.plans.items → n.placement.setup ≡ m.placement.setup → AreLeft h.plans.items k.plans.items → AreFor n.placement.setup k.plans.items
 plans_for m n h k for s left place p e = for place p (left place p e) ∙ sym s
 
+-- each plan that is left after two changes of a hand was there before both
 pub left_after : (h k j : declared.Hand) → AreLeft h.plans.items k.plans.items → AreLeft k.plans.items j.plans.items → AreLeft h.plans.items j.plans.items
 left_after h k j a b place p e = a place p (b place p e)
 
@@ -69,9 +73,11 @@ module _ (m n : MachineModel) (h k : declared.Hand) (e : Event) (a : Played) (t 
   here : drop i es ≡ e ∷ drop (i + 1) es
   here = drop_here es i e l is
 
+  -- after one event more, the rest of the list still leads to the game that the whole list leads to
   pub played_more : (g : Game) → play (drop i es) (game_of m h) ≡ play es g → play (drop (i + 1) es) (game_of n k) ≡ play es g
   played_more g was = ap (λ o. play (drop (i + 1) es) o.1) (sym t.turn) ∙ ap (λ xs. play xs (game_of m h)) (sym here) ∙ was
 
+  -- and the answers so far, with those of the rest, are still those of the whole list
   pub told_more : (told now : List Played) (g : Game) → now ≡ told ++ a ∷ [] → map Answered told ++ plays (drop i es) (game_of m h) ≡ plays es g →
       map Answered now ++ plays (drop (i + 1) es) (game_of n k) ≡ plays es g
   told_more told now g f was =
@@ -111,24 +117,35 @@ module _ (m : MachineModel) (h : declared.Hand) (es : List Event) (r : (setup : 
       (subst (λ c. AreChecked c (hand_of h)) (sym same) (plans_checked m h for checked))
       (subst (λ c. AllByRecursion (NamesKnown c) (take n es)) (sym same) (known_front (NamesKnown (state_of m).sizes) es n names))
 
+  -- what the hand gives for the events of a front fits the configuration
   pub fronts_fit : (n : ℕ) → AllFit (state_of m).sizes (played_events (take n es) (game_of m h))
   fronts_fit n = subst (λ c. AllFit c (played_events (take n es) (game_of m h))) same (front n).fit
 
+  -- the state after each front is one that events lead to, from an opening of one configuration
   pub fronts_reached : (setup : Setup) × ((n : ℕ) → IsReached setup (play (take n es) (game_of m h)).state)
   fronts_reached = (r.0, λ n. (front n).reached)
 
+  -- the plans that the hand has after a front were checked for these numbers
   pub fronts_checked : (n : ℕ) → AreChecked (state_of m).sizes (play (take n es) (game_of m h)).hand
   fronts_checked n = subst (λ c. AreChecked c (play (take n es) (game_of m h)).hand) same (front n).checked
 
+  -- no call of a front is refused
   pub fronts_served : (n : ℕ) → AllByRecursion (λ (o : Outcome). o ≢ Refused) (plays (take n es) (game_of m h))
   fronts_served n = (front n).served
 
+  -- no number of a call has its effect twice along a front
+  pub fronts_once : (n number : ℕ) → count_by (λ k. k == number) (effect_numbers (played_events (take n es) (game_of m h)) (state_of m)) ≤ 1
+  fronts_once n number = (front n).once number
+
+  -- the state after a front is safe
   pub fronts_safe : (n : ℕ) → IsSafe (play (take n es) (game_of m h)).state
   fronts_safe n = (front n).safe
 
+  -- after a front some stream of each plan that isn't done can step, or has spent its allowance
   pub fronts_onward : (n : ℕ) → SomeCanStepOrSpent (play (take n es) (game_of m h)).state
   fronts_onward n = (front n).onward
 
+  -- where no unfinished stream had a lost call, and none is asked for, some stream of each such plan can step
   pub fronts_unlost : HasNoLost (state_of m) → (n : ℕ) → AllByRecursion AsksNoLoss (take n es) → SomeCanStep (play (take n es) (game_of m h)).state
   fronts_unlost none n asked = (front n).unlost none asked
 
@@ -145,6 +162,7 @@ plans_more xs i x is l before here k p m e = elim (cases_eq k i) [
     by_place None q c = absurd (cc)
     by_place (Some r) q c = let same : r ≡ p = cc in subst (λ (r : CheckedModel). IsCheckedPlan (sizes_of r.setup) r.plan) same c
 
+-- where all places of the list were gone through, each plan in it was found to pass the check
 pub plans_all : (xs : List (Option CheckedModel)) (i : ℕ) → length xs ≤ i →
     ((k : ℕ) (p : CheckedModel) → k < i → slice_index_or xs k None ≡ Some p → IsCheckedPlan (sizes_of p.setup) p.plan) →
     (k : ℕ) (p : CheckedModel) → slice_index_or xs k None ≡ Some p → IsCheckedPlan (sizes_of p.setup) p.plan
@@ -153,6 +171,7 @@ plans_all xs i l all k p e = elim (cases_lt k i) [
   | inr above ↦ absurd (let none = beyond xs k (omega arith) in cc)
 ]
 
+-- a count of tokens that stays below 2^63 is no less than the tokens of the plans it has come to
 pub tokens_more : (xs : List (Option CheckedModel)) (i room now : ℕ) (x : Option CheckedModel) → x ≡ slice_index_or xs i x → i < length xs → now ≡ min (room + token_count x) (2 ^ 64 - 1) →
     (room < 2 ^ 63 → sum_by token_count (take i xs) ≤ room) → now < 2 ^ 63 → sum_by token_count (take (i + 1) xs) ≤ now
 tokens_more xs i room now x is l sum before few =

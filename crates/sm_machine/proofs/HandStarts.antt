@@ -48,6 +48,7 @@ second : (a b : Bool) → (a || b) ≡ false → b ≡ false
 second true b e = absurd (cc)
 second false b e = e
 
+-- where a plan begins, fewer than 2^32 plans were begun before it
 pub number_fits : (w : State) (plan : PlanModel) (n : ℕ) → (happens w (Begin plan)).0 ≡ Answered (played.Begun n) → length w.plans < 2 ^ 32
 number_fits w plan n e =
     let few = ltb-false 4294967295 (length w.plans) (second (nat_le 16 (running_plans w)) _ (not_all_by w plan n (first_holding w.sizes w.place (pool w) plan) e)) in
@@ -75,11 +76,13 @@ tokens_are plan n ts a = tokens_from plan 0 n ts a.count (λ i d l. a.each i d l
 
 -- ---- plans in a hand
 
+-- the protocol's hand has at each place the plan of what the machine's hand has there
 pub plan_there : (xs : List (Option CheckedModel)) (i : ℕ) → slice_index_or (map hand_plan xs) i None ≡ hand_plan (slice_index_or xs i None)
 plan_there [] i = refl
 plan_there (x ∷ xs) zero = refl
 plan_there (x ∷ xs) (suc i) = plan_there xs i
 
+-- past the end of a list there is None
 pub beyond : {T : Type 0} (xs : List (Option T)) (i : ℕ) → length xs ≤ i → slice_index_or xs i None ≡ None
 beyond [] i l = refl
 beyond (x ∷ xs) zero l = absurd (omega arith)

@@ -145,6 +145,7 @@ arrived m n h k s v a left answer state setup of is o =
     with_tickets m n h k (event.Arrive s v) (Arrive s v) a refl answer state setup o
     (ap (λ ts. record (hand_of h) { tickets = ts }) (is ∙ behind_is h.tickets.items (tickets_of s v a) left of))
 
+-- where the hand has no ticket of the place, passing it on is Unknown and changes nothing
 pub no_ticket : (m : MachineModel) (h : declared.Hand) (place : ℕ) → IsFirstPlace (λ t. t.place == place) h.tickets.items None → IsTurn m h (event.PassOn place) played.Unknown m h
 no_ticket m h place f = nothing_given m h (event.PassOn place) (ap (option_map PassOn) (find_none (λ t. t.place == place) h.tickets.items f))
 
@@ -168,6 +169,7 @@ module _ (m n : MachineModel) (h k : declared.Hand) (place at : ℕ) (t : Ticket
       let same : x ≡ t = cc in
       ap (λ ts. record (hand_of h) { tickets = ts }) (ap (insert (remove h.tickets.items at) at) (same ∙ is) ∙ insert_removed h.tickets.items at t f.0)
 
+  -- a request is passed on as the protocol says: its ticket is spent, with one for a new pass, or put back
   pub passed_on : (a : Played) (left : Option Ticket) → (happens (state_of m) (PassOn t)).0 ≡ Answered a → state_of n ≡ (happens (state_of m) (PassOn t)).1 → n.placement.setup ≡ m.placement.setup →
       option_to_list left ≡ (if spends a then tickets_of t.shard t.target a else t ∷ []) →
       k.tickets.items ≡ (if spends a then put_behind (remove h.tickets.items at) left else put_at (remove h.tickets.items at) at left) → HasOtherTickets h k → IsTurn m h (event.PassOn place) a n k
@@ -186,6 +188,7 @@ pub denied : (m n : MachineModel) (h : declared.Hand) (v : ℕ) (why : Denied) �
     IsTurn m h (event.Approve v) (played.Denied why) n h
 denied m n h v why answer state setup = given_kept m n h (event.Approve v) (Approve v) (played.Denied why) refl answer state setup refl
 
+-- where the hand has no permit of the server, the end of its restart is Unknown and changes nothing
 pub no_permit : (m : MachineModel) (h : declared.Hand) (v : ℕ) → IsFirstPlace (λ permit. permit == v) h.permits.items None → IsTurn m h (event.Done v) played.Unknown m h
 no_permit m h v f = nothing_given m h (event.Done v) (ap (λ t. if t then Some (Done v) else None) (any_none (λ permit. permit == v) h.permits.items f))
 
@@ -205,6 +208,7 @@ module _ (m n : MachineModel) (h k : declared.Hand) (v at : ℕ) (f : IsFirstPla
   not_restarted answer state items =
       with_permits m n h k (event.Done v) (Done v) played.Unknown permit_given answer state setup o (ap (λ ps. record (hand_of h) { permits = ps }) items)
 
+-- the end of a restart brings the server up, and spends its first permit
 pub restarted_turn : (m n : MachineModel) (h k : declared.Hand) (v at : ℕ) (f : IsFirstPlace (λ permit. permit == v) h.permits.items (Some at)) (p : ℕ) → p ≡ slice_index_or h.permits.items at p →
     (happens (state_of m) (Done p)).0 ≡ Answered played.Up → state_of n ≡ (happens (state_of m) (Done p)).1 → n.placement.setup ≡ m.placement.setup → k.permits.items ≡ remove h.permits.items at → HasOtherPermits h k →
     IsTurn m h (event.Done v) played.Up n k
@@ -217,6 +221,7 @@ pub ticket_left : (a b : Played) (left : Option Ticket) (t : Ticket) → option_
     option_to_list left ≡ (if spends a then tickets_of t.shard t.target a else t ∷ [])
 ticket_left a b left t e same = subst (λ x. option_to_list left ≡ (if spends x then tickets_of t.shard t.target x else t ∷ [])) (sym same) e
 
+-- and where it is put: behind the others where the ticket was spent, and else in its old place
 pub put_so : (spent : Bool) (b : Bool) (old removed : List Ticket) (at : ℕ) (left : Option Ticket) (now : List Ticket) → spent ≡ b → old ≡ removed →
     now ≡ (if spent then put_behind old left else put_at old at left) → now ≡ (if b then put_behind removed left else put_at removed at left)
 put_so spent b old removed at left now e f g = subst (λ x. now ≡ (if x then put_behind removed left else put_at removed at left)) e (subst (λ xs. now ≡ (if spent then put_behind xs left else put_at xs at left)) f g)

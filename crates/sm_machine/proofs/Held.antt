@@ -22,8 +22,10 @@ module _ (b w : MachineModel) (z : b ≡ w) (p : CheckedModel) (same : p.setup �
   unfolding whole_of
   seen = ap (λ (m : MachineModel). first_holding (sizes_of p.setup) (place_of m.placement) (pool_hold m.pool) p.plan) z ∙ ap (λ s. first_holding (sizes_of s) (place_of w.placement) (pool_hold w.pool) p.plan) same
 
+  -- where a plan is admitted, the first holding that the whole gives is none
   pub not_held : IsAdmitted (sizes_of p.setup) (place_of b.placement) (pool_hold b.pool) p.plan → None ≡ first_holding (whole_of w).state.sizes (whole_of w).state.place (whole_of w).pool p.plan
   not_held a = sym (decides.none.1 a) ∙ seen
 
+  -- what holds a plan up is the first holding that the whole gives
   pub held_up : (why : Holding) → IsHolding (sizes_of p.setup) (place_of b.placement) (pool_hold b.pool) p.plan why → Some why ≡ first_holding (whole_of w).state.sizes (whole_of w).state.place (whole_of w).pool p.plan
   held_up why h = sym ((decides.some why).1 h) ∙ seen

@@ -7,6 +7,7 @@ use Rattle.sm_machine.specs.PlansFall.{length-in_turn}
 pub odd_half : (n : ℕ) → n % 2 ≡ 1 → n ≡ n / 2 + n / 2 + 1
 odd_half n e = omega arith
 
+-- an even place but 0 is twice its half less one, and two
 pub even_half : (n : ℕ) → (n % 2 ≡ 1 → ⊥) → (n ≡ 0 → ⊥) → n ≡ (n / 2 - 1) + (n / 2 - 1) + 2
 even_half n e z = omega arith
 
@@ -85,37 +86,46 @@ module _ {X : Type 0} where
     pub more : length xs ≤ length ys + 1
     pub total : length d ≡ length xs + length ys + 1
 
+  -- an item before two lists in turn is such a list, where their lengths are so
   pub fork_at : {d xs ys : List X} {x : X} → x ∷ in_turn xs ys ≡ d → (length ys ≤ length xs) × (length xs ≤ length ys + 1) → AtFork d x xs ys
   fork_at {d} {xs} {ys} {x} e b =
       let l : length (x ∷ in_turn xs ys) ≡ length d = ap length e in
       record { is = sym e; less = b.0; more = b.1; total = omega (arith, l, length-in_turn xs ys) }
 
+  -- at place 0 stands the item
   pub get_here : {d xs ys : List X} {x : X} → AtFork d x xs ys → (n : ℕ) (o : X) → n ≡ 0 → get_or d n o ≡ x
   get_here f zero o e = rw f.is refl
   get_here f (suc n) o e = absurd (omega arith)
 
+  -- at place 2 j + 1 stands what the first list has at j
   pub get_odd : {d xs ys : List X} {x : X} → AtFork d x xs ys → (n j : ℕ) (o : X) → n ≡ j + j + 1 → get_or d n o ≡ get_or xs j o
   get_odd f zero j o e = absurd (omega arith)
   get_odd {d} {xs} {ys} f (suc n) j o e = rw f.is (get-first xs ys n j o f.less f.more (omega arith))
 
+  -- at place 2 j + 2 stands what the second list has at j
   pub get_even : {d xs ys : List X} {x : X} → AtFork d x xs ys → (n j : ℕ) (o : X) → n ≡ j + j + 2 → get_or d n o ≡ get_or ys j o
   get_even f zero j o e = absurd (omega arith)
   get_even {d} {xs} {ys} f (suc n) j o e = rw f.is (get-second xs ys n j o f.less f.more (omega arith))
 
+  -- a write at place 0 is one to the item
   pub set_here : {d xs ys : List X} {x : X} → AtFork d x xs ys → (n : ℕ) (v : X) → n ≡ 0 → v ∷ in_turn xs ys ≡ set d n v
   set_here f zero v e = rw f.is refl
   set_here f (suc n) v e = absurd (omega arith)
 
+  -- a write at place 2 j + 1 is one to the first list at j
   pub set_odd : {d xs ys : List X} {x : X} → AtFork d x xs ys → (n j : ℕ) (v : X) → n ≡ j + j + 1 → x ∷ in_turn (set xs j v) ys ≡ set d n v
   set_odd f zero j v e = absurd (omega arith)
   set_odd {d} {xs} {ys} {x} f (suc n) j v e = rw f.is (ap (λ zs. x ∷ zs) (sym (set-first xs ys n j v f.less f.more (omega arith))))
 
+  -- a write at place 2 j + 2 is one to the second list at j
   pub set_even : {d xs ys : List X} {x : X} → AtFork d x xs ys → (n j : ℕ) (v : X) → n ≡ j + j + 2 → x ∷ in_turn xs (set ys j v) ≡ set d n v
   set_even f zero j v e = absurd (omega arith)
   set_even {d} {xs} {ys} {x} f (suc n) j v e = rw f.is (ap (λ zs. x ∷ zs) (sym (set-second xs ys n j v f.less f.more (omega arith))))
 
+  -- where both lists have as many items, one more at the end is one more in the first
   pub push_odd : {d xs ys : List X} {x : X} → AtFork d x xs ys → (v : X) → length xs ≡ length ys → x ∷ in_turn (xs ++ v ∷ []) ys ≡ d ++ v ∷ []
   push_odd {d} {xs} {ys} {x} f v e = rw f.is (ap (λ zs. x ∷ zs) (sym (push-first xs ys v e)))
 
+  -- where the first list has one more, one more at the end is one more in the second
   pub push_even : {d xs ys : List X} {x : X} → AtFork d x xs ys → (v : X) → length xs ≡ length ys + 1 → x ∷ in_turn xs (ys ++ v ∷ []) ≡ d ++ v ∷ []
   push_even {d} {xs} {ys} {x} f v e = rw f.is (ap (λ zs. x ∷ zs) (sym (push-second xs ys v e)))

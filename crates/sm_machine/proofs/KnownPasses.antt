@@ -120,6 +120,7 @@ known_kept w e p fits h = of_happens w (λ e o. FitsConfig w.sizes e → AreKnow
         let f = same_Some _ t b in
         (sym (ap (λ (x : Ticket). x.shard) f), sym (ap (λ (x : Ticket). x.target) f))
 
+-- in each state that events lead to, the passes in the log are of known shards, to known servers
 pub passes_known : (setup : Setup) (w : State) → IsReached setup w → AreKnown w.sizes w.log
 passes_known setup w reached =
     subst (λ c. AreKnown c w.log) (sym (same_sizes setup w reached))

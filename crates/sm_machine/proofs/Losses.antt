@@ -174,6 +174,7 @@ module _ (w : State) (id : StreamId) where
       untried = λ same. (refl, refl);
     }
 
+    -- a step that tries a call is one over the link that was asked once, under the try's number
     pub over_tried : (old new : L) (p : Passage) → makes_try w id ≡ true → asked old id (call_number w (progress_of w id)) p new → step w id p ≡ (Answered answer, v) → IsStepOver asked old new w id answer v
     over_tried old new p some was e = record {
       passage = p;
@@ -186,6 +187,7 @@ module _ (w : State) (id : StreamId) where
     pub count_untried : (n : ℕ) → step w id Through ≡ (Answered answer, v) → n ≡ n + bit (is_lost_answer answer)
     count_untried n e = let l = ap bit (step_quiet w id answer (ap (λ z. z.0) e)) in omega arith
 
+    -- where a step tries a call, a count that rises where the try is lost rises where Lost is answered
     pub count_tried : (n m : ℕ) (p : Passage) → makes_try w id ≡ true → m ≡ n + bit (is_lost p) → step w id p ≡ (Answered answer, v) → m ≡ n + bit (is_lost_answer answer)
     count_tried n m p some l e = l ∙ ap (λ t. n + bit t) (sym (try_says some p answer (ap (λ z. z.0) e)))
 

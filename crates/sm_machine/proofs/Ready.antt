@@ -67,6 +67,7 @@ module _ (x : Whole) (g : IsWorking x) (id : StreamId) where
   v : IsKept w
   v = kept g.setup w g.reached
 
+  -- a stream that was begun and has not made its end is running
   pub runs : is_begun w id ≡ true → (progress_of w id).done ≡ false → is_running w id ≡ true
   runs b d = and_from (is_begun w id) (not (progress_of w id).done) b (ap not d)
 
@@ -92,6 +93,7 @@ module _ (x : Whole) (g : IsWorking x) (id : StreamId) where
       let n = begun w id b.begun in
       not_posted w.sizes w.place (plan_at w id.plan) (w.progress id.plan) (w.marks id.plan) (running w v id n) id.stream n.stream q b.next_is
 
+  -- the signal that a stream waits for is one of its plan, and was not awaited before
   pub waited_signal : (q : ℕ) → IsBefore w id (Some (Wait q)) → (q < signal_count w id.plan) × ((w.marks id.plan q).awaited ≡ false)
   waited_signal q b =
       let n = begun w id b.begun in
@@ -108,6 +110,7 @@ module _ (x : Whole) (g : IsWorking x) (id : StreamId) where
         go None e = absurd (let f = ap is_some e in let h = ap not d in cc)
 
     module _ (i : Instr) (b : IsBefore w id (Some i)) (own : IsOwn i) (here : (progress_of w id).ahead ≡ false) where
+      -- the grant can make the trade of the next instruction, which leaves what the stream holds behind it
       pub can_trade : CanTrade w.sizes i grant × ((h : Option HoldModel) → IsTradedBy w.sizes i grant h → hold_in h ≡ hold_behind w id)
       can_trade =
           let s = some_grant b.running in
@@ -122,6 +125,7 @@ module _ (x : Whole) (g : IsWorking x) (id : StreamId) where
                 λ h t. t.hold ∙ c.left,
               )
 
+    -- all that the trade asks for is there, at an instruction that is no signal, no wait and not ahead
     pub ready_to_trade : (i : Instr) → IsBefore w id (Some i) → IsOwn i → (progress_of w id).ahead ≡ false → IsReadyToTrade x id i
     ready_to_trade i b own here =
         record { begun = b.begun; running = b.running; known = (can_reach w v id i b).shard; own = own; can = (can_trade i b own here).0 }
@@ -130,6 +134,7 @@ module _ (x : Whole) (g : IsWorking x) (id : StreamId) where
     trade_unless i b own true e = tt
     trade_unless i b own false e = (can_trade i b own e).0
 
+    -- all that a call asks for is there, where the stream tries it
     pub ready_to_call : (i : Instr) (c : ServerCall) → IsTry w id i c → (progress_of w id).tries < 2 ^ 64 - 1 → IsReadyToCall x id i c
     ready_to_call i c t few =
         let safe = is_safe w v (has_room g.setup w g.reached) in
@@ -151,11 +156,13 @@ module _ (x : Whole) (g : IsWorking x) (id : StreamId) where
 
     -- ---- publications
 
+    -- all that a publish asks for is there, with the server that it lists under the shard's lead
     pub ready_to_publish : (s : ℕ) → IsBefore w id (Some (Publish s)) → IsReadyToPublish w id s (to_list (leads_of w.sizes w.place s))
     ready_to_publish s b =
         let c = can_publish g.setup w g.reached id s b in
         record { go = ready_to_go (Some (Publish s)) b; shard = c.shard; listed = c.known; version = c.version }
 
+    -- all that an unlist asks for is there
     pub ready_to_unlist : (s : ℕ) → IsBefore w id (Some (Unlist s)) → IsReadyToPublish w id s None
     ready_to_unlist s b =
         let c = can_unlist g.setup w g.reached id s b in
@@ -171,6 +178,7 @@ module _ (x : Whole) (g : IsWorking x) (id : StreamId) where
 
     -- ---- signals
 
+    -- all that a signal asks for is there; it leaves what the stream holds behind it and the parcel under way
     pub ready_to_post : (q : ℕ) → IsBefore w id (Some (Signal q)) → IsReadyToPost x id q
         × ((h o : Option HoldModel) → hold_in h ≡ minus (hold_in grant) (parcel_at w id.plan q) → hold_in o ≡ plus (hold_in (x.parcels id.plan q)) (parcel_at w id.plan q) →
         (hold_in h ≡ hold_behind w id) × (hold_in o ≡ hold_of (parcel_at w id.plan q)))
@@ -199,6 +207,7 @@ module _ (x : Whole) (g : IsWorking x) (id : StreamId) where
               λ h n i j. (i ∙ ap (λ o. minus (hold_in o) (parcel_at w id.plan q)) e ∙ c.left, j ∙ ap (λ o. plus (hold_in o) (parcel_at w id.plan q)) f ∙ c.sent),
             )
 
+    -- all that a wait for a posted signal asks for is there; it leaves what the stream holds behind it
     pub ready_to_take : (q : ℕ) → IsBefore w id (Some (Wait q)) → (w.marks id.plan q).posted ≡ true → IsGrantInOrder (x.parcels id.plan q) →
         is_some (x.parcels id.plan q) ≡ not (w.marks id.plan q).awaited → IsReadyToTake x id q
         × ((h : Option HoldModel) → hold_in h ≡ plus (hold_in grant) (rights_in (x.parcels id.plan q)) → hold_in h ≡ hold_behind w id)
@@ -232,6 +241,7 @@ module _ (x : Whole) (g : IsWorking x) (id : StreamId) where
 
     -- ---- ends
 
+    -- all that the end of a stream asks for is there
     pub ready_to_end : IsBefore w id None → IsReadyToEnd x id
     ready_to_end b =
         let n = begun w id b.begun in

@@ -8,7 +8,7 @@ use Rattle.std.proofs.lemmas.List.Folds.{list_any-append}
 use Rattle.sm_protocol.specs.declared.event.Logged.{Logged}
 use Rattle.sm_protocol.specs.Ticket.{Ticket, passes, pass_of, is_pass_on, is_passed_on, same_ticket, is_open_ticket}
 use Rattle.sm_protocol.proofs.Scripts.{passes_push, length_passes}
-use Rattle.sm_machine.specs.Journal.{JournalParts, flag_at, AreRaised, IsIndexed}
+use Rattle.sm_machine.specs.Journal.{JournalModel, flag_at, AreRaised, IsIndexed}
 
 or_false : (b : Bool) → (b || false) ≡ b
 or_false true = refl
@@ -18,6 +18,7 @@ or_false false = refl
 passed_on_push : (log : List Logged) (x : Logged) (place : ℕ) → is_passed_on (log ++ x ∷ []) place ≡ (is_passed_on log place || is_pass_on place x.event)
 passed_on_push log x place = list_any-append (λ (y : Logged). is_pass_on place y.event) log (x ∷ []) ∙ ap (λ b. is_passed_on log place || b) (or_false (is_pass_on place x.event))
 
+-- what stands beside a log is right of it with one event more, its pass put behind and its flag raised
 pub indexed_push : (log grown : List Logged) (room : ℕ) (tickets more : List (Option Ticket)) (flags raised all : List Bool) (x : Logged) (new : Option Ticket) →
     IsIndexed log room tickets flags → length log < room → new ≡ pass_of tickets x.answer x.event → grown ≡ log ++ x ∷ [] → more ≡ tickets ++ new ∷ [] →
     length raised ≡ length flags → AreRaised x.event flags raised → all ≡ raised → IsIndexed grown room more all
@@ -38,7 +39,7 @@ pass_below log n t e = elim (cases_lt n (length log)) [
 ]
 
 -- a ticket is open where its place has just its pass and no flag
-pub open_by_flag : (parts : JournalParts) (t pass : Ticket) (log : List Logged) (room n : ℕ) (tickets : List (Option Ticket)) (flags : List Bool) (flag : Bool) →
+pub open_by_flag : (parts : JournalModel) (t pass : Ticket) (log : List Logged) (room n : ℕ) (tickets : List (Option Ticket)) (flags : List Bool) (flag : Bool) →
     IsIndexed log room tickets flags → log ≡ parts.log → n ≡ t.place → slice_index_or (passes parts.log) n None ≡ Some pass → same_ticket pass t ≡ true → flag ≡ get_or flags n flag →
     not flag ≡ is_open_ticket parts.log t
 open_by_flag parts t pass log room n tickets flags flag h e at p same read =

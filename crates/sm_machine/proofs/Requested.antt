@@ -52,6 +52,7 @@ module _ (x : Whole) (g : IsWorking x) (s v : ℕ) (sent : Option Ticket) (e : E
       let is : x.free ≡ free_places x.state = g.counted.places in
       ne_eqb (free_places x.state) 0 (λ h. f (is ∙ h))
 
+  -- where no place of the log is free, a request is answered that the log is full, and changes nothing
   pub asked_full : x.free ≡ 0 → IsAsked x s v sent e played.LogFull x
   asked_full f = record { outcome = ap by_room (none_free f); reply = tt; setup = refl; working = g }
 
@@ -81,6 +82,7 @@ module _ (x : Whole) (g : IsWorking x) (s v : ℕ) (sent : Option Ticket) (e : E
 
 -- ---- what is asked
 
+-- what comes directly to a known server, for a known shard, is a request
 pub arrives : (w : State) (s v : ℕ) → s < w.sizes.shards → v < w.sizes.servers → IsRequest w s v None (event.Arrive s v)
 arrives w s v a b = record { shard = a; server = b; made = Arrive s v; fits = (a, b); is = refl }
 
@@ -88,6 +90,7 @@ module _ (x : Whole) (g : IsWorking x) (t : Ticket) where
   abbrev by_ticket : Bool → Outcome × State
   by_ticket b = if b then requested x.state t.shard t.target (Some t) (event.PassOn t.place) else unchanged x.state played.Unknown
 
+  -- what is passed on with an open ticket is a request for its shard, which comes to its target
   pub passes_on : is_open_ticket x.state.log t ≡ true → IsRequest x.state t.shard t.target (Some t) (event.PassOn t.place)
   passes_on o =
       let known = passes_known g.setup x.state g.reached t.place t (open_ticket x.state.log t o).pass in

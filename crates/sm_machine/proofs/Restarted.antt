@@ -34,9 +34,11 @@ module _ (x : Whole) (g : IsWorking x) (u : ℕ) where
     -- ---- the end of a restart
 
     module _ (down : w.place.down u ≡ true) where
+      -- at the end of a restart, all that every machine keeps is kept
       pub restarted_working : IsWorking (restarted_whole x u)
       restarted_working = working_restarted x g u known down
 
+      -- the pool can take a spare replica more of each shard that is live at the server once it is up
       pub can_get_live : CanGetLive x.pool (live_there (set_down w.place u false) u) w.sizes.shards
       can_get_live = subst (λ h. CanGetLive h (live_there (set_down w.place u false) u) w.sizes.shards) (sym g.tied.pool) (can_get g.setup w g.reached u known down)
 
@@ -65,15 +67,18 @@ module _ (x : Whole) (g : IsWorking x) (u : ℕ) where
       no_denial : denial w.sizes w.place (pool w) (engaged w u) (free_places w) u ≡ None
       no_denial = sym same_denial ∙ none
 
+      -- where nothing is against the restart, the pool has a spare replica of each shard that is live there
       pub can_pay_live : CanPayLive x.pool (live_there w.place u) w.sizes.shards
       can_pay_live = subst (λ h. CanPayLive h (live_there w.place u) w.sizes.shards) (sym g.tied.pool) (can_pay g.setup w g.reached u known no_denial)
 
+      -- and the log has a place for the approval
       pub room_to_approve : length w.log < w.room
       room_to_approve =
           let t = granted w.sizes w.place (pool w) (engaged w u) (free_places w) u no_denial in
           let enough = t.places in
           omega arith
 
+      -- the restart is approved as the protocol says, and all that every machine keeps is kept
       pub approved_so : (y : Whole) → y ≡ approved_whole x u → (happens w (Approve u) ≡ (Answered played.Approved, y.state)) × IsWorking y
       approved_so y e = subst (λ z. (happens w (Approve u) ≡ (Answered played.Approved, z.state)) × IsWorking z) (sym e) (ap (approved w u) no_denial, working_approved x g u known no_denial)
 

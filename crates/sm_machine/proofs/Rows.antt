@@ -61,6 +61,7 @@ cell_more rows cells s v x h e r u = ap (λ (f : ℕ → ℕ → Cell). f r u) (
       | inr a ↦ put2-apart (cells_of_rows rows) s v x r u a ∙ apart rows cells s v r u h (λ b. absurd (a b))
     ]
 
+-- with a row for the cell of this pair, the rows name the cells before the pair behind it
 pub cell_pushed : (rows more : List NamedCell) (cells : ℕ → ℕ → Cell) (s v u : ℕ) (x : Cell) → AreCellsBefore rows cells s v → u ≡ v → x ≡ cells s u → more ≡ rows ++ (s, u, x) ∷ [] →
     AreCellsBefore more cells s (v + 1)
 cell_pushed rows more cells s v u x h e f m = rw (m, e) (cell_more rows cells s v x h (f ∙ ap (cells s) e))

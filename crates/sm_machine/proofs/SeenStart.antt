@@ -39,15 +39,19 @@ module _ (m : MachineModel) (p q : CheckedModel) (same : q ≡ p) (setup : p.set
   no_fault : begin_fault (whole_of m) p.plan ≡ None
   no_fault = ap (λ (r : CheckedModel). begin_fault (whole_of m) r.plan) (sym same) ∙ sym f ∙ none
 
+  -- where nothing is against the start, 2^32 - 1 plans at most were begun before
   pub few_here : length (whole_of m).state.plans ≤ 4294967295
   few_here = few_by (whole_of m) p.plan no_fault
 
+  -- and fewer than 16 of them are unfinished
   pub place_here : length (unfinished_below (whole_of m).unfinished (length (whole_of m).state.plans)) < 16
   place_here = place_left (whole_of m) g (runs_by (whole_of m) p.plan no_fault)
 
+  -- and each stream in its turn can take what it declares out of the pool
   pub can_fill_here : CanFillAll (begun_of p 0) (whole_of m).pool
   can_fill_here = can_fill_all (whole_of m) g p checked no_fault (rooms_of m p setup rooms)
 
+  -- once the plan is begun, its places of the log set aside and it counted as unfinished, it has started
   pub started_so : (y z : Whole) → IsBegunIn (whole_of m) p y → (number free places streams : ℕ) → number ≡ length (whole_of m).state.plans → free ≡ (whole_of m).free → places ≡ places_of q.plan → streams ≡ length q.plan.streams →
       z ≡ record y { free = free - places; running = y.running + bit (nat_lt 0 streams) } → IsStarted (whole_of m) p number z
   started_so y z b number free places streams n fr pl st e =

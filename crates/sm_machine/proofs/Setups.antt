@@ -7,6 +7,7 @@ use Rattle.sm_machine.specs.Machine.{MachineModel}
 use Rattle.sm_machine.specs.State.{whole_of}
 use Rattle.sm_machine.specs.Started.{IsStarted}
 
+-- where the configuration of the whole stays, so does that of the placement
 pub setup_kept : (m a n : MachineModel) → m ≡ a → (whole_of n).setup ≡ (whole_of m).setup → n.placement.setup ≡ a.placement.setup
 unfolding whole_of
 setup_kept m a n e s = s ∙ ap (λ (k : MachineModel). k.placement.setup) e

@@ -6,6 +6,7 @@ use Rattle.std.proofs.lemmas.List.{get_or-set_same, get_or-set_other, map-set, s
 use Rattle.sm_placement.specs.Sums.{put, put2}
 use Rattle.sm_placement.proofs.Sums.{put-here, put-apart, put2-here, put2-row, put2-apart}
 
+-- a function changed at a pair to what it is there is as it was
 pub put2-same : {A : Type 0} (f : ℕ → ℕ → A) (p i : ℕ) → put2 f p i (f p i) ≡ f
 put2-same {A} f p i = fun_ext (λ r. fun_ext (λ q. at r q))
   where

@@ -52,9 +52,11 @@ module _ (x : Whole) (id : StreamId) (i : Instr) (at : IsAt x id (Some i)) where
   pub not_ahead : is_call i ≡ false → (progress_of w id).ahead ≡ false
   not_ahead e = none_ahead w (kept at.working.setup w at.working.reached) id i here e
 
+  -- the instruction's shard, if it has one, is known
   pub shard_known : IfSome (shard_of i) (λ s. s < w.sizes.shards)
   shard_known = (can_reach w (kept at.working.setup w at.working.reached) id i here).shard
 
+  -- each shard's highest handover number is below 2^47
   pub small_numbers : (s : ℕ) → w.numbers s < 2 ^ 47
   small_numbers = (numbers_stay_small at.working.setup w at.working.reached).numbers
 
@@ -75,9 +77,11 @@ module _ (x : Whole) (id : StreamId) (i : Instr) (at : IsAt x id (Some i)) where
       try : IsTry w id i c
       try = record { before = here; call = call; unspent = unspent; call_is = makes }
 
+      -- all that the call of a try asks for is there
       pub call_asks : IsReadyToCall x id i c
       call_asks = ready_to_call x at.working id order there i c try few
 
+      -- a try that is served and answered is the stream's step, with Moved as its answer
       pub through_leaves : (y : Whole) (fresh : Bool) →
           called_numbered w.sizes w.place c.shard c.server c.call (call_number w (progress_of w id)) ≡ Ok (record { place = y.state.place; fresh = fresh }) →
           y ≡ record x { state = served_try w id i (record { place = y.state.place; fresh = fresh }) (behind_call (progress_of w id) fresh) (event.Step id) played.Moved; grants = put2 x.grants id.plan id.stream (y.grants id.plan id.stream) } →
@@ -86,6 +90,7 @@ module _ (x : Whole) (id : StreamId) (i : Instr) (at : IsAt x id (Some i)) where
           subst (IsStepped x id Through played.Moved) (sym f)
           (stepped_through x id (Some i) at order there i c try (record { place = y.state.place; fresh = fresh }) e (y.grants id.plan id.stream) t)
 
+      -- a try that is served, and whose answer is lost, is the stream's step, with Lost as its answer
       pub unanswered_leaves : (y : Whole) (fresh : Bool) →
           called_numbered w.sizes w.place c.shard c.server c.call (call_number w (progress_of w id)) ≡ Ok (record { place = y.state.place; fresh = fresh }) →
           y ≡ record x { state = served_try w id i (record { place = y.state.place; fresh = fresh }) (ahead_of_call w (progress_of w id) fresh) (event.Lose id true) played.Lost; grants = put2 x.grants id.plan id.stream (y.grants id.plan id.stream) } →
@@ -94,6 +99,7 @@ module _ (x : Whole) (id : StreamId) (i : Instr) (at : IsAt x id (Some i)) where
           subst (IsStepped x id LostAfter played.Lost) (sym f)
           (stepped_unanswered x id (Some i) at order there i c try (record { place = y.state.place; fresh = fresh }) e (y.grants id.plan id.stream) t)
 
+      -- a try that is lost before it comes to its server is the stream's step, with Lost as its answer
       pub lost_leaves : (y : Whole) → y ≡ with_state x (call_lost w id) → IsStepped x id LostBefore played.Lost y
       lost_leaves y f = subst (IsStepped x id LostBefore played.Lost) (sym f) (stepped_lost x id (Some i) at order there i c try)
 
@@ -101,6 +107,7 @@ module _ (x : Whole) (id : StreamId) (i : Instr) (at : IsAt x id (Some i)) where
 
 module _ (x : Whole) (id : StreamId) (s : ℕ) where
   module _ (at : IsAt x id (Some (Publish s))) (order : IsGrantInOrder (x.grants id.plan id.stream)) (there : is_some (x.grants id.plan id.stream) ≡ not (progress_of x.state id).done) where
+    -- all that the trade of a publish asks for is there
     pub publish_asks : IsReadyToTrade x id (Publish s)
     publish_asks = ready_to_trade x at.working id order there (Publish s) (before x id _ at) tt (not_ahead x id (Publish s) at refl)
 
@@ -112,12 +119,14 @@ module _ (x : Whole) (id : StreamId) (s : ℕ) where
         ap (λ z. z.got.crown) e ∙ lists x at.working id order there s (before x id _ at) in
         subst (λ o. IfSome o (λ c. listed ≡ c.listed)) g f
 
+    -- where another grant stands for the stream, all that the publication asks for is there
     pub publish_ready : (y : Whole) (h : Option HoldModel) (listed : Option ℕ) → y ≡ record x { grants = put2 x.grants id.plan id.stream h } → listed ≡ to_list (leads_of x.state.sizes x.state.place s) →
         IsReadyToPublish y.state id s listed
     publish_ready y h listed e f =
         subst (λ v. IsReadyToPublish v id s listed) (sym (ap (λ v. v.state) e))
         (subst (IsReadyToPublish x.state id s) (sym f) (ready_to_publish x at.working id order there s (before x id _ at)))
 
+    -- the trade and the new entry of a publish are the stream's step, with Moved as its answer
     pub publish_leaves : (y z : Whole) (h : Option HoldModel) (listed : Option ℕ) → y ≡ record x { grants = put2 x.grants id.plan id.stream h } → IsTradedBy x.state.sizes (Publish s) (x.grants id.plan id.stream) h →
         listed ≡ to_list (leads_of x.state.sizes x.state.place s) → z ≡ with_state y (entry_added y.state id s listed).1 → (p : Passage) → IsStepped x id p played.Moved z
     publish_leaves y z h listed e t f k p =
@@ -125,12 +134,15 @@ module _ (x : Whole) (id : StreamId) (s : ℕ) where
         (stepped_published x id (Some (Publish s)) at order there (Publish s) refl tt (not_ahead x id (Publish s) at refl) h t s listed refl f p)
 
   module _ (at : IsAt x id (Some (Unlist s))) (order : IsGrantInOrder (x.grants id.plan id.stream)) (there : is_some (x.grants id.plan id.stream) ≡ not (progress_of x.state id).done) where
+    -- all that the trade of an unlist asks for is there
     pub unlist_asks : IsReadyToTrade x id (Unlist s)
     unlist_asks = ready_to_trade x at.working id order there (Unlist s) (before x id _ at) tt (not_ahead x id (Unlist s) at refl)
 
+    -- where another grant stands for the stream, all that the publication of none asks for is there
     pub unlist_ready : (y : Whole) (h : Option HoldModel) → y ≡ record x { grants = put2 x.grants id.plan id.stream h } → IsReadyToPublish y.state id s None
     unlist_ready y h e = subst (λ v. IsReadyToPublish v id s None) (sym (ap (λ v. v.state) e)) (ready_to_unlist x at.working id order there s (before x id _ at))
 
+    -- the trade and the new entry of an unlist are the stream's step, with Moved as its answer
     pub unlist_leaves : (y z : Whole) (h : Option HoldModel) → y ≡ record x { grants = put2 x.grants id.plan id.stream h } → IsTradedBy x.state.sizes (Unlist s) (x.grants id.plan id.stream) h →
         z ≡ with_state y (entry_added y.state id s None).1 → (p : Passage) → IsStepped x id p played.Moved z
     unlist_leaves y z h e t k p =
@@ -141,9 +153,11 @@ module _ (x : Whole) (id : StreamId) (s : ℕ) where
 
 module _ (x : Whole) (id : StreamId) (q : ℕ) where
   module _ (at : IsAt x id (Some (Signal q))) (order : IsGrantInOrder (x.grants id.plan id.stream)) (there : is_some (x.grants id.plan id.stream) ≡ not (progress_of x.state id).done) where
+    -- all that a signal asks for is there
     pub signal_asks : IsReadyToPost x id q
     signal_asks = (ready_to_post x at.working id order there q (before x id _ at)).0
 
+    -- the parcel that goes from the grant to the signal is the stream's step, with Moved as its answer
     pub signal_leaves : (y : Whole) →
         y ≡ record x { state = (posted x.state id q).1; grants = put2 x.grants id.plan id.stream (y.grants id.plan id.stream); parcels = put2 x.parcels id.plan q (y.parcels id.plan q) } →
         hold_in (y.parcels id.plan q) ≡ plus (hold_in (x.parcels id.plan q)) (parcel_at x.state id.plan q) →
@@ -154,6 +168,7 @@ module _ (x : Whole) (id : StreamId) (q : ℕ) where
         subst (IsStepped x id p played.Moved) (sym e) (stepped_posted x id (Some (Signal q)) at order there q refl (y.grants id.plan id.stream) (y.parcels id.plan q) r.0 r.1 places p)
 
   module _ (at : IsAt x id (Some (Wait q))) where
+    -- the signal that a stream waits for is one of its plan
     pub wait_known : q < signal_count x.state id.plan
     wait_known = (waited_signal x at.working id q (before x id _ at)).0
 
@@ -162,9 +177,11 @@ module _ (x : Whole) (id : StreamId) (q : ℕ) where
 
     module _ (order : IsGrantInOrder (x.grants id.plan id.stream)) (there : is_some (x.grants id.plan id.stream) ≡ not (progress_of x.state id).done)
         (was : (x.state.marks id.plan q).posted ≡ true) (sent_order : IsGrantInOrder (x.parcels id.plan q)) (sent_there : is_some (x.parcels id.plan q) ≡ not (x.state.marks id.plan q).awaited) where
+      -- all that a wait for a posted signal asks for is there
       pub wait_asks : IsReadyToTake x id q
       wait_asks = (ready_to_take x at.working id order there q (before x id _ at) was sent_order sent_there).0
 
+      -- the parcel that goes from the signal to the grant is the stream's step, with Moved as its answer
       pub wait_leaves : (y : Whole) →
           y ≡ record x { state = taken x.state id q; grants = put2 x.grants id.plan id.stream (y.grants id.plan id.stream); parcels = put2 x.parcels id.plan q None } →
           hold_in (y.grants id.plan id.stream) ≡ plus (hold_in (x.grants id.plan id.stream)) (rights_in (x.parcels id.plan q)) →
@@ -176,6 +193,7 @@ module _ (x : Whole) (id : StreamId) (q : ℕ) where
 -- ---- ends
 
 module _ (x : Whole) (id : StreamId) (at : IsAt x id None) (order : IsGrantInOrder (x.grants id.plan id.stream)) (there : is_some (x.grants id.plan id.stream) ≡ not (progress_of x.state id).done) where
+  -- all that the end of a stream asks for is there
   pub end_asks : IsReadyToEnd x id
   end_asks = ready_to_end x at.working id order there (before x id None at)
 
@@ -188,6 +206,7 @@ module _ (x : Whole) (id : StreamId) (at : IsAt x id None) (order : IsGrantInOrd
       let few : free_places (ended x.state id).1 ≤ x.state.room = omega arith in
       omega arith
 
+  -- an end, by which what it held is in the pool and its tries left are free, is the stream's step, with Done
   pub end_leaves : (y : Whole) (free : ℕ) → free ≡ x.free + (allowance x.state id - (progress_of x.state id).tries) → y ≡ ended_whole x id free → (p : Passage) → IsStepped x id p played.Done y
   end_leaves y free count e p = subst (IsStepped x id p played.Done) (sym e) (stepped_ended x id None at order there refl free count p)
 
@@ -206,6 +225,7 @@ flag_kept x g flag y e = subst IsWorking (sym e) (record {
 
 -- ---- the opening
 
+-- a machine that is opened has all that every machine keeps
 pub opened_working : (x : Whole) (setup : Setup) (p : Place) (room : ℕ) → IsOpening setup p room → x ≡ opened_whole setup p room → IsWorking x
 opened_working x setup p room o e = subst IsWorking (sym e) (record {
   setup = setup;

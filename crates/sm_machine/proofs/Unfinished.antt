@@ -7,7 +7,7 @@ use Rattle.std.proofs.lemmas.List.{append-nil, length-set, get_or-set_same, get_
 use Rattle.std.proofs.lemmas.List.Elements.{filter-append}
 use Rattle.sm_placement.specs.Sums.{bit, first_from}
 use Rattle.sm_protocol.proofs.Starts.{length_push, get_push_old, get_push_new}
-use Rattle.sm_machine.specs.Begun.{BegunParts, no_begun}
+use Rattle.sm_machine.specs.Begun.{BegunModel, no_begun}
 use Rattle.sm_machine.specs.Unfinished.{unfinished_below, unfinished_of, AreUnfinished}
 use Rattle.std.specs.Prelude.{◌&&◌}
 use Rattle.std.specs.List.{list_any}
@@ -30,21 +30,21 @@ same_below a b (suc n) e =
     let before = same_below a b n (λ k l. e k (omega arith)) in
     ap (λ t. if t then unfinished_below a n else unfinished_below a n ++ n ∷ []) (e n (omega arith)) ∙ ap (λ xs. if b n == 0 then xs else xs ++ n ∷ []) before
 
-pub unfinished_kept : (plans : List BegunParts) (k : ℕ) (x : BegunParts) (numbers : List ℕ) → k < length plans → (x.unfinished == 0) ≡ (unfinished_of plans k == 0) → AreUnfinished plans numbers → AreUnfinished (set plans k x) numbers
+pub unfinished_kept : (plans : List BegunModel) (k : ℕ) (x : BegunModel) (numbers : List ℕ) → k < length plans → (x.unfinished == 0) ≡ (unfinished_of plans k == 0) → AreUnfinished plans numbers → AreUnfinished (set plans k x) numbers
 unfinished_kept plans k x numbers l e are =
     are ∙ sym (ap (unfinished_below (unfinished_of (set plans k x))) (length-set plans k x)
     ∙ same_below (unfinished_of (set plans k x)) (unfinished_of plans) (length plans) (λ j m. elim (cases_eq j k) [
-      | inl here ↦ ap (λ i. (get_or (set plans k x) i no_begun).unfinished == 0) here ∙ ap (λ (y : BegunParts). y.unfinished == 0) (get_or-set_same plans k x no_begun l) ∙ e ∙ ap (λ i. unfinished_of plans i == 0) (sym here)
-      | inr apart ↦ ap (λ (y : BegunParts). y.unfinished == 0) (get_or-set_other plans k j x no_begun apart)
+      | inl here ↦ ap (λ i. (get_or (set plans k x) i no_begun).unfinished == 0) here ∙ ap (λ (y : BegunModel). y.unfinished == 0) (get_or-set_same plans k x no_begun l) ∙ e ∙ ap (λ i. unfinished_of plans i == 0) (sym here)
+      | inr apart ↦ ap (λ (y : BegunModel). y.unfinished == 0) (get_or-set_other plans k j x no_begun apart)
     ]))
 
-pub unfinished_more : (plans : List BegunParts) (x : BegunParts) (numbers : List ℕ) → AreUnfinished plans numbers →
+pub unfinished_more : (plans : List BegunModel) (x : BegunModel) (numbers : List ℕ) → AreUnfinished plans numbers →
     AreUnfinished (plans ++ x ∷ []) (if x.unfinished == 0 then numbers else numbers ++ length plans ∷ [])
 unfinished_more plans x numbers are =
     let old : unfinished_below (unfinished_of (plans ++ x ∷ [])) (length plans) ≡ unfinished_below (unfinished_of plans) (length plans) =
-    same_below (unfinished_of (plans ++ x ∷ [])) (unfinished_of plans) (length plans) (λ k l. ap (λ (y : BegunParts). y.unfinished == 0) (get_push_old plans x k no_begun l)) in
+    same_below (unfinished_of (plans ++ x ∷ [])) (unfinished_of plans) (length plans) (λ k l. ap (λ (y : BegunModel). y.unfinished == 0) (get_push_old plans x k no_begun l)) in
     ap (λ xs. if x.unfinished == 0 then xs else xs ++ length plans ∷ []) (are ∙ sym old)
-    ∙ ap (λ (y : BegunParts). if y.unfinished == 0 then unfinished_below (unfinished_of (plans ++ x ∷ [])) (length plans) else unfinished_below (unfinished_of (plans ++ x ∷ [])) (length plans) ++ length plans ∷ [])
+    ∙ ap (λ (y : BegunModel). if y.unfinished == 0 then unfinished_below (unfinished_of (plans ++ x ∷ [])) (length plans) else unfinished_below (unfinished_of (plans ++ x ∷ [])) (length plans) ++ length plans ∷ [])
     (sym (get_push_new plans x no_begun))
     ∙ sym (ap (unfinished_below (unfinished_of (plans ++ x ∷ []))) (length_push plans x))
 
@@ -77,21 +77,21 @@ without a b k (suc n) e none = elim (cases_eq n k) [
         let stays : filter test (n ∷ []) ≡ n ∷ [] = rw yes refl in
         filter-append test (unfinished_below a n) (n ∷ []) ∙ ap (λ xs. filter test (unfinished_below a n) ++ xs) stays ∙ ap (λ xs. xs ++ n ∷ []) before
 
-pub unfinished_less : (plans : List BegunParts) (k : ℕ) (x : BegunParts) (numbers : List ℕ) → k < length plans → (x.unfinished == 0) ≡ true → AreUnfinished plans numbers →
+pub unfinished_less : (plans : List BegunModel) (k : ℕ) (x : BegunModel) (numbers : List ℕ) → k < length plans → (x.unfinished == 0) ≡ true → AreUnfinished plans numbers →
     AreUnfinished (set plans k x) (filter (λ j. not (j == k)) numbers)
 unfinished_less plans k x numbers l e are =
     ap (filter (λ j. not (j == k))) are
     ∙ without (unfinished_of plans) (unfinished_of (set plans k x)) k (length plans)
-    (λ j apart. sym (ap (λ (y : BegunParts). y.unfinished == 0) (get_or-set_other plans k j x no_begun apart)))
-    (ap (λ (y : BegunParts). y.unfinished == 0) (get_or-set_same plans k x no_begun l) ∙ e)
+    (λ j apart. sym (ap (λ (y : BegunModel). y.unfinished == 0) (get_or-set_other plans k j x no_begun apart)))
+    (ap (λ (y : BegunModel). y.unfinished == 0) (get_or-set_same plans k x no_begun l) ∙ e)
     ∙ sym (ap (unfinished_below (unfinished_of (set plans k x))) (length-set plans k x))
 
 -- a plan that was swapped out, changed and swapped back
-pub swapped : (plans mid new : List BegunParts) (k : ℕ) (d n x : BegunParts) (numbers : List ℕ) → k < length plans → new ≡ set mid k x → mid ≡ set plans k d → n ≡ get_or plans k no_begun →
+pub swapped : (plans mid new : List BegunModel) (k : ℕ) (d n x : BegunModel) (numbers : List ℕ) → k < length plans → new ≡ set mid k x → mid ≡ set plans k d → n ≡ get_or plans k no_begun →
     (x.unfinished == 0) ≡ (n.unfinished == 0) → AreUnfinished plans numbers → AreUnfinished new numbers
 swapped plans mid new k d n x numbers l back out here e are =
     subst (λ ps. AreUnfinished ps numbers) (sym (laid_back plans mid new k d x back out))
-    (unfinished_kept plans k x numbers l (e ∙ ap (λ (y : BegunParts). y.unfinished == 0) here) are)
+    (unfinished_kept plans k x numbers l (e ∙ ap (λ (y : BegunModel). y.unfinished == 0) here) are)
 
 -- with one unfinished stream less
 one_less : (m : ℕ) → (m == 1) ≡ false → (m - 1 == 0) ≡ (m == 0)
@@ -100,22 +100,24 @@ one_less m e = elim (cases_eq m 0) [
   | inr some ↦ ne_eqb (m - 1) 0 (λ z. eqb-false m 1 e (omega arith)) ∙ sym (ne_eqb m 0 some)
 ]
 
-pub one_less_of : (n x : BegunParts) (t : Bool) → x ≡ record n { unfinished = n.unfinished - 1 } → t ≡ (n.unfinished == 1) → t ≡ false → (x.unfinished == 0) ≡ (n.unfinished == 0)
-one_less_of n x t e last more = ap (λ (y : BegunParts). y.unfinished == 0) e ∙ one_less n.unfinished (sym last ∙ more)
+-- a plan with one unfinished stream less is unfinished as before, if that was not its last one
+pub one_less_of : (n x : BegunModel) (t : Bool) → x ≡ record n { unfinished = n.unfinished - 1 } → t ≡ (n.unfinished == 1) → t ≡ false → (x.unfinished == 0) ≡ (n.unfinished == 0)
+one_less_of n x t e last more = ap (λ (y : BegunModel). y.unfinished == 0) e ∙ one_less n.unfinished (sym last ∙ more)
 
-pub swapped_last : (plans mid new : List BegunParts) (k : ℕ) (d n x : BegunParts) (t : Bool) (numbers left : List ℕ) → k < length plans → new ≡ set mid k x → mid ≡ set plans k d → n ≡ get_or plans k no_begun →
+-- a plan that was swapped out, left by its last unfinished stream and swapped back is off the list
+pub swapped_last : (plans mid new : List BegunModel) (k : ℕ) (d n x : BegunModel) (t : Bool) (numbers left : List ℕ) → k < length plans → new ≡ set mid k x → mid ≡ set plans k d → n ≡ get_or plans k no_begun →
     x ≡ record n { unfinished = n.unfinished - 1 } → t ≡ (n.unfinished == 1) → t ≡ true → left ≡ filter (λ j. not (j == k)) numbers → AreUnfinished plans numbers → AreUnfinished new left
 swapped_last plans mid new k d n x t numbers left l back out here e last so is are =
     let one : n.unfinished ≡ 1 = eqb-true n.unfinished 1 (sym last ∙ so) in
-    let none : x.unfinished ≡ n.unfinished - 1 = ap (λ (y : BegunParts). y.unfinished) e in
+    let none : x.unfinished ≡ n.unfinished - 1 = ap (λ (y : BegunModel). y.unfinished) e in
     is ∙ subst (λ ps. AreUnfinished ps (filter (λ j. not (j == k)) numbers)) (sym (laid_back plans mid new k d x back out))
     (unfinished_less plans k x numbers l (eq-eqb x.unfinished 0 (omega arith)) are)
 
 -- a plan more, of so many streams
-pub one_more : (plans new : List BegunParts) (old x : BegunParts) (t : Bool) (number m : ℕ) (numbers list : List ℕ) → new ≡ plans ++ x ∷ [] → x ≡ record old { courses = x.courses } → old.unfinished ≡ m →
+pub one_more : (plans new : List BegunModel) (old x : BegunModel) (t : Bool) (number m : ℕ) (numbers list : List ℕ) → new ≡ plans ++ x ∷ [] → x ≡ record old { courses = x.courses } → old.unfinished ≡ m →
     number ≡ length plans → t ≡ nat_lt 0 m → list ≡ (if t then numbers ++ number ∷ [] else numbers) → AreUnfinished plans numbers → AreUnfinished new list
 one_more plans new old x t number m numbers list e kept count at some is are =
-    let same : x.unfinished ≡ m = ap (λ (y : BegunParts). y.unfinished) kept ∙ count in
+    let same : x.unfinished ≡ m = ap (λ (y : BegunModel). y.unfinished) kept ∙ count in
     let turned : (if t then numbers ++ number ∷ [] else numbers) ≡ (if x.unfinished == 0 then numbers else numbers ++ length plans ∷ []) =
     ap (λ b. if b then numbers ++ number ∷ [] else numbers) some ∙ ap (λ k. if nat_lt 0 m then numbers ++ k ∷ [] else numbers) at ∙ by_count m ∙ ap (λ k. if k == 0 then numbers else numbers ++ length plans ∷ []) (sym same) in
     subst (λ ps. AreUnfinished ps list) (sym e) (is ∙ turned ∙ unfinished_more plans x numbers are)
@@ -257,13 +259,16 @@ unfinished_known counts (suc n) i d l = go (unfinished_known counts n i d) (coun
 first_next : {A : Type 0} (f : ℕ → Option A) (ks : List ℕ) (i d : ℕ) (o : Option A) → i < length ks → f (get_or ks i d) ≡ o → first_in f (drop i ks) ≡ or_else o (first_in f (drop (i + 1) ks))
 first_next f ks i d o l e = ap (first_in f) (drop_more ks i d l) ∙ ap (λ p. or_else p (first_in f (drop (i + 1) ks))) e
 
+-- where the number at place i has an answer, that is the first answer from there on
 pub first_found : {A : Type 0} (f : ℕ → Option A) (ks : List ℕ) (i d : ℕ) (o : Option A) → i < length ks → f (get_or ks i d) ≡ o → is_some o ≡ true → first_in f (drop i ks) ≡ o
 first_found f ks i d (Some x) l e t = first_next f ks i d (Some x) l e
 first_found f ks i d None l e t = absurd (cc)
 
+-- where it has none, the first answer from there on is that from the next place on
 pub first_passed : {A : Type 0} (f : ℕ → Option A) (ks : List ℕ) (i d : ℕ) (o : Option A) → i < length ks → f (get_or ks i d) ≡ o → is_some o ≡ false → first_in f (drop i ks) ≡ first_in f (drop (i + 1) ks)
 first_passed f ks i d None l e t = first_next f ks i d None l e
 first_passed f ks i d (Some x) l e t = absurd (cc)
 
+-- past the end of the list there is no answer
 pub first_past : {A : Type 0} (f : ℕ → Option A) (ks : List ℕ) (i : ℕ) → length ks ≤ i → first_in f (drop i ks) ≡ None
 first_past f ks i l = ap (first_in f) (drop_all i ks l)

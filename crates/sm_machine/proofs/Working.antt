@@ -83,6 +83,7 @@ module _ (x : Whole) (id : StreamId) (o : Option Instr) (at : IsAt x id o) where
   abbrev g : IsWorking x
   g = at.working
 
+  -- the protocol says too that the stream stands before this instruction, or its end
   pub before : IsBefore w id o
   before = record { begun = at.begun; running = at.running; next_is = at.next_is }
 
@@ -145,6 +146,7 @@ module _ (x : Whole) (id : StreamId) (o : Option Instr) (at : IsAt x id o) where
       behind_is : hold_in h ≡ hold_behind w id
       behind_is = (can_trade x g id order there i at_i own here).1 h t
 
+      -- a publish is a step: the stream has made its trade, and the map lists the server of the shard's lead
       pub stepped_published : (s : ℕ) (server : Option ℕ) → i ≡ Publish s → server ≡ to_list (leads_of w.sizes w.place s) → (p : Passage) →
           IsStepped x id p played.Moved (record x { state = (entry_added w id s server).1; grants = put2 x.grants id.plan id.stream h })
       stepped_published s server e f p =
@@ -156,6 +158,7 @@ module _ (x : Whole) (id : StreamId) (o : Option Instr) (at : IsAt x id o) where
           (subst (λ v. IsTied (entry_added w id s v).1 x.pool (put2 (λ k i. hold_in (x.grants k i)) id.plan id.stream (hold_behind w id)) (λ k q. hold_in (x.parcels k q))) (sym f) tie))
           (rooms_after h t.capacity) g.unsent (counted_published g.setup w g.reached x.unfinished x.running x.free g.counted id (Publish s) s server b refl) refl
 
+      -- an unlist is a step: the stream has made its trade, and the map lists no server
       pub stepped_unlisted : (s : ℕ) → i ≡ Unlist s → (p : Passage) →
           IsStepped x id p played.Moved (record x { state = (entry_added w id s None).1; grants = put2 x.grants id.plan id.stream h })
       stepped_unlisted s e p =
@@ -174,6 +177,7 @@ module _ (x : Whole) (id : StreamId) (o : Option Instr) (at : IsAt x id o) where
           step_made w id p (Some i) at.awake t.before ∙ made_call w id p i t.call ∙ ap (call_tried w id p i) t.call_is
           ∙ (rw t.unspent refl)
 
+      -- a try that is lost before it comes to its server is a step, and the grants stay
       pub stepped_lost : IsStepped x id LostBefore played.Lost (record x { state = call_lost w id })
       stepped_lost =
           stepped LostBefore played.Lost (record x { state = call_lost w id }) (step_tried LostBefore)
@@ -194,6 +198,7 @@ module _ (x : Whole) (id : StreamId) (o : Option Instr) (at : IsAt x id o) where
           tied_put new x.pool h (λ k q. hold_in (x.parcels k q)) (hold_in grant) (ap hold_in u)
           (subst (λ f. IsTied new x.pool f (λ k q. hold_in (x.parcels k q))) (sym (put2-same (λ k i. hold_in (x.grants k i)) id.plan id.stream)) (again e))
 
+      -- a try that is served and answered is a step: the stream has made its trade, unless the call was ahead
       pub stepped_through : (effect : CallEffect) → answer_to w id c ≡ Ok effect → (h : Option HoldModel) → IsTradedUnless (progress_of w id).ahead w.sizes i grant h →
           IsStepped x id Through played.Moved (record x { state = served_try w id i effect (behind_call (progress_of w id) effect.fresh) (event.Step id) played.Moved; grants = put2 x.grants id.plan id.stream h })
       stepped_through effect e h u =
@@ -206,6 +211,7 @@ module _ (x : Whole) (id : StreamId) (o : Option Instr) (at : IsAt x id o) where
           (rooms_after h (places_unless (progress_of w id).ahead h u)) g.unsent
           (counted_through g.setup w g.reached x.unfinished x.running x.free g.counted id i c t effect e) refl
 
+      -- the same of a try that is served, and whose answer is lost
       pub stepped_unanswered : (effect : CallEffect) → answer_to w id c ≡ Ok effect → (h : Option HoldModel) → IsTradedUnless (progress_of w id).ahead w.sizes i grant h →
           IsStepped x id LostAfter played.Lost (record x { state = served_try w id i effect (ahead_of_call w (progress_of w id) effect.fresh) (event.Lose id true) played.Lost; grants = put2 x.grants id.plan id.stream h })
       stepped_unanswered effect e h u =
@@ -241,6 +247,7 @@ module _ (x : Whole) (id : StreamId) (o : Option Instr) (at : IsAt x id o) where
         (subst (λ c. IsTied new x.pool (put2 (λ k i. hold_in (x.grants k i)) id.plan id.stream m) c) (hold_put x.parcels id.plan q n)
         (subst (λ z. IsTied new x.pool (put2 (λ k i. hold_in (x.grants k i)) id.plan id.stream m) (put2 (λ k q. hold_in (x.parcels k q)) id.plan q z)) (sym f) t))
 
+    -- the post of a signal is a step: the stream has given up the parcel, and the signal carries it
     pub stepped_posted : (q : ℕ) → o ≡ Some (Signal q) → (h n : Option HoldModel) → hold_in h ≡ hold_behind w id → hold_in n ≡ hold_of (parcel_at w id.plan q) → capacity_in h ≡ capacity_in grant → (p : Passage) →
         IsStepped x id p played.Moved (record x { state = (posted w id q).1; grants = put2 x.grants id.plan id.stream h; parcels = put2 x.parcels id.plan q n })
     stepped_posted q is h n e f capacity p =
@@ -252,6 +259,7 @@ module _ (x : Whole) (id : StreamId) (o : Option Instr) (at : IsAt x id o) where
         (rooms_after h capacity) (unsent_after q (record (w.marks id.plan q) { posted = true }) n refl)
         (counted_posted g.setup w g.reached x.unfinished x.running x.free g.counted id q b) refl
 
+    -- a wait for a posted signal is a step: the stream has the parcel, and the signal carries nothing
     pub stepped_taken : (q : ℕ) → o ≡ Some (Wait q) → (w.marks id.plan q).posted ≡ true → (h : Option HoldModel) → hold_in h ≡ hold_behind w id → capacity_in h ≡ capacity_in grant → (p : Passage) →
         IsStepped x id p played.Moved (record x { state = parcel_taken w id q; grants = put2 x.grants id.plan id.stream h; parcels = put2 x.parcels id.plan q None })
     stepped_taken q is was h e capacity p =
@@ -265,6 +273,7 @@ module _ (x : Whole) (id : StreamId) (o : Option Instr) (at : IsAt x id o) where
 
     -- ---- ends
 
+    -- a stream's end is a step: what it held is in the pool, and the tries that it had left are free places
     pub stepped_ended : o ≡ None → (free : ℕ) → free ≡ x.free + (allowance w id - (progress_of w id).tries) → (p : Passage) → IsStepped x id p played.Done (ended_whole x id free)
     stepped_ended is free count p =
         let b = subst (IsBefore w id) is before in

@@ -7,7 +7,7 @@ use Rattle.sm_placement.specs.Layout.{PlacementModel, place_of}
 use Rattle.sm_placement.specs.declared.entry.Entry.{Entry}
 use Rattle.sm_reservation.specs.Pool.{true_rights}
 use Rattle.sm_machine.specs.Opening.{OpeningRows, place_of_rows}
-use Rattle.sm_machine.specs.Journal.{JournalParts}
+use Rattle.sm_machine.specs.Journal.{JournalModel}
 use Rattle.sm_machine.specs.State.{opened_whole}
 use Rattle.std.proofs.Common.{◌∷◌, zero, suc, subst, ◌≡◌, ℕ, ◌<◌, [], Bool, true, false, List, length, set, get_or, map, refl, sym, ap, ◌∙◌, arith, Option, Some, None, ◌-◌}
 use Rattle.std.specs.Prelude.{◌==◌, if◌then◌else◌}
@@ -26,8 +26,8 @@ use Rattle.sm_placement.proofs.Sums.{put2-here}
 use Rattle.sm_reservation.specs.Capacity.{HoldModel}
 use Rattle.sm_reservation.specs.declared.stream_id.StreamId.{StreamId}
 use Rattle.sm_protocol.specs.State.{Progress, Mark, no_start, stream_id, is_begun, progress_of, signal_count, set_progress}
-use Rattle.sm_machine.specs.Course.{CourseParts, no_course, rights_in, hold_in}
-use Rattle.sm_machine.specs.Begun.{BegunParts, CarriedParts, no_begun, no_carried, start_of, course_at, carried_at, with_course, with_carried, IsBegunParts}
+use Rattle.sm_machine.specs.Course.{CourseModel, no_course, rights_in, hold_in}
+use Rattle.sm_machine.specs.Begun.{BegunModel, CarriedModel, no_begun, no_carried, start_of, course_at, carried_at, with_course, with_carried, IsBegunParts}
 use Rattle.sm_machine.specs.Machine.{MachineModel, begun_at}
 use Rattle.sm_machine.specs.State.{Whole, whole_of, state_of, with_state, with_stream, with_signal}
 use Rattle.sm_machine.specs.Unfinished.{unfinished_below, unfinished_of, AreUnfinished}
@@ -39,11 +39,12 @@ read_here [] k n o e = refl
 read_here (x ∷ xs) zero n o e = e
 read_here (x ∷ xs) (suc k) n o e = read_here xs k n o e
 
+-- of two writes at one place, only the last one is seen
 pub laid_back : {X : Type 0} (xs ys zs : List X) (k : ℕ) (d v : X) → zs ≡ set ys k v → ys ≡ set xs k d → zs ≡ set xs k v
 laid_back xs ys zs k d v e f = e ∙ ap (λ ws. set ws k v) f ∙ set-set xs k d v
 
 -- a write to the plans, field by field
-with_plans : (b : MachineModel) (ns : List BegunParts) (progress : ℕ → ℕ → Progress) (marks : ℕ → ℕ → Mark) (grants parcels : ℕ → ℕ → Option HoldModel) →
+with_plans : (b : MachineModel) (ns : List BegunModel) (progress : ℕ → ℕ → Progress) (marks : ℕ → ℕ → Mark) (grants parcels : ℕ → ℕ → Option HoldModel) →
     map start_of ns ≡ map start_of b.plans → inner (λ n. n.courses) (λ x. x.progress) no_begun no_course ns ≡ progress →
     inner (λ n. n.courses) (λ x. x.grant) no_begun no_course ns ≡ grants → inner (λ n. n.signals) (λ x. x.mark) no_begun no_carried ns ≡ marks →
     inner (λ n. n.signals) (λ x. x.grant) no_begun no_carried ns ≡ parcels → outer (λ n. n.unfinished) no_begun ns ≡ (whole_of b).unfinished →
@@ -51,7 +52,7 @@ with_plans : (b : MachineModel) (ns : List BegunParts) (progress : ℕ → ℕ �
 unfolding whole_of
 with_plans b ns progress marks grants parcels a1 a2 a3 a4 a5 a6 = cc
 
-with_unfinished : (b : MachineModel) (ns : List BegunParts) (unfinished : ℕ → ℕ) →
+with_unfinished : (b : MachineModel) (ns : List BegunModel) (unfinished : ℕ → ℕ) →
     map start_of ns ≡ map start_of b.plans → inner (λ n. n.courses) (λ x. x.progress) no_begun no_course ns ≡ (whole_of b).state.progress →
     inner (λ n. n.courses) (λ x. x.grant) no_begun no_course ns ≡ (whole_of b).grants → inner (λ n. n.signals) (λ x. x.mark) no_begun no_carried ns ≡ (whole_of b).state.marks →
     inner (λ n. n.signals) (λ x. x.grant) no_begun no_carried ns ≡ (whole_of b).parcels → outer (λ n. n.unfinished) no_begun ns ≡ unfinished →
@@ -59,12 +60,12 @@ with_unfinished : (b : MachineModel) (ns : List BegunParts) (unfinished : ℕ �
 unfolding whole_of
 with_unfinished b ns unfinished a1 a2 a3 a4 a5 a6 = cc
 
-pub course-change : (b : MachineModel) (k i : ℕ) (x : CourseParts) → k < length b.plans → i < length (begun_at b.plans k).courses →
+pub course-change : (b : MachineModel) (k i : ℕ) (x : CourseModel) → k < length b.plans → i < length (begun_at b.plans k).courses →
     whole_of (record b { plans = set b.plans k (with_course (begun_at b.plans k) i x) }) ≡ with_stream (whole_of b) (stream_id k i) x.progress x.grant
 unfolding whole_of
 course-change b k i x l m =
-    let n : BegunParts = begun_at b.plans k in
-    let n' : BegunParts = with_course n i x in
+    let n : BegunModel = begun_at b.plans k in
+    let n' : BegunModel = with_course n i x in
     with_plans b (set b.plans k n') _ _ _ _
     (map-kept start_of b.plans k n' no_begun refl)
     (inner-set (λ n. n.courses) (λ x. x.progress) no_begun no_course b.plans k i n' x l m refl)
@@ -73,12 +74,12 @@ course-change b k i x l m =
     (inner-kept (λ n. n.signals) (λ x. x.grant) no_begun no_carried b.plans k n' l refl)
     (outer-kept (λ n. n.unfinished) no_begun b.plans k n' l refl)
 
-pub carried-change : (b : MachineModel) (k q : ℕ) (x : CarriedParts) → k < length b.plans → q < length (begun_at b.plans k).signals →
+pub carried-change : (b : MachineModel) (k q : ℕ) (x : CarriedModel) → k < length b.plans → q < length (begun_at b.plans k).signals →
     whole_of (record b { plans = set b.plans k (with_carried (begun_at b.plans k) q x) }) ≡ with_signal (whole_of b) k q x.mark x.grant
 unfolding whole_of
 carried-change b k q x l m =
-    let n : BegunParts = begun_at b.plans k in
-    let n' : BegunParts = with_carried n q x in
+    let n : BegunModel = begun_at b.plans k in
+    let n' : BegunModel = with_carried n q x in
     with_plans b (set b.plans k n') _ _ _ _
     (map-kept start_of b.plans k n' no_begun refl)
     (inner-kept (λ n. n.courses) (λ x. x.progress) no_begun no_course b.plans k n' l refl)
@@ -87,13 +88,13 @@ carried-change b k q x l m =
     (inner-set (λ n. n.signals) (λ x. x.grant) no_begun no_carried b.plans k q n' x l m refl)
     (outer-kept (λ n. n.unfinished) no_begun b.plans k n' l refl)
 
-pub both-change : (b : MachineModel) (k i q : ℕ) (x : CourseParts) (y : CarriedParts) → k < length b.plans → i < length (begun_at b.plans k).courses → q < length (begun_at b.plans k).signals →
+pub both-change : (b : MachineModel) (k i q : ℕ) (x : CourseModel) (y : CarriedModel) → k < length b.plans → i < length (begun_at b.plans k).courses → q < length (begun_at b.plans k).signals →
     whole_of (record b { plans = set b.plans k (with_carried (with_course (begun_at b.plans k) i x) q y) })
     ≡ record (whole_of b) { state = record (whole_of b).state { progress = put2 (whole_of b).state.progress k i x.progress; marks = put2 (whole_of b).state.marks k q y.mark }; grants = put2 (whole_of b).grants k i x.grant; parcels = put2 (whole_of b).parcels k q y.grant }
 unfolding whole_of
 both-change b k i q x y l m s =
-    let n : BegunParts = begun_at b.plans k in
-    let n' : BegunParts = with_carried (with_course n i x) q y in
+    let n : BegunModel = begun_at b.plans k in
+    let n' : BegunModel = with_carried (with_course n i x) q y in
     with_plans b (set b.plans k n') _ _ _ _
     (map-kept start_of b.plans k n' no_begun refl)
     (inner-set (λ n. n.courses) (λ x. x.progress) no_begun no_course b.plans k i n' x l m refl)
@@ -123,6 +124,7 @@ pub running_read : (b w : MachineModel) → b ≡ w → b.running ≡ (whole_of 
 unfolding whole_of
 running_read b w z = ap (λ y. y.running) z
 
+-- the numbers of the configuration that the code reads are those of the state
 pub sizes_read : (b w : MachineModel) → b ≡ w → sizes_of b.placement.setup ≡ (state_of w).sizes
 unfolding whole_of
 sizes_read b w z = ap (λ y. sizes_of y.placement.setup) z
@@ -131,6 +133,7 @@ sizes_read b w z = ap (λ y. sizes_of y.placement.setup) z
 pub traded-read : (s t : Sizes) (i : Instr) (a b g h : Option HoldModel) → s ≡ t → a ≡ b → h ≡ g → IsTradedBy s i a g → IsTradedBy t i b h
 traded-read s t i a b g h e f k x = subst (λ y. IsTradedBy y i b h) e (subst (λ y. IsTradedBy s i y h) f (subst (λ y. IsTradedBy s i a y) (sym k) x))
 
+-- what an instruction needs and gives is the same by what is read elsewhere
 pub change-read : (s t : Sizes) (i : Instr) (a b : Option HoldModel) (x : Change) → s ≡ t → a ≡ b → x ≡ exchange_of s i (hold_in a) → x ≡ exchange_of t i (hold_in b)
 change-read s t i a b x e f k = k ∙ ap (λ y. exchange_of y i (hold_in a)) e ∙ ap (λ y. exchange_of t i (hold_in y)) f
 
@@ -139,8 +142,8 @@ unfinished-change : (b : MachineModel) (k u : ℕ) → k < length b.plans →
     whole_of (record b { plans = set b.plans k (record (begun_at b.plans k) { unfinished = u }) }) ≡ record (whole_of b) { unfinished = put (whole_of b).unfinished k u }
 unfolding whole_of
 unfinished-change b k u l =
-    let n : BegunParts = begun_at b.plans k in
-    let n' : BegunParts = record n { unfinished = u } in
+    let n : BegunModel = begun_at b.plans k in
+    let n' : BegunModel = record n { unfinished = u } in
     with_unfinished b (set b.plans k n') _
     (map-kept start_of b.plans k n' no_begun refl)
     (inner-kept (λ n. n.courses) (λ x. x.progress) no_begun no_course b.plans k n' l refl)
@@ -166,6 +169,7 @@ known_parts b id h =
     let g : length (map start_of b.plans) ≡ length b.plans = length-map _ _ in
     (omega (arith, l, g), subst (λ x. id.stream < length x.plan.streams) e m)
 
+-- the plan of a stream that was begun is in the list of plans
 pub plan_known : (b w : MachineModel) (id : StreamId) → b ≡ w → is_begun (state_of w) id ≡ true → id.plan < length b.plans
 plan_known b w id z h = (known_parts b id (subst (λ x. is_begun (state_of x) id ≡ true) (sym z) h)).0
 
@@ -185,7 +189,7 @@ signals_known b w id z h q l =
 
 -- ---- the same, of the item as the code reads it: z says that an open value is the closed one, v where the item was read
 
-module _ (b w : MachineModel) (id : StreamId) (z : b ≡ w) (h : is_begun (state_of w) id ≡ true) (n n' : BegunParts) (v : n ≡ get_or b.plans id.plan n) (parts : IsBegunParts n) where
+module _ (b w : MachineModel) (id : StreamId) (z : b ≡ w) (h : is_begun (state_of w) id ≡ true) (n n' : BegunModel) (v : n ≡ get_or b.plans id.plan n) (parts : IsBegunParts n) where
   plan_in : id.plan < length b.plans
   plan_in = (known_parts b id (subst (λ x. is_begun (state_of x) id ≡ true) (sym z) h)).0
 
@@ -199,12 +203,13 @@ module _ (b w : MachineModel) (id : StreamId) (z : b ≡ w) (h : is_begun (state
       let f : id.stream < length n.courses = omega (arith, e, parts.courses) in
       subst (λ x. id.stream < length x.courses) read f
 
-  pub course-written : (x : CourseParts) → n' ≡ with_course n id.stream x → whole_of (record b { plans = set b.plans id.plan n' }) ≡ with_stream (whole_of w) id x.progress x.grant
+  pub course-written : (x : CourseModel) → n' ≡ with_course n id.stream x → whole_of (record b { plans = set b.plans id.plan n' }) ≡ with_stream (whole_of w) id x.progress x.grant
   course-written x e =
       ap (λ y. whole_of (record b { plans = set b.plans id.plan y })) (e ∙ ap (λ y. with_course y id.stream x) read)
       ∙ course-change b id.plan id.stream x plan_in stream_in
       ∙ ap (λ y. with_stream (whole_of y) id x.progress x.grant) z
 
+  -- what the code reads as the stream's grant is that of the whole
   pub grant_read : (course_at n id.stream).grant ≡ (whole_of w).grants id.plan id.stream
   unfolding whole_of
   grant_read = ap (λ y. (course_at y id.stream).grant) read ∙ ap (λ y. (course_at (begun_at y.plans id.plan) id.stream).grant) z
@@ -251,7 +256,7 @@ module _ (b w : MachineModel) (id : StreamId) (z : b ≡ w) (h : is_begun (state
       subst (λ x. q < length x.signals) read g
 
   -- a stream holds otherwise, and a signal stands otherwise and carries otherwise
-  pub signal-written : (q : ℕ) → q < signal_count (state_of w) id.plan → (g : Option HoldModel) (y : CarriedParts) →
+  pub signal-written : (q : ℕ) → q < signal_count (state_of w) id.plan → (g : Option HoldModel) (y : CarriedModel) →
       n' ≡ with_carried (with_course n id.stream (record (course_at n id.stream) { grant = g })) q y →
       whole_of (record b { plans = set b.plans id.plan n' }) ≡ with_signal (record (whole_of w) { grants = put2 (whole_of w).grants id.plan id.stream g }) id.plan q y.mark y.grant
   signal-written q l g y e =
@@ -276,7 +281,7 @@ module _ (b w : MachineModel) (id : StreamId) (z : b ≡ w) (h : is_begun (state
       a ∙ ap (λ y. with_signal (record (whole_of w) { grants = put2 (whole_of w).grants id.plan id.stream y }) id.plan q (change (carried_at n q).mark) o) (sym r)
       ∙ ap (λ m. with_signal (record (whole_of w) { grants = put2 (whole_of w).grants id.plan id.stream ((whole_of (record b { plans = set b.plans id.plan n' })).grants id.plan id.stream) }) id.plan q (change m) o) (mark_read q)
 
-  pub signal_then : (q : ℕ) → q < signal_count (state_of w) id.plan → (g : Option HoldModel) (y : CarriedParts) →
+  pub signal_then : (q : ℕ) → q < signal_count (state_of w) id.plan → (g : Option HoldModel) (y : CarriedModel) →
       n' ≡ with_carried (with_course n id.stream (record (course_at n id.stream) { grant = g })) q y →
       (whole_of (record b { plans = set b.plans id.plan n' })).parcels id.plan q ≡ y.grant
   signal_then q l g y e = ap (λ x. x.parcels id.plan q) (signal-written q l g y e) ∙ put2-here (whole_of w).parcels id.plan q y.grant
@@ -311,7 +316,7 @@ module _ (b w : MachineModel) (id : StreamId) (z : b ≡ w) (h : is_begun (state
       ≡ record (whole_of w) { unfinished = put (whole_of w).unfinished id.plan ((whole_of w).unfinished id.plan - 1); running = running }
   finished running e =
       with_running (record b { plans = set b.plans id.plan n' }) running
-      ∙ ap (λ a. record (whole_of (record b { plans = set b.plans id.plan a })) { running = running }) (e ∙ ap (λ (a : BegunParts). record a { unfinished = a.unfinished - 1 }) read)
+      ∙ ap (λ a. record (whole_of (record b { plans = set b.plans id.plan a })) { running = running }) (e ∙ ap (λ (a : BegunModel). record a { unfinished = a.unfinished - 1 }) read)
       ∙ ap (λ (a : Whole). record a { running = running }) (unfinished-change b id.plan ((begun_at b.plans id.plan).unfinished - 1) plan_in)
       ∙ finished_read b w id.plan running z
 
@@ -335,7 +340,8 @@ repeated d zero k = refl
 repeated d (suc n) zero = refl
 repeated d (suc n) (suc k) = repeated d n k
 
-pub opened_is : (o : OpeningRows) (l : PlacementModel) (s : PoolModel) (es : List (ℕ × Entry)) (ns : List ℕ) (bs : List BegunParts) (j : JournalParts) (free : ℕ) (setup : Setup) (p : Place) (room n : ℕ) →
+-- a machine of a placement and its rights, in which nothing is begun or recorded, is the opened one
+pub opened_is : (o : OpeningRows) (l : PlacementModel) (s : PoolModel) (es : List (ℕ × Entry)) (ns : List ℕ) (bs : List BegunModel) (j : JournalModel) (free : ℕ) (setup : Setup) (p : Place) (room n : ℕ) →
     place_of_rows o ≡ forget_numbers p → l.setup ≡ setup → place_of l ≡ forget_numbers p → pool_hold s ≡ true_rights (sizes_of setup) p → es ≡ [] → ns ≡ replicate n 0 → bs ≡ [] →
     j ≡ record { log = []; room = room } → free ≡ room - down_count (sizes_of setup) p →
     whole_of (record { opening = o; placement = l; pool = s; entries = es; numbers = ns; next_number = 1; plans = bs; journal = j; free = free; running = 0; halted = false }) ≡ opened_whole setup p room

@@ -3,46 +3,46 @@ use Rattle.std.specs.Prelude.{◌≡◌, ℕ, Option, None, List, [], length, sl
 use Rattle.sm_reservation.specs.Capacity.{HoldModel}
 use Rattle.sm_plan_code.specs.Plan.{PlanModel}
 use Rattle.sm_protocol.specs.State.{Mark, no_mark, Start, no_start}
-use Rattle.sm_machine.specs.Course.{CourseParts, no_course}
+use Rattle.sm_machine.specs.Course.{CourseModel, no_course}
 
-pub record CarriedParts : Type 0 where
+pub record CarriedModel : Type 0 where
   pub mark : Mark
   -- what the signal carries; none once it was awaited
   pub grant : Option HoldModel
 
-abbrev pub no_carried : CarriedParts
+abbrev pub no_carried : CarriedModel
 no_carried = record { mark = no_mark; grant = None }
 
-pub record BegunParts : Type 0 where
+pub record BegunModel : Type 0 where
   pub plan : PlanModel
   -- the log's length at the start
   pub since : ℕ
-  pub courses : List CourseParts
-  pub signals : List CarriedParts
+  pub courses : List CourseModel
+  pub signals : List CarriedModel
   -- how many streams have not made their ends
   pub unfinished : ℕ
 
-abbrev pub no_begun : BegunParts
+abbrev pub no_begun : BegunModel
 no_begun = record { plan = no_start.plan; since = 0; courses = []; signals = []; unfinished = 0 }
 
-abbrev pub start_of : BegunParts → Start
+abbrev pub start_of : BegunModel → Start
 start_of n = record { plan = n.plan; since = n.since }
 
-abbrev pub course_at : BegunParts → ℕ → CourseParts
+abbrev pub course_at : BegunModel → ℕ → CourseModel
 course_at n i = slice_index_or n.courses i no_course
 
-abbrev pub carried_at : BegunParts → ℕ → CarriedParts
+abbrev pub carried_at : BegunModel → ℕ → CarriedModel
 carried_at n q = slice_index_or n.signals q no_carried
 
 -- the plan with one stream as it stands now
-abbrev pub with_course : BegunParts → ℕ → CourseParts → BegunParts
+abbrev pub with_course : BegunModel → ℕ → CourseModel → BegunModel
 with_course n i x = record n { courses = slice_set n.courses i x }
 
 -- the plan with one signal as it stands now
-abbrev pub with_carried : BegunParts → ℕ → CarriedParts → BegunParts
+abbrev pub with_carried : BegunModel → ℕ → CarriedModel → BegunModel
 with_carried n q x = record n { signals = slice_set n.signals q x }
 
 -- each stream and each signal of the plan has its place
-pub record IsBegunParts (n : BegunParts) : Type 0 where
+pub record IsBegunParts (n : BegunModel) : Type 0 where
   pub courses : length n.courses ≡ length n.plan.streams
   pub signals : length n.signals ≡ length n.plan.signals

@@ -7,12 +7,12 @@ use Rattle.sm_reservation.specs.Capacity.{HoldModel, HasCapacity, HasCapacityAft
 use Rattle.sm_plan_code.specs.Plan.{IsOrderedParcel}
 use Rattle.sm_protocol.specs.State.{Progress, fresh}
 
-pub record CourseParts : Type 0 where
+pub record CourseModel : Type 0 where
   pub progress : Progress
   -- what it holds; none once it has made its end
   pub grant : Option HoldModel
 
-abbrev pub no_course : CourseParts
+abbrev pub no_course : CourseModel
 no_course = record { progress = fresh; grant = None }
 
 -- the rights of a grant, and none where there is no grant
@@ -45,5 +45,5 @@ capacity_in None = 0
 capacity_in (Some kept) = kept.capacity
 
 -- a stream has a grant until it has made its end
-abbrev pub IsCourse : CourseParts → Type 0
+abbrev pub IsCourse : CourseModel → Type 0
 IsCourse x = is_some x.grant ≡ not x.progress.done

@@ -4,7 +4,7 @@ use Rattle.sm_protocol.specs.declared.event.Event.{Event}
 use Rattle.sm_protocol.specs.declared.event.Logged.{Logged}
 use Rattle.sm_protocol.specs.Ticket.{Ticket, passes, is_pass_on, is_passed_on}
 
-pub record JournalParts : Type 0 where
+pub record JournalModel : Type 0 where
   pub log : List Logged
   pub room : ℕ
 

@@ -3,8 +3,8 @@ use Rattle.std.specs.Prelude.{ℕ, Bool, List, slice_index_or}
 use Rattle.sm_placement.specs.declared.entry.Entry.{Entry}
 use Rattle.sm_placement.specs.Layout.{PlacementModel}
 use Rattle.sm_reservation.specs.Pool.{PoolModel}
-use Rattle.sm_machine.specs.Begun.{BegunParts, no_begun}
-use Rattle.sm_machine.specs.Journal.{JournalParts}
+use Rattle.sm_machine.specs.Begun.{BegunModel, no_begun}
+use Rattle.sm_machine.specs.Journal.{JournalModel}
 use Rattle.sm_machine.specs.Opening.{OpeningRows}
 
 pub record MachineModel : Type 0 where
@@ -18,12 +18,12 @@ pub record MachineModel : Type 0 where
   -- each shard's highest handover number, and the number of the next call
   pub numbers : List ℕ
   pub next_number : ℕ
-  pub plans : List BegunParts
-  pub journal : JournalParts
+  pub plans : List BegunModel
+  pub journal : JournalModel
   -- how many places of the log are neither used nor set aside, and how many plans are unfinished
   pub free : ℕ
   pub running : ℕ
   pub halted : Bool
 
-abbrev pub begun_at : List BegunParts → ℕ → BegunParts
+abbrev pub begun_at : List BegunModel → ℕ → BegunModel
 begun_at plans k = slice_index_or plans k no_begun

@@ -1,6 +1,6 @@
 -- Plans in a tree, by their numbers.
 use Rattle.std.specs.Prelude.{◌+◌, ◌≤◌, List, [], ◌∷◌, length}
-use Rattle.sm_machine.specs.Begun.{BegunParts}
+use Rattle.sm_machine.specs.Begun.{BegunModel}
 use Rattle.sm_machine.specs.declared.plan_tree.Node.{Node}
 use Rattle.sm_machine.specs.declared.plan_tree.Node.TheVariants.{Empty, Fork}
 
@@ -11,7 +11,7 @@ in_turn (x ∷ xs) [] = x ∷ xs
 in_turn (x ∷ xs) (y ∷ ys) = x ∷ y ∷ in_turn xs ys
 
 -- the plans by their numbers
-abbrev pub plans_in : Node → List BegunParts
+abbrev pub plans_in : Node → List BegunModel
 plans_in Empty = []
 plans_in (Fork plan odd even) = plan ∷ in_turn odd.value even.value
 

@@ -9,6 +9,7 @@ use Rattle.sm_reservation.specs.declared.stream_id.StreamId.{StreamId}
 use Rattle.sm_plan_code.specs.declared.instruction.Instr.{Instr}
 use Rattle.sm_plan_code.specs.declared.call.ServerCall.{ServerCall}
 use Rattle.sm_plan_code.specs.Instr.{shard_of, IsOwn}
+use Rattle.sm_placement.specs.declared.limits.TheConstants.{VERSIONS_END}
 use Rattle.sm_protocol.specs.State.{State, is_begun, progress_of, signal_count, parcel_at}
 use Rattle.sm_machine.specs.Course.{hold_in, rights_in, HasCapacityIn}
 use Rattle.sm_machine.specs.State.{Whole}
@@ -46,7 +47,7 @@ pub record IsReadyToPublish (w : State) (id : StreamId) (s : ℕ) (server : Opti
   pub go : IsReadyToGo w id
   pub shard : s < w.sizes.shards
   pub listed : ForSome server (λ u. u < w.sizes.servers)
-  pub version : w.place.version s < 2 ^ 47
+  pub version : w.place.version s < VERSIONS_END
 
 -- the stream posts a signal
 pub record IsReadyToPost (x : Whole) (id : StreamId) (q : ℕ) : Type 0 where

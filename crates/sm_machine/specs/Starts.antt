@@ -10,8 +10,8 @@ use Rattle.sm_reservation.specs.HoldOf.{hold_of}
 use Rattle.sm_reservation.specs.CanJoin.{CanJoin}
 use Rattle.sm_reservation.specs.Short.{first_short}
 use Rattle.sm_plan_code.specs.Plan.{StreamModel}
-use Rattle.sm_machine.specs.Course.{CourseParts, no_course, rights_in, hold_in, capacity_in, HasCapacityIn}
-use Rattle.sm_machine.specs.Begun.{BegunParts, CarriedParts, course_at}
+use Rattle.sm_machine.specs.Course.{CourseModel, no_course, rights_in, hold_in, capacity_in, HasCapacityIn}
+use Rattle.sm_machine.specs.Begun.{BegunModel, CarriedModel, course_at}
 use Rattle.sm_machine.specs.Tied.{declares, pool_left}
 use Rattle.sm_machine.specs.State.{Whole}
 use Rattle.sm_plan_code.specs.Plan.{PlanModel}
@@ -28,33 +28,33 @@ abbrev pub empty_kept : ℕ → HoldModel
 empty_kept n = record { rights = no_rights; capacity = n }
 
 -- a stream that has made nothing and holds nothing, with so much room
-abbrev pub ready_course : ℕ → CourseParts
+abbrev pub ready_course : ℕ → CourseModel
 ready_course n = record { progress = fresh; grant = Some (empty_kept n) }
 
 -- a signal that was not posted, with room for its parcel
-abbrev pub ready_signal : Rights → CarriedParts
+abbrev pub ready_signal : Rights → CarriedModel
 ready_signal p = record { mark = no_mark; grant = Some (empty_kept (most_keys p)) }
 
 -- it holds nothing
-abbrev pub IsEmptyCourse : CourseParts → Type 0
+abbrev pub IsEmptyCourse : CourseModel → Type 0
 IsEmptyCourse x = rights_in x.grant ≡ no_rights
 
-abbrev pub IsEmptyCarried : CarriedParts → Type 0
+abbrev pub IsEmptyCarried : CarriedModel → Type 0
 IsEmptyCarried x = rights_in x.grant ≡ no_rights
 
 -- the streams and the signals of a checked plan before its start: the first n streams, by the room that each takes
-abbrev pub first_courses : (ℕ → ℕ) → ℕ → List CourseParts
+abbrev pub first_courses : (ℕ → ℕ) → ℕ → List CourseModel
 first_courses rooms zero = []
 first_courses rooms (suc n) = first_courses rooms n ++ ready_course (rooms n) ∷ []
 
-abbrev pub ready_courses : CheckedModel → List CourseParts
+abbrev pub ready_courses : CheckedModel → List CourseModel
 ready_courses p = first_courses (λ i. slice_index p.peaks i) (length p.plan.streams)
 
-abbrev pub ready_signals : CheckedModel → List CarriedParts
+abbrev pub ready_signals : CheckedModel → List CarriedModel
 ready_signals p = map ready_signal p.plan.signals
 
 -- the plan as it is begun, before its streams have what they declare
-abbrev pub begun_of : CheckedModel → ℕ → BegunParts
+abbrev pub begun_of : CheckedModel → ℕ → BegunModel
 begun_of p since = record { plan = p.plan; since = since; courses = ready_courses p; signals = ready_signals p; unfinished = length p.plan.streams }
 
 -- how many places of the log a stream takes
@@ -64,24 +64,24 @@ places_of_stream stream = stream.budget + stream.retries + count_by is_no_call s
 -- ---- what streams declare is taken out of a pool
 
 -- the stream may take these rights out of the pool
-pub record CanFillAt (free : Hold) (x : CourseParts) (p : Rights) : Type 0 where
+pub record CanFillAt (free : Hold) (x : CourseModel) (p : Rights) : Type 0 where
   pub running : x.progress.done ≡ false
   pub enough : first_short free p ≡ None
   pub fits : CanJoin (hold_in x.grant) (hold_of p)
   pub room : HasCapacityIn x.grant p
 
 -- each stream may in its turn
-abbrev pub CanFillAll : BegunParts → Hold → Type 0
+abbrev pub CanFillAll : BegunModel → Hold → Type 0
 CanFillAll n h = (i : ℕ) → i < length n.plan.streams → CanFillAt (pool_left h n.plan.streams i) (course_at n i) (declares n.plan.streams i)
 
 -- the stream has taken them
-pub record IsFilledBy (p : Rights) (old new : CourseParts) : Type 0 where
+pub record IsFilledBy (p : Rights) (old new : CourseModel) : Type 0 where
   pub progress : new.progress ≡ old.progress
   pub hold : hold_in new.grant ≡ plus (hold_in old.grant) p
   pub capacity : capacity_in new.grant ≡ capacity_in old.grant
 
 -- the first n streams have taken what they declare, and the others stand as they stood
-pub record AreFilled (streams : List StreamModel) (n : ℕ) (old new : List CourseParts) : Type 0 where
+pub record AreFilled (streams : List StreamModel) (n : ℕ) (old new : List CourseModel) : Type 0 where
   pub count : length new ≡ length old
   pub filled : (i : ℕ) → i < n → IsFilledBy (declares streams i) (slice_index_or old i no_course) (slice_index_or new i no_course)
   pub left : (i : ℕ) → n ≤ i → slice_index_or new i no_course ≡ slice_index_or old i no_course

@@ -1,6 +1,6 @@
 -- The plans that are unfinished, by their numbers.
 use Rattle.std.specs.Prelude.{◌≡◌, ℕ, zero, suc, ◌==◌, ◌++◌, ◌∷◌, [], List, length, slice_index_or, if◌then◌else◌}
-use Rattle.sm_machine.specs.Begun.{BegunParts, no_begun}
+use Rattle.sm_machine.specs.Begun.{BegunModel, no_begun}
 
 -- of the first n plans, those of which some stream has not made its end, by how many of each have not
 abbrev pub unfinished_below : (ℕ → ℕ) → ℕ → List ℕ
@@ -8,9 +8,9 @@ unfinished_below counts zero = []
 unfinished_below counts (suc n) = if counts n == 0 then unfinished_below counts n else unfinished_below counts n ++ n ∷ []
 
 -- how many streams of a plan have not made their ends
-abbrev pub unfinished_of : List BegunParts → ℕ → ℕ
+abbrev pub unfinished_of : List BegunModel → ℕ → ℕ
 unfinished_of plans k = (slice_index_or plans k no_begun).unfinished
 
 -- the list has the unfinished plans, in the order of their starts
-abbrev pub AreUnfinished : List BegunParts → List ℕ → Type 0
+abbrev pub AreUnfinished : List BegunModel → List ℕ → Type 0
 AreUnfinished plans numbers = numbers ≡ unfinished_below (unfinished_of plans) (length plans)

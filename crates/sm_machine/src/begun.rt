@@ -42,9 +42,9 @@ pub(crate) struct Carried {
 
 impl Model for Carried {
     ghost use Rattle.std.specs.Prelude.{is_none};
-    ghost use Rattle.sm_machine.specs.Begun.{CarriedParts};
+    ghost use Rattle.sm_machine.specs.Begun.{CarriedModel};
 
-    ghost Value = { CarriedParts };
+    ghost Value = { CarriedModel };
 
     ghost view = { λ c. record { mark = record { posted = c.posted; awaited = is_none c.grant }; grant = c.grant } };
 }
@@ -171,10 +171,10 @@ pub(crate) struct Begun {
 }
 
 impl Model for Begun {
-    ghost use Rattle.sm_machine.specs.Begun.{BegunParts, IsBegunParts};
+    ghost use Rattle.sm_machine.specs.Begun.{BegunModel, IsBegunParts};
     ghost use Rattle.sm_machine.specs.Servers.{AreMentionedBy};
 
-    ghost Value = { BegunParts };
+    ghost Value = { BegunModel };
 
     ghost view = { λ b. record { plan = b.plan; since = b.since; courses = b.courses.items; signals = b.signals.items; unfinished = b.unfinished } };
 

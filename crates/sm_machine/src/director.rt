@@ -12,6 +12,7 @@ ghost use Rattle.sm_protocol.specs.Ticket.{passes};
 ghost use Rattle.sm_machine.specs.State.{state_of};
 ghost use Rattle.sm_machine.specs.Director.{IsDirected, IsDirectedIf};
 ghost use Rattle.sm_machine.specs.declared.opened.OpenFault.TheVariants.{LogFull};
+ghost use Rattle.sm_plan_code.specs.declared.limits.TheConstants.{MOST_CALLS, MOST_PLACES};
 
 use crate::answer::split;
 use crate::machine::Machine;
@@ -64,7 +65,7 @@ impl Director {
         requires { IsSettled (sizes_of placement.setup) (place_of placement) }
         ensures state { IfOk result (λ d. state_of d ≡ opened (sizes_of placement.setup) (place_of placement) log_room) }
         ensures setup { IfOk result (λ d. d.placement.setup ≡ placement.setup) }
-        ensures full { IfErr result (λ e. e.1 ≡ LogFull → (1048576 < log_room) ⊎ (log_room < down_count (sizes_of placement.setup) (place_of placement))) }
+        ensures full { IfErr result (λ e. e.1 ≡ LogFull → (MOST_PLACES < log_room) ⊎ (log_room < down_count (sizes_of placement.setup) (place_of placement))) }
     {
         let (machine, permits) = Machine::open(alloc, placement, log_room)?;
         close_permits(permits);
@@ -94,7 +95,7 @@ impl Director {
 
     /// A stream's allowance of tries is raised, by 262,144 at most at once.
     pub fn refill(&mut self, id: StreamId, more: u32) -> Played
-        requires { more ≤ 262144 }
+        requires { more ≤ MOST_CALLS }
         ensures { IsDirected self.old (happening.Refill id more) result self.new }
     {
         match self.machine.refill_by(id, more) {

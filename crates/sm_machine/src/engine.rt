@@ -35,6 +35,7 @@ ghost use Rattle.sm_machine.specs.Restarted.{down_whole, up_whole};
 ghost use Rattle.sm_protocol.specs.Ticket.{passes, is_open_ticket};
 ghost use Rattle.sm_machine.specs.Retired.{recorded_steps};
 ghost use Rattle.sm_machine.specs.Unfinished.{unfinished_below};
+ghost use Rattle.sm_placement.specs.declared.limits.TheConstants.{VERSIONS_END};
 
 use crate::begun::Begun;
 use crate::journal::{Journal, TicketParts};
@@ -338,7 +339,7 @@ impl Engine {
     pub fn publish(&mut self, shard: ShardId, listed: Option<ServerId>)
         requires shard { shard < (state_of self.old).sizes.shards }
         requires listed { ForSome listed (λ server. server < (state_of self.old).sizes.servers) }
-        requires version { (state_of self.old).place.version shard < 2 ^ 47 }
+        requires version { (state_of self.old).place.version shard < VERSIONS_END }
         requires room { length (state_of self.old).entries < length (state_of self.old).log }
         requires within { length (state_of self.old).log ≤ (state_of self.old).room }
         ensures { whole_of self.new ≡ with_state (whole_of self.old) (record (state_of self.old) { place = publish (state_of self.old).place shard listed; entries = (shard, record { server = listed; version = suc ((state_of self.old).place.version shard) }) ∷ (state_of self.old).entries }) }

@@ -115,9 +115,9 @@ pub(crate) struct Journal {
 
 impl Model for Journal {
     ghost use Rattle.std.specs.Prelude.{◌≤◌, vec_capacity};
-    ghost use Rattle.sm_machine.specs.Journal.{JournalParts, IsIndexed};
+    ghost use Rattle.sm_machine.specs.Journal.{JournalModel, IsIndexed};
 
-    ghost Value = { JournalParts };
+    ghost Value = { JournalModel };
 
     ghost view = { λ j. record { log = j.log.items; room = j.room } };
 

@@ -28,11 +28,12 @@ ghost use Rattle.sm_protocol.specs.Happens.{engaged};
 ghost use Rattle.sm_protocol.specs.Hand.{tickets_of, spends};
 ghost use Rattle.sm_machine.specs.Losses.{refill_answer, is_lost_answer, IsStepOver};
 ghost use Rattle.sm_machine.specs.Retired.{has_ended, recorded_steps, made_in};
+ghost use Rattle.sm_plan_code.specs.declared.limits.TheConstants.{MOST_CALLS, MOST_PLACES};
 
 use crate::answer::{Answer, answer_to, answer_with};
 use crate::engine::Engine;
 use crate::link::Link;
-use crate::opened::{MOST_PLACES, OpenFault, permits_of};
+use crate::opened::{OpenFault, permits_of};
 use crate::permit::{Permit, close_permits};
 use crate::ready_plan::{ReadyPlan, make_ready};
 use crate::rooms::Rooms;
@@ -40,7 +41,7 @@ use crate::step::Step;
 use crate::ticket::{Ticket, close_tickets};
 use crate::token::{StreamToken, close_tokens};
 use sm_placement::{Config, Entry, Placement};
-use sm_plan_code::Plan;
+use sm_plan_code::{MOST_PLACES, Plan};
 use sm_protocol::{BeginFault, Event, Logged, Passage, RefillFault};
 use sm_reservation::{Pool, StreamId};
 use sm_server::{ServerId, ShardId};
@@ -80,9 +81,9 @@ impl Machine {
         ensures state { IfOk result (λ r. state_of r.0 ≡ opened (sizes_of placement.setup) (place_of placement) log_room) }
         ensures setup { IfOk result (λ r. r.0.placement.setup ≡ placement.setup) }
         ensures permits { IfOk result (λ r. r.1.items ≡ passing_below (place_of placement).down (length placement.setup.servers)) }
-        ensures fits { OnOk result ((log_room ≤ 1048576) × (down_count (sizes_of placement.setup) (place_of placement) ≤ log_room)) }
+        ensures fits { OnOk result ((log_room ≤ MOST_PLACES) × (down_count (sizes_of placement.setup) (place_of placement) ≤ log_room)) }
         ensures back { IfErr result (λ e. e.0 ≡ placement) }
-        ensures full { IfErr result (λ e. e.1 ≡ LogFull → (1048576 < log_room) ⊎ (log_room < down_count (sizes_of placement.setup) (place_of placement))) }
+        ensures full { IfErr result (λ e. e.1 ≡ LogFull → (MOST_PLACES < log_room) ⊎ (log_room < down_count (sizes_of placement.setup) (place_of placement))) }
     {
         let servers = placement.config().server_count();
         if log_room > MOST_PLACES || log_room < placement.down_count() {
@@ -105,7 +106,7 @@ impl Machine {
     pub fn is_reached(&self)
         ensures { (setup : Setup) × IsReached setup (state_of self.now) }
     {
-        let _halted = self.engine.is_halted();
+        let _ = &self.engine;
     }
 
     /// A law: no event that fits is one of which a call is refused, the state is safe, and of each plan that isn't done some
@@ -117,7 +118,7 @@ impl Machine {
         ensures onward { SomeCanStepOrSpent (state_of self.now) }
         ensures unlost { HasNoLost (state_of self.now) → SomeCanStep (state_of self.now) }
     {
-        let _halted = self.engine.is_halted();
+        let _ = &self.engine;
     }
 
     /// A plan begins that was checked for the machine's configuration: its streams have what they declare, and each has a
@@ -452,7 +453,7 @@ impl Machine {
     ///
     /// Takes no memory.
     pub fn refill(&mut self, token: &mut StreamToken, more: u32) -> Result<(), RefillFault>
-        requires { more ≤ 262144 }
+        requires { more ≤ MOST_CALLS }
         ensures answer { (happens (state_of self.old) (happening.Refill token.old more)).0 ≡ Answered (refill_answer result) }
         ensures state { state_of self.new ≡ (happens (state_of self.old) (happening.Refill token.old more)).1 }
         ensures token { token.new ≡ token.old }
@@ -504,7 +505,7 @@ impl Machine {
 
     /// A stream's allowance is raised.
     pub(crate) fn refill_by(&mut self, id: StreamId, more: u32) -> Result<(), RefillFault>
-        requires { more ≤ 262144 }
+        requires { more ≤ MOST_CALLS }
         ensures answer { (happens (state_of self.old) (happening.Refill id more)).0 ≡ Answered (refill_answer result) }
         ensures state { state_of self.new ≡ (happens (state_of self.old) (happening.Refill id more)).1 }
         ensures setup { self.new.placement.setup ≡ self.old.placement.setup }

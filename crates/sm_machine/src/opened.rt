@@ -19,9 +19,6 @@ pub enum OpenFault {
     LogFull,
 }
 
-/// The most places that a log has.
-pub(crate) const MOST_PLACES: u32 = 1_048_576;
-
 /// A permit for each server that is down, by the servers' numbers.
 pub(crate) fn permits_of(mut permits: Vec<Permit>, placement: &Placement) -> Vec<Permit>
     requires empty { permits.items ≡ [] }

@@ -1,7 +1,8 @@
 //! The places of the log that a plan takes.
-ghost use Rattle.std.specs.Prelude.{◌≡◌, ◌≤◌, ◌*◌, length, count_by, sum_by};
+ghost use Rattle.std.specs.Prelude.{◌≡◌, ◌≤◌, ◌+◌, ◌*◌, length, count_by, sum_by};
 ghost use Rattle.sm_protocol.specs.State.{is_no_call, places_of};
 ghost use Rattle.sm_machine.specs.Starts.{places_of_stream};
+ghost use Rattle.sm_plan_code.specs.declared.limits.TheConstants.{MOST_ALLOWANCE, MOST_INSTRUCTIONS, MOST_STREAMS};
 
 use sm_plan_code::{Instr, Plan, is_call};
 
@@ -22,7 +23,7 @@ pub(crate) fn count_no_calls(code: &[Instr]) -> usize
 /// How many places of the log a plan takes.
 pub(crate) fn places_of(plan: &Plan) -> u64
     ensures value { result ≡ places_of plan.now }
-    ensures within { result ≤ 64 * 528385 }
+    ensures within { result ≤ MOST_STREAMS * (MOST_ALLOWANCE + MOST_INSTRUCTIONS + 1) }
 {
     let streams = plan.streams();
     let mut places = 0;

@@ -23,9 +23,9 @@ enum Node {
 
 impl Model for PlanTree {
     ghost use Rattle.std.specs.Prelude.{List, length};
-    ghost use Rattle.sm_machine.specs.Begun.{BegunParts};
+    ghost use Rattle.sm_machine.specs.Begun.{BegunModel};
 
-    ghost Value = { List BegunParts };
+    ghost Value = { List BegunModel };
 
     ghost use Rattle.sm_machine.specs.Plans.{plans_in, IsEven};
 

@@ -17,9 +17,9 @@ pub(crate) struct Plans {
 
 impl Model for Plans {
     ghost use Rattle.std.specs.Prelude.{◌≡◌, List, length};
-    ghost use Rattle.sm_machine.specs.Begun.{BegunParts};
+    ghost use Rattle.sm_machine.specs.Begun.{BegunModel};
 
-    ghost Value = { List BegunParts };
+    ghost Value = { List BegunModel };
 
     ghost view = { λ p. p.tree };
 

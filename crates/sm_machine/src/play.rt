@@ -1,14 +1,15 @@
 //! Lists of events, played with a hand.
-ghost use Rattle.std.specs.Prelude.{◌≡◌, ◌≢◌, ◌≤◌, ◌<◌, ℕ, IfOk, OnOk, OnErr, [], length, map, take};
+ghost use Rattle.std.specs.Prelude.{◌≡◌, ◌≢◌, ◌≤◌, ◌<◌, ◌==◌, ℕ, count_by, IfOk, OnOk, OnErr, [], length, map, take};
 ghost use Rattle.std.specs.List.{AllByRecursion};
 ghost use Rattle.sm_placement.specs.Setup.{Setup};
 ghost use Rattle.sm_protocol.specs.declared.event.Event.TheVariants as event;
 ghost use Rattle.sm_protocol.specs.Hand.{play, plays, played_events};
-ghost use Rattle.sm_protocol.specs.Laws.{NamesKnown, AsksNoLoss, IsReached, AreChecked, AllFit, HasNoLost};
+ghost use Rattle.sm_protocol.specs.Laws.{NamesKnown, AsksNoLoss, IsReached, AreChecked, AllFit, HasNoLost, effect_numbers};
 ghost use Rattle.sm_protocol.specs.Safe.{IsSafe, SomeCanStep, SomeCanStepOrSpent};
 ghost use Rattle.sm_protocol.specs.Steps.{Answered, Refused};
 ghost use Rattle.sm_machine.specs.State.{state_of};
 ghost use Rattle.sm_machine.specs.Hand.{AreFor, AreLeft, HasHandRoom, IsSameHand, IsTurn, game_of, hand_of};
+ghost use Rattle.sm_plan_code.specs.declared.limits.TheConstants.{MOST_CALLS};
 
 use crate::answer::{is_spent, split};
 use crate::answers::Answers;
@@ -45,7 +46,7 @@ impl Machine {
 
     /// A stream's allowance is raised, if the hand has its token.
     fn play_refill(&mut self, hand: &Hand, stream: StreamId, more: u32) -> Played
-        requires { more ≤ 262144 }
+        requires { more ≤ MOST_CALLS }
         ensures { IsTurn self.old hand.now (event.Refill stream more) result self.new hand.now }
     {
         if !has_token(hand.tokens.as_slice(), stream) {
@@ -213,6 +214,7 @@ impl Machine {
         ensures reached { (setup : Setup) × ((n : ℕ) → IsReached setup (play (take n events.now) (game_of self.now hand.now)).state) }
         ensures checked { (n : ℕ) → AreChecked (state_of self.now).sizes (play (take n events.now) (game_of self.now hand.now)).hand }
         ensures served { (n : ℕ) → AllByRecursion (λ o. o ≢ Refused) (plays (take n events.now) (game_of self.now hand.now)) }
+        ensures once { (n m : ℕ) → count_by (λ k. k == m) (effect_numbers (played_events (take n events.now) (game_of self.now hand.now)) (state_of self.now)) ≤ 1 }
         ensures safe { (n : ℕ) → IsSafe (play (take n events.now) (game_of self.now hand.now)).state }
         ensures onward { (n : ℕ) → SomeCanStepOrSpent (play (take n events.now) (game_of self.now hand.now)).state }
         ensures unlost { HasNoLost (state_of self.now) → (n : ℕ) → AllByRecursion AsksNoLoss (take n events.now) → SomeCanStep (play (take n events.now) (game_of self.now hand.now)).state }
@@ -226,9 +228,9 @@ impl Machine {
     /// which goes what it gives. Where memory is short, nothing has happened: all room is taken before the first event.
     ///
     /// The events name known shards and servers, and each plan of the hand was checked for the machine's configuration. So after
-    /// each event, which is the end of a front of the list: no call was refused, the state is safe, and of each plan that isn't done
-    /// some stream can step, or one that hasn't made its end has spent its allowance; and where no lost call was asked for, and no
-    /// unfinished stream had one in the log, some stream can step.
+    /// each event, which is the end of a front of the list: no call was refused, no number of a call had its effect twice, the state
+    /// is safe, and of each plan that isn't done some stream can step, or one that hasn't made its end has spent its allowance; and
+    /// where no lost call was asked for, and no unfinished stream had one in the log, some stream can step.
     pub fn play(
         &mut self,
         alloc: Global,
@@ -247,6 +249,7 @@ impl Machine {
         ensures reached { (setup : Setup) × ((n : ℕ) → IsReached setup (play (take n events.now) (game_of self.old hand.old)).state) }
         ensures checked { (n : ℕ) → AreChecked (state_of self.old).sizes (play (take n events.now) (game_of self.old hand.old)).hand }
         ensures served { (n : ℕ) → AllByRecursion (λ o. o ≢ Refused) (plays (take n events.now) (game_of self.old hand.old)) }
+        ensures once { (n m : ℕ) → count_by (λ k. k == m) (effect_numbers (played_events (take n events.now) (game_of self.old hand.old)) (state_of self.old)) ≤ 1 }
         ensures safe { (n : ℕ) → IsSafe (play (take n events.now) (game_of self.old hand.old)).state }
         ensures onward { (n : ℕ) → SomeCanStepOrSpent (play (take n events.now) (game_of self.old hand.old)).state }
         ensures unlost { HasNoLost (state_of self.old) → (n : ℕ) → AllByRecursion AsksNoLoss (take n events.now) → SomeCanStep (play (take n events.now) (game_of self.old hand.old)).state }

@@ -6,19 +6,18 @@ ghost use Rattle.sm_protocol.specs.Happens as happening;
 ghost use Rattle.sm_machine.specs.State.{whole_of, state_of};
 ghost use Rattle.sm_machine.specs.Working.{IsWorking};
 ghost use Rattle.sm_machine.specs.Losses.{refill_answer, HasHappened};
+ghost use Rattle.sm_plan_code.specs.declared.limits.TheConstants.{MOST_CALLS};
 
 use crate::engine::Engine;
+use sm_plan_code::MOST_ALLOWANCE;
 use sm_protocol::{Event, Played, RefillFault};
 use sm_reservation::StreamId;
-
-/// The most tries that a stream is allowed, refills included.
-const MOST_TRIES: u64 = 524_288;
 
 impl Engine {
     /// Why a stream's allowance is not raised by so much.
     fn refill_fault(&self, id: StreamId, more: u32) -> Option<RefillFault>
         requires free { (whole_of self.now).free ≡ free_places (state_of self.now) }
-        requires more { more ≤ 262144 }
+        requires more { more ≤ MOST_CALLS }
         ensures { result ≡ refill_fault (state_of self.now) id more }
     {
         if !self.is_begun(id) {
@@ -27,7 +26,7 @@ impl Engine {
         if self.progress(id).done {
             return Some(RefillFault::Ended);
         }
-        if self.allowance(id) > MOST_TRIES - u64::from(more) {
+        if self.allowance(id) > u64::from(MOST_ALLOWANCE) - u64::from(more) {
             return Some(RefillFault::TooMany);
         }
         if self.free() < u64::from(more) + 1 {
@@ -54,7 +53,7 @@ impl Engine {
     /// A stream's allowance is raised, unless there is a fault.
     pub fn refill(&mut self, id: StreamId, more: u32) -> Result<(), RefillFault>
         requires working { IsWorking (whole_of self.old) }
-        requires more { more ≤ 262144 }
+        requires more { more ≤ MOST_CALLS }
         ensures { HasHappened (whole_of self.old) (happening.Refill id more) (refill_answer result) (whole_of self.new) }
     {
         if let Some(fault) = self.refill_fault(id, more) {

@@ -1,6 +1,6 @@
 //! Starts of plans.
 ghost use Rattle.std.specs.Prelude.{◌≡◌, ◌≢◌, nat_lt, ◌≤◌, ◌<◌, ◌+◌, ◌^◌, ℕ, [], Some, None, OnOk, IfOk, OnErr, IfErr, length, vec_capacity};
-ghost use Rattle.sm_plan_code.specs.declared.limits.TheConstants.{MOST_PLANS};
+ghost use Rattle.sm_plan_code.specs.declared.limits.TheConstants.{MOST_PLANS, MOST_STREAMS};
 ghost use Rattle.sm_protocol.specs.State.{places_of};
 ghost use Rattle.sm_protocol.specs.declared.event.BeginFault.TheVariants as fault;
 ghost use Rattle.sm_machine.specs.State.{whole_of, state_of};
@@ -22,7 +22,7 @@ use sm_verifier::Checked;
 fn fill_tokens(tokens: &mut Vec<StreamToken>, plan: u32, count: usize)
     requires none { tokens.old.items ≡ [] }
     requires room { count ≤ vec_capacity tokens.old }
-    requires within { count ≤ 64 }
+    requires within { count ≤ MOST_STREAMS }
     ensures { AreTokens plan count tokens.new.items }
 {
     for stream in 0..count {

@@ -29,9 +29,9 @@ pub(crate) struct Course {
 }
 
 impl Model for Course {
-    ghost use Rattle.sm_machine.specs.Course.{CourseParts, IsCourse};
+    ghost use Rattle.sm_machine.specs.Course.{CourseModel, IsCourse};
 
-    ghost Value = { CourseParts };
+    ghost Value = { CourseModel };
 
     ghost view = { λ c. record { progress = c.progress; grant = c.grant } };
 

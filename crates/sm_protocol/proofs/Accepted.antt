@@ -146,9 +146,11 @@ module _ (w : State) (v : IsKept w) where
     accepted_begun : IsAccepted w plan → places_of plan ≤ free_places w → has_all_plans w ≡ false → is_begun_now (happens w (Begin plan))
     accepted_begun a l m = rw (unheld_accepted a, le-ltb (free_places w) (places_of plan) l, m) refl
 
+-- in each state that events lead to, a checked plan that nothing holds up is accepted
 pub reached_accepts : (setup : Setup) (w : State) → IsReached setup w → AcceptsUnheld w
 reached_accepts setup w reached = accepts_unheld w (reached_keeps setup w reached).0
 
+-- a checked plan begins exactly where it is accepted, the log has its places and another plan may run
 pub begun_where_accepted : BegunWhereAccepted
 begun_where_accepted setup w plan reached checked =
     let v = (reached_keeps setup w reached).0 in

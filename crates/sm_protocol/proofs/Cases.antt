@@ -140,10 +140,12 @@ same_step_by : (w : State) (id : StreamId) (p q : Passage) → made w id p (next
 same_step_by w id p q e =
     ap (λ m. if w.halted then unchanged w played.Halted else if is_begun w id then (if (progress_of w id).done then unchanged w played.Done else m) else unchanged w played.Unknown) e
 
+-- where the next instruction is no call, a step is the same whatever becomes of calls
 pub same_step : (w : State) (id : StreamId) (p q : Passage) (i : Instr) → next_instruction w id ≡ Some i → is_call i ≡ false → step w id p ≡ step w id q
 same_step w id p q i n e =
     same_step_by w id p q (ap (made w id p) n ∙ same_made w id p q i e ∙ sym (ap (made w id q) n))
 
+-- and so it is at the end of the code
 pub same_end : (w : State) (id : StreamId) (p q : Passage) → next_instruction w id ≡ None → step w id p ≡ step w id q
 same_end w id p q n = same_step_by w id p q (ap (made w id p) n ∙ sym (ap (made w id q) n))
 
@@ -272,6 +274,7 @@ of_events w S by_step P all = by_event
     by_event (Done v) = by_down v (w.place.down v) refl
     by_event (Begin plan) = by_holding plan (first_holding w.sizes w.place (pool w) plan) refl
 
+-- what holds of all that each kind of event makes holds of what every event makes
 pub of_happens : (w : State) (P : Happening → Outcome × State → Type 0) → OfEvents w (OfSteps w) P → (e : Happening) → P e (happens w e)
 of_happens w P all = of_events w (OfSteps w) (λ id passage Q steps. of_known_step w id passage Q (known steps)) P all
 

@@ -4,6 +4,7 @@ use Rattle.sm_protocol.proofs.Below.{◌≡◌, ◌≢◌, ℕ, suc, ◌+◌, �
 use Rattle.sm_protocol.proofs.Words.{Progress, Mark}
 use Rattle.sm_protocol.proofs.Invariant.{IsOnCourse, IsRunning}
 
+-- two values are the same where `Some` of each is
 pub some_same : {T : Type 0} (x y : T) → Some x ≡ Some y → x ≡ y
 some_same x y e = cc
 
@@ -15,6 +16,7 @@ pub record IsNextTurn (c : Sizes) (plan : PlanModel) (i at : ℕ) (x : Instr) : 
   pub calls : calls_before (stream_at c plan i) (at + 1) ≡ calls_before (stream_at c plan i) at + bit (is_call x)
   pub budget : calls_before (stream_at c plan i) (at + 1) ≤ (stream_at c plan i).budget
 
+-- each instruction of a good stream is in its turn
 pub next_turn : (c : Sizes) (plan : PlanModel) (i at : ℕ) (x : Instr) → IsGood (stream_at c plan i) → slice_get (code_at plan i) at ≡ Some x → IsNextTurn c plan i at x
 next_turn c plan i at x good here =
     let t = in_turn (stream_at c plan i) at x good here in
@@ -52,6 +54,7 @@ not_made : (f : ℕ → Progress) (i j q : ℕ) → j ≡ i → q ≡ (f i).at �
 not_made f i j q h m = ap (λ z. nat_lt q (f z).at) h ∙ le-ltb q (f i).at (omega arith)
 
 module _ (c : Sizes) (p : Place) (plan : PlanModel) (f : ℕ → Progress) (marks : ℕ → Mark) (v : IsRunning c p plan f marks) (i : ℕ) (l : i < length plan.streams) where
+  -- the streams of a plan that runs are good
   pub good : IsGood (stream_at c plan i)
   good = v.checked.sound.streams i l
 
@@ -182,6 +185,7 @@ module _ (c : Sizes) (p : Place) (plan : PlanModel) (f : ℕ → Progress) (mark
       let only = (stand_once plan q (v.checked.sound.signals q known)).wait.only i (f i).at here in
       (known, v.awaited q known ∙ not_made f i (wait_of plan q).0 (wait_of plan q).1 (sym only.0) (sym only.1))
 
+  -- the stream goes past a signal, which is marked as posted, and the plan runs
   pub posts : (q : ℕ) (y : Progress) (z : Mark) → slice_get (code_at plan i) (f i).at ≡ Some (Signal q) → y.at ≡ (f i).at + 1 → IsOnCourse c p plan i y →
       z.posted ≡ true → z.awaited ≡ (marks q).awaited → IsRunning c p plan (put f i y) (put marks q z)
   posts q y z here e ok a b =
@@ -202,6 +206,7 @@ module _ (c : Sizes) (p : Place) (plan : PlanModel) (f : ℕ → Progress) (mark
       same_signal : (k q : ℕ) → Signal k ≡ Signal q → k ≡ q
       same_signal k q e = cc
 
+  -- the stream goes past a wait for a posted signal, which is marked as awaited, and the plan runs
   pub awaits : (q : ℕ) (y : Progress) (z : Mark) → slice_get (code_at plan i) (f i).at ≡ Some (Wait q) → y.at ≡ (f i).at + 1 → IsOnCourse c p plan i y →
       (marks q).posted ≡ true → z.posted ≡ (marks q).posted → z.awaited ≡ true → IsRunning c p plan (put f i y) (put marks q z)
   awaits q y z here e ok is a b =

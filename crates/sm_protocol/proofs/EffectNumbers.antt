@@ -212,7 +212,8 @@ none_more w v (e ∷ es) n all s =
           omega arith
     ]
 
-one_at_most : (w : State) (v : IsKept w) (es : List Happening) (n : ℕ) → AllFit w.sizes es → times n (effect_numbers es w) ≤ 1
+-- from each state that keeps the invariant, no number has its effect twice along a list of events
+pub one_at_most : (w : State) (v : IsKept w) (es : List Happening) (n : ℕ) → AllFit w.sizes es → times n (effect_numbers es w) ≤ 1
 one_at_most w v [] n all = omega arith
 one_at_most w v (e ∷ es) n all =
     let k = happens_keeps w v e all.0 in

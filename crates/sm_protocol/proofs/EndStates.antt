@@ -40,6 +40,7 @@ module _ (A : Type 0) (now : Place → A) (set : Hold → A → A) (reaches : Ho
     pub value : sum_below (length plans) (by c plans f m (rule_of c p)) ≡ 0 → now p ≡ sets_to c (plan_of plans) f (length plans) (now opening)
     pub apart : (k : ℕ) → k < length plans → 1 ≤ by c plans f m (rule_of c p) k → (j i : ℕ) → k ≤ j → (f j i).done ≡ true → reaches (final_hold (stream_at c (plan_of plans j) i)) → ⊥
 
+  -- it is as the ended streams set it, or live holds have it that no ended stream of their or later plans reaches
   abbrev pub IsSetAt : State → Type 0
   IsSetAt w = IsSet w.sizes w.plans w.opening w.place w.progress w.marks
 

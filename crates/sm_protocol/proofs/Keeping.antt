@@ -13,9 +13,11 @@ Keeps o = (o.0 ≢ Refused) × IsKept o.1
 
 -- ---- streams that were begun
 
+-- a stream that tests as begun was begun
 pub begun : (w : State) (id : StreamId) → is_begun w id ≡ true → IsBegun w id
 begun w id e = let p = and_parts _ _ e in record { plan = ltb-true id.plan (length w.plans) p.0; stream = ltb-true id.stream (stream_count w id.plan) p.1 }
 
+-- and one that was begun tests as begun
 pub is_begun_true : (w : State) (id : StreamId) → IsBegun w id → is_begun w id ≡ true
 is_begun_true w id b = rw (lt-ltb id.plan (length w.plans) b.plan) (lt-ltb id.stream (stream_count w id.plan) b.stream)
 
@@ -29,6 +31,7 @@ begun_where_ahead w v id a = elim (cases_Bool (is_begun w id)) [
 -- ---- one stream goes on
 
 module _ (w : State) (v : IsKept w) (id : StreamId) (b : IsBegun w id) (y : Progress) where
+  -- nothing has happened to streams that were not begun, once this one has gone on
   pub unbegun_after : (a : StreamId) → is_begun w a ≡ false → set_progress w id y a.plan a.stream ≡ fresh
   unbegun_after = each_stream (goes_on w id y) (λ a z. is_begun w a ≡ false → z ≡ fresh) (λ e. absurd (let t = is_begun_true w id b in cc)) (λ a n. v.unbegun a)
 

@@ -17,6 +17,7 @@ pub record HasRoom (w : State) : Type 0 where
 
 -- ---- what was begun
 
+-- the plan of a stream that was begun was begun, and the stream is one of its streams
 pub begun_parts : (w : State) (id : StreamId) → is_begun w id ≡ true → (id.plan < length w.plans) × (id.stream < stream_count w id.plan)
 begun_parts w id e =
     let a = and_parts (nat_lt id.plan (length w.plans)) (nat_lt id.stream (stream_count w id.plan)) e in
@@ -56,6 +57,7 @@ pub record IsOfCall (p : Place) (effect : CallEffect) : Type 0 where
   pub down : effect.place.down ≡ p.down
   pub version : effect.place.version ≡ p.version
 
+-- so it is of each numbered call that is served
 pub of_call : (c : Sizes) (p : Place) (s v : ℕ) (call : Call) (number : ℕ) (effect : CallEffect) → called_numbered c p s v call number ≡ Ok effect → IsOfCall p effect
 of_call c p s v call number effect e = go (numbered_answer_at c p s v call number) refl
   where
@@ -176,9 +178,11 @@ restart_keeps w v event answer h l e =
 pub plan_before : (w : State) (plan : PlanModel) (k : ℕ) → k < length w.plans → plan_at (started w plan) k ≡ plan_at w k
 plan_before w plan k l = ap (λ (x : Start). x.plan) (get_or_append_left w.plans (record { plan = plan; since = length w.log } ∷ []) no_start k l)
 
+-- and the plan that starts stands behind them
 pub plan_started : (w : State) (plan : PlanModel) → plan_at (started w plan) (length w.plans) ≡ plan
 plan_started w plan = ap (λ (x : Start). x.plan) (get_or-append_seam w.plans (record { plan = plan; since = length w.log }) [] no_start)
 
+-- with a start there is one plan more
 pub count_started : (w : State) (plan : PlanModel) → length (started w plan).plans ≡ suc (length w.plans)
 count_started w plan = let a = length-append w.plans (record { plan = plan; since = length w.log } ∷ []) in omega arith
 

@@ -17,6 +17,7 @@ use Rattle.sm_protocol.proofs.Whole.{happens_keeps, reached_keeps}
 abbrev IsUnlostBy : Course → Progress → Type 0
 IsUnlostBy s x = (x.done ≡ true) ⊎ (x.tries ≡ calls_before s x.at)
 
+-- the stream at a state has made its end, or has tried each call that it has behind it once, and no other
 abbrev pub IsUnlost : State → StreamId → Type 0
 IsUnlost w id = IsUnlostBy (stream_at w.sizes (plan_at w id.plan) id.stream) (progress_of w id)
 

@@ -4,6 +4,7 @@ use Rattle.sm_protocol.proofs.Words.{State, Progress, progress_of, set_progress}
 use Rattle.sm_protocol.proofs.Invariant.{AreNumbered}
 use Rattle.sm_protocol.proofs.Courses.{some_same}
 
+-- streams of one plan with one number are the same
 pub same_stream : (a b : StreamId) → a.plan ≡ b.plan → a.stream ≡ b.stream → a ≡ b
 same_stream a b e d = λ i. record { plan = e i; stream = d i }
 
@@ -22,6 +23,7 @@ pub record GoesOn (id : StreamId) (y : Progress) (x x' : StreamId → Progress) 
   pub here : x' id ≡ y
   pub others : (a : StreamId) → a ≢ id → x' a ≡ x a
 
+-- one stream goes on where its progress is put in, and the others stay
 pub goes_on_in : (f : ℕ → ℕ → Progress) (id : StreamId) (y : Progress) → GoesOn id y (λ a. f a.plan a.stream) (λ a. put2 f id.plan id.stream y a.plan a.stream)
 goes_on_in f id y = record {
   here = put2-here f id.plan id.stream y;
@@ -31,6 +33,7 @@ goes_on_in f id y = record {
   ];
 }
 
+-- the same of the progress at a state
 pub goes_on : (w : State) (id : StreamId) (y : Progress) → GoesOn id y (progress_of w) (λ a. set_progress w id y a.plan a.stream)
 goes_on w id y = goes_on_in w.progress id y
 
@@ -59,6 +62,7 @@ module _ (last : ℕ → ℕ → ℕ) (next : ℕ) (code : StreamId → List Ins
     pub unused : (x id).ahead ≡ false → (s u : ℕ) → last s u ≢ try_number
     pub kept : (x id).ahead ≡ true → (try_number ≡ (x id).pending) × (next_after ≡ next)
 
+  -- no other stream tries under the number of a try, and before its effect no cell has it as its last
   pub is_try_number : IsTryNumber
   is_try_number = elim (cases_eq (x id).pending 0) [
     | inl e ↦

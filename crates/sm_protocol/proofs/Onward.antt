@@ -40,6 +40,7 @@ some_can_step w v all k l unfinished =
       elim o.goes [ inl c ↦ c | inr s ↦ absurd (unspent w v k o.i l o.stream o.unended (all (stream_id k o.i)) s) ],
     )
 
+-- where no call is lost, none is refused, the state is safe, and of each unfinished plan some stream can step
 pub headline : Headline
 headline setup w es reached none fit losses =
     let kept = reached_keeps setup w reached in

@@ -112,6 +112,7 @@ serves_by_passes w led h e = of_happens w (λ e o. (s v : ℕ) → asked e ≡ S
         let b : IsServing w.place s v = subst (λ z. IsServing w.place z v) same (subst (λ z. IsServing w.place r z) (sym a.0) a.1) in
         (b, λ x p. one_serves (led.leads s) (w.numbers s) (w.place.cells s) (led.described s) x v p b)
 
+-- at an opening all recorded passes fit: there are none
 pub passes_at_opening : (setup : Setup) (p : Place) (room : ℕ) → IsOpening setup p room → PassesFit (opened (sizes_of setup) p room)
 passes_at_opening setup p room o = record { fit = λ n t e. absurd (none-some t e) }
 
@@ -162,6 +163,7 @@ none_spent (e ∷ es) w place p = elim (cases_Bool (spends_at place e (happens w
   | inr s ↦ let a : bit (spends_at place e (happens w e).0) ≡ 0 = ap bit s in let b = none_spent es (happens w e).1 place (passed_stays w e place p) in omega arith
 ]
 
+-- along every list of events one answer at most spends a ticket of each place of the log
 pub tickets_once : TicketsOnce
 tickets_once w [] place = omega arith
 tickets_once w (e ∷ es) place = elim (cases_Bool (spends_at place e (happens w e).0)) [

@@ -26,6 +26,7 @@ streams_apart n m part f id x a b l s e =
 abbrev pub streams_left : State → (ℕ → ℕ → Progress) → ℕ
 streams_left w f = sum_below (length w.plans) (λ k. sum_below (stream_count w k) (λ i. places_left (stream_parts w (stream_id k i)) (f k i)))
 
+-- what all streams take yet changes with one stream as that stream's part does
 pub left_after : (w : State) (id : StreamId) (x : Progress) (a b : ℕ) → id.plan < length w.plans → id.stream < stream_count w id.plan →
     places_left (stream_parts w id) x + a ≡ places_left (stream_parts w id) (progress_of w id) + b →
     streams_left w (set_progress w id x) + a ≡ streams_left w w.progress + b
@@ -47,13 +48,16 @@ no_calls_more stream at i e =
 abbrev pub tries_left : StreamModel → Progress → ℕ
 tries_left stream x = stream.budget + stream.retries + x.refills - x.tries
 
+-- before its end a stream takes a place for each try left, each instruction left but calls, and the end
 pub left_unless_done : (stream : StreamModel) (x : Progress) → x.done ≡ false → places_left stream x ≡ tries_left stream x + no_calls_from stream x.at + 1
 left_unless_done stream x e = rw e refl
 
+-- behind an instruction that is no call, one less of those that are no calls is left
 pub past_no_call : (stream : StreamModel) (at : ℕ) (i : Instr) → slice_get stream.code at ≡ Some i → is_no_call i ≡ true → no_calls_from stream at ≡ no_calls_from stream (at + 1) + 1
 past_no_call stream at i e n =
     let a : no_calls_from stream at ≡ 1 + no_calls_from stream (at + 1) = no_calls_more stream at i e ∙ ap (λ b. cond b 1 0 + no_calls_from stream (at + 1)) n in omega arith
 
+-- and behind a call as many
 pub past_call : (stream : StreamModel) (at : ℕ) (i : Instr) → slice_get stream.code at ≡ Some i → is_no_call i ≡ false → no_calls_from stream at ≡ no_calls_from stream (at + 1)
 past_call stream at i e n =
     let a : no_calls_from stream at ≡ 0 + no_calls_from stream (at + 1) = no_calls_more stream at i e ∙ ap (λ b. cond b 1 0 + no_calls_from stream (at + 1)) n in omega arith

@@ -7,6 +7,7 @@ use Rattle.sm_protocol.proofs.Reached.{same_machine, reached_run}
 use Rattle.sm_protocol.proofs.Invariant.{IsKept}
 use Rattle.sm_protocol.proofs.Whole.{happens_keeps, reached_keeps}
 use Rattle.sm_protocol.proofs.Onward.{headline, with_losses}
+use Rattle.sm_protocol.proofs.EffectNumbers.{one_at_most}
 
 -- ---- the run that a list of events makes
 
@@ -19,6 +20,7 @@ turn_runs : (g : Game) (e : Event) (es : List Event) (o : Option Happening) →
 turn_runs g e es None rest = ((rest g).0, ap (λ os. Answered played.Unknown ∷ os) (rest g).1)
 turn_runs g e es (Some x) rest = let r = rest (turn_by g e (Some x)).1 in (r.0, ap (λ os. (happens g.state x).0 ∷ os) r.1)
 
+-- a list of events that is played makes the run of those for which the hand has something, with what it gives
 pub plays_are_runs : PlaysAreRuns
 plays_are_runs [] g = (refl, refl)
 plays_are_runs (e ∷ es) g = turn_runs g e es (given g.hand e) (plays_are_runs es)
@@ -151,6 +153,7 @@ plays_are_safe setup es g reached all known =
       reached = after;
       checked = played.1;
       served = subst AreServed (sym runs.1) (unknown_served (all_given es g) (outcomes there g.state) (run_served there g.state kept.0 fit));
+      once = λ m. one_at_most g.state kept.0 there m fit;
       safe = onward.1;
       onward = onward.2;
       unlost = λ none asked. subst SomeCanStep (sym runs.0) (headline setup g.state there reached none played.0 (played_lose es g asked)).2;

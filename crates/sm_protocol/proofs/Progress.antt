@@ -153,6 +153,7 @@ pub record IsOnward (w : State) (k : ℕ) : Type 0 where
   pub unended : (w.progress k i).done ≡ false
   pub goes : CanStep w (stream_id k i) ⊎ IsSpentAt w (stream_id k i)
 
+-- some stream of a plan that isn't done can step, or stands before a call with its allowance spent
 pub some_onward : (w : State) → IsKept w → (k : ℕ) → k < length w.plans → is_unfinished w k ≡ true → IsOnward w k
 some_onward w v k l unfinished =
     let s = some_stream w v k l unfinished in
@@ -176,6 +177,7 @@ some_onward w v k l unfinished =
         not_refused : (made u id Through (next_instruction u id)).0 ≢ Refused
         not_refused = subst (λ o. o.0 ≢ Refused) is (step_keeps u (unhalted_keeps w v) id Through).0
 
+-- of each plan that isn't done some stream can step, or one that isn't done has spent its allowance
 pub some_can_step_or_spent : (w : State) → IsKept w → SomeCanStepOrSpent w
 some_can_step_or_spent w v k l unfinished =
     let o = some_onward w v k l unfinished in

@@ -29,6 +29,7 @@ same_by_steps w id passage = record {
   unanswered = λ i x effect t e f. record { sizes = refl; opening = refl; room = refl; halted = refl };
 }
 
+-- no event changes the configuration, the opening, the log's room or the halt flag
 pub same_machine : (w : State) (e : Happening) → IsOfOneMachine w (happens w e).1
 same_machine w e = of_happens w (λ e o. IsOfOneMachine w o.1) (record {
   idle = λ e answer n. all_refl w;
@@ -50,6 +51,7 @@ fit_push : (c : Sizes) (es : List Happening) (e : Happening) → AllFit c es →
 fit_push c [] e all f = (f, tt)
 fit_push c (x ∷ es) e all f = (all.0, fit_push c es e all.1 f)
 
+-- and no list of events does
 pub run_same : (es : List Happening) (w : State) → IsOfOneMachine w (run es w)
 run_same [] w = all_refl w
 run_same (e ∷ es) w =

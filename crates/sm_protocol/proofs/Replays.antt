@@ -28,6 +28,7 @@ same_parts a b e =
     let number = eqb-true a.number b.number s.1 in
     λ i. record { place = place i; shard = shard i; sender = sender i; target = target i; number = number i }
 
+-- a ticket that tests as open is that of an earlier pass, which was not passed on yet
 pub open_ticket : (log : List Logged) (t : Ticket) → is_open_ticket log t ≡ true → IsOpenTicket log t
 open_ticket log t e =
     let parts = and_parts (option_map_or (λ pass. same_ticket pass t) (slice_index_or (passes log) t.place None) false) _ e in

@@ -11,6 +11,7 @@ use Rattle.sm_protocol.proofs.Whole.{reached_keeps}
 
 -- ---- what is conserved
 
+-- what is free, what is held or under way and what nobody may use are together what there is
 pub room_is_conserved : EachReached IsConserved
 room_is_conserved setup w reached = let v = (reached_keeps setup w reached).0 in record { room = room_conserved w v; spare = spare_conserved w v }
 
@@ -69,5 +70,6 @@ module _ (w : State) (v : IsKept w) (u : ℕ) where
   reserved_approves : IsApproved w u → (happens w (Approve u)).0 ≡ Answered played.Approved
   reserved_approves a = ap (λ o. (approved w u o).0) (not_denied w.sizes w.place (pool w) (engaged w u) (free_places w) u (approved_granted a))
 
+-- a restart is approved exactly where shards keep floors and what is reserved, and the caps allow it
 pub approved_where_reserved : ApprovedWhereReserved
 approved_where_reserved setup w u reached known = let v = (reached_keeps setup w reached).0 in (approved_reserves w v u, reserved_approves w v u)

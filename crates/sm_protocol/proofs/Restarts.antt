@@ -11,11 +11,13 @@ use Rattle.sm_protocol.proofs.Keeping.{begun, progress_keeps}
 
 -- ---- only the log changes
 
+-- what holds of every state doesn't look at the log
 pub log_keeps : (w : State) (v : IsKept w) (log : List Logged) → IsKept (record w { log = log })
 log_keeps w v log = record { leads = v.leads; stage = v.stage; plans = v.plans; unbegun = v.unbegun; later_marks = v.later_marks; fits = v.fits; numbered = v.numbered }
 
 -- ---- refills
 
+-- a refill of a stream that was begun and hasn't made its end keeps it
 pub refill_keeps : (w : State) (v : IsKept w) (id : StreamId) (more : ℕ) (log : List Logged) → is_running w id ≡ true →
     IsKept (record w { progress = set_progress w id (record (progress_of w id) { refills = (progress_of w id).refills + more }); log = log })
 refill_keeps w v id more log e =
@@ -105,6 +107,7 @@ spare_left w v u l none s =
         never true = refl
         never false = refl
 
+-- the start of a restart that is not denied keeps it
 pub approve_keeps : (w : State) (v : IsKept w) (u : ℕ) (log : List Logged) → u < w.sizes.servers → denied_of w u ≡ None → IsKept (record w { place = set_down w.place u true; log = log })
 approve_keeps w v u log l e =
     let g = granted w.sizes w.place (pool w) (engaged w u) (free_places w) u e in
@@ -112,6 +115,7 @@ approve_keeps w v u log l e =
     (λ id b d at x here. restarted_reachable w.sizes w.place x u true (not_engaged w u g.free id b d at x here) (((running w v id b).streams id.stream b.stream).reachable d at x here))
     (spare_left w v u l g.spare)
 
+-- and so does the end of one
 pub restart_keeps : (w : State) (v : IsKept w) (u : ℕ) (log : List Logged) → w.place.down u ≡ true → IsKept (record w { place = set_down w.place u false; log = log })
 restart_keeps w v u log e = downed w v u false log known up (λ s. let m = live_after_up w.sizes w.place s u known e in let f : held w (OfSpare s) + w.sizes.floor s ≤ live_at w.sizes w.place s = v.fits (OfSpare s) in omega arith)
   where

@@ -45,6 +45,7 @@ effects_within w v id e =
     let o = (r.streams id.stream b.stream).effects in
     omega arith
 
+-- a state that keeps the invariant and the room of its log is safe
 pub is_safe : (w : State) → IsKept w → HasRoom w → IsSafe w
 is_safe w v h = record {
   place = place_safe w v;

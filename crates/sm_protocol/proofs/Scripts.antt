@@ -6,22 +6,26 @@ use Rattle.sm_protocol.specs.declared.event.Played.TheVariants as played
 
 -- ---- lists
 
+-- what stands in a list stands there when more follows
 pub slice_get_before : {T : Type 0} (xs ys : List T) (n : ℕ) → n < length xs → slice_get (xs ++ ys) n ≡ slice_get xs n
 slice_get_before [] ys n l = absurd (omega arith)
 slice_get_before (x ∷ xs) ys zero l = refl
 slice_get_before (x ∷ xs) ys (suc n) l = slice_get_before xs ys n (omega arith)
 
+-- and what is added stands behind it
 pub slice_get_last : {T : Type 0} (xs : List T) (y : T) → slice_get (xs ++ y ∷ []) (length xs) ≡ Some y
 slice_get_last [] y = refl
 slice_get_last (x ∷ xs) y = slice_get_last xs y
 
 -- ---- passes
 
+-- a log with a line more has the passes from before, and that of the line or none
 pub passes_push : (before : List (Option Ticket)) (log : List Logged) (x : Logged) →
     passes_from before (log ++ x ∷ []) ≡ passes_from before log ++ pass_of (passes_from before log) x.answer x.event ∷ []
 passes_push before [] x = refl
 passes_push before (y ∷ log) x = passes_push (before ++ pass_of before y.answer y.event ∷ []) log x
 
+-- each line of the log adds one to the list of passes
 pub length_passes : (before : List (Option Ticket)) (log : List Logged) → length (passes_from before log) ≡ length before + length log
 length_passes before [] = omega arith
 length_passes before (y ∷ log) =
@@ -63,10 +67,12 @@ pass_push log x P all last n t e = elim (cases_lt n (length log)) [
 abbrev pub AreBegunBy : ℕ → List Start → Type 0
 AreBegunBy n plans = AllByRecursion (λ (x : Start). x.since ≤ n) plans
 
+-- so it is of each greater length too
 pub begun_by_more : (n m : ℕ) (plans : List Start) → n ≤ m → AreBegunBy n plans → AreBegunBy m plans
 begun_by_more n m [] l a = tt
 begun_by_more n m (x ∷ xs) l a = (omega (arith, a.0), begun_by_more n m xs l a.1)
 
+-- and with one plan more that was begun so
 pub begun_by_push : (n : ℕ) (plans : List Start) (y : Start) → AreBegunBy n plans → y.since ≤ n → AreBegunBy n (plans ++ y ∷ [])
 begun_by_push n [] y a l = (l, tt)
 begun_by_push n (x ∷ xs) y a l = (a.0, begun_by_push n xs y a.1 l)
@@ -106,6 +112,7 @@ unfolding script_parts
 script_to_is w zero = refl
 script_to_is w (suc n) = ap (λ xs. xs ++ lines_at (passes w.log) (slice_get w.log n) ++ starts_at 0 w.plans (suc n)) (script_to_is w n)
 
+-- the script of a state is that of its log, with the log's passes, and of its starts
 pub script_is : (w : State) → script w ≡ script_parts (passes w.log) w.log w.plans (length w.log)
 script_is w = script_to_is w (length w.log)
 

@@ -9,12 +9,15 @@ use Rattle.sm_protocol.proofs.Pools.{pool_within}
 
 -- ---- one element more
 
+-- a list with one more is longer by one
 pub length_push : {T : Type 0} (xs : List T) (y : T) → length (xs ++ y ∷ []) ≡ suc (length xs)
 length_push xs y = let e = length-append xs (y ∷ []) in omega arith
 
+-- what stood in it stands there yet
 pub get_push_old : {T : Type 0} (xs : List T) (y : T) (n : ℕ) (d : T) → n < length xs → get_or (xs ++ y ∷ []) n d ≡ get_or xs n d
 get_push_old xs y n d l = get_or_append_left xs (y ∷ []) d n l
 
+-- and the new one stands last
 pub get_push_new : {T : Type 0} (xs : List T) (y : T) (d : T) → get_or (xs ++ y ∷ []) (length xs) d ≡ y
 get_push_new xs y d = get_or-append_seam xs y [] d
 
@@ -66,6 +69,7 @@ module _ (w : State) (v : IsKept w) (plan : PlanModel) (checked : IsCheckedPlan 
     in_turn = λ q l t. absurd (let e = ap (λ m. m.awaited) (v.later_marks place q (omega arith)) in cc);
   }
 
+  -- the start of a plan that is admitted keeps what holds of every state
   pub start_keeps : IsAdmitted w.sizes w.place (pool w) plan → IsKept next
   start_keeps admitted = record {
     leads = v.leads;
@@ -139,6 +143,7 @@ module _ (setup : Setup) (p : Place) (room : ℕ) (v : IsOpening setup p room) w
             subst (λ lead. IsListable lead (Some u)) (sym q) (at l.0 u l.1 l.2 (v.settled.listed s u known e))
       ]
 
+  -- what holds of every state holds of an opening
   pub open_keeps : IsKept (opened c p room)
   open_keeps = record {
     leads = leads_of c p;

@@ -30,6 +30,7 @@ module _ (w : State) (v : IsKept w) (id : StreamId) (x : Instr) (before : IsBefo
   r : IsRunning w.sizes w.place (plan_at w id.plan) (w.progress id.plan) (w.marks id.plan)
   r = runs w v id x before
 
+  -- no call of the stream has had its effect and waits for an answer
   pub unmade : now.ahead ≡ false
   unmade = not_ahead w.sizes w.place (plan_at w id.plan) (w.progress id.plan) (w.marks id.plan) r id.stream b.stream x before.next_is no_call
 
@@ -43,15 +44,17 @@ module _ (w : State) (v : IsKept w) (id : StreamId) (x : Instr) (before : IsBefo
   numbered : AreNumbered w.place.last w.next_number (code_of w) (λ i. set_progress w id (one_on now) i.plan i.stream)
   numbered = same_try w.place.last w.next_number (code_of w) (progress_of w) v.numbered id (one_on now) _ (goes_on w id (one_on now)) refl refl (λ t. absurd (let e = unmade in cc))
 
-  -- what the stream holds before it and behind it
+  -- what the stream holds before it
   pub was : (t : Right) → share w id t now ≡ count (holds now.at) t
   was = share_at w v id x before now now.at before.running (ap (λ q. reach now.at q) unmade)
 
+  -- and what it holds behind it
   pub is : (t : Right) → share w id t (one_on now) ≡ count (holds (now.at + 1)) t
   is = share_at w v id x before (one_on now) (now.at + 1) before.running (ap (λ q. reach (now.at + 1) q) unmade)
 
   -- ---- a publication
 
+  -- it has its effect, from the hold before it to the hold behind it
   pub own_effect : IsOwn x → Effect w.sizes w.place v.leads w.numbers (holds now.at) (holds (now.at + 1)) x
   own_effect own = effect w.sizes w.place v.leads w.numbers (parcels_of (plan_at w id.plan).signals) (holds now.at)
       (scene_now w v id x before unmade) x (holds (now.at + 1)) (can_reach w v id x before) own (turn w v id x before).leaves
@@ -91,6 +94,7 @@ module _ (w : State) (v : IsKept w) (id : StreamId) (x : Instr) (before : IsBefo
 pub lead_is : (w : State) (v : IsKept w) (s : ℕ) → lead_of w.sizes.servers (w.place.cells s) ≡ Some (v.leads s)
 lead_is w v s = lead_of_is (v.leads s) (w.numbers s) (w.place.cells s) w.sizes.servers (v.stage.described s) (λ u l. v.stage.placement.no_server s u l)
 
+-- so the lead that is found of a shard is that one
 pub leads_are : (w : State) (v : IsKept w) (s : ℕ) → leads_of w.sizes w.place s ≡ v.leads s
 leads_are w v s = ap (λ o. unwrap_or o Gone) (lead_is w v s)
 
@@ -111,12 +115,15 @@ module _ (w : State) (v : IsKept w) (id : StreamId) (q : ℕ) where
   ordered : (x : Instr) (before : IsBefore w id (Some x)) → IsOrdered (parcels_of (plan_at w id.plan).signals q)
   ordered x before = let r = runs w v id x before in (signals_known w.sizes.shards w.sizes.servers (plan_at w id.plan) r.checked.parts.parcels r.checked.fits).ordered q
 
+  -- a signal that the stream stands before is one of its plan, and neither posted nor awaited yet
   pub signal_once : (before : IsBefore w id (Some (Signal q))) → (q < length (plan_at w id.plan).signals) × ((w.marks id.plan q).posted ≡ false) × ((w.marks id.plan q).awaited ≡ false)
   signal_once before = let b = here w v id (Signal q) before in not_posted w.sizes w.place (plan_at w id.plan) (w.progress id.plan) (w.marks id.plan) (running w v id b) id.stream b.stream q before.next_is
 
+  -- and one whose wait it stands before is not awaited yet
   pub wait_once : (before : IsBefore w id (Some (Wait q))) → (q < length (plan_at w id.plan).signals) × ((w.marks id.plan q).awaited ≡ false)
   wait_once before = let b = here w v id (Wait q) before in not_awaited w.sizes w.place (plan_at w id.plan) (w.progress id.plan) (w.marks id.plan) (running w v id b) id.stream b.stream q before.next_is
 
+  -- what the stream gives up as it posts a signal, the signal's parcel carries
   pub signal_shares : (before : IsBefore w id (Some (Signal q))) → SharesStay w id q (record (w.marks id.plan q) { posted = true })
   signal_shares before t =
       let once = signal_once before in
@@ -127,6 +134,7 @@ module _ (w : State) (v : IsKept w) (id : StreamId) (q : ℕ) where
       let new : load w id.plan t q (record (w.marks id.plan q) { posted = true }) ≡ count (hold_of (parcels_of (plan_at w id.plan).signals q)) t = rw (once.2) refl in
       omega arith
 
+  -- and what the parcel carried, the stream holds once it has awaited it
   pub wait_shares : (before : IsBefore w id (Some (Wait q))) → (w.marks id.plan q).posted ≡ true → SharesStay w id q (record (w.marks id.plan q) { awaited = true })
   wait_shares before e t =
       let once = wait_once before in

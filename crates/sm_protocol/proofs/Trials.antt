@@ -32,6 +32,7 @@ pub record IsCallAt (numbers : ℕ → ℕ) (x : Instr) : Type 0 where
   pub touches : touched x ≡ Some (call.shard, call.server)
   pub mentions : (names_of x).first ≡ Some call.server
 
+-- so it is of each instruction that is a call
 pub call_at : (numbers : ℕ → ℕ) (x : Instr) → is_call x ≡ true → IsCallAt numbers x
 call_at numbers (Publish s) e = cc
 call_at numbers (Unlist s) e = cc
@@ -45,6 +46,7 @@ pub record IsBegun (w : State) (id : StreamId) : Type 0 where
   pub stream : id.stream < stream_count w id.plan
 
 module _ (w : State) (v : IsKept w) where
+  -- the plan of a stream that was begun runs
   pub running : (id : StreamId) → IsBegun w id → IsRunning w.sizes w.place (plan_at w id.plan) (w.progress id.plan) (w.marks id.plan)
   running id b = v.plans id.plan b.plan
 

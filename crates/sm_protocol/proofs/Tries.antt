@@ -47,15 +47,19 @@ module _ (w : State) (v : IsKept w) (id : StreamId) (x : Instr) (before : IsBefo
   abbrev now : Progress
   now = progress_of w id
 
+  -- the stream was begun
   pub here : IsBegun w id
   here = begun w id before.begun
 
+  -- its plan runs
   pub runs : IsRunning w.sizes w.place (plan_at w id.plan) (w.progress id.plan) (w.marks id.plan)
   runs = running w v id here
 
+  -- its instruction is in its turn
   pub turn : IsNextTurn w.sizes (plan_at w id.plan) id.stream now.at x
   turn = next_turn w.sizes (plan_at w id.plan) id.stream now.at x (good w.sizes w.place (plan_at w id.plan) (w.progress id.plan) (w.marks id.plan) runs id.stream here.stream) before.next_is
 
+  -- the shard that it names is known, and the servers that it mentions are known and up
   pub can_reach : IsReachable w.sizes w.place x
   can_reach = (runs.streams id.stream here.stream).reachable before.running now.at x before.next_is
 
@@ -88,17 +92,21 @@ module _ (w : State) (v : IsKept w) (id : StreamId) (b : IsBegun w id) (x : Inst
   stands_before : IsBefore w id (Some x)
   stands_before = record { begun = is_begun_true w id b; running = not_done w.sizes w.place (plan_at w id.plan) (w.progress id.plan) (w.marks id.plan) (running w v id b) id.stream b.stream x here; next_is = here }
 
+  -- the shard that the instruction names is known, and the servers that it mentions are known and up
   pub reachable : IsReachable w.sizes w.place x
   reachable = can_reach w v id x stands_before
 
+  -- where no call has had its effect unanswered, the hold before the instruction is true of the placement
   pub scene_before : (progress_of w id).ahead ≡ false → IsScene w.sizes w.place v.leads w.numbers (hold_before (stream_at w.sizes (plan_at w id.plan) id.stream) (progress_of w id).at)
   scene_before = scene_now w v id x stands_before
 
   module _ (is : is_call x ≡ true) (call : ServerCall) (next : next_call w.numbers x ≡ Some call) (touches : touched x ≡ Some (call.shard, call.server)) (mentions : (names_of x).first ≡ Some call.server) where
+    -- a call that has had no effect has it now
     pub effect_now : (progress_of w id).ahead ≡ false → NumberedEffect w.sizes w.place v.leads w.numbers (hold_before (stream_at w.sizes (plan_at w id.plan) id.stream) (progress_of w id).at)
         (hold_before (stream_at w.sizes (plan_at w id.plan) id.stream) ((progress_of w id).at + 1)) x call (call_number w (progress_of w id))
     effect_now a = has_effect w v id x stands_before a call next
 
+    -- and one that has had its effect has none again: the answer is that it isn't fresh
     pub answer_again : (progress_of w id).ahead ≡ true → (again : ServerCall) → again.shard ≡ call.shard → again.server ≡ call.server →
         called_numbered w.sizes w.place again.shard again.server again.call (call_number w (progress_of w id)) ≡ Ok (record { place = w.place; fresh = false })
     answer_again a again s u = has_none w v id x stands_before a again
@@ -150,6 +158,7 @@ module _ (w : State) (v : IsKept w) (id : StreamId) (x : Instr) (call : ServerCa
       same_effect : (x y : CallEffect) → ◌≡◌ {A = Result CallEffect Refusal} (Ok x) (Ok y) → x ≡ y
       same_effect x y e = cc
 
+  -- so no try is refused
   pub not_refused : (why : Refusal) → answer_to w id call ≡ Err why → ⊥
   not_refused why e = elim (cases_Bool at_try.ahead) [
     | inr a ↦ absurd (let n = (first_effect a).answered in cc)
@@ -244,6 +253,7 @@ module _ (w : State) (v : IsKept w) (id : StreamId) (x : Instr) (call : ServerCa
 
   -- ---- all tries
 
+  -- a try that is answered keeps what holds of every state
   pub through_keeps : (effect : CallEffect) → answer_to w id call ≡ Ok effect → IsKept (served_try w id x effect (behind_call at_try effect.fresh) (event.Step id) Moved)
   through_keeps effect e = by_answer effect e (λ f. IsKept (served_try w id x f (behind_call at_try f.fresh) (event.Step id) Moved))
       (λ a.
@@ -255,6 +265,7 @@ module _ (w : State) (v : IsKept w) (id : StreamId) (x : Instr) (call : ServerCa
       kept_here y (number_after_try w at_try) _ (plan_further y refl (course_behind false (counts false (inr (refl, a))))) t.before.running (ap (λ q. reach at_try.at q) (sym a))
       (same_next a y (answered_again w.place.last w.next_number (code_of w) (progress_of w) v.numbered id y _ (goes_on w id y) refl refl)))
 
+  -- and so does one whose answer is lost
   pub unanswered_keeps : (effect : CallEffect) → answer_to w id call ≡ Ok effect → IsKept (served_try w id x effect (ahead_of_call w at_try effect.fresh) (event.Lose id true) Lost)
   unanswered_keeps effect e = by_answer effect e (λ f. IsKept (served_try w id x f (ahead_of_call w at_try f.fresh) (event.Lose id true) Lost))
       (λ a.
@@ -266,6 +277,7 @@ module _ (w : State) (v : IsKept w) (id : StreamId) (x : Instr) (call : ServerCa
       kept_here y (number_after_try w at_try) _ (plan_stands y refl (course_ahead false (counts false (inr (refl, a))))) t.before.running (ap (λ q. reach at_try.at q) (sym a))
       (same_next a y (same_try w.place.last w.next_number (code_of w) (progress_of w) v.numbered id y _ (goes_on w id y) ((number w v id x t.before).kept a).0 (sym a) (λ q. refl))))
 
+  -- and one that is lost before its server has it
   pub lost_keeps : IsKept (call_lost w id)
   lost_keeps =
       let y : Progress = record (tried_more at_try false) { pending = call_number w at_try } in

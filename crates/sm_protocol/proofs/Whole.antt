@@ -9,6 +9,7 @@ use Rattle.sm_protocol.proofs.Steps.{kept_by_steps}
 use Rattle.sm_protocol.proofs.Restarts.{log_keeps, refill_keeps, approve_keeps, restart_keeps}
 use Rattle.sm_protocol.proofs.Starts.{begin_keeps, open_keeps}
 
+-- no event has its call refused, and each keeps what holds of every state
 pub happens_keeps : (w : State) (v : IsKept w) (e : Happening) → FitsConfig w.sizes e → Keeps (happens w e)
 happens_keeps w v = of_known_happens w (λ e o. FitsConfig w.sizes e → Keeps o) (record {
   idle = λ e answer n fits. ((λ h. cc), v);
@@ -28,6 +29,7 @@ happens_keeps w v = of_known_happens w (λ e o. FitsConfig w.sizes e → Keeps o
 flag_keeps : (w : State) (v : IsKept (unhalted w)) → IsKept w
 flag_keeps w v = record { leads = v.leads; stage = v.stage; plans = v.plans; unbegun = v.unbegun; later_marks = v.later_marks; fits = v.fits; numbered = v.numbered }
 
+-- so it holds of a state without the flag too
 pub unhalted_keeps : (w : State) (v : IsKept w) → IsKept (unhalted w)
 unhalted_keeps w v = record { leads = v.leads; stage = v.stage; plans = v.plans; unbegun = v.unbegun; later_marks = v.later_marks; fits = v.fits; numbered = v.numbered }
 

@@ -163,13 +163,16 @@ AsksNoLoss _ = Unit {0}
 abbrev pub AreChecked : Sizes → Hand → Type 0
 AreChecked c h = (place : ℕ) (plan : PlanModel) → slice_index_or h.plans place None ≡ Some plan → IsCheckedPlan c plan
 
--- What the hand gave fits, no call was refused, and after the list of events the game is one like before, safe, and goes on as
--- the law on lost calls says, or as the headline does where no unfinished stream had a lost call, and none was asked for.
+-- What the hand gave fits, no call was refused, no number of a call had its effect twice, and after the list of events the game
+-- is one like before, safe, and goes on as the law on lost calls says, or as the headline does where no unfinished stream had a
+-- lost call, and none was asked for.
 pub record IsPlayed (setup : Setup) (es : List Event) (g : Game) : Type 0 where
   pub fit : AllFit (sizes_of setup) (played_events es g)
   pub reached : IsReached setup (play es g).state
   pub checked : AreChecked (sizes_of setup) (play es g).hand
   pub served : AllByRecursion (λ o. o ≢ Refused) (plays es g)
+  -- no number of a call has its effect twice along the events
+  pub once : (m : ℕ) → count_by (λ k. k == m) (effect_numbers (played_events es g) g.state) ≤ 1
   pub safe : IsSafe (play es g).state
   pub onward : SomeCanStepOrSpent (play es g).state
   pub unlost : HasNoLost g.state → AllByRecursion AsksNoLoss es → SomeCanStep (play es g).state

@@ -61,6 +61,37 @@ fn a_machine_opens_with_a_permit_for_each_server_that_is_down(rt: HostRuntime) {
     }
 }
 
+/// Ends the restart that the last of the permits is for, and asserts that the one place of the log has been taken for it.
+fn end_restart(rt: &impl Abort, machine: &mut Machine, permits: &mut Vec<Permit>) {
+    assert_eq!(rt; machine.free_places(), 0);
+    match permits.pop() {
+        Some(permit) => {
+            if let Err(_) = machine.done(permit) {
+                panic!(rt; "a restart does not end")
+            }
+        }
+        None => panic!(rt; "there is no permit"),
+    }
+    assert_eq!(rt; machine.log().len(), 1);
+    assert_eq!(rt; machine.free_places(), 0);
+}
+
+#[test]
+fn a_permit_of_the_opening_brings_its_server_up(rt: HostRuntime) {
+    let alloc = rt.alloc();
+    match open(&rt, alloc, placement(&rt, alloc, &[ServerId::new(2)]), 1) {
+        Ok((mut machine, mut permits)) => {
+            let server = server_id(&rt, machine.placement(), 2);
+            assert!(&rt; machine.placement().is_down(server));
+            end_restart(&rt, &mut machine, &mut permits);
+            let server = server_id(&rt, machine.placement(), 2);
+            assert!(&rt; !machine.placement().is_down(server));
+            give_up(&rt, alloc, machine, permits, 0);
+        }
+        Err(_) => panic!(&rt; "a machine with a place for each restart is not opened"),
+    }
+}
+
 /// Asserts that no machine has a log of so many places, and that the placement comes back.
 fn assert_log_full(rt: &impl Abort, alloc: Global, opened: Placement, room: u32, down: u32) {
     match open(rt, alloc, opened, room) {

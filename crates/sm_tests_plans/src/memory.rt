@@ -23,6 +23,8 @@ fn is_chained(checked: &Checked) -> bool {
 /// Nothing was begun, and nothing has happened.
 fn assert_untouched(rt: &impl Abort, machine: &Machine) {
     assert!(rt; machine.log().is_empty());
+    assert_eq!(rt; machine.plan_count(), 0);
+    assert_eq!(rt; machine.free_places(), 14);
     assert!(rt; !machine.is_begun(StreamId { plan: 0, stream: 0 }));
     assert!(rt; machine.placement().settled());
     let rooms = [(0, 6), (1, 4), (2, 0), (3, 0)];

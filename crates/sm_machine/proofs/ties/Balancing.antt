@@ -136,6 +136,7 @@ module _ (w : State) (v : IsKept w) (id : StreamId) where
 
   -- ---- publications
 
+  -- a publish leaves the pool as it is
   pub pool_of_publish : (s : ℕ) → IsBefore w id (Some (Publish s)) → let new = (entry_added w id s (to_list (leads_of w.sizes w.place s))).1 in IsKept new → pool new ≡ pool w
   pool_of_publish s b k =
       let a = none_ahead w v id _ b refl in
@@ -150,6 +151,7 @@ module _ (w : State) (v : IsKept w) (id : StreamId) where
       same_place : {h h' : Hold} (e : Effect w.sizes w.place v.leads w.numbers h h' (Publish s)) → acts w.sizes w.place w.numbers (Publish s) ≡ Some (publish w.place s (to_list (leads_of w.sizes w.place s)), w.numbers) → e.next_place ≡ publish w.place s (to_list (leads_of w.sizes w.place s))
       same_place e m = ap (λ (z : Place × (ℕ → ℕ)). z.0) (some_same {T = Place × (ℕ → ℕ)} (e.next_place, e.next_numbers) (publish w.place s (to_list (leads_of w.sizes w.place s)), w.numbers) (sym e.made ∙ m))
 
+  -- so does an unlist
   pub pool_of_unlist : (s : ℕ) → IsBefore w id (Some (Unlist s)) → IsKept (entry_added w id s None).1 → pool (entry_added w id s None).1 ≡ pool w
   pool_of_unlist s b k =
       let a = none_ahead w v id _ b refl in
@@ -168,6 +170,7 @@ module _ (w : State) (v : IsKept w) (id : StreamId) where
   is : (i : Instr) (b : IsBefore w id (Some i)) (a : (progress_of w id).ahead ≡ false) (r : Right) → share w id r (one_on (progress_of w id)) ≡ count (hold_behind w id) r
   is i b a r = share_now w id r (one_on (progress_of w id)) b.running ∙ ap (λ q. count (hold_before (course_at w id) (reach ((progress_of w id).at + 1) q)) r) a
 
+  -- the post of a signal leaves the pool as it is
   pub pool_of_post : (q : ℕ) → IsBefore w id (Some (Signal q)) → IsKept (posted w id q).1 → pool (posted w id q).1 ≡ pool w
   pool_of_post q b k =
       let n = known w v id _ b in
@@ -185,6 +188,7 @@ module _ (w : State) (v : IsKept w) (id : StreamId) where
       let new : load w id.plan r q z ≡ count (hold_of p) r = rw (once.2) refl in
       omega arith)
 
+  -- so does a wait for a posted signal
   pub pool_of_take : (q : ℕ) → IsBefore w id (Some (Wait q)) → (w.marks id.plan q).posted ≡ true → IsKept (parcel_taken w id q) → pool (parcel_taken w id q) ≡ pool w
   pool_of_take q b posted k =
       let n = known w v id _ b in
@@ -222,6 +226,7 @@ module _ (w : State) (v : IsKept w) (id : StreamId) where
 
   -- ---- refills
 
+  -- a refill leaves the pool as it is
   pub pool_of_refill : IsBegun w id → (more : ℕ) (log : List Logged) →
       pool (record w { progress = set_progress w id (record (progress_of w id) { refills = (progress_of w id).refills + more }); log = log }) ≡ pool w
   pool_of_refill n more log = same_pool w (set_progress w id (record (progress_of w id) { refills = (progress_of w id).refills + more })) log (λ r.

@@ -29,16 +29,20 @@ course_at w id = stream_at w.sizes (plan_at w id.plan) id.stream
 abbrev pub hold_here : State → StreamId → Hold
 hold_here w id = hold_before (course_at w id) (progress_of w id).at
 
+-- what it holds behind that instruction
 abbrev pub hold_behind : State → StreamId → Hold
 hold_behind w id = hold_before (course_at w id) ((progress_of w id).at + 1)
 
 module _ (setup : Setup) (w : State) (reached : IsReached setup w) where
+  -- the protocol's invariant holds of each state that events lead to
   pub kept : IsKept w
   kept = (reached_keeps setup w reached).0
 
+  -- the configuration that such a state was opened with keeps what every configuration keeps
   pub is_setup : IsSetup setup
   is_setup = (of_opening setup w reached).is_opening.rows
 
+  -- and has the numbers of the state
   pub same_sizes : w.sizes ≡ sizes_of setup
   same_sizes = (reached_keeps setup w reached).1
 
@@ -54,9 +58,11 @@ module _ (w : State) (v : IsKept w) (id : StreamId) where
       (parcel_below w.sizes.shards w.sizes.servers (stream_parts w id).holds stream.holds) p
 
   module _ (o : Option Instr) (b : IsBefore w id o) where
+    -- a stream before its next instruction is one of a plan that was begun
     pub known : IsBegun w id
     known = begun w id b.begun
 
+    -- the placement with what the stream holds is a scene
     pub own_scene : IsScene w.sizes w.place v.leads w.numbers (hold_of_stream w id.plan id.stream)
     own_scene = scene w v id known b.running
 
@@ -69,11 +75,13 @@ module _ (w : State) (v : IsKept w) (id : StreamId) where
   holds_behind a = ap (λ q. hold_before (course_at w id) (reach (progress_of w id).at q)) a
 
   module _ (i : Instr) (b : IsBefore w id (Some i)) where
+    -- the instruction leads from what the stream holds before it to what it holds behind it, in budget
     pub turn : IsNextTurn w.sizes (plan_at w id.plan) id.stream (progress_of w id).at i
     turn =
         let k = known (Some i) b in
         next_turn w.sizes (plan_at w id.plan) id.stream (progress_of w id).at i
         (good w.sizes w.place (plan_at w id.plan) (w.progress id.plan) (w.marks id.plan) (running w v id k) id.stream k.stream) b.next_is
 
+    -- the instruction's shard is known, and each server that it mentions is known and up
     pub can_reach : IsReachable w.sizes w.place i
     can_reach = reachable w v id (known (Some i) b) i b.next_is

@@ -133,6 +133,7 @@ module _ (w : State) (v : IsKept w) (id : StreamId) (i : Instr) (b : IsBefore w 
     | inr a ↦ let g = answered_first a in let h = g.1 in cc
   ]
 
+  -- the call of a try names known ids and is served; its effect is now, unless it was ahead
   pub can_call : CanCall w id x
   can_call =
       let s = call_shard i is in

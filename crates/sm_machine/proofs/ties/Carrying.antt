@@ -120,6 +120,7 @@ module _ (setup : Setup) (w : State) (reached : IsReached setup w) (id : StreamI
         sent = sent;
       }
 
+  -- a stream before a signal can give its parcel to a grant that is empty and has the capacity for it
   pub can_send : (q : ℕ) → IsBefore w id (Some (Signal q)) → (g into : HoldModel) → hold_of g.rights ≡ hold_of_stream w id.plan id.stream → into.rights ≡ no_rights →
       most_keys (parcel_at w id.plan q) ≤ into.capacity → CanSend w id.plan q g into (hold_behind w id)
   can_send q b g into is empty room = can_send_into q b g into is (ap hold_of empty ∙ no_rights_hold) (subst IsOrdered (sym empty) (record { cells = tt; crowns = tt; room = tt; spare = tt }))
@@ -146,6 +147,7 @@ share_and_load w id r q l i m =
     omega arith
 
 module _ (setup : Setup) (w : State) (reached : IsReached setup w) (id : StreamId) where
+  -- a stream before a wait for a posted signal can take the parcel into a grant with capacity for its peak
   pub can_take : (q : ℕ) → IsBefore w id (Some (Wait q)) → (w.marks id.plan q).posted ≡ true → (g from : HoldModel) →
       hold_of g.rights ≡ hold_of_stream w id.plan id.stream → IsOrdered g.rights → IsPositive g.rights →
       hold_of from.rights ≡ hold_of (parcel_at w id.plan q) → IsOrdered from.rights →

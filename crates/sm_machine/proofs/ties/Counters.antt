@@ -34,6 +34,7 @@ pub counted_opened : (c : Sizes) (p : Place) (room : ℕ) (u : ℕ → ℕ) → 
 counted_opened c p room u = record { streams = λ k l. absurd (omega arith); plans = refl; places = omega arith }
 
 module _ (setup : Setup) (w : State) (reached : IsReached setup w) (u : ℕ → ℕ) (n f : ℕ) (c : HasCounters w u n f) where
+  -- the halt flag leaves the counts as they are
   pub counted_halted : (flag : Bool) → HasCounters (record w { halted = flag }) u n f
   counted_halted flag = record { streams = c.streams; plans = c.plans; places = c.places }
 
@@ -50,6 +51,7 @@ module _ (setup : Setup) (w : State) (reached : IsReached setup w) (u : ℕ → 
     plans_still b y d = c.plans ∙ sym (running_same w id (begun w id b) y d)
 
     module _ (i : Instr) (x : ServerCall) (t : IsTry w id i x) where
+      -- a try that is served and answered leaves the counts as they are
       pub counted_through : (effect : CallEffect) → answer_to w id x ≡ Ok effect → HasCounters (served_try w id i effect (behind_call now effect.fresh) (event.Step id) played.Moved) u n f
       counted_through effect e = record {
         streams = streams_still t.before.begun (behind_call now effect.fresh) refl;
@@ -57,6 +59,7 @@ module _ (setup : Setup) (w : State) (reached : IsReached setup w) (u : ℕ → 
         places = c.places ∙ sym (free_through setup w reached id i x t effect e);
       }
 
+      -- so does one that is served, and whose answer is lost
       pub counted_unanswered : (effect : CallEffect) → answer_to w id x ≡ Ok effect → HasCounters (served_try w id i effect (ahead_of_call w now effect.fresh) (event.Lose id true) played.Lost) u n f
       counted_unanswered effect e = record {
         streams = streams_still t.before.begun (ahead_of_call w now effect.fresh) refl;
@@ -64,11 +67,13 @@ module _ (setup : Setup) (w : State) (reached : IsReached setup w) (u : ℕ → 
         places = c.places ∙ sym (free_unanswered setup w reached id i x t effect e);
       }
 
+      -- so does one that is lost before it comes to its server
       pub counted_lost : HasCounters (call_lost w id) u n f
       counted_lost =
           let y : Progress = record (tried_more now false) { pending = call_number w now } in
           record { streams = streams_still t.before.begun y refl; plans = plans_still t.before.begun y refl; places = c.places ∙ sym (free_lost setup w reached id i x t) }
 
+    -- another entry of the published map leaves the counts as they are
     pub counted_published : (i : Instr) (s : ℕ) (server : Option ℕ) → IsBefore w id (Some i) → is_call i ≡ false → HasCounters (entry_added w id s server).1 u n f
     counted_published i s server b other = record {
       streams = streams_still b.begun (one_on now) refl;
@@ -76,9 +81,11 @@ module _ (setup : Setup) (w : State) (reached : IsReached setup w) (u : ℕ → 
       places = c.places ∙ sym (free_published setup w reached id i s server b other);
     }
 
+    -- so does the post of a signal
     pub counted_posted : (q : ℕ) → IsBefore w id (Some (Signal q)) → HasCounters (posted w id q).1 u n f
     counted_posted q b = record { streams = streams_still b.begun (one_on now) refl; plans = plans_still b.begun (one_on now) refl; places = c.places ∙ sym (free_posted setup w reached id q b) }
 
+    -- so does a wait for a posted signal
     pub counted_taken : (q : ℕ) → IsBefore w id (Some (Wait q)) → HasCounters (parcel_taken w id q) u n f
     counted_taken q b = record { streams = streams_still b.begun (one_on now) refl; plans = plans_still b.begun (one_on now) refl; places = c.places ∙ sym (free_taken setup w reached id q b) }
 
@@ -107,6 +114,7 @@ module _ (setup : Setup) (w : State) (reached : IsReached setup w) (u : ℕ → 
           },
         )
 
+    -- a refill takes a free place for each try more, and one for itself
     pub counted_refilled : is_running w id ≡ true → (more : ℕ) → more + 1 ≤ f → (e : Event) (answer : Played) →
         HasCounters (record w { progress = set_progress w id (record now { refills = now.refills + more }); log = logged w e answer }) u n (f - (more + 1))
     counted_refilled runs more enough e answer =
@@ -118,18 +126,21 @@ module _ (setup : Setup) (w : State) (reached : IsReached setup w) (u : ℕ → 
 
   -- ---- other events
 
+  -- an event that is recorded and changes nothing else takes one free place
   pub counted_recorded : 1 ≤ f → (e : Event) (answer : Played) → HasCounters (record w { log = logged w e answer }) u n (f - 1)
   counted_recorded enough e answer =
       let is = c.places in
       let free = free_recorded setup w reached (omega arith) e answer in
       record { streams = c.streams; plans = c.plans; places = omega arith }
 
+  -- the approval of a restart takes two free places
   pub counted_approved : (v : ℕ) → v < w.sizes.servers → w.place.down v ≡ false → 2 ≤ f → (e : Event) (answer : Played) → HasCounters (record w { place = set_down w.place v true; log = logged w e answer }) u n (f - 2)
   counted_approved v known up enough e answer =
       let is = c.places in
       let free = free_approved setup w reached v known up (omega arith) e answer in
       record { streams = c.streams; plans = c.plans; places = omega arith }
 
+  -- the end of a restart takes none
   pub counted_restarted : (v : ℕ) → v < w.sizes.servers → w.place.down v ≡ true → (e : Event) (answer : Played) → HasCounters (record w { place = set_down w.place v false; log = logged w e answer }) u n f
   counted_restarted v known down e answer = record { streams = c.streams; plans = c.plans; places = c.places ∙ sym (free_restarted setup w reached v known down e answer) }
 

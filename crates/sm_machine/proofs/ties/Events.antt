@@ -61,6 +61,7 @@ module _ (x : Whole) (g : IsWorking x) where
 
   -- ---- restarts
 
+  -- an approval, by which the server is down and a spare replica of each shard live there is out of the pool
   pub working_approved : (u : ℕ) → u < w.sizes.servers → denial w.sizes w.place (pool w) (engaged w u) (free_places w) u ≡ None →
       IsWorking (record x { state = record w { place = set_down w.place u true; log = logged w (event.Approve u) played.Approved }; pool = pay_live x.pool (λ s. is_live_at w.place s u) w.sizes.shards; free = x.free - 2 })
   working_approved u known e = record {
@@ -73,6 +74,7 @@ module _ (x : Whole) (g : IsWorking x) where
         counted_approved g.setup w g.reached x.unfinished x.running x.free g.counted u known t.up (omega arith) (event.Approve u) played.Approved;
   }
 
+  -- the end of a restart, by which it is up and one of each shard that is live there then is in the pool
   pub working_restarted : (u : ℕ) → u < w.sizes.servers → w.place.down u ≡ true →
       IsWorking (record x { state = record w { place = set_down w.place u false; log = logged w (event.Done u) played.Up }; pool = get_live x.pool (λ s. is_live_at (set_down w.place u false) s u) w.sizes.shards })
   working_restarted u known e = record {

@@ -31,6 +31,7 @@ unfinished_is w k = any_counted (stream_count w k) (λ i. not (w.progress k i).d
 abbrev pub running_by : ℕ → (ℕ → ℕ) → ℕ
 running_by n counts = sum_below n (λ k. bit (nat_lt 0 (counts k)))
 
+-- how many plans are unfinished is told by how many streams of each are
 pub running_is : (w : State) → running_plans w ≡ running_by (length w.plans) (unfinished_count w)
 running_is w = same_sum (length w.plans) (λ k. bit (is_unfinished w k)) (λ k. bit (nat_lt 0 (unfinished_count w k))) (λ k l. ap bit (unfinished_is w k))
 
@@ -56,6 +57,7 @@ module _ (w : State) (id : StreamId) (b : IsBegun w id) (y : Progress) where
     | inr e ↦ unfinished_others k e
   ]
 
+  -- and as many plans are unfinished as before
   pub running_same : y.done ≡ (progress_of w id).done → running_plans new ≡ running_plans w
   running_same d = running_is new ∙ same_sum (length w.plans) _ _ (λ k l. ap (λ n. bit (nat_lt 0 n)) (unfinished_same d k)) ∙ sym (running_is w)
 
@@ -98,6 +100,7 @@ module _ (w : State) (id : StreamId) (b : IsBegun w id) (y : Progress) where
 -- ---- starts
 
 module _ (w : State) (v : IsKept w) (plan : PlanModel) where
+  -- a start leaves the counts of the earlier plans as they are
   pub unfinished_before : (k : ℕ) → k < length w.plans → unfinished_count (started w plan) k ≡ unfinished_count w k
   unfinished_before k l = ap (λ (x : PlanModel). count_below (length x.streams) (λ i. not (w.progress k i).done)) (plan_before w plan k l)
 
@@ -114,6 +117,7 @@ module _ (w : State) (v : IsKept w) (plan : PlanModel) where
       ap (λ (x : PlanModel). count_below (length x.streams) (λ i. not (w.progress (length w.plans) i).done)) (plan_started w plan)
       ∙ all_counted (length plan.streams) (λ i. not (w.progress (length w.plans) i).done) (λ i. ap (λ x. not x.done) (unbegun i))
 
+  -- and the plan is one more that is unfinished, if it has streams
   pub running_start : running_plans (started w plan) ≡ running_plans w + bit (nat_lt 0 (length plan.streams))
   running_start =
       let old = running_is w in

@@ -85,12 +85,15 @@ module _ (setup : Setup) (w : State) (reached : IsReached setup w) where
         let d = past_no_call parts now.at i b.next_is (ap not n) in
         omega arith
 
+    -- another entry of the published map leaves as many places free
     pub free_published : (i : Instr) (s : ℕ) (server : Option ℕ) → IsBefore w id (Some i) → is_call i ≡ false → free_places (entry_added w id s server).1 ≡ free_places w
     free_published i s server b n = free_same (one_on now) (publish w.place s server) w.entries w.numbers w.next_number w.marks (event.Step id) played.Moved b.begun refl (no_call_less i b n)
 
+    -- so does the post of a signal
     pub free_posted : (q : ℕ) → IsBefore w id (Some (Signal q)) → free_places (posted w id q).1 ≡ free_places w
     free_posted q b = free_same (one_on now) w.place w.entries w.numbers w.next_number w.marks (event.Step id) played.Moved b.begun refl (no_call_less (Signal q) b refl)
 
+    -- so does a wait for a posted signal
     pub free_taken : (q : ℕ) → IsBefore w id (Some (Wait q)) → free_places (parcel_taken w id q) ≡ free_places w
     free_taken q b = free_same (one_on now) w.place w.entries w.numbers w.next_number w.marks (event.Step id) played.Moved b.begun refl (no_call_less (Wait q) b refl)
 
@@ -110,14 +113,17 @@ module _ (setup : Setup) (w : State) (reached : IsReached setup w) where
       downs : (effect : CallEffect) → answer_to w id x ≡ Ok effect → effect.place.down ≡ w.place.down
       downs effect e = (of_call w.sizes w.place x.shard x.server x.call (call_number w now) effect e).down
 
+      -- a try that is served and answered leaves as many places free
       pub free_through : (effect : CallEffect) → answer_to w id x ≡ Ok effect → free_places (served_try w id i effect (behind_call now effect.fresh) (event.Step id) played.Moved) ≡ free_places w
       free_through effect e = free_same (behind_call now effect.fresh) effect.place w.entries w.numbers (number_after_try w now) w.marks (event.Step id) played.Moved t.before.begun (downs effect e)
           (call_less (behind_call now effect.fresh) t.before.running (inr refl) refl refl)
 
+      -- so does one that is served, and whose answer is lost
       pub free_unanswered : (effect : CallEffect) → answer_to w id x ≡ Ok effect → free_places (served_try w id i effect (ahead_of_call w now effect.fresh) (event.Lose id true) played.Lost) ≡ free_places w
       free_unanswered effect e = free_same (ahead_of_call w now effect.fresh) effect.place w.entries w.numbers (number_after_try w now) w.marks (event.Lose id true) played.Lost t.before.begun (downs effect e)
           (call_less (ahead_of_call w now effect.fresh) t.before.running (inl refl) refl refl)
 
+      -- so does one that is lost before it comes to its server
       pub free_lost : free_places (call_lost w id) ≡ free_places w
       free_lost =
           let y : Progress = record (tried_more now false) { pending = call_number w now } in
@@ -166,6 +172,7 @@ module _ (setup : Setup) (w : State) (reached : IsReached setup w) where
 
   -- ---- what is recorded of requests and restarts
 
+  -- an event that is recorded and changes nothing else takes one free place
   pub free_recorded : 1 ≤ free_places w → (e : Event) (answer : Played) → free_places (record w { log = logged w e answer }) + 1 ≡ free_places w
   free_recorded enough e answer = let log = length_logged w e answer in let r = h.room in omega arith
 
@@ -212,5 +219,6 @@ module _ (setup : Setup) (w : State) (reached : IsReached setup w) where
       ap (λ n. sum_below n (λ k. of_plan (plan_at (started w plan) k) k)) (count_started w plan)
       ∙ (ap (λ a. a + of_plan (plan_at (started w plan) (length w.plans)) (length w.plans)) before ∙ ap (λ b. streams_left w w.progress + b) last)
 
+  -- a start takes as many free places as its plan may take
   pub free_started : (plan : PlanModel) → places_of plan ≤ free_places w → free_places (started w plan) + places_of plan ≡ free_places w
   free_started plan enough = let a = left_started plan in let r = h.room in omega arith

@@ -55,21 +55,26 @@ module _ (w : State) (v : IsKept w) (id : StreamId) where
   kept_made : (passage : Passage) (o : Option Instr) → IsBefore w id o → IsKept (made free id passage o).1
   kept_made passage o b = subst (λ z. IsKept z.1) (is_made passage o b) (step_keeps free (unhalted_keeps w v) id passage).1
 
+  -- a publish keeps the protocol's invariant
   pub kept_published : (s : ℕ) → IsBefore w id (Some (Publish s)) → IsKept (entry_added w id s (to_list (leads_of w.sizes w.place s))).1
   kept_published s b = halted_keeps (entry_added w id s (to_list (leads_of w.sizes w.place s))).1 (kept_made Through _ b)
 
+  -- so does an unlist
   pub kept_unlisted : (s : ℕ) → IsBefore w id (Some (Unlist s)) → IsKept (entry_added w id s None).1
   kept_unlisted s b = halted_keeps (entry_added w id s None).1 (kept_made Through _ b)
 
+  -- so does the post of a signal
   pub kept_posted : (q : ℕ) → IsBefore w id (Some (Signal q)) → IsKept (posted w id q).1
   kept_posted q b = halted_keeps (posted w id q).1 (kept_made Through _ b)
 
+  -- so does a wait for a posted signal
   pub kept_taken : (q : ℕ) → IsBefore w id (Some (Wait q)) → (w.marks id.plan q).posted ≡ true → IsKept (parcel_taken w id q)
   kept_taken q b e = halted_keeps (parcel_taken w id q) (subst (λ z. IsKept z.1) (ap taken e) (kept_made Through _ b))
     where
       taken : Bool → Outcome × State
       taken t = if t then (Answered played.Moved, parcel_taken free id q) else unchanged free (played.Blocked q)
 
+  -- so does the end of a stream
   pub kept_ended : IsBefore w id None → IsKept (ended w id).1
   kept_ended b = halted_keeps (ended w id).1 (kept_made Through _ b)
 
@@ -87,11 +92,14 @@ module _ (w : State) (v : IsKept w) (id : StreamId) where
     kept_tried : (passage : Passage) (answer : Result CallEffect Refusal) → answer_to w id x ≡ answer → IsKept (tried free id i passage answer).1
     kept_tried passage answer e = subst (λ z. IsKept z.1) (tries passage answer e) (kept_made passage _ t.before)
 
+    -- a try that is served and answered keeps the protocol's invariant
     pub kept_through : (effect : CallEffect) → answer_to w id x ≡ Ok effect → IsKept (served_try w id i effect (behind_call (progress_of w id) effect.fresh) (event.Step id) played.Moved)
     kept_through effect e = halted_keeps (served_try w id i effect (behind_call (progress_of w id) effect.fresh) (event.Step id) played.Moved) (kept_tried Through (Ok effect) e)
 
+    -- so does one that is served, and whose answer is lost
     pub kept_unanswered : (effect : CallEffect) → answer_to w id x ≡ Ok effect → IsKept (served_try w id i effect (ahead_of_call w (progress_of w id) effect.fresh) (event.Lose id true) played.Lost)
     kept_unanswered effect e = halted_keeps (served_try w id i effect (ahead_of_call w (progress_of w id) effect.fresh) (event.Lose id true) played.Lost) (kept_tried LostAfter (Ok effect) e)
 
+    -- so does one that is lost before it comes to its server
     pub kept_lost : IsKept (call_lost w id)
     kept_lost = halted_keeps (call_lost w id) (kept_tried LostBefore (answer_to w id x) refl)

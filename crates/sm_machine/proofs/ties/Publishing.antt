@@ -64,12 +64,14 @@ module _ (setup : Setup) (w : State) (reached : IsReached setup w) where
       ]
 
   module _ (id : StreamId) where
+    -- all that a publication asks for is there where a stream stands before a publish
     pub can_publish : (s : ℕ) → IsBefore w id (Some (Publish s)) → CanPublish w s (to_list (leads_of w.sizes w.place s))
     can_publish s b =
         let v = kept setup w reached in
         let shard : s < w.sizes.shards = (can_reach w v id (Publish s) b).shard in
         record { shard = shard; known = listed_known s; version = (numbers_stay_small setup w reached).versions s shard }
 
+    -- and where it stands before an unlist
     pub can_unlist : (s : ℕ) → IsBefore w id (Some (Unlist s)) → CanPublish w s None
     can_unlist s b =
         let v = kept setup w reached in

@@ -196,6 +196,7 @@ module _ (setup : Setup) (w : State) (reached : IsReached setup w) (u : ℕ) (kn
       let b : bit (nat_lt s w.sizes.shards && live_now s) ≡ 0 = rw (le-ltb s w.sizes.shards l) refl in
       omega arith)
 
+  -- all stays tied where a server goes down, and a spare replica of each shard live there leaves the pool
   pub tied_approved : denial w.sizes w.place (pool w) (engaged w u) (free_places w) u ≡ None → (log : List Logged) (p : Hold) (g c : ℕ → ℕ → Hold) → IsTied w p g c →
       IsTied (record w { place = set_down w.place u true; log = log }) (pay_live p live_now w.sizes.shards) g c
   tied_approved e log p g c t = record {
@@ -235,6 +236,7 @@ module _ (setup : Setup) (w : State) (reached : IsReached setup w) (u : ℕ) (kn
       let b : bit (nat_lt s w.sizes.shards && live_then s) ≡ 0 = rw (le-ltb s w.sizes.shards l) refl in
       omega arith)
 
+  -- all stays tied where a server comes up, and one of each shard live there then comes into the pool
   pub tied_restarted : w.place.down u ≡ true → (log : List Logged) (p : Hold) (g c : ℕ → ℕ → Hold) → IsTied w p g c →
       IsTied (record w { place = set_down w.place u false; log = log }) (get_live p live_then w.sizes.shards) g c
   tied_restarted e log p g c t = record {

@@ -99,6 +99,7 @@ module _ (setup : Setup) (w : State) (reached : IsReached setup w) (plan : PlanM
   within : AreWithin (pool w) plan.streams
   within = (admitted_within w.sizes w.place (pool w) plan admitted).0
 
+  -- each stream in its turn can take what it declares from the pool into an empty grant for its peak
   pub can_fill : (n : ℕ) → n < length plan.streams → (g : HoldModel) → g.rights ≡ no_rights → (m : ℕ) → IsPeak (stream_at w.sizes plan n) m → m ≤ g.capacity →
       CanFill (pool_left (pool w) plan.streams n) g (declares plan.streams n)
   can_fill n l g empty m room enough =

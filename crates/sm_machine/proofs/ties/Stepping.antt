@@ -80,6 +80,7 @@ module _ (w : State) (id : StreamId) (passage : Passage) where
       ((progress_of w id).tries == allowance w id) ≡ true → step w id passage ≡ (Answered played.Spent, w)
   step_spent h i x b c makes e = step_called h i x b c makes ∙ ap (by_tries i x) e
 
+  -- where a stream tries a call, its step is what comes of the call on its way and of its server's answer
   pub step_tried : w.halted ≡ false → (i : Instr) (x : ServerCall) → IsTry w id i x → step w id passage ≡ tried w id i passage (answer_to w id x)
   step_tried h i x t = step_called h i x t.before t.call t.call_is ∙ ap (by_tries i x) t.unspent
 

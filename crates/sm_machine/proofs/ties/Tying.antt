@@ -125,6 +125,7 @@ module _ (setup : Setup) (w : State) (reached : IsReached setup w) (p : Hold) (g
   pub tied_recorded : (log : List Logged) → IsTied (record w { log = log }) p g c
   tied_recorded log = record { pool = t.pool; grants = t.grants; parcels = t.parcels }
 
+  -- the halt flag changes none of it
   pub tied_halted : (flag : Bool) → IsTied (record w { halted = flag }) p g c
   tied_halted flag = record { pool = t.pool; grants = t.grants; parcels = t.parcels }
 
@@ -189,6 +190,7 @@ module _ (setup : Setup) (w : State) (reached : IsReached setup w) (p : Hold) (g
           had : now.ahead ≡ true → (effect : CallEffect) → answer_to w id x ≡ Ok effect → record { place = w.place; fresh = false } ≡ effect
           had a effect e = ok_is _ effect (sym (answered_again w v id i try.before try.call x try.call_is a) ∙ e)
 
+      -- nor does one that had its effect before, and whose answer is lost again
       pub tied_unanswered_again : now.ahead ≡ true → (effect : CallEffect) → answer_to w id x ≡ Ok effect →
           IsTied (served_try w id i effect (ahead_of_call w now effect.fresh) (event.Lose id true) played.Lost) p g c
       tied_unanswered_again a effect e =
@@ -215,6 +217,7 @@ module _ (setup : Setup) (w : State) (reached : IsReached setup w) (p : Hold) (g
 
     -- ---- instructions that are no calls
 
+    -- with a publish, what the stream holds behind it stands for the stream
     pub tied_published : (s : ℕ) → IsBefore w id (Some (Publish s)) → IsTied (entry_added w id s (to_list (leads_of w.sizes w.place s))).1 p (put2 g id.plan id.stream (hold_behind w id)) c
     tied_published s b = record {
       pool = t.pool ∙ sym (pool_of_publish w v id s b (kept_published w v id s b));
@@ -222,6 +225,7 @@ module _ (setup : Setup) (w : State) (reached : IsReached setup w) (p : Hold) (g
       parcels = t.parcels;
     }
 
+    -- the same with an unlist
     pub tied_unlisted : (s : ℕ) → IsBefore w id (Some (Unlist s)) → IsTied (entry_added w id s None).1 p (put2 g id.plan id.stream (hold_behind w id)) c
     tied_unlisted s b = record {
       pool = t.pool ∙ sym (pool_of_unlist w v id s b (kept_unlisted w v id s b));

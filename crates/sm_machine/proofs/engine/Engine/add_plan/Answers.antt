@@ -7,7 +7,7 @@ use Rattle.std.proofs.Common.{ap, length, arith, sym, refl, ◌∙◌}
 use Rattle.std.specs.Prelude.{nat_lt}
 use Rattle.sm_plan_code.specs.Plan.{PlanModel}
 use Rattle.sm_verifier.specs.Checked.{CheckedModel}
-use Rattle.sm_machine.specs.Begun.{BegunParts}
+use Rattle.sm_machine.specs.Begun.{BegunModel}
 use Rattle.sm_machine.proofs.engine.Engine.add_plan.Goals as goal
 
 pub returns-clause-begun : goal.returns-clause-begun
@@ -26,7 +26,7 @@ pub invariant_of-self : goal.invariant_of-self
 invariant_of-self c =
     let streams = ap length (c.streams-streams.ensures.value ∙ ap (λ (p : PlanModel). p.streams) (c.plan.ensures.value ∙ ap (λ (p : CheckedModel). p.plan) c.checked.ensures.value)) in
     let plans = one_more c.self.inside.plans c.push.new.self c.into_begun-begun.result.0 c.fill.new.self (nat_lt 0 (length c.streams-streams.result.now)) c.len-number.result (length c.streams-streams.result.now)
-    c.self.inside.unfinished.items c.add_number.new.numbers.items c.push.ensures c.fill.ensures.others (ap (λ (n : BegunParts). n.unfinished) c.into_begun-begun.ensures.begun ∙ sym streams)
+    c.self.inside.unfinished.items c.add_number.new.numbers.items c.push.ensures c.fill.ensures.others (ap (λ (n : BegunModel). n.unfinished) c.into_begun-begun.ensures.begun ∙ sym streams)
     c.len-number.ensures refl c.add_number.ensures.items c.self.invariant.6 in
     let places = c.self.invariant.7 in
     let more = c.add_number.ensures.capacity in

@@ -3,7 +3,7 @@ use Rattle.std.proofs.lemmas.List.{with_items_is}
 use Rattle.sm_protocol.specs.declared.event.Logged.{Logged}
 use Rattle.sm_protocol.specs.Ticket.{Ticket, pass_of}
 use Rattle.sm_protocol.proofs.Scripts.{length_passes}
-use Rattle.sm_machine.specs.Journal.{JournalParts, AreRaised}
+use Rattle.sm_machine.specs.Journal.{JournalModel, AreRaised}
 use Rattle.sm_machine.proofs.Records.{indexed_push}
 use Rattle.sm_machine.proofs.journal.Journal.record.Goals as goal
 
@@ -16,15 +16,15 @@ push_reserved-requires c =
       length_passes [] c.self.inside.log.items,
       c.self.inside.passes.ok,
       c.self.invariant.pass_room,
-      ap (λ (j : JournalParts). length j.log) c.self.view_is,
-      ap (λ (j : JournalParts). j.room) c.self.view_is,
+      ap (λ (j : JournalModel). length j.log) c.self.view_is,
+      ap (λ (j : JournalModel). j.room) c.self.view_is,
     )
 
 pub invariant_of-self : goal.invariant_of-self
 invariant_of-self c =
     let line : Logged = record { event = c.args.event; answer = c.args.answer } in
     let width : length c.note_pass_on.new.passed_on ≡ length c.self.inside.passed_on.items = omega (arith, c.note_pass_on.auto.passed_on, ap length c.as_mut_slice-flags.ensures.value) in
-    let below : length c.self.inside.log.items < c.self.inside.room = omega (arith, c.requires, ap (λ (j : JournalParts). length j.log) c.self.view_is, ap (λ (j : JournalParts). j.room) c.self.view_is) in
+    let below : length c.self.inside.log.items < c.self.inside.room = omega (arith, c.requires, ap (λ (j : JournalModel). length j.log) c.self.view_is, ap (λ (j : JournalModel). j.room) c.self.view_is) in
     record {
       indexed = indexed_push c.self.inside.log.items c.push_reserved-2.new.self.items c.self.inside.room c.self.inside.passes.items c.push_reserved.new.self.items c.self.inside.passed_on.items c.note_pass_on.new.passed_on _ line
           c.pass_of-pass.result c.self.invariant.indexed below (c.pass_of-pass.ensures ∙ ap (λ (ts : List (Option Ticket)). pass_of ts c.args.answer c.args.event) c.deref.ensures.value)

@@ -4,7 +4,7 @@ use Rattle.std.specs.Prelude.{slice_index_or}
 use Rattle.sm_placement.specs.Setup.{sizes_of}
 use Rattle.sm_verifier.specs.Checked.{CheckedModel}
 use Rattle.sm_protocol.specs.Laws.{IsCheckedPlan}
-use Rattle.sm_machine.proofs.HandPlays.{fronts_fit, fronts_reached, fronts_checked, fronts_served, fronts_safe, fronts_onward, fronts_unlost}
+use Rattle.sm_machine.proofs.HandPlays.{fronts_fit, fronts_reached, fronts_checked, fronts_served, fronts_once, fronts_safe, fronts_onward, fronts_unlost}
 use Rattle.sm_machine.proofs.machine.Machine.plays_safely.Goals as goal
 
 pub returns-clause-fit : goal.returns-clause-fit
@@ -22,6 +22,10 @@ returns-clause-checked c =
 pub returns-clause-served : goal.returns-clause-served
 returns-clause-served c =
     fronts_served c.args.self.now c.args.hand.now c.args.events.now c.is_reached.ensures c.requires.names c.requires.plans (subst (λ ps. (place : ℕ) (p : CheckedModel) → slice_index_or ps place None ≡ Some p → IsCheckedPlan (sizes_of p.setup) p.plan) c.as_slice.ensures.value c.token_room-tokens.ensures.checked)
+
+pub returns-clause-once : goal.returns-clause-once
+returns-clause-once c =
+    fronts_once c.args.self.now c.args.hand.now c.args.events.now c.is_reached.ensures c.requires.names c.requires.plans (subst (λ ps. (place : ℕ) (p : CheckedModel) → slice_index_or ps place None ≡ Some p → IsCheckedPlan (sizes_of p.setup) p.plan) c.as_slice.ensures.value c.token_room-tokens.ensures.checked)
 
 pub returns-clause-safe : goal.returns-clause-safe
 returns-clause-safe c =
