@@ -17,6 +17,7 @@ use Rattle.sm_executor.specs.contracts.held.Held as Held
 use Rattle.sm_executor.specs.contracts.held.Held.TheInside as Inside
 use Rattle.sm_executor.proofs.MachineSent.{machine_send}
 
+-- threads of a run may share what they wait at until all have started
 pub starter_sync : IsSync Starter.the_row
 starter_sync = search (crosses, sendable) depth 30
 
@@ -50,6 +51,7 @@ module _ (A B C N : RattleType) (a : Side.Ghosts A.Denot) (b : Side.Ghosts B.Den
         ),
       )))
 
+  -- threads may share a board, whatever its names and those of its ledgers are
   pub board_sync : IsSync (Board.the_row A B C N a b c n la lb lc)
   board_sync = recorded_sync (Board.the_field A B C N a b c n la lb lc).row (Board.the_type A B C N a b c n la lb lc).D (Board.the_type A B C N a b c n la lb lc).to (Board.the_type A B C N a b c n la lb lc).to_one (struct_sync (shape (Board.the_type A B C N a b c n la lb lc))
       (search (held_send, crosses, sendable) depth 10, (search (crosses, sendable) depth 20, (words_sync, (config_sync, (search (crosses, sendable) depth 20, tt))))))

@@ -22,6 +22,7 @@ parts_send : (xs : List ((T : RattleType) × IsSend T)) → FieldsHave IsSend (p
 parts_send [] = tt
 parts_send (x ∷ xs) = (as_row_send (row_field x.0) x.1, parts_send xs)
 
+-- captured values may go to another thread together, where each of them may
 pub captured_send : {i : ℕ} {δ : Ty} (k : Kept) (ν : Sym) (xs : List ((T : RattleType) × IsSend T)) → IsSend (param i (arg δ k (TupleAt ν (types_of xs))))
 captured_send {i} {δ} k ν xs = param_send i (arg δ k (TupleAt ν (types_of xs))) (arg_send δ k (TupleAt ν (types_of xs)) (declared_send (type_at ν (types_of xs)) (parts_send xs)))
 

@@ -194,9 +194,11 @@ requested_made w s v sent x e = go (free_places w == 0)
     go true = inl (record { same = refl; executed = refl; refused = refl })
     go false = inr (record { line = record { event = x; answer = answer }; log = refl; step = e; answer_is = refl; plans = refl; quiet = record { sizes = refl; entries = refl; listed = refl; version = refl } })
 
+-- a request that comes directly is recorded with its answer, or changes nothing; it publishes nothing
 pub arrived_made : (w : State) (s v : ℕ) → Asked w (happens w (Arrive s v)).0 (happens w (Arrive s v)).1
 arrived_made w s v = requested_made w s v None (event.Arrive s v) refl
 
+-- the same of a request that is passed on with a ticket
 pub passed_made : (w : State) (t : Ticket) → Asked w (happens w (PassOn t)).0 (happens w (PassOn t)).1
 passed_made w t = go (is_open_ticket w.log t)
   where
@@ -213,6 +215,7 @@ executes_is said.Unavailable = refl
 executes_is (said.LogFull back) = refl
 executes_is (said.Unknown back) = refl
 
+-- the same of refused requests: what an answer adds to its caller's count it adds to the books
 pub refuses_is : (a : Answer) → refuses a ≡ bit (is_refused (played_by a))
 refuses_is (said.Executed server) = refl
 refuses_is (said.Passed ticket) = refl
@@ -237,6 +240,7 @@ pub record IsPlain (old new : State) : Type 0 where
 abbrev pub Uncounted : State → State → Type 0
 Uncounted old new = (new ≡ old) ⊎ IsPlain old new
 
+-- whether a restart is approved or denied, the books count nothing of it, and nothing is published
 pub approved_made : (w : State) (v : ℕ) → Uncounted w (happens w (Approve v)).1
 approved_made w v = go (denial w.sizes w.place (pool w) (engaged w v) (free_places w) v)
   where
@@ -244,6 +248,7 @@ approved_made w v = go (denial w.sizes w.place (pool w) (engaged w v) (free_plac
     go (Some why) = inl refl
     go None = inr (record { line = record { event = event.Approve v; answer = played.Approved }; log = refl; step = refl; executed = refl; refused = refl; plans = refl; quiet = record { sizes = refl; entries = refl; listed = refl; version = refl } })
 
+-- the same of the end of a restart, whether it brings the server up or not
 pub restarted_made : (w : State) (v : ℕ) → Uncounted w (happens w (Done v)).1
 restarted_made w v = go (w.place.down v)
   where
@@ -251,6 +256,7 @@ restarted_made w v = go (w.place.down v)
     go false = inl refl
     go true = inr (record { line = record { event = event.Done v; answer = played.Up }; log = refl; step = refl; executed = refl; refused = refl; plans = refl; quiet = record { sizes = refl; entries = refl; listed = refl; version = refl } })
 
+-- the same of a refill, whether it is made or refused
 pub refilled_made : (w : State) (id : StreamId) (more : ℕ) → Uncounted w (happens w (Refill id more)).1
 refilled_made w id more = go (refill_fault w id more)
   where
@@ -265,10 +271,12 @@ pub plans_made : (ended : Bool) (old new : State) (answer : Played) → Made end
 plans_made ended old new answer (inl u) = ap (λ (w : State). w.plans) u.same
 plans_made ended old new answer (inr x) = x.plans
 
+-- a request starts no plan
 pub plans_asked : (old new : State) (answer : Played) → Asked old (Answered answer) new → new.plans ≡ old.plans
 plans_asked old new answer (inl u) = ap (λ (w : State). w.plans) u.same
 plans_asked old new answer (inr x) = x.plans
 
+-- what the books do not count starts no plan
 pub plans_uncounted : (old new : State) → Uncounted old new → new.plans ≡ old.plans
 plans_uncounted old new (inl e) = ap (λ (w : State). w.plans) e
 plans_uncounted old new (inr x) = x.plans

@@ -75,6 +75,7 @@ one_more f [] x each e (suc s) l = absurd (omega arith)
 one_more f (y ∷ ys) x each e zero l = each zero (omega arith)
 one_more f (y ∷ ys) x each e (suc s) l = one_more (λ s. f (suc s)) ys x (λ s l. each (suc s) (omega arith)) e s (omega arith)
 
+-- when a board is opened, the words have its map and nothing is stored yet: they are tied to the machine
 pub tied_opened : (words : WordsModel) (opened : State) (p : PublisherModel) → IsMapOf words opened → p.words ≡ words → p.stores ≡ [] → IsPublished words opened opened p
 tied_opened words opened p k e f = record {
   words_are = e;
@@ -175,6 +176,7 @@ pub record IsStepped (ended : Bool) (words : WordsModel) (opened old new : State
   pub counts : (n : ℕ) → Counts ended answer n (n + more_of old new)
   pub behind : ((s : ℕ) → s < new.sizes.shards → IsInRange new.sizes.servers (entry_at new.place s)) → IsBehind words opened new p
 
+-- by a step the books and the runner's count rise as the log does; the words are one event behind at most
 pub stepped : (ended : Bool) (words : WordsModel) (opened old new : State) (p : PublisherModel) (a b c : ℕ) (answer : Played) → Made ended old (Answered answer) new → IsPublished words opened old p → IsBooked opened old a b c →
     IsStepped ended words opened old new p a b c answer
 stepped ended words opened old new p a b c answer (inl u) t k =

@@ -85,5 +85,6 @@ engine_send = view_send InEngine.the_row _ _ _ _ (recorded_send (InEngine.the_fi
   ),
 )))
 
+-- a machine may go to another thread, with all that it keeps
 pub machine_send : IsSend Machine.the_row
 machine_send = view_send InMachine.the_row _ _ _ _ (recorded_send (InMachine.the_field).row _ _ (InMachine.the_type).to_one (struct_send (shape InMachine.the_type) (engine_send, tt)))

@@ -86,10 +86,12 @@ few_run setup w reached = by_events setup FewRun (λ p room o. omega arith) (λ 
 
 -- ---- of 64 streams each
 
+-- each plan that was begun has 64 streams at most
 pub few_streams : (setup : Setup) (w : State) → IsReached setup w → (k : ℕ) → k < length w.plans → stream_count w k ≤ 64
 few_streams setup w reached k l = ((kept setup w reached).plans k l).checked.parts.small.stream_count
 
 module _ (w : State) (k : ℕ) where
+  -- with one more stream there is one more that is unfinished, if that one has not made its end
   pub of_next : (n : ℕ) → length (unfinished_in w k (suc n)) ≡ length (unfinished_in w k n) + bit (not (w.progress k n).done)
   of_next n = length-append (unfinished_in w k n) _ ∙ ap (λ m. length (unfinished_in w k n) + m) (one (w.progress k n).done)
     where
@@ -103,6 +105,7 @@ module _ (w : State) (k : ℕ) where
       let e : n + 1 ≡ suc n = omega arith in
       ap (unfinished_in w k) e ∙ ap (λ b. unfinished_in w k n ++ (if b then [] else (stream_id k n, (w.progress k n).at) ∷ [])) d
 
+  -- one more stream that has made its end adds nothing
   pub next_done : (n : ℕ) → (w.progress k n).done ≡ true → unfinished_in w k (n + 1) ≡ unfinished_in w k n
   next_done n d =
       let e : n + 1 ≡ suc n = omega arith in
@@ -179,6 +182,7 @@ module _ (setup : Setup) (w : State) (reached : IsReached setup w) where
   pub most_unfinished : length (unfinished_streams w) ≤ 1024
   most_unfinished = let a = to_within (length w.plans) (omega arith) in let b = few_run setup w reached in omega arith
 
+  -- those of the first n plans and those of the next one are together 1,024 at most
   pub most_so_far : (n : ℕ) → n < length w.plans → length (unfinished_to w n) + length (unfinished_in w n (stream_count w n)) ≤ 1024
   most_so_far n l =
       let m = length w.plans - suc n in

@@ -1,5 +1,6 @@
 -- What comes back of a run that has not come to the ends of all streams.
-use Rattle.std.specs.Prelude.{ℕ, ◌+◌, vec_len}
+use Rattle.std.specs.Prelude.{ℕ, ◌+◌, [], List, vec_len}
+use Rattle.sm_executor.specs.Views.{EndedModel}
 use Rattle.sm_executor.specs.declared.threads.RunFault.{RunFault}
 use Rattle.sm_executor.specs.declared.threads.RunFault.TheVariants.{NoMemory, NoThread, Halted, Spent}
 
@@ -9,3 +10,10 @@ came_back (NoMemory runners) = vec_len runners
 came_back (NoThread runners) = vec_len runners
 came_back (Halted runners ended) = vec_len runners + vec_len ended
 came_back (Spent runners ended) = vec_len runners + vec_len ended
+
+-- the ends that come back with it
+abbrev pub ends_back : {A : Type 0} → RunFault A → List EndedModel
+ends_back (NoMemory runners) = []
+ends_back (NoThread runners) = []
+ends_back (Halted runners ended) = ended.items
+ends_back (Spent runners ended) = ended.items

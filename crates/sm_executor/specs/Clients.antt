@@ -6,31 +6,31 @@ use Rattle.sm_machine.specs.declared.answer.Answer.{Answer}
 use Rattle.sm_router.specs.Asking.{HasAsked}
 use Rattle.sm_router.specs.declared.asking.Asked.{Asked}
 use Rattle.sm_executor.specs.Counting.{executes, refuses}
-use Rattle.sm_executor.specs.Views.{Calling, calling}
+use Rattle.sm_executor.specs.Views.{CallerModel, calling}
 
 -- a look adds the entry to what the caller has seen, and is no older than that
-abbrev pub looked : Calling → ℕ → Entry → Calling → Type 0
+abbrev pub looked : CallerModel → ℕ → Entry → CallerModel → Type 0
 looked old shard entry new = (new ≡ calling ((shard, entry) ∷ old.seen) old.executed old.refused) × NoneNewer old.seen shard entry
 
 -- an answer is counted by the caller whose request it answers
-abbrev pub answer_counted : Calling → Answer → Calling → Type 0
+abbrev pub answer_counted : CallerModel → Answer → CallerModel → Type 0
 answer_counted old answer new = new ≡ calling old.seen (old.executed + executes answer) (old.refused + refuses answer)
 
 -- a client: what it asks for, what it was answered, if it has asked, and its caller
-pub record Asking : Type 0 where
+pub record ClientModel : Type 0 where
   pub shard : ℕ
   pub asked : Option Asked
-  pub caller : Calling
+  pub caller : CallerModel
 
-abbrev pub asking : ℕ → Option Asked → Calling → Asking
+abbrev pub asking : ℕ → Option Asked → CallerModel → ClientModel
 asking shard asked caller = record { shard = shard; asked = asked; caller = caller }
 
 -- what an ask for the shard may come to, with the caller before and after it
-abbrev pub IsAsk : ℕ → Calling → Asked → Calling → Type 0
+abbrev pub IsAsk : ℕ → CallerModel → Asked → CallerModel → Type 0
 IsAsk shard = HasAsked looked (λ old shard server. answer_counted old) (λ old ticket. answer_counted old) shard
 
 -- Before its ask a client's caller has seen and counted nothing, and then what this ask has seen and counted.
-abbrev pub IsClient : Asking → Type 0
+abbrev pub IsClient : ClientModel → Type 0
 IsClient client = stands client.asked
   where
     stands : Option Asked → Type 0
@@ -38,7 +38,7 @@ IsClient client = stands client.asked
     stands (Some said) = IsAsk client.shard (calling [] 0 0) said client.caller
 
 -- A client that had not asked has asked once, for its shard. One that had is as it was.
-abbrev pub AsksOnce : Asking → Asking → Type 0
+abbrev pub AsksOnce : ClientModel → ClientModel → Type 0
 AsksOnce old new = once old.asked
   where
     once : Option Asked → Type 0

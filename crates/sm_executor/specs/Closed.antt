@@ -8,7 +8,7 @@ use Rattle.sm_protocol.specs.declared.event.Logged.{Logged}
 use Rattle.sm_executor.specs.declared.closing.CloseFault.{CloseFault}
 use Rattle.sm_executor.specs.declared.closing.CloseFault.TheVariants.{NotDone}
 use Rattle.sm_executor.specs.Counting.{IsBooked}
-use Rattle.sm_executor.specs.Views.{Finished, Calling}
+use Rattle.sm_executor.specs.Views.{EndedModel, CallerModel}
 
 -- ---- the streams that have not made their ends
 
@@ -40,13 +40,13 @@ pub record GoesOn (opened now : State) : Type 0 where
 -- ---- the account
 
 -- The books, from the opening to now, are the sums of what these ends and callers have counted.
-abbrev pub IsAccount : State → State → List Finished → List Calling → Type 0
+abbrev pub IsAccount : State → State → List EndedModel → List CallerModel → Type 0
 IsAccount opened now ended callers = IsBooked opened now (sum (map (λ e. e.counted) ended)) (sum (map (λ c. c.executed) callers)) (sum (map (λ c. c.refused) callers))
 
 -- Every stream has made its end: the log has each stream's instructions in their order, each once, and then its end; the placement
 -- is the end of the plans in the order of their starts, whatever the schedule was; and the log since the opening has as many steps,
 -- executed and refused requests as these ends and callers have counted.
-pub record IsClosed (opened now : State) (ended : List Finished) (callers : List Calling) : Type 0 where
+pub record IsClosed (opened now : State) (ended : List EndedModel) (callers : List CallerModel) : Type 0 where
   pub goes_on : GoesOn opened now
   pub done : AreDone now
   pub in_log : (id : StreamId) → is_begun now id ≡ true → IsInLog now id
@@ -54,10 +54,10 @@ pub record IsClosed (opened now : State) (ended : List Finished) (callers : List
   pub account : IsAccount opened now ended callers
 
 -- what a contract sees of a board that is not closed: why, what came back, and which streams have not made their ends
-pub record NotClosing : Type 0 where
+pub record NotClosedModel : Type 0 where
   pub fault : CloseFault
-  pub ended : List Finished
-  pub callers : List Calling
+  pub ended : List EndedModel
+  pub callers : List CallerModel
   pub positions : List (StreamId × ℕ)
 
 -- The streams named are those of a state that goes on from the opening, and NotDone is told where there are some.

@@ -4,5 +4,6 @@ pub mod Tied
 pub mod Views
 pub mod Closed
 pub mod Stepping
+pub mod Ending
 pub mod CameBack
 pub mod Clients

@@ -8,52 +8,52 @@ use Rattle.sm_machine.specs.State.{state_of}
 use Rattle.sm_machine.specs.Retired.{recorded_steps}
 
 -- the machine, and how many runners and callers the board has given out
-pub record Holding : Type 0 where
+pub record HeldModel : Type 0 where
   pub machine : MachineModel
   pub runners : ℕ
   pub callers : ℕ
 
-abbrev pub holding : MachineModel → ℕ → ℕ → Holding
-holding machine runners callers = record { machine = machine; runners = runners; callers = callers }
+abbrev pub held_model : MachineModel → ℕ → ℕ → HeldModel
+held_model machine runners callers = record { machine = machine; runners = runners; callers = callers }
 
 -- the state of the protocol that the machine is in
-abbrev pub state_in : Holding → State
+abbrev pub state_in : HeldModel → State
 state_in h = state_of h.machine
 
 -- a runner's stream, and how many of its steps were recorded
-pub record Running : Type 0 where
+pub record RunnerModel : Type 0 where
   pub stream : StreamId
   pub steps : ℕ
 
-abbrev pub running : StreamId → ℕ → Running
+abbrev pub running : StreamId → ℕ → RunnerModel
 running stream steps = record { stream = stream; steps = steps }
 
 -- the runners are one for each of the first n streams of a plan, in their order, and none of their steps is recorded
-pub record AreRunners (plan n : ℕ) (runners : List Running) : Type 0 where
+pub record AreRunners (plan n : ℕ) (runners : List RunnerModel) : Type 0 where
   pub count : length runners ≡ n
-  pub each : (i : ℕ) (d : Running) → i < n → slice_index_or runners i d ≡ running (stream_id plan i) 0
+  pub each : (i : ℕ) (d : RunnerModel) → i < n → slice_index_or runners i d ≡ running (stream_id plan i) 0
 
 -- a stream that has made its end: how many steps it made, how many of them were tries of calls, how many tries it was allowed, and
 -- how many steps its runner has counted
-pub record Finished : Type 0 where
+pub record EndedModel : Type 0 where
   pub stream : StreamId
   pub steps : ℕ
   pub calls : ℕ
   pub budget : ℕ
   pub counted : ℕ
 
-abbrev pub finished : StreamId → ℕ → ℕ → ℕ → ℕ → Finished
+abbrev pub finished : StreamId → ℕ → ℕ → ℕ → ℕ → EndedModel
 finished stream steps calls budget counted = record { stream = stream; steps = steps; calls = calls; budget = budget; counted = counted }
 
 -- which streams these ends are of, and which these runners are
-abbrev pub streams_ended : List Finished → List StreamId
+abbrev pub streams_ended : List EndedModel → List StreamId
 streams_ended ended = map (λ e. e.stream) ended
 
-abbrev pub streams_run : List Running → List StreamId
+abbrev pub streams_run : List RunnerModel → List StreamId
 streams_run runners = map (λ r. r.stream) runners
 
 -- the end that a runner of the stream comes to
-abbrev pub end_in : State → Running → Finished
+abbrev pub end_in : State → RunnerModel → EndedModel
 end_in w runner = finished runner.stream (recorded_steps w runner.stream) (progress_of w runner.stream).tries (allowance w runner.stream) runner.steps
 
 -- how many events the one state has recorded more than the other
@@ -61,10 +61,10 @@ abbrev pub recorded_more : State → State → ℕ
 recorded_more old new = length new.log - length old.log
 
 -- what a caller has seen, and how many of its requests were executed and refused
-pub record Calling : Type 0 where
+pub record CallerModel : Type 0 where
   pub seen : List (ℕ × Entry)
   pub executed : ℕ
   pub refused : ℕ
 
-abbrev pub calling : List (ℕ × Entry) → ℕ → ℕ → Calling
+abbrev pub calling : List (ℕ × Entry) → ℕ → ℕ → CallerModel
 calling seen executed refused = record { seen = seen; executed = executed; refused = refused }

@@ -14,9 +14,12 @@ ghost use Rattle.sm_machine.specs.Restarted.{approval_of, restart_of};
 ghost use Rattle.sm_machine.specs.Losses.{refill_answer, is_lost_answer};
 ghost use Rattle.sm_placement.specs.Sums.{bit};
 ghost use Rattle.sm_executor.specs.Counting.{Counts, executes, refuses};
+ghost use Rattle.sm_executor.specs.Ending.{HasEnded};
 ghost use Rattle.sm_executor.specs.Stepping.{HasStepped, is_waiting};
 ghost use Rattle.sm_executor.specs.Tied.{HasStood};
-ghost use Rattle.sm_executor.specs.Views.{holding, state_in, calling, AreRunners};
+ghost use Rattle.sm_executor.specs.Views.{held_model, state_in, calling, AreRunners};
+ghost use Rattle.sm_plan_code.specs.declared.limits.TheConstants.{MOST_CALLS};
+ghost use Rattle.sm_executor.specs.declared.unfinished.TheConstants.{MOST_UNFINISHED};
 
 use crate::caller::Caller;
 use crate::held::Held;
@@ -43,7 +46,7 @@ pub struct Board<A: Side, B: Side, C: Side, N: Naming> {
     pub(crate) positions: Vec<(StreamId, usize)>,
     ghost named: { words ≡ N.words },
     ghost configured: { config ≡ N.setup },
-    ghost roomy: { 1024 ≤ vec_capacity positions },
+    ghost roomy: { MOST_UNFINISHED ≤ vec_capacity positions },
 }
 
 /// The locked machine. A contract sees what lies behind the lock.
@@ -54,9 +57,9 @@ pub struct Guard<'b, A: Side, B: Side, C: Side, N: Naming> {
 
 impl<'b, A: Side, B: Side, C: Side, N: Naming> Model for Guard<'b, A, B, C, N> {
     ghost use Rattle.std.specs.Sync.Mutex.{mutex_guard_value};
-    ghost use Rattle.sm_executor.specs.Views.{Holding};
+    ghost use Rattle.sm_executor.specs.Views.{HeldModel};
 
-    ghost Value = { Holding };
+    ghost Value = { HeldModel };
 
     ghost view = { λ g. mutex_guard_value g.held };
 }
@@ -82,7 +85,7 @@ impl<A: Side, B: Side, C: Side, N: Naming> Board<A, B, C, N> {
     ) -> Board<A, B, C, N>
         requires words { words ≡ N.words }
         requires config { config ≡ N.setup }
-        requires room { 1024 ≤ vec_capacity positions }
+        requires room { MOST_UNFINISHED ≤ vec_capacity positions }
     {
         Board::again(held, Condvar::new(), words, config, positions)
     }
@@ -97,7 +100,7 @@ impl<A: Side, B: Side, C: Side, N: Naming> Board<A, B, C, N> {
     ) -> Board<A, B, C, N>
         requires words { words ≡ N.words }
         requires config { config ≡ N.setup }
-        requires room { 1024 ≤ vec_capacity positions }
+        requires room { MOST_UNFINISHED ≤ vec_capacity positions }
         ensures { result.positions.items ≡ positions.items }
     {
         Board {
@@ -131,12 +134,16 @@ impl<A: Side, B: Side, C: Side, N: Naming> Board<A, B, C, N> {
         self.held.lock(rt).begin(alloc, checked)
     }
 
-    /// The runner's end, where its stream has made it. Else the runner comes back.
+    /// The runner's end, where its stream has made it, with what the locked machine has of that stream. Else the runner comes back.
     pub fn retire<R: Wait>(&self, rt: &R, runner: Runner<A>) -> Result<Ended<A>, Runner<A>>
         ensures ended { IfOk result (λ end. (end.stream ≡ runner.stream) × (end.counted ≡ runner.steps)) }
+        ensures at { IfOk result (λ end. HasEnded N.opened end) }
         ensures back { IfErr result (λ r. r ≡ runner) }
     {
-        self.held.lock(rt).retire(runner)
+        let held = self.held.lock(rt);
+        held.goes_on();
+        held.machine().is_reached();
+        held.retire(runner)
     }
 
     /// The runner's next step over a link, which is asked for the try of a call.
@@ -277,7 +284,7 @@ impl<'b, A: Side, B: Side, C: Side, N: Naming> Guard<'b, A, B, C, N> {
         requires { server < N.words.servers }
         ensures answer { (happens (state_in self.old) (happening.Approve server)).0 ≡ Answered (approval_of result) }
         ensures state { state_in self.new ≡ (happens (state_in self.old) (happening.Approve server)).1 }
-        ensures others { self.new ≡ holding self.new.machine self.old.runners self.old.callers }
+        ensures others { self.new ≡ held_model self.new.machine self.old.runners self.old.callers }
         ensures permit { IfOk result (λ permit. permit ≡ server) }
     {
         self.held.approve(server)
@@ -287,7 +294,7 @@ impl<'b, A: Side, B: Side, C: Side, N: Naming> Guard<'b, A, B, C, N> {
     pub fn done(&mut self, permit: Permit) -> Result<(), Permit>
         ensures answer { (happens (state_in self.old) (happening.Done permit)).0 ≡ Answered (restart_of result) }
         ensures state { state_in self.new ≡ (happens (state_in self.old) (happening.Done permit)).1 }
-        ensures others { self.new ≡ holding self.new.machine self.old.runners self.old.callers }
+        ensures others { self.new ≡ held_model self.new.machine self.old.runners self.old.callers }
         ensures back { IfErr result (λ p. p ≡ permit) }
     {
         self.held.done(permit)
@@ -295,10 +302,10 @@ impl<'b, A: Side, B: Side, C: Side, N: Naming> Guard<'b, A, B, C, N> {
 
     /// The machine's call of the same name, on the locked machine.
     pub fn refill(&mut self, runner: &mut Runner<A>, more: u32) -> Result<(), RefillFault>
-        requires { more ≤ 262144 }
+        requires { more ≤ MOST_CALLS }
         ensures answer { (happens (state_in self.old) (happening.Refill runner.old.stream more)).0 ≡ Answered (refill_answer result) }
         ensures state { state_in self.new ≡ (happens (state_in self.old) (happening.Refill runner.old.stream more)).1 }
-        ensures others { self.new ≡ holding self.new.machine self.old.runners self.old.callers }
+        ensures others { self.new ≡ held_model self.new.machine self.old.runners self.old.callers }
         ensures runner { runner.new ≡ runner.old }
     {
         self.held.refill(runner, more)

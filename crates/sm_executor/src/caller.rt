@@ -23,9 +23,9 @@ pub struct Caller<B: Side, C: Side, N: Naming> {
 
 impl<B: Side, C: Side, N: Naming> Model for Caller<B, C, N> {
     ghost use Rattle.std.specs.Prelude.{◌≡◌};
-    ghost use Rattle.sm_executor.specs.Views.{Calling, calling};
+    ghost use Rattle.sm_executor.specs.Views.{CallerModel, calling};
 
-    ghost Value = { Calling };
+    ghost Value = { CallerModel };
 
     ghost view = { λ c. calling c.pass.seen c.executed.amount c.refused.amount };
 

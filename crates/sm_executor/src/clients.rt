@@ -1,7 +1,8 @@
 //! Clients that ask at a board, each in a thread of its own, beside a run.
 ghost use Rattle.std.specs.Prelude.{◌≡◌, ◌≢◌, ◌<◌, [], None, IfOk, IfErr, IfSome, OnOk, All, length, map, vec_len};
-ghost use Rattle.sm_executor.specs.CameBack.{came_back};
+ghost use Rattle.sm_executor.specs.CameBack.{came_back, ends_back};
 ghost use Rattle.sm_executor.specs.Clients.{asking, AsksOnce, IsClient};
+ghost use Rattle.sm_executor.specs.Ending.{HasEnded};
 ghost use Rattle.sm_executor.specs.Views.{calling, streams_ended, streams_run};
 
 use crate::board::Board;
@@ -30,9 +31,9 @@ pub struct Client<B: Side, C: Side, N: Naming> {
 
 impl<B: Side, C: Side, N: Naming> Model for Client<B, C, N> {
     ghost use Rattle.std.specs.Prelude.{◌<◌, length};
-    ghost use Rattle.sm_executor.specs.Clients.{Asking, asking, IsClient};
+    ghost use Rattle.sm_executor.specs.Clients.{ClientModel, asking, IsClient};
 
-    ghost Value = { Asking };
+    ghost Value = { ClientModel };
 
     ghost view = { λ c. asking c.shard c.asked c.caller };
 
@@ -203,6 +204,8 @@ pub fn run_beside<
     gate: &G,
 ) -> Result<Vec<Ended<A>>, RunFault<A>>
     ensures ended { IfOk result (λ ended. streams_ended ended.items ≡ streams_run runners.items) }
+    ensures at { IfOk result (λ ended. All (HasEnded N.opened) ended.items) }
+    ensures back_at { IfErr result (λ fault. All (HasEnded N.opened) (ends_back fault)) }
     ensures back { IfErr result (λ fault. came_back fault ≡ vec_len runners) }
     ensures clients { length clients.new ≡ length clients.old }
     ensures asked { OnOk result (All (λ client. client.asked ≢ None) clients.new) }

@@ -34,9 +34,9 @@ pub struct NotClosed<A: Side, B: Side, C: Side, N: Naming> {
 }
 
 impl<A: Side, B: Side, C: Side, N: Naming> Model for NotClosed<A, B, C, N> {
-    ghost use Rattle.sm_executor.specs.Closed.{NotClosing};
+    ghost use Rattle.sm_executor.specs.Closed.{NotClosedModel};
 
-    ghost Value = { NotClosing };
+    ghost Value = { NotClosedModel };
 
     ghost view = { λ n. record { fault = n.fault; ended = n.ended.items; callers = n.callers.items; positions = n.board.positions.items } };
 }

@@ -5,6 +5,7 @@ ghost use Rattle.sm_map.specs.Entry.{IsInRange};
 ghost use Rattle.sm_machine.specs.State.{state_of};
 ghost use Rattle.sm_executor.specs.Tied.{IsMapOf};
 ghost use Rattle.sm_executor.specs.Views.{running};
+ghost use Rattle.sm_plan_code.specs.declared.limits.TheConstants.{MOST_STREAMS};
 
 use crate::board::Board;
 use crate::held::Held;
@@ -123,7 +124,7 @@ impl<A: Side, B: Side, C: Side, N: Naming> Board<A, B, C, N> {
         requires map { IsMapOf ground.words (state_of machine) }
         requires setup { ground.setup ≡ machine.placement.setup }
         requires names { (ground.words ≡ N.words) × (ground.setup ≡ N.setup) × (state_of machine ≡ N.opened) }
-        requires few { length tokens.items ≤ 64 * length (state_of machine).plans }
+        requires few { length tokens.items ≤ MOST_STREAMS * length (state_of machine).plans }
         requires steps { (ground.steps ≡ A.name) × (A.parts ≡ 2 ^ 62) × (A.all ≡ 2 ^ 62) }
         requires executed { (ground.executed ≡ B.name) × (B.parts ≡ 2 ^ 62) × (B.all ≡ 2 ^ 62) }
         requires refused { (ground.refused ≡ C.name) × (C.parts ≡ 2 ^ 62) × (C.all ≡ 2 ^ 62) }

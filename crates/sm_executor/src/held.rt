@@ -22,7 +22,9 @@ ghost use Rattle.sm_protocol.specs.declared.event.Played.TheVariants as played;
 ghost use Rattle.sm_executor.specs.Closed.{GoesOn};
 ghost use Rattle.sm_executor.specs.Counting.{Counts, executes, refuses};
 ghost use Rattle.sm_executor.specs.Tied.{IsPublished, IsBehind, HasStood};
-ghost use Rattle.sm_executor.specs.Views.{holding, state_in, running, recorded_more, calling, AreRunners, end_in};
+ghost use Rattle.sm_executor.specs.Views.{held_model, state_in, running, recorded_more, calling, AreRunners, end_in};
+ghost use Rattle.sm_plan_code.specs.declared.limits.TheConstants.{MOST_CALLS, MOST_STREAMS};
+ghost use Rattle.sm_executor.specs.declared.held.TheConstants.{MOST_CALLERS};
 
 use crate::caller::Caller;
 use crate::names::{Naming, Side};
@@ -62,14 +64,16 @@ pub(crate) struct Held<A: Side, B: Side, C: Side, N: Naming> {
 impl<A: Side, B: Side, C: Side, N: Naming> Model for Held<A, B, C, N> {
     ghost use Rattle.std.specs.Prelude.{◌≡◌, ◌≤◌, ◌+◌, ◌*◌, ◌^◌, length};
     ghost use Rattle.sm_machine.specs.State.{state_of};
-    ghost use Rattle.sm_executor.specs.Views.{Holding, holding};
+    ghost use Rattle.sm_executor.specs.Views.{HeldModel, held_model};
     ghost use Rattle.sm_executor.specs.Tied.{IsPublished};
     ghost use Rattle.sm_executor.specs.Counting.{IsBooked};
     ghost use Rattle.sm_executor.specs.Closed.{HasMorePlans};
+    ghost use Rattle.sm_plan_code.specs.declared.limits.TheConstants.{MOST_STREAMS};
+    ghost use Rattle.sm_executor.specs.declared.held.TheConstants.{MOST_CALLERS};
 
-    ghost Value = { Holding };
+    ghost Value = { HeldModel };
 
-    ghost view = { λ h. holding h.machine h.runners h.callers };
+    ghost view = { λ h. held_model h.machine h.runners h.callers };
 
     ghost invariant = { λ h.
         IsPublished N.words N.opened (state_of h.machine) h.publisher
@@ -77,9 +81,9 @@ impl<A: Side, B: Side, C: Side, N: Naming> Model for Held<A, B, C, N> {
         × (h.free_steps.parts + h.runners ≡ A.all) × (h.free_steps.amount ≡ 0) × (A.all ≡ 2 ^ 62)
         × (h.free_executed.parts + h.callers ≡ B.all) × (h.free_executed.amount ≡ 0) × (B.all ≡ 2 ^ 62)
         × (h.free_refused.parts + h.callers ≡ C.all) × (h.free_refused.amount ≡ 0) × (C.all ≡ 2 ^ 62)
-        × (h.callers ≤ 4096)
+        × (h.callers ≤ MOST_CALLERS)
         × (h.machine.placement.setup ≡ N.setup)
-        × (h.runners ≤ 64 * length (state_of h.machine).plans)
+        × (h.runners ≤ MOST_STREAMS * length (state_of h.machine).plans)
         × HasMorePlans N.opened (state_of h.machine) };
 }
 
@@ -138,7 +142,7 @@ impl<A: Side, B: Side, C: Side, N: Naming> Held<A, B, C, N> {
         requires steps { (steps.name ≡ A.name) × (steps.parts ≡ A.parts) × (A.parts ≡ 2 ^ 62) × (A.all ≡ 2 ^ 62) }
         requires executed { (executed.name ≡ B.name) × (executed.parts ≡ B.parts) × (B.parts ≡ 2 ^ 62) × (B.all ≡ 2 ^ 62) }
         requires refused { (refused.name ≡ C.name) × (refused.parts ≡ C.parts) × (C.parts ≡ 2 ^ 62) × (C.all ≡ 2 ^ 62) }
-        ensures { result ≡ holding machine 0 0 }
+        ensures { result ≡ held_model machine 0 0 }
     {
         let (steps, free_steps) = steps.open::<A>();
         let (executed, free_executed) = executed.open::<B>();
@@ -178,7 +182,7 @@ impl<A: Side, B: Side, C: Side, N: Naming> Held<A, B, C, N> {
         requires { words.now ≡ N.words }
         ensures answer { (happens (state_in self.old) (happening.Step runner.old.stream)).0 ≡ Answered (played_of result) }
         ensures state { state_in self.new ≡ (happens (state_in self.old) (happening.Step runner.old.stream)).1 }
-        ensures others { self.new ≡ holding self.new.machine self.old.runners self.old.callers }
+        ensures others { self.new ≡ held_model self.new.machine self.old.runners self.old.callers }
         ensures runner { runner.new ≡ running runner.old.stream (runner.old.steps + recorded_more (state_in self.old) (state_in self.new)) }
         ensures counts { Counts (progress_of (state_in self.old) runner.old.stream).done (played_of result) runner.old.steps runner.new.steps }
     {
@@ -203,7 +207,7 @@ impl<A: Side, B: Side, C: Side, N: Naming> Held<A, B, C, N> {
         requires { words.now ≡ N.words }
         ensures over { IsStepOver L.asked link.old link.new (state_in self.old) runner.old.stream (played_of result) (state_in self.new) }
         ensures lost { L.losses link.new ≡ L.losses link.old + bit (is_lost_answer (played_of result)) }
-        ensures others { self.new ≡ holding self.new.machine self.old.runners self.old.callers }
+        ensures others { self.new ≡ held_model self.new.machine self.old.runners self.old.callers }
         ensures runner { runner.new ≡ running runner.old.stream (runner.old.steps + recorded_more (state_in self.old) (state_in self.new)) }
         ensures counts { Counts (progress_of (state_in self.old) runner.old.stream).done (played_of result) runner.old.steps runner.new.steps }
     {
@@ -222,8 +226,8 @@ impl<A: Side, B: Side, C: Side, N: Naming> Held<A, B, C, N> {
     pub fn take_on(&mut self, runners: &mut Vec<Runner<A>>, tokens: Vec<StreamToken>)
         requires none { runners.old.items ≡ [] }
         requires room { vec_len tokens ≤ vec_capacity runners.old }
-        requires few { self.old.runners + length tokens.items ≤ 64 * length (state_in self.old).plans }
-        ensures held { self.new ≡ holding self.old.machine (self.old.runners + length tokens.items) self.old.callers }
+        requires few { self.old.runners + length tokens.items ≤ MOST_STREAMS * length (state_in self.old).plans }
+        ensures held { self.new ≡ held_model self.old.machine (self.old.runners + length tokens.items) self.old.callers }
         ensures runners { runners.new.items ≡ map (λ token. running token 0) tokens.items }
     {
         self.machine.is_reached();
@@ -241,7 +245,7 @@ impl<A: Side, B: Side, C: Side, N: Naming> Held<A, B, C, N> {
         requires { checked.setup ≡ N.setup }
         ensures answer { OnOk result ((happens (state_in self.old) (happening.Begin checked.plan)).0 ≡ Answered (played.Begun (length (state_in self.old).plans))) }
         ensures state { OnOk result (state_in self.new ≡ (happens (state_in self.old) (happening.Begin checked.plan)).1) }
-        ensures others { OnOk result (self.new ≡ holding self.new.machine (self.old.runners + length checked.plan.streams) self.old.callers) }
+        ensures others { OnOk result (self.new ≡ held_model self.new.machine (self.old.runners + length checked.plan.streams) self.old.callers) }
         ensures runners { IfOk result (λ runners. AreRunners (length (state_in self.old).plans) (length checked.plan.streams) runners.items) }
         ensures fault { IfErr result (λ e. e.1 ≢ fault.NoMemory → IsNotStarted (state_in self.old) checked.plan e.1) }
         ensures unchanged { OnErr result (self.new ≡ self.old) }
@@ -309,7 +313,7 @@ impl<A: Side, B: Side, C: Side, N: Naming> Held<A, B, C, N> {
         requires server { server < N.words.servers }
         ensures answer { (happens (state_in self.old) (happening.Arrive shard server)).0 ≡ Answered (played_by result) }
         ensures state { state_in self.new ≡ (happens (state_in self.old) (happening.Arrive shard server)).1 }
-        ensures others { self.new ≡ holding self.new.machine self.old.runners self.old.callers }
+        ensures others { self.new ≡ held_model self.new.machine self.old.runners self.old.callers }
         ensures caller { caller.new ≡ calling caller.old.seen (caller.old.executed + executes result) (caller.old.refused + refuses result) }
     {
         let answer = self.machine.arrive(shard, server);
@@ -321,7 +325,7 @@ impl<A: Side, B: Side, C: Side, N: Naming> Held<A, B, C, N> {
     pub fn pass_on(&mut self, caller: &mut Caller<B, C, N>, ticket: Ticket) -> Answer
         ensures answer { (happens (state_in self.old) (happening.PassOn ticket)).0 ≡ Answered (played_by result) }
         ensures state { state_in self.new ≡ (happens (state_in self.old) (happening.PassOn ticket)).1 }
-        ensures others { self.new ≡ holding self.new.machine self.old.runners self.old.callers }
+        ensures others { self.new ≡ held_model self.new.machine self.old.runners self.old.callers }
         ensures caller { caller.new ≡ calling caller.old.seen (caller.old.executed + executes result) (caller.old.refused + refuses result) }
     {
         let answer = self.machine.pass_on(ticket);
@@ -334,8 +338,8 @@ impl<A: Side, B: Side, C: Side, N: Naming> Held<A, B, C, N> {
     /// Takes no memory.
     pub fn caller(&mut self, words: &Words) -> Option<Caller<B, C, N>>
         requires { words.now ≡ N.words }
-        ensures some { IfSome result (λ caller. (caller ≡ calling [] 0 0) × (self.new ≡ holding self.old.machine self.old.runners (self.old.callers + 1))) }
-        ensures none { IfNone result ((self.new ≡ self.old) × (self.old.callers ≡ 4096)) }
+        ensures some { IfSome result (λ caller. (caller ≡ calling [] 0 0) × (self.new ≡ held_model self.old.machine self.old.runners (self.old.callers + 1))) }
+        ensures none { IfNone result ((self.new ≡ self.old) × (self.old.callers ≡ MOST_CALLERS)) }
     {
         if self.callers >= MOST_CALLERS {
             return None;
@@ -376,7 +380,7 @@ impl<A: Side, B: Side, C: Side, N: Naming> Held<A, B, C, N> {
         requires { server < N.words.servers }
         ensures answer { (happens (state_in self.old) (happening.Approve server)).0 ≡ Answered (approval_of result) }
         ensures state { state_in self.new ≡ (happens (state_in self.old) (happening.Approve server)).1 }
-        ensures others { self.new ≡ holding self.new.machine self.old.runners self.old.callers }
+        ensures others { self.new ≡ held_model self.new.machine self.old.runners self.old.callers }
         ensures permit { IfOk result (λ permit. permit ≡ server) }
     {
         self.machine.approve(server)
@@ -386,7 +390,7 @@ impl<A: Side, B: Side, C: Side, N: Naming> Held<A, B, C, N> {
     pub fn done(&mut self, permit: Permit) -> Result<(), Permit>
         ensures answer { (happens (state_in self.old) (happening.Done permit)).0 ≡ Answered (restart_of result) }
         ensures state { state_in self.new ≡ (happens (state_in self.old) (happening.Done permit)).1 }
-        ensures others { self.new ≡ holding self.new.machine self.old.runners self.old.callers }
+        ensures others { self.new ≡ held_model self.new.machine self.old.runners self.old.callers }
         ensures back { IfErr result (λ p. p ≡ permit) }
     {
         self.machine.done(permit)
@@ -394,10 +398,10 @@ impl<A: Side, B: Side, C: Side, N: Naming> Held<A, B, C, N> {
 
     /// The allowance of a runner's stream is raised, as the machine raises it.
     pub fn refill(&mut self, runner: &mut Runner<A>, more: u32) -> Result<(), RefillFault>
-        requires { more ≤ 262144 }
+        requires { more ≤ MOST_CALLS }
         ensures answer { (happens (state_in self.old) (happening.Refill runner.old.stream more)).0 ≡ Answered (refill_answer result) }
         ensures state { state_in self.new ≡ (happens (state_in self.old) (happening.Refill runner.old.stream more)).1 }
-        ensures others { self.new ≡ holding self.new.machine self.old.runners self.old.callers }
+        ensures others { self.new ≡ held_model self.new.machine self.old.runners self.old.callers }
         ensures runner { runner.new ≡ runner.old }
     {
         self.machine.refill(&mut runner.token, more)
@@ -406,7 +410,7 @@ impl<A: Side, B: Side, C: Side, N: Naming> Held<A, B, C, N> {
     /// Streams stop: their steps are answered Halted.
     pub fn halt(&mut self)
         ensures state { state_in self.new ≡ record (state_in self.old) { halted = true } }
-        ensures others { self.new ≡ holding self.new.machine self.old.runners self.old.callers }
+        ensures others { self.new ≡ held_model self.new.machine self.old.runners self.old.callers }
     {
         self.machine.halt();
     }
@@ -414,7 +418,7 @@ impl<A: Side, B: Side, C: Side, N: Naming> Held<A, B, C, N> {
     /// Streams go on.
     pub fn resume(&mut self)
         ensures state { state_in self.new ≡ record (state_in self.old) { halted = false } }
-        ensures others { self.new ≡ holding self.new.machine self.old.runners self.old.callers }
+        ensures others { self.new ≡ held_model self.new.machine self.old.runners self.old.callers }
     {
         self.machine.resume();
     }

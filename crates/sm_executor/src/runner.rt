@@ -17,9 +17,9 @@ pub struct Runner<A: Side> {
 
 impl<A: Side> Model for Runner<A> {
     ghost use Rattle.std.specs.Prelude.{◌≡◌};
-    ghost use Rattle.sm_executor.specs.Views.{Running, running};
+    ghost use Rattle.sm_executor.specs.Views.{RunnerModel, running};
 
-    ghost Value = { Running };
+    ghost Value = { RunnerModel };
 
     ghost view = { λ r. running r.token r.share.amount };
 
@@ -54,9 +54,9 @@ pub struct Ended<A: Side> {
 
 impl<A: Side> Model for Ended<A> {
     ghost use Rattle.std.specs.Prelude.{◌≡◌};
-    ghost use Rattle.sm_executor.specs.Views.{Finished, finished};
+    ghost use Rattle.sm_executor.specs.Views.{EndedModel, finished};
 
-    ghost Value = { Finished };
+    ghost Value = { EndedModel };
 
     ghost view = { λ e. finished e.stream e.steps e.calls e.budget e.share.amount };
 

@@ -3,9 +3,10 @@
 //! The threads wait for each other before their first steps, so that no stream has stepped where one cannot be started. What a
 //! thread did to its runner is not told to who joins it: the locked machine says of each runner whether its stream has made its end,
 //! and the ends are compared with the streams that were noted before.
-ghost use Rattle.std.specs.Prelude.{◌≡◌, ◌≤◌, ◌+◌, IfOk, IfErr, length, map, true, vec_len, vec_capacity};
+ghost use Rattle.std.specs.Prelude.{◌≡◌, ◌≤◌, ◌+◌, All, IfOk, IfErr, length, map, [], true, vec_len, vec_capacity};
+ghost use Rattle.sm_executor.specs.Ending.{HasEnded};
 ghost use Rattle.sm_executor.specs.Views.{streams_ended, streams_run};
-ghost use Rattle.sm_executor.specs.CameBack.{came_back};
+ghost use Rattle.sm_executor.specs.CameBack.{came_back, ends_back};
 
 use crate::board::Board;
 use crate::gate::{Gate, Starter, drive_own};
@@ -162,8 +163,10 @@ fn retire_all<A: Side, B: Side, C: Side, N: Naming, R: Wait>(
     ended: &mut Vec<Ended<A>>,
     left: &mut Vec<Runner<A>>,
 )
+    requires none { ended.old.items ≡ [] }
     requires ended { vec_len ended.old + vec_len runners ≤ vec_capacity ended.old }
     requires left { vec_len left.old + vec_len runners ≤ vec_capacity left.old }
+    ensures at { All (HasEnded N.opened) ended.new.items }
     ensures all { vec_len left.new + vec_len ended.new ≡ vec_len left.old + vec_len ended.old + vec_len runners }
 {
     runners.reverse();
@@ -181,7 +184,7 @@ pub(crate) struct Lists<A: Side> {
     streams: Vec<StreamId>,
     ended: Vec<Ended<A>>,
     left: Vec<Runner<A>>,
-    ghost none: { (vec_len ended ≡ 0) × (vec_len left ≡ 0) },
+    ghost none: { (ended.items ≡ []) × (vec_len left ≡ 0) },
 }
 
 impl<A: Side> Lists<A> {
@@ -212,6 +215,8 @@ impl<A: Side> Lists<A> {
     ) -> Result<Vec<Ended<A>>, RunFault<A>>
         requires room { (vec_len runners ≤ vec_capacity self.ended) × (vec_len runners ≤ vec_capacity self.left) }
         ensures ended { IfOk result (λ ended. streams_ended ended.items ≡ self.streams.items) }
+        ensures at { IfOk result (λ ended. All (HasEnded N.opened) ended.items) }
+        ensures back_at { IfErr result (λ fault. All (HasEnded N.opened) (ends_back fault)) }
         ensures back { IfErr result (λ fault. came_back fault ≡ vec_len runners) }
     {
         let Lists {
@@ -262,6 +267,8 @@ pub fn run_over<
     gate: &G,
 ) -> Result<Vec<Ended<A>>, RunFault<A>>
     ensures ended { IfOk result (λ ended. streams_ended ended.items ≡ streams_run runners.items) }
+    ensures at { IfOk result (λ ended. All (HasEnded N.opened) ended.items) }
+    ensures back_at { IfErr result (λ fault. All (HasEnded N.opened) (ends_back fault)) }
     ensures back { IfErr result (λ fault. came_back fault ≡ vec_len runners) }
 {
     let Ok(lists) = Lists::new(alloc, runners.as_slice()) else {
@@ -272,7 +279,7 @@ pub fn run_over<
 }
 
 /// Makes all steps of the runners' streams, each in a thread of its own. With Ok there is an end for each runner, in their order. With
-/// a fault as many runners and ends come back as there were runners.
+/// a fault as many runners and ends come back as there were runners. Each end tells what the machine had of its stream once that had ended.
 pub fn run<
     A: Side + Send + Sync,
     B: Side + Send + Sync,
@@ -288,6 +295,8 @@ pub fn run<
     gate: &G,
 ) -> Result<Vec<Ended<A>>, RunFault<A>>
     ensures ended { IfOk result (λ ended. streams_ended ended.items ≡ streams_run runners.items) }
+    ensures at { IfOk result (λ ended. All (HasEnded N.opened) ended.items) }
+    ensures back_at { IfErr result (λ fault. All (HasEnded N.opened) (ends_back fault)) }
     ensures back { IfErr result (λ fault. came_back fault ≡ vec_len runners) }
 {
     run_over::<A, B, C, N, Sure, R, G>(rt, alloc, board, runners, &[], gate)

@@ -3,6 +3,7 @@ ghost use Rattle.std.specs.Prelude.{◌≡◌, ◌≤◌, ◌<◌, ◌+◌, ◌+
 ghost use Rattle.sm_protocol.specs.State.{stream_count};
 ghost use Rattle.sm_machine.specs.State.{state_of};
 ghost use Rattle.sm_executor.specs.Closed.{unfinished_in, unfinished_streams};
+ghost use Rattle.sm_executor.specs.declared.unfinished.TheConstants.{MOST_UNFINISHED};
 
 use sm_machine::Machine;
 use sm_reservation::StreamId;
@@ -31,7 +32,7 @@ fn push_unfinished(machine: &Machine, plan: u32, positions: &mut Vec<(StreamId, 
 
 /// The streams that have not made their ends, into a list with room for them. Takes no memory.
 pub(crate) fn list_unfinished(machine: &Machine, positions: &mut Vec<(StreamId, usize)>)
-    requires { 1024 ≤ vec_capacity positions.old }
+    requires { MOST_UNFINISHED ≤ vec_capacity positions.old }
     ensures items { positions.new.items ≡ unfinished_streams (state_of machine.now) }
     ensures capacity { vec_capacity positions.new ≡ vec_capacity positions.old }
 {

@@ -96,11 +96,13 @@ first_words [] zero = refl
 first_words [] (suc shard) = refl
 first_words (entry ∷ opening) shard = word_of_each (entry ∷ opening) shard
 
+-- at the opening the versions of each shard's entries rise
 pub first_rises : (opening : List Entry) (shard : ℕ) → VersionsRise (opened_at opening shard)
 first_rises [] shard = tt
 first_rises (entry ∷ opening) zero = tt
 first_rises (entry ∷ opening) (suc shard) = first_rises opening shard
 
+-- where the entries of the opening are in range, each shard's entries are
 pub first_in_range : (servers : ℕ) (opening : List Entry) (shard : ℕ) → All (IsInRange servers) opening → All (IsInRange servers) (opened_at opening shard)
 first_in_range servers [] shard good = All-nil (IsInRange servers)
 first_in_range servers (entry ∷ opening) zero good = All-cons (IsInRange servers) entry [] (All-head (IsInRange servers) entry opening good) (All-nil (IsInRange servers))

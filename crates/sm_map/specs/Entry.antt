@@ -2,6 +2,7 @@
 use Rattle.std.specs.Prelude.{ℕ, zero, suc, ◌+◌, ◌*◌, ◌/◌, ◌%◌, ◌<◌, Option, Some, None}
 use Rattle.sm_placement.specs.declared.entry.Entry.{Entry}
 use Rattle.sm_placement.specs.declared.limits.TheConstants.{VERSIONS_END}
+use Rattle.sm_map.specs.declared.entry.TheConstants.{VERSION_UNIT}
 
 -- the part of a word that tells the server: one above its number, or 0 for none
 abbrev pub server_part : Option ℕ → ℕ
@@ -10,7 +11,7 @@ server_part (Some server) = server + 1
 
 -- the word that stands for an entry
 abbrev pub word_for : Entry → ℕ
-word_for entry = entry.version * 65536 + server_part entry.server
+word_for entry = entry.version * VERSION_UNIT + server_part entry.server
 
 -- the server that such a part tells
 abbrev pub server_of_part : ℕ → Option ℕ
@@ -19,7 +20,7 @@ server_of_part (suc server) = Some server
 
 -- the entry that a word stands for
 abbrev pub entry_for : ℕ → Entry
-entry_for word = record { server = server_of_part (word % 65536); version = word / 65536 }
+entry_for word = record { server = server_of_part (word % VERSION_UNIT); version = word / VERSION_UNIT }
 
 -- a server that is listed is below this count
 abbrev pub IsKnownServer : ℕ → Option ℕ → Type 0

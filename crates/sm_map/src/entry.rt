@@ -1,6 +1,7 @@
 //! The word that stands for an entry of the map.
 ghost use Rattle.std.specs.Prelude.{◌≡◌};
 ghost use Rattle.sm_map.specs.Entry.{IsInRange, entry_for, word_for};
+ghost use Rattle.sm_placement.specs.declared.limits.TheConstants.{MOST_SERVERS};
 
 use sm_placement::Entry;
 use sm_server::ServerId;
@@ -10,7 +11,7 @@ const VERSION_UNIT: u64 = 65_536;
 
 /// The word that stands for an entry.
 pub fn word_of(entry: Entry) -> u64
-    requires { IsInRange 1024 entry }
+    requires { IsInRange MOST_SERVERS entry }
     ensures word { result ≡ word_for entry }
     ensures back { entry_for result ≡ entry }
 {
@@ -25,7 +26,7 @@ pub fn word_of(entry: Entry) -> u64
 pub fn entry_of(word: u64) -> Entry
     ensures entry { result ≡ entry_for word }
     ensures back { word_for result ≡ word }
-    ensures only { (e : _) → IsInRange 1024 e → word ≡ word_for e → result ≡ e }
+    ensures only { (e : _) → IsInRange MOST_SERVERS e → word ≡ word_for e → result ≡ e }
 {
     let server = match (word % VERSION_UNIT) as u32 {
         0 => None,

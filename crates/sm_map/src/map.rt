@@ -7,6 +7,7 @@ ghost use Rattle.std.specs.Prelude.{◌≡◌, ◌<◌, ◌≤◌, [], ◌∷◌
 ghost use Rattle.sm_map.specs.Entry.{IsInRange};
 ghost use Rattle.sm_map.specs.History.{Follows, NoneNewer, newest, words_for};
 ghost use Rattle.sm_map.specs.Models.{HasAllSeen, history};
+ghost use Rattle.sm_placement.specs.declared.limits.TheConstants.{MOST_SERVERS};
 
 use crate::entry::{entry_of, word_of};
 use crate::rule::{Look, Meet, Opening, Parts, Published, Store, View};
@@ -70,7 +71,7 @@ impl Model for Pass {
 
 /// The words of some entries.
 fn words_of(alloc: Global, entries: &[Entry]) -> Result<Vec<u64>, AllocError>
-    requires { All (IsInRange 1024) entries.now }
+    requires { All (IsInRange MOST_SERVERS) entries.now }
     ensures { IfOk result (λ v. v.items ≡ words_for entries.now) }
 {
     let mut words = Vec::new(alloc);
@@ -91,7 +92,7 @@ impl Words {
         servers: u32,
         entries: &[Entry],
     ) -> Result<(Words, Publisher), AllocError>
-        requires servers { servers ≤ 1024 }
+        requires servers { servers ≤ MOST_SERVERS }
         requires entries { All (IsInRange servers) entries.now }
         ensures servers { IfOk result (λ opened. opened.0.servers ≡ servers) }
         ensures opening { IfOk result (λ opened. opened.0.opening ≡ entries.now) }

@@ -33,6 +33,7 @@ module _ {C : Type 0} (looked : C → ℕ → Entry → C → Type 0) (arrived :
   pub none_made : HasCome looked arrived passed_on shard old 0 Look old
   none_made = record { proper = tt; leads = λ hops said new m. (hops, omega arith, m) }
 
+  -- behind one more hop, one more was made
   pub one_made : (n : ℕ) (next : Next) (now : C) (said : Answer) (new : C) → HasCome looked arrived passed_on shard old n next now →
       IsHop looked arrived passed_on shard next now (record { said = said; caller = new }) → HasCome looked arrived passed_on shard old (n + 1) (after_answer said) new
   one_made n next now said new come hop = record {
@@ -55,6 +56,7 @@ module _ {C : Type 0} (looked : C → ℕ → Entry → C → Type 0) (arrived :
   at_end (PassOn ticket) now = (refl, refl)
   at_end (End said) now = (refl, refl)
 
+-- an ask that ends by an answer of a server doesn't end by TooManyHops
 pub end_proper : (said : Asked) → IsProper (End said) → said ≡ asked.TooManyHops → (n : ℕ) → n ≡ 8
 end_proper asked.TooManyHops p e n = absurd p
 end_proper _ p e n = absurd (cc)

@@ -29,7 +29,7 @@ pub(crate) enum Scene<'a> {
 }
 
 /// The machine's log is this one.
-fn assert_log(rt: &impl Abort, machine: &Machine, log: &[Turn]) {
+pub(crate) fn assert_log(rt: &impl Abort, machine: &Machine, log: &[Turn]) {
     let made = machine.log();
     assert_eq!(rt; made.len(), log.len());
     for at in 0..log.len() {

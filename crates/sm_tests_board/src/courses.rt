@@ -66,8 +66,20 @@ fn joined<A: Side>(
     ended
 }
 
+/// Asserts that the gate was called so often before steps, and as often after them.
+fn assert_calls<A: Side, B: Side, C: Side, N: Naming>(
+    rt: &impl Abort,
+    gate: &Halting<'_, A, B, C, N>,
+    calls: u64,
+) {
+    let (before, after) = gate.calls();
+    assert_eq!(rt; before, calls);
+    assert_eq!(rt; after, calls);
+}
+
 /// Runs until the board is halted behind a step, and then the rest. Where all streams had ended, nothing was left to halt; behind the
-/// first step something is.
+/// first step something is. The gate was called once round each recorded step, and once round the last step of each stream that was
+/// halted.
 fn run_halted<
     A: Side + Send + Sync,
     B: Side + Send + Sync,
@@ -81,14 +93,19 @@ fn run_halted<
     runners: Vec<Runner<A>>,
     number: u64,
 ) -> Vec<Ended<A>> {
-    match run(rt, alloc, board, runners, &Halting::behind(board, number)) {
+    let gate = Halting::behind(board, number);
+    let ran = run(rt, alloc, board, runners, &gate);
+    let recorded = board.hold(rt).machine().log().len() as u64;
+    match ran {
         Ok(ended) => {
             assert!(rt; number > 1);
+            assert_calls(rt, &gate, recorded);
             ended
         }
         Err(RunFault::Halted { runners, ended }) => {
             assert!(rt; !runners.is_empty());
-            assert!(rt; board.hold(rt).machine().log().len() as u64 >= number);
+            assert!(rt; recorded >= number);
+            assert_calls(rt, &gate, recorded.saturating_add(runners.len() as u64));
             board.resume(rt);
             joined(rt, ended, run_through(rt, alloc, board, runners, &Open))
         }

@@ -1,4 +1,4 @@
-//! Gates of runs: one at which streams meet before their first steps, and one that halts the board.
+//! Gates of runs: one at which streams meet before their first steps, and one that halts the board and counts its calls.
 use sm_executor::{Board, Gate, Naming, Side};
 use sm_reservation::StreamId;
 use std::sync::Wait;
@@ -55,12 +55,13 @@ impl<'c> Gate for Meeting<'c> {
     fn after<R: Wait>(&self, _rt: &R, _stream: StreamId, _at: usize) {}
 }
 
-/// Halts a board behind the step of this number, counted from one.
+/// Halts a board behind the step of this number, counted from one. It counts how often it was called before steps and after them.
 #[derive(Drop)]
 pub(crate) struct Halting<'b, A: Side, B: Side, C: Side, N: Naming> {
     board: &'b Board<A, B, C, N>,
     number: u64,
-    made: AtomicU64,
+    before: AtomicU64,
+    after: AtomicU64,
 }
 
 impl<'b, A: Side, B: Side, C: Side, N: Naming> Halting<'b, A, B, C, N> {
@@ -68,16 +69,27 @@ impl<'b, A: Side, B: Side, C: Side, N: Naming> Halting<'b, A, B, C, N> {
         Halting {
             board,
             number,
-            made: AtomicU64::new(0),
+            before: AtomicU64::new(0),
+            after: AtomicU64::new(0),
         }
+    }
+
+    /// How often it was called before steps, and how often after them.
+    pub fn calls(&self) -> (u64, u64) {
+        (
+            self.before.load(Ordering::SeqCst),
+            self.after.load(Ordering::SeqCst),
+        )
     }
 }
 
 impl<'b, A: Side, B: Side, C: Side, N: Naming> Gate for Halting<'b, A, B, C, N> {
-    fn before<R: Wait>(&self, _rt: &R, _stream: StreamId, _at: usize) {}
+    fn before<R: Wait>(&self, _rt: &R, _stream: StreamId, _at: usize) {
+        self.before.fetch_add(1, Ordering::SeqCst);
+    }
 
     fn after<R: Wait>(&self, rt: &R, _stream: StreamId, _at: usize) {
-        if self.made.fetch_add(1, Ordering::SeqCst).wrapping_add(1) == self.number {
+        if self.after.fetch_add(1, Ordering::SeqCst).wrapping_add(1) == self.number {
             self.board.halt(rt);
         }
     }

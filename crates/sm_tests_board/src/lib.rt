@@ -10,6 +10,8 @@ mod begun_boards;
 #[cfg(test)]
 mod boards;
 #[cfg(test)]
+mod by_hand;
+#[cfg(test)]
 mod clients;
 #[cfg(test)]
 mod courses;

@@ -226,6 +226,12 @@ pub(crate) fn signalled(alloc: Global, retries: u32, budget: u32) -> Result<Chec
     checked_of(alloc, budget, streams, signals)
 }
 
+/// The plan is one of two streams with a signal between them.
+pub(crate) fn is_signalled(checked: &Checked) -> bool {
+    let plan = checked.plan();
+    plan.streams().len() == 2 && plan.signals().len() == 1 && checked.order().len() == 14
+}
+
 /// The plan of eight streams without code.
 pub(crate) fn eight_idle(alloc: Global) -> Result<Checked, AllocError> {
     let mut streams = Vec::new(alloc);

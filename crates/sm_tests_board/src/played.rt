@@ -1,5 +1,7 @@
-//! Worked lists of events, made one by one over a board: the answers and the log are those that the protocol's definitions give.
+//! Worked lists of events, made one by one over a board, and played with a hand on a machine of their own: both give these answers and
+//! leave this log.
 use super::boards::{Scene, on_new_board};
+use super::by_hand::assert_played;
 use super::events::{
     Turn, approve, arrive, begin, begun, done, executed, lose, pass_on, passed, refill, step,
     stream,
@@ -12,7 +14,7 @@ use sm_protocol::{Played, RefillFault};
 use sm_server::{Cell, ServerId};
 use sm_task_controller::Denied;
 use sm_verifier::Checked;
-use std::alloc::Global;
+use std::alloc::{AllocError, Global};
 use std::process::Abort;
 use std::sync::Wait;
 
@@ -160,42 +162,40 @@ pub(crate) fn plans_of(rt: &impl Abort, alloc: Global, moves: &[Move]) -> Vec<Op
     plans
 }
 
-/// The plan of three handovers, in a list.
-fn three(rt: &impl Abort, alloc: Global) -> Vec<Option<Checked>> {
-    let mut plans = Vec::new(alloc);
-    match three_handovers(alloc) {
-        Ok(checked) => put(rt, &mut plans, Some(checked)),
-        Err(_) => panic!(rt; "there is no memory for a plan"),
-    }
-    plans
-}
-
-/// Makes events over a new board on which these plans may begin, asserts their answers and the log that they leave, and answers the
-/// placement.
+/// Makes events over a new board on which this plan may begin, asserts their answers and the log that they leave, and answers the
+/// placement. A machine of their own, on which its twin may begin, answers them in the same way.
 fn placement_after<R: Wait + Abort>(
     rt: &R,
     alloc: Global,
-    plans: Vec<Option<Checked>>,
+    plan: Result<Checked, AllocError>,
+    twin: Result<Checked, AllocError>,
     turns: &[Turn],
     log: &[Turn],
 ) -> Placement {
+    let Ok(checked) = plan else {
+        panic!(rt; "there is no memory for a plan");
+    };
+    let mut plans = Vec::new(alloc);
+    put(rt, &mut plans, Some(checked));
+    assert_played(rt, alloc, twin, PLACES, turns, log);
     on_new_board(rt, alloc, plans, PLACES, Scene::Turns { turns, log })
 }
 
 #[test]
 fn restarts_beside_a_handover_are_as_played(rt: HostRuntime) {
     let alloc = rt.alloc();
-    let plans = plans_of(&rt, alloc, &[s_to_b(0)]);
-    let placement = placement_after(&rt, alloc, plans, &restarts(), &recorded_restarts());
+    let moved = s_to_b(0);
+    let (plan, twin) = (plan_of(alloc, &moved), plan_of(alloc, &moved));
+    let placement = placement_after(&rt, alloc, plan, twin, &restarts(), &recorded_restarts());
     assert_eq!(&rt; placement.down_count(), 1);
 }
 
 #[test]
 fn requests_over_three_handovers_are_as_played(rt: HostRuntime) {
     let alloc = rt.alloc();
-    let plans = three(&rt, alloc);
+    let (plan, twin) = (three_handovers(alloc), three_handovers(alloc));
     let turns = requests_over_three();
-    let placement = placement_after(&rt, alloc, plans, &turns, &recorded_over_three());
+    let placement = placement_after(&rt, alloc, plan, twin, &turns, &recorded_over_three());
     let at_b = Cell::Prepared {
         from: ServerId::new(0),
         number: 3,
@@ -211,15 +211,17 @@ fn requests_over_three_handovers_are_as_played(rt: HostRuntime) {
 #[test]
 fn a_request_passed_on_is_as_played(rt: HostRuntime) {
     let alloc = rt.alloc();
-    let plans = plans_of(&rt, alloc, &[s_to_b(0)]);
-    let _placement = placement_after(&rt, alloc, plans, &passed_on(), &recorded_passed_on());
+    let moved = s_to_b(0);
+    let (plan, twin) = (plan_of(alloc, &moved), plan_of(alloc, &moved));
+    let _placement = placement_after(&rt, alloc, plan, twin, &passed_on(), &recorded_passed_on());
 }
 
 #[test]
 fn lost_calls_are_as_played(rt: HostRuntime) {
     let alloc = rt.alloc();
-    let plans = plans_of(&rt, alloc, &[s_to_b(2)]);
-    let placement = placement_after(&rt, alloc, plans, &losses(), &recorded_losses());
+    let moved = s_to_b(2);
+    let (plan, twin) = (plan_of(alloc, &moved), plan_of(alloc, &moved));
+    let placement = placement_after(&rt, alloc, plan, twin, &losses(), &recorded_losses());
     assert_cells(
         &rt,
         &placement,

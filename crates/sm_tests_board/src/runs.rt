@@ -158,7 +158,7 @@ fn run_signalled<R: Threads + Wait + Sync + Abort>(
     assert_signalled(rt, &placement);
 }
 
-/// Wherever the board is halted, what is left is run to the same end.
+/// Wherever the board is halted, what is left is run to the same end. Behind the last step nothing is left.
 #[test]
 fn a_run_is_halted_behind_each_step(rt: HostRuntime) {
     let alloc = rt.alloc();

@@ -3,7 +3,7 @@ use Rattle.std.proofs.Common.{◌≡◌, ◌≤◌, ◌∙◌, subst, arith, len
 use Rattle.sm_plan_code.specs.Plan.{PlanModel}
 use Rattle.sm_protocol.specs.Happens.{started}
 use Rattle.sm_machine.specs.State.{state_of}
-use Rattle.sm_executor.specs.Views.{Holding, state_in, AreRunners}
+use Rattle.sm_executor.specs.Views.{HeldModel, state_in, AreRunners}
 use Rattle.sm_executor.proofs.Starting.{begun_is, started_kept, few_runners, started_more, runners_are}
 use Rattle.sm_executor.proofs.held.Held.begin.Goals as goal
 
@@ -27,5 +27,5 @@ invariant_of-self g c =
 
 pub returns-in-Ok-begin-clause-runners : goal.returns-in-Ok-begin-clause-runners
 returns-in-Ok-begin-clause-runners g c =
-    subst (λ (h : Holding). AreRunners (length (state_in h).plans) (length c.args.checked.plan.streams) c.fill_runners.new.runners.items) c.self.view_is
+    subst (λ (h : HeldModel). AreRunners (length (state_in h).plans) (length c.args.checked.plan.streams) c.fill_runners.new.runners.items) c.self.view_is
     (runners_are (length (state_of c.self.inside.machine).plans) (length c.args.checked.plan.streams) c.in-Ok-begin.tokens.items c.fill_runners.new.runners.items c.in-Ok-begin.ensures.tokens c.fill_runners.ensures.runners)

@@ -6,7 +6,7 @@ use Rattle.sm_protocol.specs.Steps.{Answered, step}
 use Rattle.sm_machine.specs.State.{state_of}
 use Rattle.sm_machine.specs.Played.{played_of}
 use Rattle.sm_executor.specs.Counting.{IsBooked, Counts}
-use Rattle.sm_executor.specs.Views.{Running, state_in}
+use Rattle.sm_executor.specs.Views.{RunnerModel, state_in}
 use Rattle.sm_executor.proofs.Effects.{Made, step_made, plans_made}
 use Rattle.sm_executor.proofs.Ranges.{in_range, known_shard}
 use Rattle.sm_executor.proofs.Keeps.{stepped, more_of, more_plans}
@@ -65,7 +65,7 @@ returns-clause-counts g c =
     let s = stepped (progress_of w id).done g.N.Naming.words g.N.Naming.opened w v c.self.inside.publisher c.self.inside.steps.total c.self.inside.executed.total c.self.inside.refused.total _ made i.0 i.1 in
     let a = ap length c.log-recorded.ensures in
     let b = ap length c.log.ensures in
-    let same : c.runner.inside.share.amount ≡ c.args.runner.now.steps = ap (λ (x : Running). x.steps) c.runner.view_is in
+    let same : c.runner.inside.share.amount ≡ c.args.runner.now.steps = ap (λ (x : RunnerModel). x.steps) c.runner.view_is in
     let e : c.add.new.share.amount ≡ c.args.runner.now.steps + more_of w v = c.add.ensures.amount ∙ (λ j. same j + (b j - a j)) in
     let f : (progress_of w id).done ≡ (progress_of (state_in c.args.self.now) c.args.runner.now.stream).done = (λ j. (progress_of (state_in (c.self.view_is j)) (c.runner.view_is j).stream).done) in
     subst (λ x. Counts x (played_of c.step-step.result) c.args.runner.now.steps c.add.new.share.amount) f
