@@ -2,12 +2,9 @@
 use crate::fault::Fault;
 use crate::looker::Looker;
 use crate::measured::Measured;
-use board_runs::{is_for, run_beside};
+use board_runs::run_at;
 use board_streams::{Shape, config_of, placement_before, plan_of};
 use sm_executor::Open;
-use sm_machine::{Machine, Permit};
-use sm_placement::Config;
-use sm_verifier::Checked;
 use std::alloc::{AllocError, Global};
 use std::rt::Clock;
 use std::sync::Wait;
@@ -41,41 +38,6 @@ fn lookers_of(alloc: Global, count: usize) -> Result<Vec<Looker>, AllocError> {
     Ok(lookers)
 }
 
-/// A machine at the placement before a plan of a shape.
-fn machine_of(
-    alloc: Global,
-    config: &Config,
-    shape: &Shape,
-) -> Result<(Machine, Vec<Permit>), Fault> {
-    let placement = placement_before(alloc, config, shape)?;
-    if !placement.settled() {
-        return Err(Fault::NoMachine);
-    }
-    match Machine::open(alloc, placement, PLACES) {
-        Ok(opened) => Ok(opened),
-        Err(_) => Err(Fault::NoMachine),
-    }
-}
-
-/// Runs a plan over a machine beside lookers.
-fn run_over<R: Threads + Wait + Clock + Sync>(
-    rt: &R,
-    alloc: Global,
-    machine: Machine,
-    permits: Vec<Permit>,
-    checked: Checked,
-    lookers: &[Looker],
-) -> Result<(), Fault> {
-    if !is_for(&machine, &checked) {
-        machine.give_up(Vec::new(alloc), permits, Vec::new(alloc));
-        return Err(Fault::NoMachine);
-    }
-    match run_beside(rt, alloc, machine, permits, checked, lookers, &Open) {
-        Ok(_) => Ok(()),
-        Err(fault) => Err(Fault::NotRun(fault)),
-    }
-}
-
 /// Runs a plan of a shape beside lookers.
 fn run_shape<R: Threads + Wait + Clock + Sync>(
     rt: &R,
@@ -85,8 +47,11 @@ fn run_shape<R: Threads + Wait + Clock + Sync>(
 ) -> Result<(), Fault> {
     let config = config_of(alloc, shape)?;
     let checked = plan_of(alloc, &config, shape)?;
-    let (machine, permits) = machine_of(alloc, &config, shape)?;
-    run_over(rt, alloc, machine, permits, checked, lookers)
+    let before = placement_before(alloc, &config, shape)?;
+    match run_at(rt, alloc, before, PLACES, checked, lookers, &Open) {
+        Ok(_) => Ok(()),
+        Err(fault) => Err(Fault::NotRun(fault)),
+    }
 }
 
 /// What all lookers have measured.

@@ -7,6 +7,9 @@ pub enum Fault {
     /// Memory was short.
     #[error("out of memory")]
     NoMemory,
+    /// The placement is not settled, the log has too few places, or the plan was checked for another configuration.
+    #[error("no machine for the plan")]
+    NoMachine,
     /// The plan did not begin.
     #[error("the plan did not begin")]
     NotBegun,

@@ -11,5 +11,5 @@ mod worker;
 
 pub use fault::Fault;
 pub use finish::Finish;
-pub use run::{is_for, run_beside};
+pub use run::run_at;
 pub use worker::Worker;

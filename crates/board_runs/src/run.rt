@@ -18,11 +18,11 @@ use std::rt::Clock;
 use std::sync::Wait;
 use std::thread::Threads;
 
-/// The plan was checked for the machine's configuration.
-pub fn is_for(machine: &Machine, checked: &Checked) -> bool
-    ensures { IsTrue result → checked.now.setup ≡ machine.now.placement.setup }
+/// The plan was checked for the placement's configuration.
+fn is_for(placement: &Placement, checked: &Checked) -> bool
+    ensures { IsTrue result → checked.now.setup ≡ placement.now.setup }
 {
-    checked.config() == machine.config()
+    checked.config() == placement.config()
 }
 
 /// Closes a board with all that it and its machine have given out. An end of the run only where each worker has started.
@@ -175,9 +175,8 @@ fn prepared(
     }
 }
 
-/// Runs a checked plan on a board over a machine in which none has begun, beside workers, each in a thread of its own. Answers the
-/// placement at which the board is closed, once all streams have made their ends and all workers are done.
-pub fn run_beside<W: Worker + Sync, R: Threads + Wait + Clock + Sync, G: Gate + Sync>(
+/// Runs a checked plan on a board over a machine in which none has begun, beside workers.
+fn run_beside<W: Worker + Sync, R: Threads + Wait + Clock + Sync, G: Gate + Sync>(
     rt: &R,
     alloc: Global,
     machine: Machine,
@@ -197,5 +196,28 @@ pub fn run_beside<W: Worker + Sync, R: Threads + Wait + Clock + Sync, G: Gate + 
             machine.give_up(Vec::new(alloc), permits, Vec::new(alloc));
             Err(fault)
         }
+    }
+}
+
+/// Runs a checked plan beside workers, each in a thread of its own, on a board over a machine that is opened for it at a placement, with
+/// a log of so many places. Answers the placement at which the board is closed, once all streams have made their ends and all workers
+/// are done.
+pub fn run_at<W: Worker + Sync, R: Threads + Wait + Clock + Sync, G: Gate + Sync>(
+    rt: &R,
+    alloc: Global,
+    placement: Placement,
+    places: u32,
+    checked: Checked,
+    workers: &[W],
+    gate: &G,
+) -> Result<Placement, Fault>
+    ensures { IfOk result (λ ended. ended.setup ≡ placement.setup) }
+{
+    if !placement.settled() || !is_for(&placement, &checked) {
+        return Err(Fault::NoMachine);
+    }
+    match Machine::open(alloc, placement, places) {
+        Ok((machine, permits)) => run_beside(rt, alloc, machine, permits, checked, workers, gate),
+        Err(_) => Err(Fault::NoMachine),
     }
 }

@@ -13,9 +13,6 @@ pub(crate) enum Fault {
     /// The plan was not made.
     #[error("no plan: {0}")]
     NoPlan(PlanFault),
-    /// There was no machine for the plan.
-    #[error("no machine")]
-    NoMachine,
     /// The plan did not run to its end.
     #[error("{0}")]
     NotRun(RunFault),

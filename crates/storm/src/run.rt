@@ -3,11 +3,9 @@ use crate::fault::Fault;
 use crate::gusts::{Gusts, scattered};
 use crate::hand::{Hand, RESTARTS};
 use crate::world::{SHAPE, World, is_same};
-use board_runs::{is_for, run_beside};
+use board_runs::run_at;
 use board_streams::plan_of;
-use sm_machine::{Machine, Permit};
 use sm_placement::Placement;
-use sm_verifier::Checked;
 use std::alloc::{AllocError, Global};
 use std::rt::Clock;
 use std::sync::Wait;
@@ -36,38 +34,6 @@ fn hands_of(alloc: Global, seed: u64) -> Result<Vec<Hand>, AllocError> {
     Ok(hands)
 }
 
-/// A machine at the placement before the plan.
-fn machine_of(alloc: Global, world: &World) -> Result<(Machine, Vec<Permit>), Fault> {
-    let placement = world.before.copy(alloc)?;
-    if !placement.settled() {
-        return Err(Fault::NoMachine);
-    }
-    match Machine::open(alloc, placement, PLACES) {
-        Ok(opened) => Ok(opened),
-        Err(_) => Err(Fault::NoMachine),
-    }
-}
-
-/// The placement at the end of a storm over a machine.
-fn storm_over<R: Threads + Wait + Clock + Sync>(
-    rt: &R,
-    alloc: Global,
-    machine: Machine,
-    permits: Vec<Permit>,
-    checked: Checked,
-    hands: &[Hand],
-    gusts: &Gusts,
-) -> Result<Placement, Fault> {
-    if !is_for(&machine, &checked) {
-        machine.give_up(Vec::new(alloc), permits, Vec::new(alloc));
-        return Err(Fault::NoMachine);
-    }
-    match run_beside(rt, alloc, machine, permits, checked, hands, gusts) {
-        Ok(placement) => Ok(placement),
-        Err(fault) => Err(Fault::NotRun(fault)),
-    }
-}
-
 /// The placement at the end of a storm with these hands.
 fn storm_with<R: Threads + Wait + Clock + Sync>(
     rt: &R,
@@ -77,8 +43,11 @@ fn storm_with<R: Threads + Wait + Clock + Sync>(
     gusts: &Gusts,
 ) -> Result<Placement, Fault> {
     let checked = plan_of(alloc, &world.config, &SHAPE)?;
-    let (machine, permits) = machine_of(alloc, world)?;
-    storm_over(rt, alloc, machine, permits, checked, hands, gusts)
+    let before = world.before.copy(alloc)?;
+    match run_at(rt, alloc, before, PLACES, checked, hands, gusts) {
+        Ok(ended) => Ok(ended),
+        Err(fault) => Err(Fault::NotRun(fault)),
+    }
 }
 
 /// Each restart was made that had to be.
