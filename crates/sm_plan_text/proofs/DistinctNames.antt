@@ -30,8 +30,10 @@ taken_more names i name old new h at single is_old is_new =
     ap (λ n. take i names ++ n ∷ []) at ∙
     sym (take_more names i name h)
 
+-- no two servers of a configuration have one name
 pub single_servers : (setup : Setup) → IsSetup setup → has_double (names_of_servers setup) ≡ false
 single_servers setup is = or_left (has_double (names_of_servers setup)) (has_double (names_of_shards setup)) is.distinct_names
 
+-- and no two shards
 pub single_shards : (setup : Setup) → IsSetup setup → has_double (names_of_shards setup) ≡ false
 single_shards setup is = or_right (has_double (names_of_servers setup)) (has_double (names_of_shards setup)) is.distinct_names

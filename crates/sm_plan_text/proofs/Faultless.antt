@@ -15,14 +15,17 @@ use Rattle.sm_plan_text.specs.Tables.{one, maybe, whole, text, known, list, know
 
 -- ---- no fault in all, no fault in each part
 
+-- where two parts together have no fault, the first has none
 pub nil_left : (xs ys : List TextFault) → xs ++ ys ≡ [] → xs ≡ []
 nil_left [] ys h = refl
 nil_left (x ∷ xs) ys h = absurd (cc)
 
+-- and neither has the second
 pub nil_right : (xs ys : List TextFault) → xs ++ ys ≡ [] → ys ≡ []
 nil_right [] ys h = h
 nil_right (x ∷ xs) ys h = absurd (cc)
 
+-- once a fault is noted, one is answered
 pub noted_some : (best : TextFault) (faults : List TextFault) → noted (Some best) faults ≡ None → ⊥
 noted_some best [] h = cc
 noted_some best (fault ∷ faults) h = noted_some (lower_fault (Some best) fault) faults h
@@ -53,6 +56,7 @@ walked_front faults Q from before (d ∷ ds) h q =
 pub up_to-le : (limit n : ℕ) → up_to limit n ≤ limit
 up_to-le limit n = grind (arith, nat_tests)
 
+-- a number below a count is below it as it is read, which is 0 above the limit
 pub up_to_below : (limit n k : ℕ) → n < k → up_to limit n < k
 up_to_below limit n k h = grind (arith, nat_tests)
 
@@ -60,9 +64,11 @@ limited_at : (limit default : ℕ) → default ≤ limit → (o : Option Data) �
 limited_at limit default h None = h
 limited_at limit default h (Some d) = up_to-le limit (unwrap_or (whole_number_of d) 0)
 
+-- the number that is read of a member is within its limit
 pub number_in-le : (m : Member) (limit : ℕ) (d : Data) → number_in m limit d ≤ limit
 number_in-le m limit d = limited_at limit 0 (omega arith) (found m d)
 
+-- and so is one that may be missing, where its default is
 pub number_or-le : (default : ℕ) (m : Member) (limit : ℕ) (d : Data) → default ≤ limit → number_or default m limit d ≤ limit
 number_or-le default m limit d h = limited_at limit default h (found m d)
 

@@ -16,8 +16,8 @@ use Rattle.sm_placement.specs.Rows.{IsKnownCall}
 use Rattle.sm_placement.proofs.DoubleLemmas.{has_double_push}
 use Rattle.sm_plan_text.specs.declared.fault.TextFault.{TextFault}
 use Rattle.sm_plan_text.specs.declared.fault.TextFault.TheVariants.{Shape}
-use Rattle.sm_plan_text.specs.declared.call.CallWord.{CallWord}
-use Rattle.sm_plan_text.specs.declared.call.CallWord.TheVariants as word
+use Rattle.sm_plan_text.specs.Calls.{CallWord}
+use Rattle.sm_plan_text.specs.Calls as word
 use Rattle.sm_plan_text.specs.declared.member.Member.TheVariants as members
 use Rattle.sm_plan_text.specs.Members.{text_of}
 use Rattle.sm_plan_text.specs.Values.{text_found, text_in, flag_in, number_in, entries_in, names_in, id_of, id_in}
@@ -25,8 +25,8 @@ use Rattle.sm_plan_text.specs.Tables.{one, maybe, whole, name, new_name, known, 
 use Rattle.sm_plan_text.specs.Servers.{server_table, server_faults, server_in, id_if_down, down_in}
 use Rattle.sm_plan_text.specs.Shards.{cap_limit, cell_count, shard_table, cell_table, cell_faults, shard_faults, shard_in, named_cell, cells_of_shard, cells_in}
 use Rattle.sm_plan_text.specs.Calls.{NamedCall, call_word, word_table, call_table, call_faults, call_worded, call_by, call_in}
-use Rattle.sm_plan_text.specs.declared.event.EventWord.{EventWord}
-use Rattle.sm_plan_text.specs.declared.event.EventWord.TheVariants as event_word_of
+use Rattle.sm_plan_text.specs.Events.{EventWord}
+use Rattle.sm_plan_text.specs.Events as event_word_of
 use Rattle.sm_plan_text.specs.Events.{IsKnownEvent, event_word, event_table, event_faults, event_of, event_by, event_in}
 use Rattle.sm_plan_text.specs.Moves.{IsKnownMove, move_table, move_faults, move_in}
 use Rattle.sm_plan_text.proofs.ServerLemmas.{names_in_push}
@@ -85,9 +85,11 @@ server_good before d h =
     let region : is_name (text_in members.Region d) ≡ true = text_passes members.Region is_name d (nil_left (row_faults d (one members.Region name)) _ rest) in
     record { named = and_both (is_name (text_in members.Name d)) (is_name (text_in members.Region d)) is.0 region; new = is.1 }
 
+-- servers without faults have names and regions that are good
 pub servers_named : (ds : List Data) → walked server_faults [] ds ≡ [] → list_all is_well_named_server (map server_in ds) ≡ true
 servers_named ds h = all_rows is_well_named_server server_in ds (walked_entries server_faults (λ d. is_well_named_server (server_in d) ≡ true) (λ before d none. (server_good before d none).named) [] ds h)
 
+-- and no two of them have one name
 pub servers_distinct : (ds : List Data) → walked server_faults [] ds ≡ [] → IsDistinct ds
 servers_distinct ds h = distinct_all server_faults (λ before d none. (server_good before d none).new) ds h
 
@@ -100,6 +102,7 @@ room_good d =
     let within = number_in-le members.Room 4294967295 d in
     le-leb (number_in members.Room 4294967295 d) 4294967295 within
 
+-- the room that is read of each server is within its limit
 pub servers_good : (ds : List Data) → list_all is_good_server (map server_in ds) ≡ true
 servers_good ds = all_rows is_good_server server_in ds (all_entries (λ d. is_good_server (server_in d) ≡ true) room_good ds)
 
@@ -111,13 +114,16 @@ down_from n total (d ∷ ds) h = with_flag (flag_in members.Down d) (down_from (
     with_flag true rest = All-cons (λ id. id < total) (id_of n) (filter_map id_if_down (enumerate_from (n + 1) ds)) (up_to_below 4294967295 n total (omega arith)) rest
     with_flag false rest = rest
 
+-- the ids of the servers that are read as down are below the count of servers
 pub down_within : (ds : List Data) → All (λ id. id < length ds) (down_in ds)
 down_within ds = down_from 0 (length ds) ds (omega arith)
 
+-- the rows of servers have the names that are read
 pub names_of_rows : (ds : List Data) → map (λ row. row.name) (map server_in ds) ≡ map (text_in members.Name) ds
 names_of_rows [] = refl
 names_of_rows (d ∷ ds) = ap (λ names. text_in members.Name d ∷ names) (names_of_rows ds)
 
+-- and so have the rows of shards
 pub names_of_shard_rows : (ds : List Data) → map (λ row. row.name) (map shard_in ds) ≡ map (text_in members.Name) ds
 names_of_shard_rows [] = refl
 names_of_shard_rows (d ∷ ds) = ap (λ names. text_in members.Name d ∷ names) (names_of_shard_rows ds)
@@ -168,9 +174,11 @@ shard_good servers before d h =
     (walked_entries (cell_faults servers) (λ e. id_in servers members.Server e < length servers) (cell_known servers) [] (entries_in members.Cells d)
     (nil_right (own_faults members.Shards (shard_table servers (names_in before) (1048576 - cell_count before) d) d) (walked (cell_faults servers) [] (entries_in members.Cells d)) h))
 
+-- shards without faults have good names
 pub shards_named : (servers : List (List ℕ)) (ds : List Data) → walked (shard_faults servers) [] ds ≡ [] → list_all is_well_named_shard (map shard_in ds) ≡ true
 shards_named servers ds h = all_rows is_well_named_shard shard_in ds (walked_entries (shard_faults servers) (λ d. is_well_named_shard (shard_in d) ≡ true) (λ before d none. (shard_good servers before d none).named) [] ds h)
 
+-- and no two of them have one name
 pub shards_distinct : (servers : List (List ℕ)) (ds : List Data) → walked (shard_faults servers) [] ds ≡ [] → IsDistinct ds
 shards_distinct servers ds h = distinct_all (shard_faults servers) (λ before d none. (shard_good servers before d none).new) ds h
 
@@ -185,6 +193,7 @@ numbers_good d cap =
     (and_both (nat_le (number_in members.Spread 1024 d) 1024) _ (le-leb (number_in members.Spread 1024 d) 1024 spread)
     (le-leb (number_in members.Cap (cap_limit d) d) (number_in members.Want 1024 d) cap))))
 
+-- their numbers are within their limits, and each cap is within its want
 pub shards_good : (servers : List (List ℕ)) (ds : List Data) → walked (shard_faults servers) [] ds ≡ [] → list_all is_good_shard (map shard_in ds) ≡ true
 shards_good servers ds h = all_rows is_good_shard shard_in ds (walked_entries (shard_faults servers) (λ d. is_good_shard (shard_in d) ≡ true) (λ before d none. numbers_good d (shard_good servers before d none).cap) [] ds h)
 
@@ -217,6 +226,7 @@ cells_from servers n total (d ∷ ds) h good =
     (All-head (λ x. All (λ e. id_in servers members.Server e < length servers) (entries_in members.Cells x)) d ds good)))
     (cells_from servers (n + 1) total ds (omega arith) (All-tail (λ x. All (λ e. id_in servers members.Server e < length servers) (entries_in members.Cells x)) d ds good))
 
+-- the cells of shards without faults are of known shards and servers
 pub cells_within : (servers : List (List ℕ)) (ds : List Data) → walked (shard_faults servers) [] ds ≡ [] → All (λ cell. (cell.0 < length ds) × (cell.1 < length servers)) (cells_in servers ds)
 cells_within servers ds h =
     cells_from servers 0 (length ds) ds (omega arith)
@@ -246,6 +256,7 @@ call_by_word shards servers d (Some w) h =
       word_known servers d w (nil_right (row_faults d (one members.Server (known servers))) _ after_shard),
     )
 
+-- calls without faults are of known shards and servers, and name known servers
 pub calls_within : (shards servers : List (List ℕ)) (ds : List Data) → walked (call_faults shards servers) [] ds ≡ [] → All (λ call. (call.0 < length shards) × (call.1 < length servers) × IsKnownCall (length servers) call.2) (map (call_in shards servers) ds)
 calls_within shards servers ds h =
     All-map (IsWithin (length shards) (length servers)) (call_in shards servers) ds
@@ -264,6 +275,7 @@ move_known shards servers before d h =
       to = id_known members.To servers d (nil_left (row_faults d (one members.To (known servers))) _ after_from);
     }
 
+-- moves without faults are of known shards and servers
 pub moves_within : (shards servers : List (List ℕ)) (ds : List Data) → walked (move_faults shards servers) [] ds ≡ [] → All (IsKnownMove (length shards) (length servers)) (map (move_in shards servers) ds)
 moves_within shards servers ds h =
     All-map (IsKnownMove (length shards) (length servers)) (move_in shards servers) ds
@@ -289,6 +301,7 @@ event_by_word shards servers d None h = tt
 event_by_word shards servers d (Some w) h =
     event_rest shards servers d w (nil_right (object_faults members.Events (text_of members.Event ∷ map (λ row. text_of row.member) (event_table shards servers w)) d) _ h)
 
+-- events without faults name known shards and servers, and a refill is within its limit
 pub events_within : (shards servers : List (List ℕ)) (ds : List Data) → walked (event_faults shards servers) [] ds ≡ [] → All (IsKnownEvent (length shards) (length servers)) (map (event_in shards servers) ds)
 events_within shards servers ds h =
     All-map (IsKnownEvent (length shards) (length servers)) (event_in shards servers) ds

@@ -27,8 +27,8 @@ use Rattle.sm_plan_text.specs.declared.fault.TextFault.{TextFault}
 use Rattle.sm_plan_text.specs.declared.fault.TextFault.TheVariants.{Shape}
 use Rattle.sm_plan_text.specs.declared.member.Member.{Member}
 use Rattle.sm_plan_text.specs.declared.member.Member.TheVariants as members
-use Rattle.sm_plan_text.specs.declared.parcel.LeadWord.{LeadWord}
-use Rattle.sm_plan_text.specs.declared.parcel.LeadWord.TheVariants as word
+use Rattle.sm_plan_text.specs.Parcels.{LeadWord}
+use Rattle.sm_plan_text.specs.Parcels as word
 use Rattle.sm_plan_text.specs.Members.{text_of}
 use Rattle.sm_plan_text.specs.Faults.{noted, lower_fault}
 use Rattle.sm_plan_text.specs.Values.{found, text_found, number_named, number_in, id_of, id_named, id_in, entries_in}

@@ -13,8 +13,8 @@ use Rattle.sm_plan_text.specs.declared.fault.TextFault.{TextFault}
 use Rattle.sm_plan_text.specs.declared.fault.TextFault.TheVariants.{Shape}
 use Rattle.sm_plan_text.specs.declared.member.Member.{Member}
 use Rattle.sm_plan_text.specs.declared.member.Member.TheVariants as members
-use Rattle.sm_plan_text.specs.declared.instruction.InstrWord.{InstrWord}
-use Rattle.sm_plan_text.specs.declared.instruction.InstrWord.TheVariants as word
+use Rattle.sm_plan_text.specs.Instructions.{InstrWord}
+use Rattle.sm_plan_text.specs.Instructions as word
 use Rattle.sm_plan_text.specs.Members.{text_of}
 use Rattle.sm_plan_text.specs.Values.{found, text_found, whole_number_of, under, number_or, number_below, entries_in, id_in}
 use Rattle.sm_plan_text.specs.Tables.{one, maybe, whole, known, below, format, object, list, below_fault, index_fault, found_faults, row_faults, object_faults, own_faults, by_word, walked}
@@ -163,6 +163,7 @@ pub record IsGoodPlan (shards servers : ℕ) (p : PlanModel) : Type 0 where
   pub plan : IsPlan p
   pub fits : IsKnownPlan shards servers p
 
+-- a plan without faults is one, and each id in it is below its count
 pub plan_good : (place : Member) (shards servers : List (List ℕ)) (d : Data) → HaveIds shards servers → plan_faults place shards servers [] d ≡ [] → IsGoodPlan (length shards) (length servers) (plan_in shards servers d)
 plan_good place shards servers d few h =
     let own : List TextFault = own_faults place plan_table d in

@@ -16,6 +16,7 @@ use Rattle.sm_plan_text.specs.Tables.{maybe, list, keyed, texts_eq, is_same_key,
 use Rattle.sm_plan_text.proofs.WalkLemmas.{entry_at}
 use Rattle.sm_placement.proofs.DoubleLemmas.{or_more, or_swap}
 
+-- the texts that a key is made of
 abbrev pub Texts : Type 0
 Texts = List (List ℕ)
 
@@ -92,6 +93,7 @@ rest_at f items i item h is =
 -- ---- keys that a set holds
 
 module _ {K : Type 0} (texts : K → Texts) where
+  -- the keys that a set holds, each as its texts
   abbrev pub held : List K → List (Option Texts)
   held keys = map (λ key. Some (texts key)) keys
 

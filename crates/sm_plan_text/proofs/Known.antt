@@ -108,6 +108,7 @@ both_false false b h k = k
 not_large : (a b : ℕ) → a ≤ 1024 → b ≤ 4096 → (nat_lt 1024 a || nat_lt 4096 b) ≡ false
 not_large a b h k = grind (arith, nat_tests)
 
+-- the servers and shards of a document without faults are a configuration
 pub setup_is_good : (d : Data) → document_faults d ≡ [] → config_fault (setup_in d) ≡ None
 setup_is_good d h =
     let parts : IsFaultless d = faultless_parts d h in
@@ -137,6 +138,7 @@ names_are_few d h =
     let most_shards = parts.shard_count in
     record { shards = omega arith; servers = omega arith }
 
+-- what holds of all entries of a list that may be missing holds of them where it is there
 pub each_where_there : {A : Type 0} (P : A → Type 0) (f : Data → A) (o : Option (List Data)) → All P (map f (unwrap_or o [])) → IfSome (option_map (map f) o) (All P)
 each_where_there P f None h = tt
 each_where_there P f (Some ds) h = h
@@ -167,6 +169,7 @@ plans_fit shards servers ds few h =
     All-map (IsKnownPlan (length shards) (length servers)) (plan_in shards servers) ds
     (walked_entries (plan_faults members.Plans shards servers) (λ d. IsKnownPlan (length shards) (length servers) (plan_in shards servers d)) (λ before d none. (plan_good members.Plans shards servers d few none).fits) [] ds h)
 
+-- each id in a document without faults is below its count
 pub document_is_known : (d : Data) → document_faults d ≡ [] → IsDocument (rows_in d)
 document_is_known d h =
     let parts : IsFaultless d = faultless_parts d h in

@@ -13,20 +13,24 @@ use Rattle.sm_plan_text.specs.Values.{entries, up_to}
 use Rattle.sm_plan_text.specs.Tables.{list_fault, limit_fault, texts_found, is_same_key, has_double_key, double_faults, walked}
 use Rattle.sm_plan_text.proofs.NamesBack.{no_faults}
 
+-- a list that is written of entries has just these
 pub entries_back : (ds : List Data) → entries (items_of ds) ≡ ds
 entries_back [] = refl
 entries_back (d ∷ ds) = ap (λ es. d ∷ es) (entries_back ds)
 
 -- ---- numbers
 
+-- a number within its limit has no fault
 pub number_no_fault : (m : Member) (limit n : ℕ) → n ≤ limit → limit_fault m limit (Some n) ≡ []
 number_no_fault m limit n h = grind (arith, nat_tests)
 
+-- and it is read as itself
 pub number_read : (limit n : ℕ) → n ≤ limit → up_to limit n ≡ n
 number_read limit n h = grind (arith, nat_tests)
 
 -- ---- lists
 
+-- a list that is no longer than its limit has no fault
 pub list_no_fault : (m : Member) (limit : ℕ) (ds : List Data) → length ds ≤ limit → list_fault m limit (Some (items_of ds)) ≡ []
 list_no_fault m limit ds h = rw (entries_back ds) (within (length ds) h)
   where

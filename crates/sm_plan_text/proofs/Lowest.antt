@@ -32,6 +32,7 @@ going faults before after (next ∷ rest) best stands above not_below =
     (λ test. going faults (before ++ best ∷ after) [] rest next (stands ∙ sym (append_assoc (before ++ best ∷ after) (next ∷ []) rest)) (above_before (number_of next) 0 before after best (grind (arith, nat_tests)) above not_below) (All-nil (λ other. number_of next ≤ number_of other)))
     (λ test. going faults before (after ++ next ∷ []) rest best (stands ∙ append_assoc before (best ∷ after) (next ∷ rest) ∙ sym (append_assoc before (best ∷ after ++ next ∷ []) rest ∙ ap (λ l. before ++ best ∷ l) (append_assoc after (next ∷ []) rest))) above (All-push (λ other. number_of best ≤ number_of other) after next not_below (grind (arith, nat_tests))))
 
+-- of several faults the first of the lowest number is answered, and nothing where there is none
 pub first_of_lowest : (faults : List TextFault) → MatchOption (answered faults) (faults ≡ []) (IsFirstOfLowest faults)
 first_of_lowest [] = refl
 first_of_lowest (fault ∷ faults) = going (fault ∷ faults) [] [] faults fault refl (All-nil (λ other. number_of fault < number_of other)) (All-nil (λ other. number_of fault ≤ number_of other))

@@ -40,8 +40,10 @@ same_number names n k lead h j e =
 pub no_faults : (xs ys : List TextFault) → xs ≡ [] → ys ≡ [] → xs ++ ys ≡ []
 no_faults xs ys h k = rw (h, k) refl
 
+-- a function of two values gives the same of values that are the same
 pub both : {A B C : Type 0} (f : A → B → C) (a c : A) (b d : B) → a ≡ c → b ≡ d → f a b ≡ f c d
 both f a c b d h k = rw (h, k) refl
 
+-- and so does one of three
 pub three : {A B C D : Type 0} (f : A → B → C → D) (a d : A) (b e : B) (c g : C) → a ≡ d → b ≡ e → c ≡ g → f a b c ≡ f d e g
 three f a d b e c g h k j = rw (h, k, j) refl

@@ -44,13 +44,16 @@ module _ (p : List ℕ → Bool) where
   any_after found [] = refl
   any_after found (m ∷ ms) = any_after (put m.0.now (view m.1) found) ms ∙ ap (λ b. list_any (λ e. p e.0.now) ms || b) (any_put m.0.now (view m.1) found) ∙ or_next (list_any (λ e. p e.0.now) ms) (p m.0.now) (list_any p (keys_of found))
 
+-- an object has an unknown key in its tree exactly where it has one as a value
 pub any_key : (known : List (List ℕ)) (members : List (Bor (List ℕ) × Tree)) → list_any (λ m. not (is_among known m.0.now)) members ≡ list_any (λ key. not (is_among known key)) (keys_of (members_view members))
 any_key known members = sym (any_after (λ key. not (is_among known key)) no_members members ∙ or-false (list_any (λ m. not (is_among known m.0.now)) members))
 
+-- the entries of a list in its value are the values of those in its tree
 pub entries_view : (items : List Tree) → entries (items_view items) ≡ map view items
 entries_view [] = refl
 entries_view (item ∷ items) = ap (λ ds. view item ∷ ds) (entries_view items)
 
+-- and there are as many
 pub length_entries : (items : List Tree) → length (entries (items_view items)) ≡ length items
 length_entries [] = refl
 length_entries (item ∷ items) = ap suc (length_entries items)

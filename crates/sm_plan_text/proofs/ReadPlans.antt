@@ -63,5 +63,6 @@ data_has_plan (Some value) d e = go (answered (document_faults value)) refl
         subst HasItsPlans same (in_order value (none_noted (document_faults value) is))
     go (Some fault) is = absurd (let said = rw is at e in cc)
 
+-- the plans of a document that was read are plans, and of the document's configuration
 pub read_has_plan : (bytes : List ℕ) (d : DocumentModel) → read bytes ≡ Ok d → HasItsPlans d
 read_has_plan bytes d e = data_has_plan (data_of bytes) d e

@@ -37,15 +37,19 @@ pub record AreReadable (before ms all : Members) : Type 0 where
 
 -- ---- strings, numbers and null
 
+-- null is read back as it is
 pub null_readable : IsReadable null
 null_readable = record { utf8 = IsUtf8-are_ascii (compact_text null) refl; numbers = tt; same = refl }
 
+-- so is a string that is UTF-8
 pub string_readable : (s : List ℕ) → IsUtf8 s → IsReadable (string s)
 string_readable s h = record { utf8 = IsUtf8-quoted s h; numbers = tt; same = refl }
 
+-- and one that is ASCII
 pub word_readable : (s : List ℕ) → are_ascii s ≡ true → IsReadable (string s)
 word_readable s h = string_readable s (IsUtf8-are_ascii s h)
 
+-- and a whole number below 2^64
 pub whole_readable : (n : ℕ) → n < 2 ^ 64 → IsReadable (number (unsigned n))
 whole_readable n h = record {
   utf8 = IsUtf8-from_ascii (decimal n) (IsAscii-decimal n h);
@@ -69,10 +73,12 @@ and_item d ds h rest = record {
   same = ap (option_and_then (λ x. option_map (item x) (of_items (items_outline ds)))) h.same ∙ ap (option_map (item d)) rest.same;
 }
 
+-- entries of which each is read back as it is are read back together
 pub items_readable : {T : Type 0} (f : T → Data) (P : T → Type 0) → ((x : T) → P x → IsReadable (f x)) → (xs : List T) → AllByRecursion P xs → AreReadableItems (items_of (map f xs))
 items_readable f P each [] h = no_items_readable
 items_readable f P each (x ∷ xs) h = and_item (f x) _ (each x h.0) (items_readable f P each xs h.1)
 
+-- and so is the list of them
 pub array_readable : (ds : Items) → AreReadableItems ds → IsReadable (array ds)
 array_readable ds h = record {
   utf8 = IsUtf8-append (91 ∷ []) (items_text false ds) (IsUtf8-are_ascii (91 ∷ []) refl) (h.utf8 false);
@@ -82,6 +88,7 @@ array_readable ds h = record {
 
 -- ---- objects
 
+-- at the end of an object, what was read before is what there is in all
 pub no_more : (all : Members) → AreReadable all no_members all
 no_more all = record { utf8 = λ later. IsUtf8-are_ascii (125 ∷ []) refl; numbers = tt; same = refl }
 
@@ -96,6 +103,7 @@ and_member k d ms before next all key h puts rest = record {
       ∙ ap (of_members (members_outline ms)) puts ∙ rest.same;
 }
 
+-- an object whose members are read back as they are is read back as it is
 pub object_readable : (ms : Members) → AreReadable no_members ms ms → IsReadable (object ms)
 object_readable ms h = record {
   utf8 = IsUtf8-append (123 ∷ []) (members_text false ms) (IsUtf8-are_ascii (123 ∷ []) refl) (h.utf8 false);

@@ -32,10 +32,12 @@ plain_read : (state : PlainCell) → unwrap_or (plain_named (plain_text state)) 
 plain_read plain.Absent = refl
 plain_read plain.Secondary = refl
 
+-- a right to a cell of a known shard and server has no fault as it is written
 pub right_no_fault : (shards servers : List (List ℕ)) → LeadBack shards → LeadBack servers → (earlier : List Data) (x : CellRight) → IsKnownCellRight (length shards) (length servers) x → right_faults shards servers earlier (right_data shards servers x) ≡ []
 right_no_fault shards servers a b earlier x h =
     no_faults _ _ (named members.Shard shards x.shard a h.0) (no_faults _ _ (named members.Server servers x.server b h.1) (no_faults _ _ (plain_no_fault x.state) refl))
 
+-- and it is read as itself
 pub right_back : (shards servers : List (List ℕ)) → LeadBack shards → LeadBack servers → (x : CellRight) → IsKnownCellRight (length shards) (length servers) x → right_in shards servers (right_data shards servers x) ≡ x
 right_back shards servers a b x h =
     three (λ (s v : ℕ) (state : PlainCell). record { shard = s; server = v; state = state }) _ _ _ _ _ _ (id_read shards x.shard a h.0) (id_read servers x.server b h.1) (plain_read x.state)
@@ -62,6 +64,7 @@ crown_clean shards servers a b earlier (lead.Handing u v) x h k j =
 crown_clean shards servers a b earlier (lead.Handed u v) x h k j =
     no_faults _ _ (named members.Shard shards x.shard a h) (no_faults _ _ (listed_no_fault servers x.listed b j) (no_faults _ _ (named members.From servers u b k.0) (no_faults _ _ (named members.To servers v b k.1) refl)))
 
+-- a crown of a known shard, whose lead and listed server are known, has no fault as it is written
 pub crown_no_fault : (shards servers : List (List ℕ)) → LeadBack shards → LeadBack servers → (earlier : List Data) (x : Crown) → IsKnownCrown (length shards) (length servers) x → crown_faults shards servers earlier (crown_data shards servers x) ≡ []
 crown_no_fault shards servers a b earlier x (h, k, j) = crown_clean shards servers a b earlier x.lead x h k j
 
@@ -80,20 +83,25 @@ crown_read shards servers a b s (lead.Handing u v) o h k j =
 crown_read shards servers a b s (lead.Handed u v) o h k j =
     three crown _ _ _ _ _ _ (id_read shards s a h) (both lead.Handed _ _ _ _ (id_read servers u b k.0) (id_read servers v b k.1)) (listed_read servers o b j)
 
+-- and it is read as itself
 pub crown_back : (shards servers : List (List ℕ)) → LeadBack shards → LeadBack servers → (x : Crown) → IsKnownCrown (length shards) (length servers) x → crown_in shards servers (crown_data shards servers x) ≡ x
 crown_back shards servers a b x (h, k, j) = crown_read shards servers a b x.shard x.lead x.listed h k j
 
 -- ---- room and spare replicas
 
+-- room of a known server, within its limit, has no fault as it is written
 pub room_no_fault : (servers : List (List ℕ)) → LeadBack servers → (earlier : List Data) (x : Room) → (x.server < length servers) × (x.amount ≤ 4294967295) → room_faults servers earlier (room_data servers x) ≡ []
 room_no_fault servers b earlier x h = no_faults _ _ (named members.Server servers x.server b h.0) (no_faults _ _ (number_no_fault members.Amount 4294967295 x.amount h.1) refl)
 
+-- and it is read as itself
 pub room_back : (servers : List (List ℕ)) → LeadBack servers → (x : Room) → (x.server < length servers) × (x.amount ≤ 4294967295) → room_in servers (room_data servers x) ≡ x
 room_back servers b x h = both (λ (v amount : ℕ). record { server = v; amount = amount }) _ _ _ _ (id_read servers x.server b h.0) (number_read 4294967295 x.amount h.1)
 
+-- spare replicas of a known shard, within their limit, have no fault as they are written
 pub spare_no_fault : (shards : List (List ℕ)) → LeadBack shards → (earlier : List Data) (x : Spare) → (x.shard < length shards) × (x.amount ≤ 4294967295) → spare_faults shards earlier (spare_data shards x) ≡ []
 spare_no_fault shards a earlier x h = no_faults _ _ (named members.Shard shards x.shard a h.0) (no_faults _ _ (number_no_fault members.Amount 4294967295 x.amount h.1) refl)
 
+-- and they are read as themselves
 pub spare_back : (shards : List (List ℕ)) → LeadBack shards → (x : Spare) → (x.shard < length shards) × (x.amount ≤ 4294967295) → spare_in shards (spare_data shards x) ≡ x
 spare_back shards a x h = both (λ (s amount : ℕ). record { shard = s; amount = amount }) _ _ _ _ (id_read shards x.shard a h.0) (number_read 4294967295 x.amount h.1)
 
@@ -111,6 +119,7 @@ two_texts shards servers a b s v t w hs ht hv hw rises false q e f = refl
 two_texts shards servers a b s v t w hs ht hv hw rises true false e f = refl
 two_texts shards servers a b s v t w hs ht hv hw rises true true e f = absurd (before_apart s v t w rises (same_number shards s t a hs ht e) (same_number servers v w b hv hw f))
 
+-- rights to two cells whose keys rise are written with keys that differ
 pub cells_differ : (shards servers : List (List ℕ)) → LeadBack shards → LeadBack servers → (x y : CellRight) → IsKnownCellRight (length shards) (length servers) x → IsKnownCellRight (length shards) (length servers) y → before (key_of_cell x) (key_of_cell y) ≡ true
     → is_same_key (texts_found (members.Shard ∷ members.Server ∷ []) (right_data shards servers x)) (texts_found (members.Shard ∷ members.Server ∷ []) (right_data shards servers y)) ≡ false
 cells_differ shards servers a b x y h k rises = two_texts shards servers a b x.shard x.server y.shard y.server h.0 k.0 h.1 k.1 rises _ _ refl refl
@@ -122,16 +131,19 @@ crown_key shards servers (lead.Ready u v) x = refl
 crown_key shards servers (lead.Handing u v) x = refl
 crown_key shards servers (lead.Handed u v) x = refl
 
+-- so are crowns of two shards
 pub crowns_differ : (shards servers : List (List ℕ)) → LeadBack shards → (x y : Crown) → IsKnownCrown (length shards) (length servers) x → IsKnownCrown (length shards) (length servers) y → before (key_of_crown x) (key_of_crown y) ≡ true
     → is_same_key (texts_found (members.Shard ∷ []) (crown_data shards servers x)) (texts_found (members.Shard ∷ []) (crown_data shards servers y)) ≡ false
 crowns_differ shards servers a x y h k rises =
     both is_same_key _ _ _ _ (crown_key shards servers x.lead x) (crown_key shards servers y.lead y)
     ∙ one_text shards a x.shard y.shard h.0 k.0 rises _ refl
 
+-- so is room of two servers
 pub rooms_differ : (servers : List (List ℕ)) → LeadBack servers → (x y : Room) → (x.server < length servers) × (x.amount ≤ 4294967295) → (y.server < length servers) × (y.amount ≤ 4294967295) → before (key_of_room x) (key_of_room y) ≡ true
     → is_same_key (texts_found (members.Server ∷ []) (room_data servers x)) (texts_found (members.Server ∷ []) (room_data servers y)) ≡ false
 rooms_differ servers b x y h k rises = one_text servers b x.server y.server h.0 k.0 rises _ refl
 
+-- and so are spare replicas of two shards
 pub spares_differ : (shards : List (List ℕ)) → LeadBack shards → (x y : Spare) → (x.shard < length shards) × (x.amount ≤ 4294967295) → (y.shard < length shards) × (y.amount ≤ 4294967295) → before (key_of_spare x) (key_of_spare y) ≡ true
     → is_same_key (texts_found (members.Shard ∷ []) (spare_data shards x)) (texts_found (members.Shard ∷ []) (spare_data shards y)) ≡ false
 spares_differ shards a x y h k rises = one_text shards a x.shard y.shard h.0 k.0 rises _ refl

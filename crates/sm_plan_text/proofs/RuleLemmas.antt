@@ -1,26 +1,36 @@
 -- The rules of the code, and the rows that they are.
-use Rattle.std.proofs.Common.{◌≡◌, ◌∙◌, ◌+◌, ◌<◌, ℕ, List, [], ◌∷◌, length, drop, get_or, Option, Some, option_and_then, map, refl, sym, ap}
-use Rattle.std.specs.List.{flat_map}
+use Rattle.std.proofs.Common.{◌≡◌, ◌∙◌, ◌+◌, ◌<◌, ◌++◌, ◌||◌, ℕ, cond, List, [], ◌∷◌, length, drop, get_or, Option, Some, None, IfSome, is_some, option_map, option_and_then, unwrap_or, map, Bor, refl, sym, ap, subst}
+use Rattle.std.specs.List.{flat_map, list_any}
+use Rattle.std.specs.Str.{bytes_eq}
 use Rattle.std.proofs.lemmas.List.{drop_more}
 use Rattle.serde_json.specs.Data.{Data}
+use Rattle.serde_json.specs.Find.{as_object}
 use Rattle.sm_plan_text.specs.declared.fault.TextFault.{TextFault}
+use Rattle.sm_plan_text.specs.declared.fault.TextFault.TheVariants.{Shape}
 use Rattle.sm_plan_text.specs.declared.member.Member.{Member}
 use Rattle.sm_plan_text.specs.declared.place.Scope.{Scope}
 use Rattle.sm_plan_text.specs.declared.rule.Rule.{Rule}
 use Rattle.sm_plan_text.specs.declared.rule.Rule.TheVariants as rule
 use Rattle.sm_plan_text.specs.Members.{text_of}
 use Rattle.sm_plan_text.specs.Faults.{noted}
-use Rattle.sm_plan_text.specs.Values.{text_found}
-use Rattle.sm_plan_text.specs.Tables.{Row, object_faults, row_faults, own_faults, by_word, worded_faults}
+use Rattle.sm_plan_text.specs.Values.{text_found, text_in}
+use Rattle.sm_plan_text.specs.Tables.{Row, is_among, object_faults, row_faults, own_faults, by_word, worded_faults}
 use Rattle.sm_plan_text.specs.Rules.{member_of, row_of}
 use Rattle.sm_plan_text.proofs.WalkLemmas.{noted_append}
 use Rattle.sm_plan_text.proofs.DocumentLemmas.{two_noted}
+use Rattle.sm_plan_text.proofs.PlanLemmas.{none_at_all}
+use Rattle.sm_plan_text.proofs.Faultless.{nil_right}
 
 -- rules name the members of their rows
 pub names_of_rules : (scope : Scope) (rules : List Rule) → map (λ r. text_of (member_of r)) rules ≡ map (λ row. text_of row.member) (map (row_of scope) rules)
 names_of_rules scope [] = refl
 names_of_rules scope (rule.One m form ∷ rules) = ap (λ names. text_of m ∷ names) (names_of_rules scope rules)
 names_of_rules scope (rule.Maybe m form ∷ rules) = ap (λ names. text_of m ∷ names) (names_of_rules scope rules)
+
+-- a key is that of a rule, or of its member
+pub any_rule : (key : List ℕ) (rules : List Rule) → list_any (λ r. bytes_eq key (text_of (member_of r))) rules ≡ is_among (map (λ r. text_of (member_of r)) rules) key
+any_rule key [] = refl
+any_rule key (r ∷ rules) = ap (λ b. bytes_eq key (text_of (member_of r)) || b) (any_rule key rules)
 
 -- what is left of the rows, one rule on
 pub rows_step : (scope : Scope) (d : Data) (rules : List Rule) (i : ℕ) (other : Rule) (best next : Option TextFault) → i < length rules → next ≡ noted best (row_faults d (row_of scope (get_or rules i other))) → noted next (flat_map (row_faults d) (map (row_of scope) (drop (i + 1) rules))) ≡ noted best (flat_map (row_faults d) (map (row_of scope) (drop i rules)))
@@ -40,14 +50,53 @@ own_noted parent scope rules d start opened end is_opened is_end =
     (is_opened ∙ ap (λ names. noted start (object_faults parent names d)) (names_of_rules scope rules)) is_end
 
 -- the same, where a word says which rules an object has
-pub worded_noted : {W : Type 0} (parent word : Member) (named : List ℕ → Option W) (table : W → List Row) (scope : Scope) (rules : List Rule) (w : W) (d : Data) (start opened end : Option TextFault)
-    → Some w ≡ option_and_then named (text_found word d)
-    → map (row_of scope) rules ≡ table w
+pub worded_noted : (parent word : Member) (scope : Scope) (rules : List Rule) (d : Data) (start opened end : Option TextFault)
     → opened ≡ noted start (object_faults parent (text_of word ∷ map (λ r. text_of (member_of r)) rules) d)
     → end ≡ noted opened (flat_map (row_faults d) (map (row_of scope) rules))
+    → end ≡ noted start (by_word parent word (map (row_of scope)) d (Some rules))
+worded_noted parent word scope rules d start opened end is_opened is_end =
+    two_noted start opened end (object_faults parent (text_of word ∷ map (λ row. text_of row.member) (map (row_of scope) rules)) d) (flat_map (row_faults d) (map (row_of scope) rules))
+    (is_opened ∙ ap (λ names. noted start (object_faults parent (text_of word ∷ names) d)) (names_of_rules scope rules)) is_end
+
+-- rules found by a word are those of its table
+same_faults : {W : Type 0} (parent word : Member) (table : W → List Row) (scope : Scope) (d : Data) (rules : Option (Bor (List Rule))) (o : Option W)
+    → option_map (λ r. map (row_of scope) r.now) rules ≡ option_map table o
+    → by_word parent word (map (row_of scope)) d (option_map (λ r. r.now) rules) ≡ by_word parent word table d o
+same_faults parent word table scope d None None is = refl
+same_faults parent word table scope d None (Some w) is = absurd (cc)
+same_faults parent word table scope d (Some rules) None is = absurd (cc)
+same_faults parent word table scope d (Some rules) (Some w) is =
+    ap (λ rows. object_faults parent (text_of word ∷ map (λ (row : Row). text_of row.member) rows) d ++ flat_map (row_faults d) rows) (ap (λ o. unwrap_or o []) is)
+
+-- where a word is missing, none is listed
+at_word : {W : Type 0} (named : List ℕ → Option W) (found : Option (List ℕ)) → named [] ≡ None → option_and_then named found ≡ named (unwrap_or found [])
+at_word named None none = sym none
+at_word named (Some text) none = refl
+
+-- noting by the rules that the code gives an object's word notes what the definition says of such an object
+pub worded_faults_noted : {W : Type 0} (parent word : Member) (named : List ℕ → Option W) (table : W → List Row) (scope : Scope) (d : Data) (text : List ℕ) (rules : Option (Bor (List Rule))) (start end : Option TextFault)
+    → named [] ≡ None → text ≡ text_in word d
+    → option_map (λ r. map (row_of scope) r.now) rules ≡ option_map table (named text)
+    → end ≡ noted start (by_word parent word (map (row_of scope)) d (option_map (λ r. r.now) rules))
     → end ≡ noted start (worded_faults parent word named table d)
-worded_noted parent word named table scope rules w d start opened end is_word is_table is_opened is_end =
-    two_noted start opened end (object_faults parent (text_of word ∷ map (λ row. text_of row.member) (table w)) d) (flat_map (row_faults d) (table w))
-    (is_opened ∙ ap (λ names. noted start (object_faults parent (text_of word ∷ names) d)) (names_of_rules scope rules ∙ ap (map (λ (row : Row). text_of row.member)) is_table))
-    (is_end ∙ ap (λ rows. noted opened (flat_map (row_faults d) rows)) is_table) ∙
-    ap (λ o. noted start (by_word parent word table d o)) is_word
+worded_faults_noted parent word named table scope d text rules start end none is_text is_table is_end =
+    is_end ∙ ap (noted start) (same_faults parent word table scope d rules (named text) is_table ∙
+    ap (by_word parent word table d) (ap named is_text ∙ sym (at_word named (text_found word d) none)))
+
+-- an object whose word isn't listed has a fault
+listed : {W : Type 0} (P : Option W → Type 0) (Q : W → Type 0) (parent word : Member) (table : W → List Row) (d : Data) (o : Option W)
+    → ((w : W) → Q w → P (Some w)) → by_word parent word table d o ≡ [] → IfSome o Q → P o
+listed P Q parent word table d None holds faultless is =
+    let some : (Shape word ∷ []) ≡ [] = nil_right (cond (is_some (as_object d)) [] (Shape parent ∷ [])) (Shape word ∷ []) faultless in
+    absurd (cc)
+listed P Q parent word table d (Some w) holds faultless is = holds w is
+
+-- what holds by each word that is listed holds of an object in which nothing is wrong
+pub worded_value : {W : Type 0} (P : Option W → Type 0) (Q : W → Type 0) (parent word : Member) (named : List ℕ → Option W) (table : W → List Row) (d : Data) (text : List ℕ) (start end : Option TextFault)
+    → named [] ≡ None → text ≡ text_in word d
+    → ((w : W) → Q w → P (Some w)) → IfSome (named text) Q
+    → end ≡ noted start (worded_faults parent word named table d) → end ≡ None
+    → P (option_and_then named (text_found word d))
+worded_value P Q parent word named table d text start end none is_text holds is is_end is_none =
+    listed P Q parent word table d (option_and_then named (text_found word d)) holds (none_at_all start end (worded_faults parent word named table d) is_end is_none)
+    (subst (λ o. IfSome o Q) (ap named is_text ∙ sym (at_word named (text_found word d) none)) is)

@@ -8,6 +8,7 @@ use Rattle.sm_plan_text.specs.Values.{entries_in, id_of}
 use Rattle.sm_plan_text.specs.Shards.{named_cell, cells_of_shard, cells_in, cell_count}
 use Rattle.sm_plan_text.proofs.WalkLemmas.{enumerate_push}
 
+-- with one shard more its cells come behind those of the others
 pub cells_in_push : (servers : List (List ℕ)) (ds : List Data) (d : Data) → cells_in servers (ds ++ d ∷ []) ≡ cells_in servers ds ++ cells_of_shard servers (length ds, d)
 cells_in_push servers ds d =
     ap (flat_map (cells_of_shard servers)) (enumerate_push 0 ds d ∙ ap (λ n. enumerate_from 0 ds ++ (n, d) ∷ []) (zero-add (length ds))) ∙

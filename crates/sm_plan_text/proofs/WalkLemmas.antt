@@ -40,6 +40,7 @@ take_view items i item h is =
 pub at_take_view : {A : Type 0} (f : List Data → A) (items : List Tree) (i : ℕ) (item : Tree) → i < length items → item ≡ get_or items i item → f (take (i + 1) (map view items)) ≡ f (take i (map view items) ++ view item ∷ [])
 at_take_view f items i item h is = ap f (take_view items i item h is)
 
+-- what is left of a walk over the items of a tree's list, one item on
 pub walked_step : (faults : List Data → Data → List TextFault) (items : List Tree) (i : ℕ) (item : Tree) (best next : Option TextFault) → i < length items → item ≡ get_or items i item → next ≡ noted best (faults (take i (map view items)) (view item)) → noted next (walked faults (take (i + 1) (map view items)) (drop (i + 1) (map view items))) ≡ noted best (walked faults (take i (map view items)) (drop i (map view items)))
 walked_step faults items i item best next h is e =
     walked_more faults (map view items) i (view item) best next (subst (λ n. i < n) (sym (length-map items view)) h) (entry_at items i item h is) e
@@ -52,6 +53,7 @@ flat_step faults items i item best next h is e =
     sym (noted_append best (faults (view item)) (flat_map faults rest)) ∙
     sym (ap (λ ds. noted best (flat_map faults ds)) (drop_more (map view items) i (view item) (subst (λ n. i < n) (sym (length-map items view)) h) ∙ ap (λ d. d ∷ rest) (sym (entry_at items i item h is))))
 
+-- with one entry more, it comes under the next number
 pub enumerate_push : {A : Type 0} (n : ℕ) (xs : List A) (x : A) → enumerate_from n (xs ++ x ∷ []) ≡ enumerate_from n xs ++ (n + length xs, x) ∷ []
 enumerate_push n [] x = ap (λ k. (k, x) ∷ []) (sym (add-zero n))
 enumerate_push n (y ∷ ys) x = ap (λ zs. (n, y) ∷ zs) (enumerate_push (n + 1) ys x ∙ ap (λ k. enumerate_from (n + 1) ys ++ (k, x) ∷ []) (omega arith))

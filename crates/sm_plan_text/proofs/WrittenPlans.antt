@@ -39,6 +39,7 @@ shard_names_lead setup is =
 placed : (r : Rights) → IsOrderedParcel r → IsPlaced r
 placed r h = record { ordered = h.ordered; same = in_order_of_ordered r h.ordered h.positive }
 
+-- what is written for a plan of a configuration has no fault, and is read as that plan
 pub written_is_read : (place : Member) (setup : Setup) (p : PlanModel) → IsSetup setup → IsPlan p → IsKnownPlan (length setup.shards) (length setup.servers) p → IsReadBack place (names_of_shards setup) (names_of_servers setup) p
 written_is_read place setup p setup_is plan_is fits =
     let shards = names_of_shards setup in

@@ -6,28 +6,34 @@ use Rattle.sm_server.specs.declared.call.Call.{Call}
 use Rattle.sm_server.specs.declared.call.Call.TheVariants as call
 use Rattle.sm_plan_text.specs.declared.fault.TextFault.{TextFault}
 use Rattle.sm_plan_text.specs.declared.member.Member.TheVariants.{Calls, Call as CallMember, Shard, Server, Role, From, To, Other, Number}
-use Rattle.sm_plan_text.specs.declared.call.CallWord.{CallWord}
-use Rattle.sm_plan_text.specs.declared.call.CallWord.TheVariants as word
 use Rattle.sm_plan_text.specs.Values.{text_found, number_in, id_in, role_in}
 use Rattle.sm_plan_text.specs.Tables.{Row, one, whole, known, role, worded_faults}
 use Rattle.sm_plan_code.specs.declared.limits.TheConstants.{MOST_NUMBER}
 
+-- the word that says which call it is
+pub data CallWord : Type 0 where
+  Add : CallWord
+  Drop : CallWord
+  Change : CallWord
+  PrepareAdd : CallWord
+  PrepareDrop : CallWord
+
 abbrev pub call_word : List ℕ → Option CallWord
 call_word text =
-    if bytes_eq text (codes "add") then Some word.Add
-    else if bytes_eq text (codes "drop") then Some word.Drop
-    else if bytes_eq text (codes "change") then Some word.Change
-    else if bytes_eq text (codes "prepare_add") then Some word.PrepareAdd
-    else if bytes_eq text (codes "prepare_drop") then Some word.PrepareDrop
+    if bytes_eq text (codes "add") then Some Add
+    else if bytes_eq text (codes "drop") then Some Drop
+    else if bytes_eq text (codes "change") then Some Change
+    else if bytes_eq text (codes "prepare_add") then Some PrepareAdd
+    else if bytes_eq text (codes "prepare_drop") then Some PrepareDrop
     else None
 
 -- the members that a call has by its word
 abbrev pub word_table : List (List ℕ) → CallWord → List Row
-word_table servers word.Add = one Role role ∷ []
-word_table servers word.Drop = []
-word_table servers word.Change = one From role ∷ one To role ∷ []
-word_table servers word.PrepareAdd = one Other (known servers) ∷ one Number (whole MOST_NUMBER) ∷ []
-word_table servers word.PrepareDrop = one Other (known servers) ∷ one Number (whole MOST_NUMBER) ∷ []
+word_table servers Add = one Role role ∷ []
+word_table servers Drop = []
+word_table servers Change = one From role ∷ one To role ∷ []
+word_table servers PrepareAdd = one Other (known servers) ∷ one Number (whole MOST_NUMBER) ∷ []
+word_table servers PrepareDrop = one Other (known servers) ∷ one Number (whole MOST_NUMBER) ∷ []
 
 abbrev pub call_table : List (List ℕ) → List (List ℕ) → CallWord → List Row
 call_table shards servers w = one Shard (known shards) ∷ one Server (known servers) ∷ word_table servers w
@@ -36,11 +42,11 @@ abbrev pub call_faults : List (List ℕ) → List (List ℕ) → List Data → D
 call_faults shards servers before d = worded_faults Calls CallMember call_word (call_table shards servers) d
 
 abbrev pub call_worded : List (List ℕ) → Data → CallWord → Call
-call_worded servers d word.Add = call.Add (role_in Role d)
-call_worded servers d word.Drop = call.Drop
-call_worded servers d word.Change = call.Change (role_in From d) (role_in To d)
-call_worded servers d word.PrepareAdd = call.PrepareAdd (id_in servers Other d) (number_in Number MOST_NUMBER d)
-call_worded servers d word.PrepareDrop = call.PrepareDrop (id_in servers Other d) (number_in Number MOST_NUMBER d)
+call_worded servers d Add = call.Add (role_in Role d)
+call_worded servers d Drop = call.Drop
+call_worded servers d Change = call.Change (role_in From d) (role_in To d)
+call_worded servers d PrepareAdd = call.PrepareAdd (id_in servers Other d) (number_in Number MOST_NUMBER d)
+call_worded servers d PrepareDrop = call.PrepareDrop (id_in servers Other d) (number_in Number MOST_NUMBER d)
 
 -- a call, with the shard that it is for and the server that it is made at
 abbrev pub NamedCall : Type 0

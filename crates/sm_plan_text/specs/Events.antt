@@ -6,34 +6,43 @@ use Rattle.sm_plan_text.specs.declared.fault.TextFault.{TextFault}
 use Rattle.sm_plan_text.specs.declared.member.Member.TheVariants.{Events, Event as EventMember, Plan, Stream, Shard, Server, Ticket, When, More}
 use Rattle.sm_plan_text.specs.declared.event.EventText.{EventText}
 use Rattle.sm_plan_text.specs.declared.event.EventText.TheVariants as event
-use Rattle.sm_plan_text.specs.declared.event.EventWord.{EventWord}
-use Rattle.sm_plan_text.specs.declared.event.EventWord.TheVariants as word
 use Rattle.sm_plan_text.specs.Values.{text_found, number_in, number_or, id_in, after_in}
 use Rattle.sm_plan_text.specs.Tables.{Row, one, maybe, whole, known, when, worded_faults}
 use Rattle.sm_plan_code.specs.declared.limits.TheConstants.{MOST_NUMBER, MOST_CALLS}
 
+-- the word that says which event it is
+pub data EventWord : Type 0 where
+  Step : EventWord
+  Request : EventWord
+  PassOn : EventWord
+  Approve : EventWord
+  Done : EventWord
+  Lose : EventWord
+  Refill : EventWord
+  Begin : EventWord
+
 abbrev pub event_word : List ℕ → Option EventWord
 event_word text =
-    if bytes_eq text (codes "step") then Some word.Step
-    else if bytes_eq text (codes "request") then Some word.Request
-    else if bytes_eq text (codes "pass_on") then Some word.PassOn
-    else if bytes_eq text (codes "approve") then Some word.Approve
-    else if bytes_eq text (codes "done") then Some word.Done
-    else if bytes_eq text (codes "lose") then Some word.Lose
-    else if bytes_eq text (codes "refill") then Some word.Refill
-    else if bytes_eq text (codes "begin") then Some word.Begin
+    if bytes_eq text (codes "step") then Some Step
+    else if bytes_eq text (codes "request") then Some Request
+    else if bytes_eq text (codes "pass_on") then Some PassOn
+    else if bytes_eq text (codes "approve") then Some Approve
+    else if bytes_eq text (codes "done") then Some Done
+    else if bytes_eq text (codes "lose") then Some Lose
+    else if bytes_eq text (codes "refill") then Some Refill
+    else if bytes_eq text (codes "begin") then Some Begin
     else None
 
 -- the members that an event has by its word
 abbrev pub event_table : List (List ℕ) → List (List ℕ) → EventWord → List Row
-event_table shards servers word.Step = maybe Plan (whole MOST_NUMBER) ∷ one Stream (whole MOST_NUMBER) ∷ []
-event_table shards servers word.Request = one Shard (known shards) ∷ one Server (known servers) ∷ []
-event_table shards servers word.PassOn = one Ticket (whole MOST_NUMBER) ∷ []
-event_table shards servers word.Approve = one Server (known servers) ∷ []
-event_table shards servers word.Done = one Server (known servers) ∷ []
-event_table shards servers word.Lose = maybe Plan (whole MOST_NUMBER) ∷ one Stream (whole MOST_NUMBER) ∷ one When when ∷ []
-event_table shards servers word.Refill = maybe Plan (whole MOST_NUMBER) ∷ one Stream (whole MOST_NUMBER) ∷ one More (whole MOST_CALLS) ∷ []
-event_table shards servers word.Begin = one Plan (whole MOST_NUMBER) ∷ []
+event_table shards servers Step = maybe Plan (whole MOST_NUMBER) ∷ one Stream (whole MOST_NUMBER) ∷ []
+event_table shards servers Request = one Shard (known shards) ∷ one Server (known servers) ∷ []
+event_table shards servers PassOn = one Ticket (whole MOST_NUMBER) ∷ []
+event_table shards servers Approve = one Server (known servers) ∷ []
+event_table shards servers Done = one Server (known servers) ∷ []
+event_table shards servers Lose = maybe Plan (whole MOST_NUMBER) ∷ one Stream (whole MOST_NUMBER) ∷ one When when ∷ []
+event_table shards servers Refill = maybe Plan (whole MOST_NUMBER) ∷ one Stream (whole MOST_NUMBER) ∷ one More (whole MOST_CALLS) ∷ []
+event_table shards servers Begin = one Plan (whole MOST_NUMBER) ∷ []
 
 abbrev pub event_faults : List (List ℕ) → List (List ℕ) → List Data → Data → List TextFault
 event_faults shards servers before d = worded_faults Events EventMember event_word (event_table shards servers) d
@@ -46,14 +55,14 @@ abbrev pub stream_number_in : Data → ℕ
 stream_number_in d = number_in Stream MOST_NUMBER d
 
 abbrev pub event_of : List (List ℕ) → List (List ℕ) → Data → EventWord → EventText
-event_of shards servers d word.Step = event.Step (plan_number_in d) (stream_number_in d)
-event_of shards servers d word.Request = event.Request (id_in shards Shard d) (id_in servers Server d)
-event_of shards servers d word.PassOn = event.PassOn (number_in Ticket MOST_NUMBER d)
-event_of shards servers d word.Approve = event.Approve (id_in servers Server d)
-event_of shards servers d word.Done = event.Done (id_in servers Server d)
-event_of shards servers d word.Lose = event.Lose (plan_number_in d) (stream_number_in d) (after_in When d)
-event_of shards servers d word.Refill = event.Refill (plan_number_in d) (stream_number_in d) (number_in More MOST_CALLS d)
-event_of shards servers d word.Begin = event.Begin (number_in Plan MOST_NUMBER d)
+event_of shards servers d Step = event.Step (plan_number_in d) (stream_number_in d)
+event_of shards servers d Request = event.Request (id_in shards Shard d) (id_in servers Server d)
+event_of shards servers d PassOn = event.PassOn (number_in Ticket MOST_NUMBER d)
+event_of shards servers d Approve = event.Approve (id_in servers Server d)
+event_of shards servers d Done = event.Done (id_in servers Server d)
+event_of shards servers d Lose = event.Lose (plan_number_in d) (stream_number_in d) (after_in When d)
+event_of shards servers d Refill = event.Refill (plan_number_in d) (stream_number_in d) (number_in More MOST_CALLS d)
+event_of shards servers d Begin = event.Begin (number_in Plan MOST_NUMBER d)
 
 abbrev pub event_by : List (List ℕ) → List (List ℕ) → Data → Option EventWord → EventText
 event_by shards servers d None = event.Begin 0

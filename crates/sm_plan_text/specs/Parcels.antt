@@ -15,8 +15,6 @@ use Rattle.sm_reservation.specs.InOrder.{in_order}
 use Rattle.sm_plan_text.specs.declared.fault.TextFault.{TextFault}
 use Rattle.sm_plan_text.specs.declared.member.Member.{Member}
 use Rattle.sm_plan_text.specs.declared.member.Member.TheVariants as members
-use Rattle.sm_plan_text.specs.declared.parcel.LeadWord.{LeadWord}
-use Rattle.sm_plan_text.specs.declared.parcel.LeadWord.TheVariants as word
 use Rattle.sm_plan_text.specs.Values.{text_found, number_in, id_in, entries_in}
 use Rattle.sm_plan_text.specs.Tables.{Row, one, maybe, whole, text, known, known_or_null, keyed, own_faults, worded_faults, walked}
 use Rattle.sm_plan_text.specs.Shards.{listed_in}
@@ -48,22 +46,30 @@ right_in shards servers d = record { shard = id_in shards members.Shard d; serve
 
 -- ---- crowns
 
+-- the word that says where the primary of a crown's shard stands
+pub data LeadWord : Type 0 where
+  Gone : LeadWord
+  At : LeadWord
+  Ready : LeadWord
+  Handing : LeadWord
+  Handed : LeadWord
+
 abbrev pub lead_word : List ℕ → Option LeadWord
 lead_word s =
-    if bytes_eq s (codes "gone") then Some word.Gone
-    else if bytes_eq s (codes "at") then Some word.At
-    else if bytes_eq s (codes "ready") then Some word.Ready
-    else if bytes_eq s (codes "handing") then Some word.Handing
-    else if bytes_eq s (codes "handed") then Some word.Handed
+    if bytes_eq s (codes "gone") then Some Gone
+    else if bytes_eq s (codes "at") then Some At
+    else if bytes_eq s (codes "ready") then Some Ready
+    else if bytes_eq s (codes "handing") then Some Handing
+    else if bytes_eq s (codes "handed") then Some Handed
     else None
 
 -- the members that a crown has by its word
 abbrev pub lead_table : List (List ℕ) → LeadWord → List Row
-lead_table servers word.Gone = []
-lead_table servers word.At = one members.Server (known servers) ∷ []
-lead_table servers word.Ready = one members.From (known servers) ∷ one members.To (known servers) ∷ []
-lead_table servers word.Handing = one members.From (known servers) ∷ one members.To (known servers) ∷ []
-lead_table servers word.Handed = one members.From (known servers) ∷ one members.To (known servers) ∷ []
+lead_table servers Gone = []
+lead_table servers At = one members.Server (known servers) ∷ []
+lead_table servers Ready = one members.From (known servers) ∷ one members.To (known servers) ∷ []
+lead_table servers Handing = one members.From (known servers) ∷ one members.To (known servers) ∷ []
+lead_table servers Handed = one members.From (known servers) ∷ one members.To (known servers) ∷ []
 
 abbrev pub crown_table : List (List ℕ) → List (List ℕ) → LeadWord → List Row
 crown_table shards servers w = one members.Shard (known shards) ∷ maybe members.Listed (known_or_null servers) ∷ lead_table servers w
@@ -72,11 +78,11 @@ abbrev pub crown_faults : List (List ℕ) → List (List ℕ) → List Data → 
 crown_faults shards servers before d = worded_faults members.Crowns members.Lead lead_word (crown_table shards servers) d
 
 abbrev pub lead_worded : List (List ℕ) → Data → LeadWord → Lead
-lead_worded servers d word.Gone = lead.Gone
-lead_worded servers d word.At = lead.At (id_in servers members.Server d)
-lead_worded servers d word.Ready = lead.Ready (id_in servers members.From d) (id_in servers members.To d)
-lead_worded servers d word.Handing = lead.Handing (id_in servers members.From d) (id_in servers members.To d)
-lead_worded servers d word.Handed = lead.Handed (id_in servers members.From d) (id_in servers members.To d)
+lead_worded servers d Gone = lead.Gone
+lead_worded servers d At = lead.At (id_in servers members.Server d)
+lead_worded servers d Ready = lead.Ready (id_in servers members.From d) (id_in servers members.To d)
+lead_worded servers d Handing = lead.Handing (id_in servers members.From d) (id_in servers members.To d)
+lead_worded servers d Handed = lead.Handed (id_in servers members.From d) (id_in servers members.To d)
 
 abbrev pub crown_by : List (List ℕ) → List (List ℕ) → Data → Option LeadWord → Crown
 crown_by shards servers d None = record { shard = 0; lead = lead.Gone; listed = None }

@@ -9,7 +9,9 @@ use Rattle.sm_plan_text.specs.declared.fault.TextFault.{TextFault}
 use Rattle.sm_plan_text.specs.declared.fault.TextFault.TheVariants.{NotJson}
 use Rattle.sm_plan_text.specs.declared.member.Member.TheVariants as members
 use Rattle.sm_plan_text.specs.declared.document.Document.{Document}
-use Rattle.sm_plan_text.specs.declared.document.Parts.{Parts}
+use Rattle.sm_plan_text.specs.declared.document.Work.{Work}
+use Rattle.sm_plan_text.specs.declared.server.Servers.{Servers}
+use Rattle.sm_plan_text.specs.declared.shard.Shards.{Shards}
 use Rattle.sm_plan_text.specs.Faults.{answered}
 use Rattle.sm_plan_text.specs.Plans.{plan_faults, plan_in}
 use Rattle.sm_plan_text.specs.Documents.{DocumentModel, document_faults, rows_in}
@@ -57,19 +59,19 @@ rows_of d = record {
 }
 
 -- the same of a document whose servers and shards are not a configuration yet
-abbrev pub rows_of_parts : Parts → DocumentModel
+abbrev pub rows_of_parts : Servers × Shards × Work → DocumentModel
 rows_of_parts p = record {
-  setup = setup_of p.servers.rows.items p.shards.rows.items;
-  cells = p.shards.cells.items;
-  listed = p.shards.listed.items;
-  down = p.servers.down.items;
-  limit = p.work.limit;
-  log = p.work.log;
-  calls = option_map (λ calls. calls.items) p.work.calls;
-  plan = p.work.plan;
-  plans = option_map (λ plans. plans.items) p.work.plans;
-  events = option_map (λ events. events.items) p.work.events;
-  moves = option_map (λ moves. moves.items) p.work.moves;
-  drain = p.work.drain;
-  asks = p.work.asks.items;
+  setup = setup_of p.0.rows.items p.1.rows.items;
+  cells = p.1.cells.items;
+  listed = p.1.listed.items;
+  down = p.0.down.items;
+  limit = p.2.limit;
+  log = p.2.log;
+  calls = option_map (λ calls. calls.items) p.2.calls;
+  plan = p.2.plan;
+  plans = option_map (λ plans. plans.items) p.2.plans;
+  events = option_map (λ events. events.items) p.2.events;
+  moves = option_map (λ moves. moves.items) p.2.moves;
+  drain = p.2.drain;
+  asks = p.2.asks.items;
 }

@@ -1,6 +1,9 @@
 -- The rules of the code as rows of a table, over the names that a scope has.
-use Rattle.std.specs.Prelude.{ℕ, Bool, false, ◌&&◌, not, List, [], ◌∷◌, is_some}
+use Rattle.std.specs.Prelude.{ℕ, Bool, false, ◌&&◌, not, List, [], ◌∷◌, Option, Some, None, is_some}
+use Rattle.serde_json.specs.Data.{Num}
 use Rattle.sm_placement.specs.Names.{is_name}
+use Rattle.sm_plan_text.specs.declared.fault.TextFault.{TextFault}
+use Rattle.sm_plan_text.specs.declared.fault.TextFault.TheVariants.{Shape, Number}
 use Rattle.sm_plan_text.specs.declared.member.Member.{Member}
 use Rattle.sm_plan_text.specs.declared.member.Member.TheVariants as members
 use Rattle.sm_plan_text.specs.declared.place.Scope.{Scope}
@@ -9,7 +12,7 @@ use Rattle.sm_plan_text.specs.declared.rule.Form.TheVariants as form
 use Rattle.sm_plan_text.specs.declared.rule.Rule.{Rule}
 use Rattle.sm_plan_text.specs.declared.rule.Rule.TheVariants as rule
 use Rattle.sm_plan_text.specs.Values.{role_named, after_named}
-use Rattle.sm_plan_text.specs.Tables.{Want, whole, flag, text, known, known_or_null, list, known_list, keyed, below, format, object, is_among, Row, one, maybe}
+use Rattle.sm_plan_text.specs.Tables.{Want, whole, flag, text, known, known_or_null, list, known_list, keyed, below, format, object, number_fault, index_fault, format_fault, is_among, Row, one, maybe}
 use Rattle.sm_plan_text.specs.Parcels.{HaveIds, plain_named}
 use Rattle.sm_plan_text.specs.declared.limits.TheConstants.{MOST_ASKS}
 use Rattle.sm_plan_code.specs.declared.limits.TheConstants.{MOST_RIGHTS}
@@ -23,6 +26,14 @@ has_form scope form.Role s = is_some (role_named s)
 has_form scope form.When s = is_some (after_named s)
 has_form scope form.State s = is_some (plain_named s)
 has_form scope _ s = false
+
+-- the faults of what is to be a number of the form
+abbrev pub number_faults : Scope → Form → Member → Option Num → List TextFault
+number_faults scope (form.Whole limit) m n = number_fault m limit n
+number_faults scope form.Signal m n = index_fault m scope.signals n
+number_faults scope form.Format m n = format_fault m n
+number_faults scope _ m None = Shape m ∷ []
+number_faults scope _ m (Some n) = Number m ∷ []
 
 abbrev pub want_of : Scope → Form → Want
 want_of scope (form.Whole limit) = whole limit

@@ -1,29 +1,18 @@
 //! The calls of a document.
-ghost use Rattle.std.specs.Prelude.{◌≡◌};
+ghost use Rattle.std.specs.Prelude.{◌≡◌, map, option_map, IfSome};
 ghost use Rattle.json_tree.specs.View.{view};
-ghost use Rattle.sm_plan_text.specs.Calls.{call_worded};
+ghost use Rattle.sm_plan_text.specs.declared.place.Scope.{Scope};
+ghost use Rattle.sm_plan_text.specs.Rules.{row_of};
+ghost use Rattle.sm_plan_text.specs.Calls.{call_word, call_table, call_worded};
 
 use crate::entry::Entry;
 use crate::fault::Faults;
 use crate::member::Member;
 use crate::place::Place;
-use crate::rule::{Form, OTHER, Rule, SERVER, SHARD};
-use crate::word::Word;
+use crate::rule::{Form, OTHER, ROLE, Rule, SERVER, SHARD};
 use sm_plan_code::MOST_NUMBER;
 use sm_server::{Call, ServerId, ShardId};
 use std::alloc::AllocError;
-
-/// The word that says which call it is.
-#[derive(Clone, Copy)]
-enum CallWord {
-    Add,
-    Drop,
-    Change,
-    PrepareAdd,
-    PrepareDrop,
-}
-
-const ROLE: Rule = Rule::One(Member::Role, Form::Role);
 
 const FROM: Rule = Rule::One(Member::From, Form::Role);
 
@@ -31,55 +20,40 @@ const TO: Rule = Rule::One(Member::To, Form::Role);
 
 const NUMBER: Rule = Rule::One(Member::Number, Form::Whole(MOST_NUMBER));
 
-impl Word for CallWord {
-    ghost use Rattle.sm_plan_text.specs.Calls.{call_word, call_table};
-
-    ghost named = { call_word };
-
-    ghost table = { λ scope word. call_table scope.shards.now scope.servers.now word };
-
-    fn from_text(text: &str) -> Option<CallWord> {
-        match text {
-            "add" => Some(CallWord::Add),
-            "drop" => Some(CallWord::Drop),
-            "change" => Some(CallWord::Change),
-            "prepare_add" => Some(CallWord::PrepareAdd),
-            "prepare_drop" => Some(CallWord::PrepareDrop),
-            _ => None,
-        }
-    }
-
-    fn rules(self) -> &'static [Rule] {
-        match self {
-            CallWord::Add => &[SHARD, SERVER, ROLE],
-            CallWord::Drop => &[SHARD, SERVER],
-            CallWord::Change => &[SHARD, SERVER, FROM, TO],
-            CallWord::PrepareAdd | CallWord::PrepareDrop => &[SHARD, SERVER, OTHER, NUMBER],
-        }
+/// The members of a call with this word.
+fn rules_of(word: &str) -> Option<&'static [Rule]>
+    ensures { (scope : Scope) → option_map (λ rules. map (row_of scope) rules.now) result ≡ option_map (call_table scope.shards.now scope.servers.now) (call_word word.now) }
+{
+    match word {
+        "add" => Some(&[SHARD, SERVER, ROLE]),
+        "drop" => Some(&[SHARD, SERVER]),
+        "change" => Some(&[SHARD, SERVER, FROM, TO]),
+        "prepare_add" | "prepare_drop" => Some(&[SHARD, SERVER, OTHER, NUMBER]),
+        _ => None,
     }
 }
 
-/// What a call with this word is.
-fn call_of(word: CallWord, place: &Place<'_, '_>) -> Call
-    ensures { result ≡ call_worded place.now.scope.servers.now (view place.now.tree.now) word }
+/// What a call with this word is, which is listed.
+fn call_of(word: &str, place: &Place<'_, '_>) -> Call
+    ensures { IfSome (call_word word.now) (λ w. result ≡ call_worded place.now.scope.servers.now (view place.now.tree.now) w) }
 {
     let other = place.server(Member::Other);
     let number = u64::from(place.number(Member::Number, MOST_NUMBER));
     match word {
-        CallWord::Add => Call::Add(place.role(Member::Role)),
-        CallWord::Drop => Call::Drop,
-        CallWord::Change => Call::Change {
+        "add" => Call::Add(place.role(Member::Role)),
+        "change" => Call::Change {
             from: place.role(Member::From),
             to: place.role(Member::To),
         },
-        CallWord::PrepareAdd => Call::PrepareAdd {
+        "prepare_add" => Call::PrepareAdd {
             owner: other,
             number,
         },
-        CallWord::PrepareDrop => Call::PrepareDrop {
+        "prepare_drop" => Call::PrepareDrop {
             new_owner: other,
             number,
         },
+        _ => Call::Drop,
     }
 }
 
@@ -94,12 +68,9 @@ impl Entry for (ShardId, ServerId, Call) {
     ghost faults_of = { λ scope parent entry. worded_faults parent members.Call call_word (call_table scope.shards.now scope.servers.now) entry };
 
     fn read(place: &Place<'_, '_>, faults: &mut Faults) -> Result<Self, AllocError> {
-        match place.word(Member::Call, faults)? {
-            Some(word) => {
-                let (shard, server) = (place.shard(Member::Shard), place.server(Member::Server));
-                Ok((shard, server, call_of(word, place)))
-            }
-            None => Ok((ShardId::new(0), ServerId::new(0), Call::Drop)),
-        }
+        let word = place.text(Member::Call);
+        place.note_worded(Member::Call, rules_of(word), faults)?;
+        let (shard, server) = (place.shard(Member::Shard), place.server(Member::Server));
+        Ok((shard, server, call_of(word, place)))
     }
 }

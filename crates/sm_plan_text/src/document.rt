@@ -15,7 +15,7 @@ use crate::limits::{DOWN_LIMIT, LOG_PLACES, MOST_EVENTS, MOST_MOVES};
 use crate::member::Member;
 use crate::moves::MoveText;
 use crate::names::Names;
-use crate::place::{Place, shard_named};
+use crate::place::{Place, id_named};
 use crate::rule::{Form, Rule};
 use crate::server::{Servers, read_servers};
 use crate::shard::{Shards, read_shards};
@@ -98,14 +98,6 @@ struct Work {
     asks: Vec<ShardId>,
 }
 
-/// What a document says, before its servers and shards are a configuration.
-#[derive(Drop)]
-struct Parts {
-    servers: Servers,
-    shards: Shards,
-    work: Work,
-}
-
 /// The JSON value of the bytes.
 #[tactic(auto, using(crate::proofs::Texts::data_of_text, crate::proofs::Texts::data_of_none))]
 pub fn parse<'a>(
@@ -151,7 +143,8 @@ impl Entry for ShardId {
     ghost faults_of = { λ scope parent entry. [] };
 
     fn read(place: &Place<'_, '_>, _faults: &mut Faults) -> Result<Self, AllocError> {
-        Ok(shard_named(place.tree, place.scope.shards))
+        let shard = id_named(place.tree, place.scope.shards).unwrap_or(0);
+        Ok(ShardId::new(shard))
     }
 }
 
@@ -173,8 +166,12 @@ fn read_work(place: &Place<'_, '_>, faults: &mut Faults) -> Result<Work, AllocEr
     })
 }
 
-/// The parts of a document.
-fn read_parts(alloc: Global, tree: &Tree<'_>, faults: &mut Faults) -> Result<Parts, AllocError>
+/// The servers and shards of a document, which may be no configuration, and what it says beside them.
+fn read_parts(
+    alloc: Global,
+    tree: &Tree<'_>,
+    faults: &mut Faults,
+) -> Result<(Servers, Shards, Work), AllocError>
     ensures rows { IfOk result (λ parts. faults.new.lowest ≡ None → rows_of_parts parts ≡ rows_in (view tree.now)) }
     ensures faults { OnOk result (faults.new.lowest ≡ noted faults.old.lowest (document_faults (view tree.now))) }
 {
@@ -195,11 +192,7 @@ fn read_parts(alloc: Global, tree: &Tree<'_>, faults: &mut Faults) -> Result<Par
     place.note_own(DOCUMENT, faults)?;
     faults.append(listed);
     let work = read_work(&place, faults)?;
-    Ok(Parts {
-        servers,
-        shards,
-        work,
-    })
+    Ok((servers, shards, work))
 }
 
 /// The configuration of servers and shards that are one.
@@ -221,15 +214,10 @@ fn from_value(alloc: Global, value: &Tree<'_>) -> Result<Document, TextFault>
     ensures known { IfOk result (λ document. IsDocument (rows_of document)) }
 {
     let mut faults = Faults { lowest: None };
-    let parts = read_parts(alloc, value, &mut faults)?;
+    let (servers, shards, work) = read_parts(alloc, value, &mut faults)?;
     if let Some(fault) = faults.lowest {
         return Err(fault);
     }
-    let Parts {
-        servers,
-        shards,
-        work,
-    } = parts;
     let config = configuration(alloc, &servers.rows, &shards.rows)?;
     Ok(Document {
         config,

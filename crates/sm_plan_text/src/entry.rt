@@ -10,7 +10,6 @@ ghost use Rattle.sm_plan_text.specs.Rules.{HasIds};
 use crate::fault::Faults;
 use crate::member::Member;
 use crate::place::Place;
-use json_tree::Tree;
 use std::alloc::AllocError;
 
 pub trait Entry: Drop {
@@ -58,15 +57,13 @@ impl<'p, 't> Place<'p, 't> {
     }
 
     /// What the entries of a list are, front to back.
-    fn read_all<T: Entry>(
-        &self,
-        items: &'p [Tree<'t>],
-        member: Member,
-        faults: &mut Faults,
-    ) -> Result<Vec<T>, AllocError>
-        ensures list { IfOk result (λ list. HasIds self.now.scope → faults.new.lowest ≡ None → list.items ≡ map (T.value self.now.scope) (map view items.now)) }
-        ensures faults { OnOk result (faults.new.lowest ≡ noted faults.old.lowest (walked (λ _ entry. T.faults_of self.now.scope member entry) [] (map view items.now))) }
+    pub fn list<T: Entry>(&self, member: Member, faults: &mut Faults) -> Result<Vec<T>, AllocError>
+        ensures list { IfOk result (λ list. HasIds self.now.scope → faults.new.lowest ≡ None
+            → list.items ≡ map (T.value self.now.scope) (entries_in member (view self.now.tree.now))) }
+        ensures faults { OnOk result (faults.new.lowest
+            ≡ noted faults.old.lowest (walked (λ _ entry. T.faults_of self.now.scope member entry) [] (entries_in member (view self.now.tree.now)))) }
     {
+        let items = self.entries(member);
         let mut list = Vec::with_capacity(self.alloc, items.len())?;
         for item in items {
             let place = Place {
@@ -77,16 +74,6 @@ impl<'p, 't> Place<'p, 't> {
             list.push(T::read(&place, faults)?)?;
         }
         Ok(list)
-    }
-
-    /// What the entries of a list are.
-    pub fn list<T: Entry>(&self, member: Member, faults: &mut Faults) -> Result<Vec<T>, AllocError>
-        ensures list { IfOk result (λ list. HasIds self.now.scope → faults.new.lowest ≡ None
-            → list.items ≡ map (T.value self.now.scope) (entries_in member (view self.now.tree.now))) }
-        ensures faults { OnOk result (faults.new.lowest
-            ≡ noted faults.old.lowest (walked (λ _ entry. T.faults_of self.now.scope member entry) [] (entries_in member (view self.now.tree.now)))) }
-    {
-        self.read_all(self.entries(member), member, faults)
     }
 
     /// What the entries of a list are that may be missing.
@@ -100,8 +87,8 @@ impl<'p, 't> Place<'p, 't> {
         ensures faults { OnOk result (faults.new.lowest
             ≡ noted faults.old.lowest (walked (λ _ entry. T.faults_of self.now.scope member entry) [] (entries_in member (view self.now.tree.now)))) }
     {
-        match self.items(member) {
-            Some(items) => Ok(Some(self.read_all(items, member, faults)?)),
+        match self.find(member) {
+            Some(_) => Ok(Some(self.list(member, faults)?)),
             None => Ok(None),
         }
     }

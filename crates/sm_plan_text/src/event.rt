@@ -1,14 +1,15 @@
 //! The events of a document.
-ghost use Rattle.std.specs.Prelude.{◌≡◌};
+ghost use Rattle.std.specs.Prelude.{◌≡◌, map, option_map, IfSome};
 ghost use Rattle.json_tree.specs.View.{view};
-ghost use Rattle.sm_plan_text.specs.Events.{event_of};
+ghost use Rattle.sm_plan_text.specs.declared.place.Scope.{Scope};
+ghost use Rattle.sm_plan_text.specs.Rules.{row_of};
+ghost use Rattle.sm_plan_text.specs.Events.{event_word, event_table, event_of};
 
 use crate::entry::Entry;
 use crate::fault::Faults;
 use crate::member::Member;
-use crate::place::Place;
+use crate::place::{Place, after_of};
 use crate::rule::{Form, Rule, SERVER, SHARD};
-use crate::word::Word;
 use sm_plan_code::{MOST_CALLS, MOST_NUMBER};
 use sm_server::{ServerId, ShardId};
 use std::alloc::AllocError;
@@ -34,19 +35,6 @@ pub enum EventText {
     Begin { plan: u32 },
 }
 
-/// The word that says which event it is.
-#[derive(Clone, Copy)]
-enum EventWord {
-    Step,
-    Request,
-    PassOn,
-    Approve,
-    Done,
-    Lose,
-    Refill,
-    Begin,
-}
-
 const PLAN: Rule = Rule::Maybe(Member::Plan, Form::Whole(MOST_NUMBER));
 
 const STREAM: Rule = Rule::One(Member::Stream, Form::Whole(MOST_NUMBER));
@@ -55,69 +43,49 @@ const WHEN: Rule = Rule::One(Member::When, Form::When);
 
 const MORE: Rule = Rule::One(Member::More, Form::Whole(MOST_CALLS));
 
-impl Word for EventWord {
-    ghost use Rattle.sm_plan_text.specs.Events.{event_word, event_table};
-
-    ghost named = { event_word };
-
-    ghost table = { λ scope word. event_table scope.shards.now scope.servers.now word };
-
-    fn from_text(text: &str) -> Option<EventWord> {
-        match text {
-            "step" => Some(EventWord::Step),
-            "request" => Some(EventWord::Request),
-            "pass_on" => Some(EventWord::PassOn),
-            "approve" => Some(EventWord::Approve),
-            "done" => Some(EventWord::Done),
-            "lose" => Some(EventWord::Lose),
-            "refill" => Some(EventWord::Refill),
-            "begin" => Some(EventWord::Begin),
-            _ => None,
-        }
-    }
-
-    fn rules(self) -> &'static [Rule] {
-        match self {
-            EventWord::Step => &[PLAN, STREAM],
-            EventWord::Request => &[SHARD, SERVER],
-            EventWord::PassOn => &[Rule::One(Member::Ticket, Form::Whole(MOST_NUMBER))],
-            EventWord::Approve | EventWord::Done => &[SERVER],
-            EventWord::Lose => &[PLAN, STREAM, WHEN],
-            EventWord::Refill => &[PLAN, STREAM, MORE],
-            EventWord::Begin => &[Rule::One(Member::Plan, Form::Whole(MOST_NUMBER))],
-        }
+/// The members of an event with this word.
+fn rules_of(word: &str) -> Option<&'static [Rule]>
+    ensures { (scope : Scope) → option_map (λ rules. map (row_of scope) rules.now) result ≡ option_map (event_table scope.shards.now scope.servers.now) (event_word word.now) }
+{
+    match word {
+        "step" => Some(&[PLAN, STREAM]),
+        "request" => Some(&[SHARD, SERVER]),
+        "pass_on" => Some(&[Rule::One(Member::Ticket, Form::Whole(MOST_NUMBER))]),
+        "approve" | "done" => Some(&[SERVER]),
+        "lose" => Some(&[PLAN, STREAM, WHEN]),
+        "refill" => Some(&[PLAN, STREAM, MORE]),
+        "begin" => Some(&[Rule::One(Member::Plan, Form::Whole(MOST_NUMBER))]),
+        _ => None,
     }
 }
 
-/// What an event with this word is.
-fn event_of(word: EventWord, place: &Place<'_, '_>) -> EventText
-    ensures { result ≡ event_of place.now.scope.shards.now place.now.scope.servers.now (view place.now.tree.now) word }
+/// What an event with this word is, which is listed.
+fn event_of(word: &str, place: &Place<'_, '_>) -> EventText
+    ensures { IfSome (event_word word.now) (λ w. result ≡ event_of place.now.scope.shards.now place.now.scope.servers.now (view place.now.tree.now) w) }
 {
     let plan = place.number_or(Member::Plan, MOST_NUMBER, 0);
     let stream = place.number(Member::Stream, MOST_NUMBER);
+    let shard = place.shard(Member::Shard);
     let server = place.server(Member::Server);
     match word {
-        EventWord::Step => EventText::Step { plan, stream },
-        EventWord::Request => EventText::Request {
-            shard: place.shard(Member::Shard),
-            server,
-        },
-        EventWord::PassOn => EventText::PassOn {
+        "step" => EventText::Step { plan, stream },
+        "request" => EventText::Request { shard, server },
+        "pass_on" => EventText::PassOn {
             ticket: place.number(Member::Ticket, MOST_NUMBER),
         },
-        EventWord::Approve => EventText::Approve { server },
-        EventWord::Done => EventText::Done { server },
-        EventWord::Lose => EventText::Lose {
+        "approve" => EventText::Approve { server },
+        "done" => EventText::Done { server },
+        "lose" => EventText::Lose {
             plan,
             stream,
-            after: place.after(Member::When),
+            after: after_of(place.text(Member::When)).unwrap_or(false),
         },
-        EventWord::Refill => EventText::Refill {
+        "refill" => EventText::Refill {
             plan,
             stream,
             more: place.number(Member::More, MOST_CALLS),
         },
-        EventWord::Begin => EventText::Begin { plan },
+        _ => EventText::Begin { plan },
     }
 }
 
@@ -131,9 +99,8 @@ impl Entry for EventText {
     ghost faults_of = { λ scope parent entry. worded_faults parent members.Event event_word (event_table scope.shards.now scope.servers.now) entry };
 
     fn read(place: &Place<'_, '_>, faults: &mut Faults) -> Result<Self, AllocError> {
-        match place.word(Member::Event, faults)? {
-            Some(word) => Ok(event_of(word, place)),
-            None => Ok(EventText::Begin { plan: 0 }),
-        }
+        let word = place.text(Member::Event);
+        place.note_worded(Member::Event, rules_of(word), faults)?;
+        Ok(event_of(word, place))
     }
 }

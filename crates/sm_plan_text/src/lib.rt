@@ -7,7 +7,6 @@ mod entry;
 mod event;
 mod fault;
 mod instruction;
-mod key;
 mod limits;
 mod member;
 mod moves;
@@ -19,7 +18,6 @@ mod plan_text;
 mod rule;
 mod server;
 mod shard;
-mod word;
 mod writing;
 
 pub use document::{Document, read_document};

@@ -58,62 +58,21 @@ pub enum Member {
     Asks,
 }
 
+/// How the members are written, in their order.
+const TEXTS: [&str; 49] = [
+    "document", "limit", "servers", "shards", "log", "calls", "name", "region", "room", "down",
+    "load", "want", "cap", "spread", "listed", "cells", "server", "state", "call", "shard", "role",
+    "from", "to", "other", "number", "plan", "plans", "format", "budget", "signals", "streams",
+    "retries", "holds", "code", "crowns", "spare", "amount", "lead", "do", "signal", "events",
+    "event", "stream", "ticket", "when", "more", "moves", "drain", "asks",
+];
+
 impl Member {
     /// The member as it is written.
     pub const fn text(self) -> &'static str
         ensures { result.now ≡ text_of self }
     {
-        match self {
-            Member::Document => "document",
-            Member::Limit => "limit",
-            Member::Servers => "servers",
-            Member::Shards => "shards",
-            Member::Log => "log",
-            Member::Calls => "calls",
-            Member::Name => "name",
-            Member::Region => "region",
-            Member::Room => "room",
-            Member::Down => "down",
-            Member::Load => "load",
-            Member::Want => "want",
-            Member::Cap => "cap",
-            Member::Spread => "spread",
-            Member::Listed => "listed",
-            Member::Cells => "cells",
-            Member::Server => "server",
-            Member::State => "state",
-            Member::Call => "call",
-            Member::Shard => "shard",
-            Member::Role => "role",
-            Member::From => "from",
-            Member::To => "to",
-            Member::Other => "other",
-            Member::Number => "number",
-            Member::Plan => "plan",
-            Member::Plans => "plans",
-            Member::Format => "format",
-            Member::Budget => "budget",
-            Member::Signals => "signals",
-            Member::Streams => "streams",
-            Member::Retries => "retries",
-            Member::Holds => "holds",
-            Member::Code => "code",
-            Member::Crowns => "crowns",
-            Member::Spare => "spare",
-            Member::Amount => "amount",
-            Member::Lead => "lead",
-            Member::Do => "do",
-            Member::Signal => "signal",
-            Member::Events => "events",
-            Member::Event => "event",
-            Member::Stream => "stream",
-            Member::Ticket => "ticket",
-            Member::When => "when",
-            Member::More => "more",
-            Member::Moves => "moves",
-            Member::Drain => "drain",
-            Member::Asks => "asks",
-        }
+        TEXTS[self as usize]
     }
 }
 
@@ -124,7 +83,6 @@ impl fmt::Display for Member {
     ghost output = { λ member. Some (text_of member) };
 
     fn fmt<W: fmt::Write>(&self, f: &mut fmt::Formatter<W>) -> fmt::Result {
-        let text = self.text();
-        write!(f, "{text}")
+        f.write_str(self.text())
     }
 }

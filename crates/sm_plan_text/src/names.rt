@@ -3,7 +3,6 @@ ghost use Rattle.std.specs.Prelude.{◌≡◌, [], OnOk, string_bytes};
 ghost use Rattle.std.specs.Str.{bytes_eq};
 ghost use Rattle.indexmap.specs.IndexSet.{insert_key};
 ghost use Rattle.sm_plan_text.specs.Values.{number_named};
-ghost use Rattle.sm_plan_text.specs.Tables.{is_among};
 
 use indexmap::IndexSet;
 use std::alloc::{AllocError, Global};
@@ -37,13 +36,6 @@ impl Names {
         ensures { result ≡ number_named self.now name.now }
     {
         self.set.get_index_of(name)
-    }
-
-    /// The name is there.
-    pub fn contains(&self, name: &str) -> bool
-        ensures { result ≡ is_among self.now name.now }
-    {
-        self.set.contains(name)
     }
 
     /// Adds a name, unless it is there.

@@ -1,22 +1,22 @@
 //! The parcels of a plan.
-ghost use Rattle.std.specs.Prelude.{◌≡◌, IfOk};
+ghost use Rattle.std.specs.Prelude.{◌≡◌, map, option_map, IfOk, IfSome};
 ghost use Rattle.json_tree.specs.View.{view};
 ghost use Rattle.sm_reservation.specs.Rights.{no_rights};
 ghost use Rattle.sm_reservation.specs.Key.{IsOnce};
 ghost use Rattle.sm_reservation.specs.InOrder.{in_order};
 ghost use Rattle.sm_reservation.specs.Lists.{rights_of};
-ghost use Rattle.sm_plan_text.specs.Parcels.{lead_worded};
+ghost use Rattle.sm_plan_text.specs.declared.place.Scope.{Scope};
+ghost use Rattle.sm_plan_text.specs.Rules.{row_of};
+ghost use Rattle.sm_plan_text.specs.Parcels.{lead_word, crown_table, lead_worded};
 
 use crate::entry::Entry;
 use crate::fault::Faults;
 use crate::limits::AMOUNT_LIMIT;
 use crate::member::Member;
-use crate::place::Place;
+use crate::place::{Place, state_of};
 use crate::rule::{FROM, Form, LISTED, Rule, SERVER, SHARD, TO};
-use crate::word::Word;
 use sm_placement::Lead;
-use sm_reservation::{CellRight, Crown, Lists, Parcel, ParcelFault, Room, Spare};
-use sm_server::ShardId;
+use sm_reservation::{CellRight, Crown, Lists, Parcel, ParcelFault, PlainCell, Room, Spare};
 use std::alloc::{AllocError, Global};
 
 const AMOUNT: Rule = Rule::One(Member::Amount, Form::Whole(AMOUNT_LIMIT));
@@ -50,60 +50,35 @@ impl Entry for CellRight {
         Ok(CellRight {
             shard: place.shard(Member::Shard),
             server: place.server(Member::Server),
-            state: place.state(Member::State),
+            state: state_of(place.text(Member::State)).unwrap_or(PlainCell::Absent),
         })
     }
 }
 
-/// The word that says where the primary of a crown's shard stands.
-#[derive(Clone, Copy)]
-enum LeadWord {
-    Gone,
-    At,
-    Ready,
-    Handing,
-    Handed,
-}
-
-impl Word for LeadWord {
-    ghost use Rattle.sm_plan_text.specs.Parcels.{lead_word, crown_table};
-
-    ghost named = { lead_word };
-
-    ghost table = { λ scope word. crown_table scope.shards.now scope.servers.now word };
-
-    fn from_text(text: &str) -> Option<LeadWord> {
-        match text {
-            "gone" => Some(LeadWord::Gone),
-            "at" => Some(LeadWord::At),
-            "ready" => Some(LeadWord::Ready),
-            "handing" => Some(LeadWord::Handing),
-            "handed" => Some(LeadWord::Handed),
-            _ => None,
-        }
-    }
-
-    fn rules(self) -> &'static [Rule] {
-        match self {
-            LeadWord::Gone => &[SHARD, LISTED],
-            LeadWord::At => &[SHARD, LISTED, SERVER],
-            LeadWord::Ready | LeadWord::Handing | LeadWord::Handed => &[SHARD, LISTED, FROM, TO],
-        }
+/// The members of a crown with this word.
+fn rules_of(word: &str) -> Option<&'static [Rule]>
+    ensures { (scope : Scope) → option_map (λ rules. map (row_of scope) rules.now) result ≡ option_map (crown_table scope.shards.now scope.servers.now) (lead_word word.now) }
+{
+    match word {
+        "gone" => Some(&[SHARD, LISTED]),
+        "at" => Some(&[SHARD, LISTED, SERVER]),
+        "ready" | "handing" | "handed" => Some(&[SHARD, LISTED, FROM, TO]),
+        _ => None,
     }
 }
 
-/// Where the primary stands, by the word of a crown.
-fn lead_of(word: LeadWord, place: &Place<'_, '_>) -> Lead
-    ensures { result ≡ lead_worded place.now.scope.servers.now (view place.now.tree.now) word }
+/// Where the primary stands, by the word of a crown, which is listed.
+fn lead_of(word: &str, place: &Place<'_, '_>) -> Lead
+    ensures { IfSome (lead_word word.now) (λ w. result ≡ lead_worded place.now.scope.servers.now (view place.now.tree.now) w) }
 {
     let from = place.server(Member::From);
     let to = place.server(Member::To);
     match word {
-        LeadWord::Gone => Lead::Gone,
-        LeadWord::At => Lead::At(place.server(Member::Server)),
-        LeadWord::Ready => Lead::Ready(from, to),
-        LeadWord::Handing => Lead::Handing(from, to),
-        LeadWord::Handed => Lead::Handed(from, to),
+        "at" => Lead::At(place.server(Member::Server)),
+        "ready" => Lead::Ready(from, to),
+        "handing" => Lead::Handing(from, to),
+        "handed" => Lead::Handed(from, to),
+        _ => Lead::Gone,
     }
 }
 
@@ -117,18 +92,13 @@ impl Entry for Crown {
     ghost faults_of = { λ scope parent entry. worded_faults parent members.Lead lead_word (crown_table scope.shards.now scope.servers.now) entry };
 
     fn read(place: &Place<'_, '_>, faults: &mut Faults) -> Result<Self, AllocError> {
-        match place.word(Member::Lead, faults)? {
-            Some(word) => Ok(Crown {
-                shard: place.shard(Member::Shard),
-                lead: lead_of(word, place),
-                listed: place.server_found(Member::Listed),
-            }),
-            None => Ok(Crown {
-                shard: ShardId::new(0),
-                lead: Lead::Gone,
-                listed: None,
-            }),
-        }
+        let word = place.text(Member::Lead);
+        place.note_worded(Member::Lead, rules_of(word), faults)?;
+        Ok(Crown {
+            shard: place.shard(Member::Shard),
+            lead: lead_of(word, place),
+            listed: place.server_found(Member::Listed),
+        })
     }
 }
 

@@ -2,12 +2,14 @@
 //! or not in its form stands for 0, false, or what is empty.
 ghost use Rattle.std.specs.Prelude.{◌≡◌, [], option_map, option_and_then, unwrap_or, map, false, IfOk, string_bytes};
 ghost use Rattle.json_tree.specs.View.{view};
-ghost use Rattle.sm_plan_text.specs.Values.{found, whole_number_of, text_found, text_in, flag_in, number_in, number_or, number_below, items_of, list_in, entries_in, id_of, id_named, id_in};
+ghost use Rattle.sm_plan_text.specs.Values.{found, whole_number_of, text_in, role_named, role_in, after_named, flag_in, number_in, number_or, number_below, items_of, entries_in, id_of, id_named, id_in};
+ghost use Rattle.sm_plan_text.specs.Parcels.{plain_named};
 
 use crate::member::Member;
 use crate::names::Names;
 use json_tree::Tree;
-use sm_server::{ServerId, ShardId};
+use sm_reservation::PlainCell;
+use sm_server::{Role, ServerId, ShardId};
 use std::alloc::{AllocError, Global};
 
 /// The names of the shards and servers, how many signals the plan has, and whether its streams say how many retries they have.
@@ -64,20 +66,27 @@ impl<'p, 't> Place<'p, 't> {
     }
 
     /// The text of a member.
-    pub fn text(&self, member: Member) -> Option<&'t str>
-        ensures { option_map (λ s. s.now) result ≡ text_found member (view self.now.tree.now) }
+    pub fn text(&self, member: Member) -> &'t str
+        ensures { result.now ≡ text_in member (view self.now.tree.now) }
     {
-        self.find(member)?.as_str()
+        match self.find(member) {
+            Some(value) => value.as_str().unwrap_or(""),
+            None => "",
+        }
     }
 
     /// A copy of the text of a member.
     pub fn name(&self, member: Member) -> Result<String, AllocError>
         ensures { IfOk result (λ s. string_bytes s ≡ text_in member (view self.now.tree.now)) }
     {
-        match self.text(member) {
-            Some(text) => String::from_str(self.alloc, text),
-            None => Ok(String::new(self.alloc)),
-        }
+        String::from_str(self.alloc, self.text(member))
+    }
+
+    /// A replica's role.
+    pub fn role(&self, member: Member) -> Role
+        ensures { result ≡ role_in member (view self.now.tree.now) }
+    {
+        role_of(self.text(member)).unwrap_or(Role::Secondary)
     }
 
     /// True or false.
@@ -140,10 +149,7 @@ impl<'p, 't> Place<'p, 't> {
     pub fn server(&self, member: Member) -> ServerId
         ensures { result ≡ id_in self.now.scope.servers.now member (view self.now.tree.now) }
     {
-        match self.find(member) {
-            Some(value) => ServerId::new(id_named(value, self.scope.servers).unwrap_or(0)),
-            None => ServerId::new(0),
-        }
+        self.server_found(member).unwrap_or(ServerId::new(0))
     }
 
     /// The shard that a member names.
@@ -151,17 +157,9 @@ impl<'p, 't> Place<'p, 't> {
         ensures { result ≡ id_in self.now.scope.shards.now member (view self.now.tree.now) }
     {
         match self.find(member) {
-            Some(value) => shard_named(value, self.scope.shards),
+            Some(value) => ShardId::new(id_named(value, self.scope.shards).unwrap_or(0)),
             None => ShardId::new(0),
         }
-    }
-
-    /// The entries of a list that may be missing.
-    pub fn items(&self, member: Member) -> Option<&'p [Tree<'t>]>
-        ensures { option_map (λ items. map view items.now) result ≡ list_in member (view self.now.tree.now) }
-    {
-        let value = self.find(member)?;
-        Some(items_of(value))
     }
 
     /// The entries of a list.
@@ -179,26 +177,16 @@ impl<'p, 't> Place<'p, 't> {
 pub fn id(n: usize) -> u32
     ensures { result ≡ id_of n }
 {
-    match u32::try_from(n) {
-        Ok(id) => id,
-        Err(_) => 0,
-    }
+    u32::try_from(n).unwrap_or(0)
 }
 
 /// The number of what a value names.
-fn id_named(value: &Tree<'_>, names: &Names) -> Option<u32>
+pub fn id_named(value: &Tree<'_>, names: &Names) -> Option<u32>
     ensures { result ≡ id_named names.now (view value.now) }
 {
     let text = value.as_str()?;
     let number = names.find(text)?;
     Some(id(number))
-}
-
-/// The shard that a value names.
-pub fn shard_named(value: &Tree<'_>, shards: &Names) -> ShardId
-    ensures { result ≡ unwrap_or (id_named shards.now (view value.now)) 0 }
-{
-    ShardId::new(id_named(value, shards).unwrap_or(0))
 }
 
 /// The entries of what is no list.
@@ -217,4 +205,34 @@ pub fn items_of<'p, 't>(value: &'p Tree<'t>) -> &'p [Tree<'t>]
         return no_entries();
     };
     items
+}
+
+pub fn role_of(text: &str) -> Option<Role>
+    ensures { result ≡ role_named text.now }
+{
+    match text {
+        "primary" => Some(Role::Primary),
+        "secondary" => Some(Role::Secondary),
+        _ => None,
+    }
+}
+
+pub fn after_of(text: &str) -> Option<bool>
+    ensures { result ≡ after_named text.now }
+{
+    match text {
+        "before" => Some(false),
+        "after" => Some(true),
+        _ => None,
+    }
+}
+
+pub fn state_of(text: &str) -> Option<PlainCell>
+    ensures { result ≡ plain_named text.now }
+{
+    match text {
+        "absent" => Some(PlainCell::Absent),
+        "secondary" => Some(PlainCell::Secondary),
+        _ => None,
+    }
 }

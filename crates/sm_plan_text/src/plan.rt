@@ -1,11 +1,9 @@
 //! Plans, of a document or of a text of their own.
-ghost use Rattle.std.specs.Prelude.{◌≡◌, ℕ, List, map, if◌then◌else◌};
+ghost use Rattle.std.specs.Prelude.{◌≡◌, ℕ, List, map};
 ghost use Rattle.json_tree.specs.View.{view};
 ghost use Rattle.sm_plan_code.specs.Parts.{parts_of};
 ghost use Rattle.sm_plan_code.specs.Plan.{IsPlan};
-ghost use Rattle.sm_plan_text.specs.declared.member.Member.TheVariants as members;
 ghost use Rattle.sm_plan_text.specs.declared.place.Scope.{Scope};
-ghost use Rattle.sm_plan_text.specs.Values.{number_or};
 ghost use Rattle.sm_plan_text.specs.Rules.{row_of};
 ghost use Rattle.sm_plan_text.specs.Plans.{knows_retries, stream_table};
 
@@ -55,17 +53,6 @@ fn stream_rules(retries: bool) -> &'static [Rule]
     }
 }
 
-/// How many retries a stream has, where it may say so.
-fn retries_of(stream: &Place<'_, '_>) -> u32
-    ensures { result ≡ (if stream.now.scope.retries then number_or 0 members.Retries MOST_CALLS (view stream.now.tree.now) else 0) }
-{
-    if stream.scope.retries {
-        stream.number(Member::Retries, MOST_CALLS)
-    } else {
-        0
-    }
-}
-
 impl Entry for Stream {
     ghost use Rattle.std.specs.Prelude.{◌++◌, []};
     ghost use Rattle.sm_plan_text.specs.declared.member.Member.TheVariants as members;
@@ -87,9 +74,15 @@ impl Entry for Stream {
         let empty = empty_parcel(place.alloc)?;
         let holds = held.unwrap_or(empty);
         let code = place.list(Member::Code, faults)?;
+        let budget = place.number(Member::Budget, MOST_CALLS);
+        let retries = if place.scope.retries {
+            place.number(Member::Retries, MOST_CALLS)
+        } else {
+            0
+        };
         Ok(Stream {
-            budget: place.number(Member::Budget, MOST_CALLS),
-            retries: retries_of(place),
+            budget,
+            retries,
             holds,
             code,
         })

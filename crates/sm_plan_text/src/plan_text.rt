@@ -54,7 +54,7 @@ fn from_value(alloc: Global, config: &Config, value: &Tree<'_>) -> Result<Plan, 
 {
     let shards = shard_names(alloc, config)?;
     let servers = server_names(alloc, config)?;
-    let place = Place::new(alloc, &*value, Member::Document, &shards, &servers);
+    let place = Place::new(alloc, value, Member::Document, &shards, &servers);
     let mut faults = Faults { lowest: None };
     let plan = Plan::read(&place, &mut faults)?;
     match faults.lowest {

@@ -1,24 +1,23 @@
 //! What the members of an object are to be, and the faults of one that is not so.
-ghost use Rattle.std.specs.Prelude.{◌≡◌, ◌∷◌, [], map, option_map, OnOk, if◌then◌else◌};
+ghost use Rattle.std.specs.Prelude.{◌≡◌, ◌∷◌, [], map, option_map, IfOk, OnOk, if◌then◌else◌};
 ghost use Rattle.std.specs.List.{list_all, flat_map, cons_option};
-ghost use Rattle.serde_json.specs.Find.{as_str};
+ghost use Rattle.serde_json.specs.Find.{as_number};
 ghost use Rattle.json_tree.specs.View.{view, members_view};
 ghost use Rattle.sm_placement.specs.Names.{is_name_byte, is_name};
 ghost use Rattle.sm_plan_text.specs.Members.{text_of};
 ghost use Rattle.sm_plan_text.specs.Faults.{noted};
-ghost use Rattle.sm_plan_text.specs.Tables.{is_among, has_unknown_member, object_faults, own_faults, row_faults, value_faults, entry_faults, whole, below, text, format, list, keyed};
-ghost use Rattle.sm_plan_text.specs.Rules.{has_form, want_of, member_of, row_of};
+ghost use Rattle.sm_plan_text.specs.Tables.{texts_found, has_double_key, is_among, has_unknown_member, object_faults, own_faults, row_faults, value_faults, entry_faults, by_word, text, list, keyed};
+ghost use Rattle.sm_plan_text.specs.Rules.{has_form, number_faults, want_of, member_of, row_of};
 
 use crate::fault::{Faults, TextFault};
-use crate::key::has_double_key;
 use crate::limits::MOST_ASKS;
 use crate::member::Member;
 use crate::names::Names;
-use crate::place::{Place, Scope, items_of};
-use crate::word::{after_of, role_of, state_of};
+use crate::place::{Place, Scope, after_of, items_of, role_of, state_of};
+use indexmap::IndexSet;
 use json_tree::Tree;
 use sm_plan_code::MOST_RIGHTS;
-use std::alloc::AllocError;
+use std::alloc::{AllocError, Global};
 
 /// What the value of a member is to be.
 #[derive(Clone, Copy)]
@@ -65,6 +64,8 @@ pub const SHARD: Rule = Rule::One(Member::Shard, Form::Shard);
 
 pub const SERVER: Rule = Rule::One(Member::Server, Form::Server);
 
+pub const ROLE: Rule = Rule::One(Member::Role, Form::Role);
+
 pub const OTHER: Rule = Rule::One(Member::Other, Form::Server);
 
 pub const FROM: Rule = Rule::One(Member::From, Form::Server);
@@ -103,13 +104,14 @@ fn is_name(text: &str) -> bool
 }
 
 /// The text is of the form, which is one of texts.
+#[tactic(auto, using(crate::proofs::NameLemmas::found_among))]
 fn has_form(text: &str, form: Form, scope: &Scope<'_>) -> bool
     ensures { result ≡ has_form scope.now form text.now }
 {
     match form {
         Form::Name => is_name(text),
-        Form::NewServer => is_name(text) && !scope.servers.contains(text),
-        Form::NewShard => is_name(text) && !scope.shards.contains(text),
+        Form::NewServer => is_name(text) && scope.servers.find(text).is_none(),
+        Form::NewShard => is_name(text) && scope.shards.find(text).is_none(),
         Form::Role => role_of(text).is_some(),
         Form::When => after_of(text).is_some(),
         Form::State => state_of(text).is_some(),
@@ -121,10 +123,8 @@ fn note_known(value: &Tree<'_>, member: Member, names: &Names, faults: &mut Faul
     ensures { faults.new.lowest ≡ noted faults.old.lowest (entry_faults member names.now (view value.now)) }
 {
     match value.as_str() {
-        Some(text) => {
-            let is_known = names.find(text).is_some();
-            faults.note_unless(is_known, TextFault::UnknownName { member });
-        }
+        Some(text) if names.find(text).is_some() => {}
+        Some(_) => faults.note(TextFault::UnknownName { member }),
         None => faults.note(TextFault::Shape { member }),
     }
 }
@@ -141,12 +141,7 @@ fn note_all_known(items: &[Tree<'_>], member: Member, names: &Names, faults: &mu
 fn has_rule(key: &str, rules: &[Rule]) -> bool
     ensures { result ≡ is_among (map (λ rule. text_of (member_of rule)) rules.now) key.now }
 {
-    for rule in rules {
-        if key == rule.member().text() {
-            return true;
-        }
-    }
-    false
+    rules.iter().any(|rule| key == rule.member().text())
 }
 
 /// The key is the word, or a member with a rule.
@@ -162,53 +157,62 @@ fn is_known(key: &str, word: Option<Member>, rules: &[Rule]) -> bool
 fn has_unknown(members: &[(&str, Tree<'_>)], word: Option<Member>, rules: &[Rule]) -> bool
     ensures { result ≡ has_unknown_member (cons_option (option_map text_of word) (map (λ rule. text_of (member_of rule)) rules.now)) (members_view members.now) }
 {
+    members.iter().any(|pair| !is_known(pair.0, word, rules))
+}
+
+/// The key of an entry, which has none where one of the members is no text.
+fn key_of<'t>(
+    alloc: Global,
+    entry: &Tree<'t>,
+    members: &[Member],
+) -> Result<Option<Vec<&'t str>>, AllocError>
+    ensures { IfOk result (λ key. option_map (λ texts. map (λ s. s.now) texts.items) key ≡ texts_found members.now (view entry.now)) }
+{
+    let mut texts = Vec::with_capacity(alloc, members.len())?;
     for member in members {
-        if !is_known(member.0, word, rules) {
-            return true;
+        let Some(text) = entry.get(member.text()).and_then(|value| value.as_str()) else {
+            return Ok(None);
+        };
+        texts.push(text)?;
+    }
+    Ok(Some(texts))
+}
+
+/// Two entries have the same key.
+fn has_double_key(
+    alloc: Global,
+    entries: &[Tree<'_>],
+    members: &[Member],
+) -> Result<bool, AllocError>
+    ensures { IfOk result (λ double. double ≡ has_double_key (map (texts_found members.now) (map view entries.now))) }
+{
+    let mut keys = IndexSet::new(alloc);
+    for entry in entries {
+        if let Some(key) = key_of(alloc, entry, members)? {
+            if !keys.insert(key)? {
+                return Ok(true);
+            }
         }
     }
-    false
+    Ok(false)
 }
 
 /// Each call notes the faults of the value at a place, as it is to be so.
 impl<'p, 't> Place<'p, 't> {
-    fn note_whole(&self, limit: u32, faults: &mut Faults)
-        ensures { faults.new.lowest ≡ noted faults.old.lowest (value_faults self.now.member (whole limit) (view self.now.tree.now)) }
+    fn note_number(&self, form: Form, faults: &mut Faults)
+        ensures { faults.new.lowest ≡ noted faults.old.lowest (number_faults self.now.scope form self.now.member (as_number (view self.now.tree.now))) }
     {
         let member = self.member;
         if !self.tree.is_number() {
             faults.note(TextFault::Shape { member });
             return;
         }
-        match self.tree.as_u64() {
-            Some(n) if n <= u64::from(limit) => {}
+        match (form, self.tree.as_u64()) {
+            (Form::Whole(limit), Some(n)) if n <= u64::from(limit) => {}
+            (Form::Signal, Some(n)) if n < self.scope.signals as u64 => {}
+            (Form::Format, Some(1 | 2)) => {}
+            (Form::Signal, Some(_)) => faults.note(TextFault::UnknownName { member }),
             _ => faults.note(TextFault::Number { member }),
-        }
-    }
-
-    fn note_signal(&self, faults: &mut Faults)
-        ensures { faults.new.lowest ≡ noted faults.old.lowest (value_faults self.now.member (below self.now.scope.signals) (view self.now.tree.now)) }
-    {
-        let member = self.member;
-        if !self.tree.is_number() {
-            faults.note(TextFault::Shape { member });
-            return;
-        }
-        match self.tree.as_u64() {
-            Some(n) if n < self.scope.signals as u64 => {}
-            Some(_) => faults.note(TextFault::UnknownName { member }),
-            None => faults.note(TextFault::Number { member }),
-        }
-    }
-
-    fn note_format(&self, faults: &mut Faults)
-        ensures { faults.new.lowest ≡ noted faults.old.lowest (value_faults self.now.member format (view self.now.tree.now)) }
-    {
-        let member = self.member;
-        if !self.tree.is_number() {
-            faults.note(TextFault::Shape { member });
-        } else if self.tree.as_u64() != Some(1) && self.tree.as_u64() != Some(2) {
-            faults.note(TextFault::Number { member });
         }
     }
 
@@ -217,11 +221,8 @@ impl<'p, 't> Place<'p, 't> {
     {
         let member = self.member;
         match self.tree.as_str() {
-            Some(text) => {
-                let holds = has_form(text, form, &self.scope);
-                faults.note_unless(holds, TextFault::Shape { member });
-            }
-            None => faults.note(TextFault::Shape { member }),
+            Some(text) if has_form(text, form, &self.scope) => {}
+            _ => faults.note(TextFault::Shape { member }),
         }
     }
 
@@ -231,9 +232,8 @@ impl<'p, 't> Place<'p, 't> {
     {
         let member = self.member;
         match self.tree.as_array() {
-            Some(items) => {
-                faults.note_unless(items.len() <= limit, TextFault::TooMany { member });
-            }
+            Some(items) if items.len() <= limit => {}
+            Some(_) => faults.note(TextFault::TooMany { member }),
             None => faults.note(TextFault::Shape { member }),
         }
     }
@@ -253,27 +253,17 @@ impl<'p, 't> Place<'p, 't> {
     fn note_value(&self, form: Form, faults: &mut Faults) -> Result<(), AllocError>
         ensures { OnOk result (faults.new.lowest ≡ noted faults.old.lowest (value_faults self.now.member (want_of self.now.scope form) (view self.now.tree.now))) }
     {
-        let Place {
-            tree,
-            member,
-            scope,
-            ..
-        } = *self;
+        let (tree, member, scope) = (self.tree, self.member, self.scope);
         match form {
-            Form::Whole(limit) => self.note_whole(limit, faults),
-            Form::Flag => match tree.as_bool() {
-                Some(_) => {}
-                None => faults.note(TextFault::Shape { member }),
-            },
+            Form::Whole(_) | Form::Signal | Form::Format => self.note_number(form, faults),
+            Form::Flag => {
+                faults.note_unless(tree.as_bool().is_some(), TextFault::Shape { member })
+            }
             Form::Name | Form::NewServer | Form::NewShard | Form::Role | Form::When | Form::State =>
                 self.note_text(form, faults),
             Form::Shard => note_known(tree, member, scope.shards, faults),
-            Form::Server => note_known(tree, member, scope.servers, faults),
-            Form::ServerOrNull => {
-                if !tree.is_null() {
-                    note_known(tree, member, scope.servers, faults);
-                }
-            }
+            Form::ServerOrNull if tree.is_null() => {}
+            Form::Server | Form::ServerOrNull => note_known(tree, member, scope.servers, faults),
             Form::List(limit) => self.note_list(limit, faults),
             Form::Asks => {
                 self.note_list(MOST_ASKS, faults);
@@ -282,8 +272,6 @@ impl<'p, 't> Place<'p, 't> {
             Form::ByCell => self.note_keyed(&[Member::Shard, Member::Server], faults)?,
             Form::ByShard => self.note_keyed(&[Member::Shard], faults)?,
             Form::ByServer => self.note_keyed(&[Member::Server], faults)?,
-            Form::Signal => self.note_signal(faults),
-            Form::Format => self.note_format(faults),
             Form::Object => faults.note_unless(tree.is_object(), TextFault::Shape { member }),
         }
         Ok(())
@@ -309,7 +297,7 @@ impl<'p, 't> Place<'p, 't> {
     }
 
     /// The members of an object.
-    pub fn note_rows(&self, rules: &[Rule], faults: &mut Faults) -> Result<(), AllocError>
+    fn note_rows(&self, rules: &[Rule], faults: &mut Faults) -> Result<(), AllocError>
         ensures { OnOk result (faults.new.lowest
             ≡ noted faults.old.lowest (flat_map (row_faults (view self.now.tree.now)) (map (row_of self.now.scope) rules.now))) }
     {
@@ -320,16 +308,14 @@ impl<'p, 't> Place<'p, 't> {
     }
 
     /// An object that has no members beside its word and those with a rule.
-    pub fn note_unknown(&self, word: Option<Member>, rules: &[Rule], faults: &mut Faults)
+    fn note_unknown(&self, word: Option<Member>, rules: &[Rule], faults: &mut Faults)
         ensures { faults.new.lowest ≡ noted faults.old.lowest
             (object_faults self.now.member (cons_option (option_map text_of word) (map (λ rule. text_of (member_of rule)) rules.now)) (view self.now.tree.now)) }
     {
-        let fault = TextFault::Shape {
-            member: self.member,
-        };
+        let member = self.member;
         match self.tree.as_object() {
-            Some(members) => faults.note_unless(!has_unknown(members, word, rules), fault),
-            None => faults.note(fault),
+            Some(members) if !has_unknown(members, word, rules) => {}
+            _ => faults.note(TextFault::Shape { member }),
         }
     }
 
@@ -339,7 +325,26 @@ impl<'p, 't> Place<'p, 't> {
             ≡ noted faults.old.lowest (own_faults self.now.member (map (row_of self.now.scope) rules.now) (view self.now.tree.now))) }
     {
         self.note_unknown(None, rules, faults);
-        self.note_rows(rules, faults)?;
-        Ok(())
+        self.note_rows(rules, faults)
+    }
+
+    /// An object whose word has these rules, or is not listed; without what stands in its members.
+    pub fn note_worded(
+        &self,
+        word: Member,
+        rules: Option<&[Rule]>,
+        faults: &mut Faults,
+    ) -> Result<(), AllocError>
+        ensures { OnOk result (faults.new.lowest
+            ≡ noted faults.old.lowest (by_word self.now.member word (map (row_of self.now.scope)) (view self.now.tree.now) (option_map (λ rules. rules.now) rules.entry))) }
+    {
+        let Some(rules) = rules else {
+            let member = self.member;
+            faults.note_unless(self.tree.is_object(), TextFault::Shape { member });
+            faults.note(TextFault::Shape { member: word });
+            return Ok(());
+        };
+        self.note_unknown(Some(word), rules, faults);
+        self.note_rows(rules, faults)
     }
 }

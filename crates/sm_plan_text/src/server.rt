@@ -36,16 +36,6 @@ const SERVER: &[Rule] = &[
     Rule::Maybe(Member::Down, Form::Flag),
 ];
 
-/// Adds a server that is down.
-fn add_down(down: &mut Vec<ServerId>, is_down: bool, index: usize) -> Result<(), AllocError>
-    ensures { OnOk result (down.new.items ≡ (if is_down then down.old.items ++ id_of index ∷ [] else down.old.items)) }
-{
-    if is_down {
-        down.push(ServerId::new(id(index)))?;
-    }
-    Ok(())
-}
-
 /// Reads one server more.
 #[tactic(auto, using(std::proofs::lemmas::List::map_push))]
 fn add_server(
@@ -71,9 +61,12 @@ fn add_server(
     };
     let name = place.name(Member::Name)?;
     let is_down = place.flag(Member::Down);
+    let server = ServerId::new(id(servers.rows.len()));
     servers.names.insert(name)?;
-    add_down(&mut servers.down, is_down, servers.rows.len())?;
     servers.rows.push(row)?;
+    if is_down {
+        servers.down.push(server)?;
+    }
     Ok(())
 }
 

@@ -1,13 +1,12 @@
 //! Plans as JSON texts.
-ghost use Rattle.std.specs.Prelude.{◌≡◌, ◌<◌, length, map, nat_lt, All, IfOk, IfSome, Some, Ok};
-ghost use Rattle.std.specs.List.{list_any};
+ghost use Rattle.std.specs.Prelude.{◌≡◌, ◌<◌, length, map, All, IfOk, IfSome, Some, Ok};
 ghost use Rattle.serde_json.specs.View.{view};
 ghost use Rattle.sm_placement.specs.Setup.{Setup, IsSetup, names_of_servers, names_of_shards};
 ghost use Rattle.sm_plan_code.specs.Plan.{PlanModel, IsPlan, IsKnownPlan};
 ghost use Rattle.sm_plan_text.specs.declared.member.Member.{Member};
 ghost use Rattle.sm_plan_text.specs.declared.member.Member.TheVariants as members;
-ghost use Rattle.sm_plan_text.specs.Reading.{data_of, read_plan};
-ghost use Rattle.sm_plan_text.specs.PlanTexts.{name_at, list_data, listed_data, role_text, plain_text, handover_data, step_data, plan_data, plan_text, IsReadBack};
+ghost use Rattle.sm_plan_text.specs.Reading.{read_plan};
+ghost use Rattle.sm_plan_text.specs.PlanTexts.{name_at, list_data, listed_data, role_text, plain_text, handover_data, step_data, has_retries, plan_data, plan_text, IsReadBack};
 
 use serde_json::{Value, json};
 use sm_placement::{Config, Lead};
@@ -30,8 +29,7 @@ impl<'c> Writer<'c> {
         requires { shard < length self.now.config.now.shards }
         ensures { result.now ≡ name_at (names_of_shards self.now.config.now) shard }
     {
-        let config = self.config;
-        config.shard(shard).name.as_str()
+        self.config.shard(shard).name.as_str()
     }
 
     #[tactic(auto, using(crate::proofs::Written::server_name_at))]
@@ -39,8 +37,7 @@ impl<'c> Writer<'c> {
         requires { server < length self.now.config.now.servers }
         ensures { result.now ≡ name_at (names_of_servers self.now.config.now) server }
     {
-        let config = self.config;
-        config.server(server).name.as_str()
+        self.config.server(server).name.as_str()
     }
 
     /// The name of the server that is listed, or null.
@@ -261,13 +258,10 @@ impl PlanPart for Instr {
                 shard,
                 server,
                 new_owner,
-            } => writer.step(
-                "prepare_drop",
-                shard,
-                server,
-                "other",
-                writer.server(new_owner),
-            ),
+            } => {
+                let other = writer.server(new_owner);
+                writer.step("prepare_drop", shard, server, "other", other)
+            }
             Instr::Add {
                 shard,
                 server,
@@ -315,11 +309,11 @@ impl PlanPart for Stream {
     }
 }
 
-/// Whether some stream has retries.
-fn has_retries(streams: &[Stream]) -> bool
-    ensures { result ≡ list_any (λ stream. nat_lt 0 stream.retries) streams.now }
+/// A stream of the plan has retries.
+fn has_retries(plan: &Plan) -> bool
+    ensures { result ≡ has_retries plan.now }
 {
-    streams.iter().any(|stream| stream.retries > 0)
+    plan.streams().iter().any(|stream| stream.retries > 0)
 }
 
 /// A plan.
@@ -327,7 +321,7 @@ fn plan_value(alloc: Global, config: &Config, plan: &Plan) -> Result<Value, Allo
     requires { IsKnownPlan (length config.now.shards) (length config.now.servers) plan.now }
     ensures { IfOk result (λ value. view value ≡ plan_data (names_of_shards config.now) (names_of_servers config.now) plan.now) }
 {
-    let retries = has_retries(plan.streams());
+    let retries = has_retries(plan);
     let writer = Writer {
         alloc,
         config,
@@ -353,26 +347,16 @@ fn read_back(config: &Config, plan: &Plan)
     let _budget = plan.budget();
 }
 
-/// The bytes of a plan's value.
-#[tactic(auto, using(crate::proofs::PlainData::plan_is_plain, crate::proofs::Texts::data_of_text))]
-fn bytes_of(alloc: Global, config: &Config, plan: &Plan) -> Result<Vec<u8>, AllocError>
-    requires { IsKnownPlan (length config.now.shards) (length config.now.servers) plan.now }
-    ensures text { IfOk result (λ text. text.items ≡ plan_text (names_of_shards config.now) (names_of_servers config.now) plan.now) }
-    ensures data { IfOk result (λ text. data_of text.items ≡ Some (plan_data (names_of_shards config.now) (names_of_servers config.now) plan.now)) }
-{
-    plan_value(alloc, config, plan)?.to_vec(alloc)
-}
-
 /// Writes a plan as compact JSON over the names of a configuration, without a line feed. Each object has all its members
 /// in the order of their bytes. A plan without retries is of format 1, and one with retries of format 2.
-#[tactic(auto, using(crate::proofs::WrittenPlans::text_is_read))]
+#[tactic(auto, using(crate::proofs::WrittenPlans::text_is_read, crate::proofs::PlainData::plan_is_plain, crate::proofs::Texts::data_of_text))]
 pub fn write_plan(alloc: Global, config: &Config, plan: &Plan) -> Result<Vec<u8>, AllocError>
     requires { IsKnownPlan (length config.now.shards) (length config.now.servers) plan.now }
     ensures text { IfOk result (λ text. text.items ≡ plan_text (names_of_shards config.now) (names_of_servers config.now) plan.now) }
     ensures reads_back { IfOk result (λ text. read_plan (names_of_shards config.now) (names_of_servers config.now) text.items ≡ Ok plan.now) }
 {
     read_back(config, plan);
-    bytes_of(alloc, config, plan)
+    plan_value(alloc, config, plan)?.to_vec(alloc)
 }
 
 /// What is written for a plan is read as that plan: no fault is found in it, in whatever member it stands.

@@ -1,17 +1,19 @@
-use Rattle.std.proofs.Common.{◌∙◌, ◌++◌, ℕ, List, [], unwrap_or, ap}
+use Rattle.std.proofs.Common.{◌≡◌, ◌∙◌, ◌++◌, ℕ, cond, List, [], unwrap_or, ap, sym}
 use Rattle.serde_json.specs.Data.{Data}
 use Rattle.json_tree.specs.View.{view}
 use Rattle.sm_plan_text.specs.declared.fault.TextFault.{TextFault}
 use Rattle.sm_plan_text.specs.declared.member.Member.TheVariants as members
 use Rattle.sm_plan_text.specs.Faults.{noted}
-use Rattle.sm_plan_text.specs.Values.{found, entries_in}
+use Rattle.sm_plan_text.specs.Values.{found, number_in, entries_in}
 use Rattle.sm_plan_text.specs.Tables.{own_faults, walked}
 use Rattle.sm_plan_text.specs.Parcels.{parcel_faults}
 use Rattle.sm_plan_text.specs.Instructions.{instr_faults}
 use Rattle.sm_plan_text.specs.Plans.{faults_within, stream_table}
+use Rattle.sm_plan_code.specs.declared.limits.TheConstants.{MOST_CALLS}
 use Rattle.sm_plan_text.proofs.DocumentLemmas.{two_noted}
 use Rattle.sm_plan_text.proofs.PlanLemmas.{none_before}
 use Rattle.sm_plan_text.proofs.plan.StreamEntry.read.Goals as goal
+use Rattle.sm_plan_text.proofs.plan.StreamEntry.read.Goals.{then-place, else-place}
 
 pub returns-clause-faults : goal.returns-clause-faults
 returns-clause-faults c =
@@ -32,9 +34,13 @@ returns-clause-value c = λ few none.
     let S : List (List ℕ) = c.args.place.now.scope.servers.now in
     let to_held = none_before _ _ (walked (instr_faults N S c.args.place.now.scope.signals) [] (entries_in members.Code d)) c.in_ok-code.ensures.faults none in
     let held = c.in_ok-held.ensures.value few to_held in
+    let retries : c.if-place.retries ≡ cond c.args.place.now.scope.retries (number_in members.Retries MOST_CALLS d) 0 = elim c.if-place.branch [
+      | then-place w ↦ w.retries-is ∙ w.number-retries.ensures ∙ sym (ap (λ b. cond b (number_in members.Retries MOST_CALLS d) 0) w.if-place.true)
+      | else-place w ↦ w.retries-is ∙ sym (ap (λ b. cond b (number_in members.Retries MOST_CALLS d) 0) w.if-place.false)
+    ] in
     λ k. record {
-      budget = c.number.ensures k;
-      retries = c.retries_of.ensures k;
+      budget = c.number-budget.ensures k;
+      retries = retries k;
       holds = (c.unwrap_or-holds.ensures ∙ (λ j. unwrap_or (held j) (c.in_ok-empty.ensures j))) k;
       code = c.in_ok-code.ensures.list few none k;
     }

@@ -2,7 +2,7 @@ use Rattle.std.proofs.Common.{◌≡◌, ◌++◌, false, drop, map}
 use Rattle.json_tree.specs.View.{view}
 use Rattle.sm_plan_text.specs.Tables.{texts_found, has_double_key}
 use Rattle.sm_plan_text.proofs.KeyLemmas.{held}
-use Rattle.sm_plan_text.proofs.key.has_double_key.Given as goal
+use Rattle.sm_plan_text.proofs.rule.has_double_key.Given as goal
 
 abbrev pub invariant-loop-entry : goal.invariant-loop-entry
 invariant-loop-entry l = record {

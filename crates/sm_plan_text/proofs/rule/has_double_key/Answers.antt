@@ -5,8 +5,8 @@ use Rattle.std.specs.Cmp.Lexicographic.{pointwise}
 use Rattle.json_tree.specs.View.{view}
 use Rattle.sm_plan_text.specs.Tables.{texts_found, has_double_key}
 use Rattle.sm_plan_text.proofs.KeyLemmas.{Texts, held, borrowed_texts, met_again, met_new, met_none, held_single}
-use Rattle.sm_plan_text.proofs.key.has_double_key.Goals as goal
-use Rattle.sm_plan_text.proofs.key.has_double_key.Goals.{in-Some+in_ok-insert+else-not-branch, in_default}
+use Rattle.sm_plan_text.proofs.rule.has_double_key.Goals as goal
+use Rattle.sm_plan_text.proofs.rule.has_double_key.Goals.{in-Some+in_ok-insert+else-not-branch, in_default}
 
 abbrev Key : Type 0
 Key = Vec (Bor (List ℕ)) Global
