@@ -1,5 +1,5 @@
 """The cases of tests/documents/reports: a case puts new texts in the place of the first old ones in its base, a text of tests/documents/bases,
-or is a text of its own, in lines."""
+or is a text of its own. A long text, or a long line of a report, stands in pieces, as a list of texts."""
 import json
 import pathlib
 import sys
@@ -12,7 +12,8 @@ def text_of(case, base):
         return "".join(case["text"])
     if set(case) != {"what", "edits", "report", "status"} or base is None:
         sys.exit(f"no case: {case}")
-    for old, new in case["edits"]:
+    for pair in case["edits"]:
+        old, new = map("".join, pair)
         if old not in base:
             sys.exit(f"{old} is not in the base: {case['what']}")
         base = base.replace(old, new, 1)
@@ -25,5 +26,5 @@ def written():
         for group in json.loads(path.read_bytes())["groups"]:
             base = (ROOT / "tests/documents/bases" / group["base"]).read_text() if "base" in group else None
             for case in group["cases"]:
-                report = "".join(f"{line}\n" for line in case["report"])
+                report = "".join(f"{''.join(line)}\n" for line in case["report"])
                 yield f"{path.name}: {case['what']}", group["command"], text_of(case, base), report, case["status"]

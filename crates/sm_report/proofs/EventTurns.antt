@@ -181,10 +181,12 @@ stream_added many place w number i out name new long named length_is added =
 
 -- ---- the names that events know
 
+-- events that a configuration knows are known to each machine of it
 pub events_known : (m : MachineModel) (setup : Setup) (events : List EventText) → m.placement.setup ≡ setup → All (IsKnownEvent (length setup.shards) (length setup.servers)) events →
     All (IsKnownEvent (state_of m).sizes.shards (state_of m).sizes.servers) events
 events_known m setup events e known = subst (λ (c : Sizes). All (IsKnownEvent c.shards c.servers) events) (sym (sizes_are m ∙ ap sizes_of e)) known
 
+-- events that a machine knows are known to each other machine of its configuration
 pub events_still_known : (m n : MachineModel) (events : List EventText) → n.placement.setup ≡ m.placement.setup → All (IsKnownEvent (state_of m).sizes.shards (state_of m).sizes.servers) events →
     All (IsKnownEvent (state_of n).sizes.shards (state_of n).sizes.servers) events
 events_still_known m n events e known = subst (λ (c : Sizes). All (IsKnownEvent c.shards c.servers) events) (sym (same_sizes m n e)) known

@@ -9,6 +9,7 @@ use Rattle.sm_plan_text.specs.declared.moves.MoveText.{MoveText}
 use Rattle.sm_plan_text.specs.Moves.{IsKnownMove}
 use Rattle.sm_report.specs.Planning.{move_of}
 
+-- moves that a document asks for by known shards and servers are moves of its configuration
 pub known_moves : (setup : Setup) (asked : Option (List MoveText)) (texts : List MoveText) (moves : List Move) →
     IfSome asked (All (IsKnownMove (length setup.shards) (length setup.servers))) → asked ≡ Some texts → moves ≡ map move_of texts → All (IsMoveOf setup) moves
 known_moves setup asked texts moves known there is =

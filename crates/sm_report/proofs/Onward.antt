@@ -34,13 +34,14 @@ pub made_weaker : (result : Result Output Early) (P Q : Output → Type 0) → (
 made_weaker (Ok made) P Q weaker h = weaker made h
 made_weaker (Err early) P Q weaker h = ended_weaker early P Q weaker h
 
--- the report of a command that ended at a stage, and of one that went on after it
+-- where a stage ended the report, it is that of the command
 pub stage_ended : {A : Type 0} (stage : Result A Output) (Next : A → Output → Type 0) (early : Early) (result : Result Output Early) → result ≡ Err early
     → IfEnded early (λ made. stage ≡ Err made) → IfMade result (Then stage Next)
 stage_ended stage Next early result is ends =
     subst (λ r. IfMade r (Then stage Next)) (sym is)
     (ended_weaker early (λ made. stage ≡ Err made) (Then stage Next) (λ made h. ends_there stage Next made h) ends)
 
+-- where a stage went on, the report that the next ones make is that of the command
 pub stage_went_on : {A : Type 0} (stage : Result A Output) (Next : A → Output → Type 0) (found : A) (result : Result Output Early) → stage ≡ Ok found
     → IfMade result (Next found) → IfMade result (Then stage Next)
 stage_went_on stage Next found result is next = made_weaker result (Next found) (Then stage Next) (λ made h. goes_on stage Next found made is h) next

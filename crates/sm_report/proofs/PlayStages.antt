@@ -44,6 +44,7 @@ abbrev pub IsThat : Option Output → Output → Type 0
 IsThat None other = ⊥
 IsThat (Some output) other = other ≡ output
 
+-- the first of the plans from the k-th on is the k-th
 pub first_of_left : (plans : List PlanModel) (k : ℕ) (d : PlanModel) → slice_index_or (drop k plans) 0 d ≡ slice_index_or plans k d
 first_of_left [] zero d = refl
 first_of_left [] (suc k) d = refl
@@ -108,6 +109,7 @@ module _ (plans : List PlanModel) (k : ℕ) (plan : PlanModel) (below : k < leng
       ∙ sym (map-append (λ p. Some p) (take k plans) (plan ∷ []))
       ∙ ap (map (λ p. Some p)) (sym taken_more)
 
+-- checked plans that are of a configuration, and one more that is, are of it together
 pub for_more : (setup : Setup) (xs : List (Option CheckedModel)) (c : CheckedModel) → AreFor setup xs → c.setup ≡ setup → AreFor setup (xs ++ Some c ∷ [])
 for_more setup [] c for is zero p e = let same : c ≡ p = cc in subst (λ (x : CheckedModel). x.setup ≡ setup) same is
 for_more setup [] c for is (suc k) p e = absurd (cc)

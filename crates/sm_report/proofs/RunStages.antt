@@ -16,9 +16,9 @@ use Rattle.sm_protocol.specs.Steps.{Outcome, Answered}
 use Rattle.sm_protocol.specs.Happens.{happens, started, Begin}
 use Rattle.sm_machine.specs.Starts.{AreTokens}
 use Rattle.sm_machine.specs.Started.{IsNotStarted}
-use Rattle.sm_executor.specs.Clients.{Asking, IsClient}
+use Rattle.sm_executor.specs.Clients.{ClientModel, IsClient}
 use Rattle.sm_executor.specs.Closed.{HasMorePlans, IsClosed}
-use Rattle.sm_executor.specs.Views.{Finished, Running, running, AreRunners, streams_ended, streams_run}
+use Rattle.sm_executor.specs.Views.{EndedModel, RunnerModel, running, AreRunners, streams_ended, streams_run}
 use Rattle.sm_plan_text.specs.Documents.{DocumentModel}
 use Rattle.sm_report.specs.declared.early.Early.{Early}
 use Rattle.sm_report.specs.declared.early.Early.TheVariants as early
@@ -109,11 +109,11 @@ run_read most left rows result h reported =
 -- ---- the streams and the asks that were run
 
 -- the shards of clients
-abbrev pub shards_of : List Asking → List ℕ
+abbrev pub shards_of : List ClientModel → List ℕ
 shards_of clients = map (λ client. client.shard) clients
 
 -- the runners from number k on are of the streams from there on
-streams_from : (plan k n : ℕ) (runners : List Running) → length runners ≡ n → ((i : ℕ) (d : Running) → i < n → slice_index_or runners i d ≡ running (stream_id plan (k + i)) 0)
+streams_from : (plan k n : ℕ) (runners : List RunnerModel) → length runners ≡ n → ((i : ℕ) (d : RunnerModel) → i < n → slice_index_or runners i d ≡ running (stream_id plan (k + i)) 0)
     → streams_run runners ≡ map (stream_id plan) (range_with_len k n)
 streams_from plan k zero [] count each = refl
 streams_from plan k (suc n) [] count each = absurd (cc)
@@ -123,14 +123,14 @@ streams_from plan k (suc n) (x ∷ xs) count each =
     let first : x ≡ running (stream_id plan k) 0 = each 0 x (omega arith) ∙ ap (λ j. running (stream_id plan j) 0) here in
     let others : streams_run xs ≡ map (stream_id plan) (range_with_len (k + 1) n) =
     streams_from plan (k + 1) n xs (omega (arith, count)) (λ i d below. each (suc i) d (omega arith) ∙ ap (λ j. running (stream_id plan j) 0) (let e : k + suc i ≡ k + 1 + i = omega arith in e)) in
-    ap (λ (r : Running). r.stream ∷ streams_run xs) first ∙ ap (λ ss. stream_id plan k ∷ ss) others
+    ap (λ (r : RunnerModel). r.stream ∷ streams_run xs) first ∙ ap (λ ss. stream_id plan k ∷ ss) others
 
 -- the runners of the plan that began first are of its streams, in their order
-streams_are : (n : ℕ) (runners : List Running) → AreRunners 0 n runners → streams_run runners ≡ first_streams n
+streams_are : (n : ℕ) (runners : List RunnerModel) → AreRunners 0 n runners → streams_run runners ≡ first_streams n
 streams_are n runners are = streams_from 0 0 n runners are.count (λ i d below. are.each i d below ∙ ap (λ j. running (stream_id 0 j) 0) (let e : i ≡ 0 + i = omega arith in e))
 
 -- clients that are of their asks from number i on, where that one is, are of them from the next one on
-pub ask_kept : (i : ℕ) (clients : List Asking) (asks : List ℕ) (client : Asking) (ask : ℕ) → i < length clients → i < length asks → client ≡ slice_index_or clients i client → ask ≡ slice_index_or asks i ask
+pub ask_kept : (i : ℕ) (clients : List ClientModel) (asks : List ℕ) (client : ClientModel) (ask : ℕ) → i < length clients → i < length asks → client ≡ slice_index_or clients i client → ask ≡ slice_index_or asks i ask
     → client.shard ≡ ask → shards_of (drop (i + 1) clients) ≡ drop (i + 1) asks → shards_of (drop i clients) ≡ drop i asks
 ask_kept i clients asks client ask below within is_client is_ask same rest =
     let one : suc i ≡ i + 1 = omega arith in
@@ -146,7 +146,7 @@ written_back (suc n) [] rest e = absurd (cc)
 written_back (suc n) (x ∷ xs) rest e = ap (λ ys. x ∷ ys) (written_back n xs rest (omega (arith, e)))
 
 -- a run of the runners of the plan that began first that has come to the ends of all, beside clients that have asked
-pub has_run : (n count : ℕ) (runners : List Running) (ended kept : List Finished) (clients rest : List Asking) → AreRunners 0 n runners
+pub has_run : (n count : ℕ) (runners : List RunnerModel) (ended kept : List EndedModel) (clients rest : List ClientModel) → AreRunners 0 n runners
     → streams_ended ended ≡ streams_run runners → kept ≡ ended → length clients ≡ count → All (λ client. client.asked ≢ None) clients
     → HasRun n kept (take count (clients ++ rest))
 has_run n count runners ended kept clients rest are ends same long answers = record {
@@ -162,11 +162,11 @@ nothing_more begun now more one alone =
     more.1 ∙ ap (λ (ps : List Start). begun.plans ++ ps) none ∙ append-nil begun.plans
 
 -- with these ends and clients the board is closed at a state at which one plan has begun, and these lines are told of it
-abbrev pub IsTold : State → Setup → List Finished → List Asking → List ℕ → List ℕ → Output → Type 0
+abbrev pub IsTold : State → Setup → List EndedModel → List ClientModel → List ℕ → List ℕ → Output → Type 0
 IsTold begun setup ended clients accepted asked made = (now : State) × IsClosed begun now ended (map (λ client. client.caller) clients) × (length now.plans ≡ 1) × (made ≡ done (accepted ++ end_lines now 0 ++ asked ++ ending setup now.place))
 
 -- the report of such a run on a board that is closed
-pub was_run : (begun : State) (setup : Setup) (asks : List ℕ) (ended : List Finished) (clients : List Asking) (accepted asked : List ℕ) (result : Result Output Unmade)
+pub was_run : (begun : State) (setup : Setup) (asks : List ℕ) (ended : List EndedModel) (clients : List ClientModel) (accepted asked : List ℕ) (result : Result Output Unmade)
     → length begun.plans ≡ 1 → HasRun (stream_count begun 0) ended clients → shards_of clients ≡ asks → All IsClient clients → accepted ≡ accepted_line (plan_at begun 0) → asked ≡ client_lines setup 0 clients
     → IfRan result (IsTold begun setup ended clients accepted asked) → IfRan result (WasRun begun setup asks)
 was_run begun setup asks ended clients accepted asked result one ran shards ways front lines h =
@@ -217,7 +217,7 @@ first_tokens w begun plan tokens is none are =
     (subst (λ k. AreTokens k (length plan.streams) tokens) (ap length none) are)
 
 -- the lines of the clients that are left, once that of the next one was added
-pub client_added : (setup : Setup) (clients : List Asking) (i : ℕ) (x : Asking) (out next text : List ℕ) → i < length clients → x ≡ slice_index_or clients i x → next ≡ out ++ client_line setup i x.asked
+pub client_added : (setup : Setup) (clients : List ClientModel) (i : ℕ) (x : ClientModel) (out next text : List ℕ) → i < length clients → x ≡ slice_index_or clients i x → next ≡ out ++ client_line setup i x.asked
     → out ++ client_lines setup i (drop i clients) ≡ text → next ++ client_lines setup (i + 1) (drop (i + 1) clients) ≡ text
 client_added setup clients i x out next text below is added so_far =
     let one : suc i ≡ i + 1 = omega arith in

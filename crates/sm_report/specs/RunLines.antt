@@ -8,7 +8,7 @@ use Rattle.sm_protocol.specs.State.{State, stream_id, stream_count, progress_of,
 use Rattle.sm_machine.specs.Retired.{recorded_steps}
 use Rattle.sm_router.specs.declared.asking.Asked.{Asked}
 use Rattle.sm_router.specs.declared.asking.Asked.TheVariants as asked
-use Rattle.sm_executor.specs.Clients.{Asking}
+use Rattle.sm_executor.specs.Clients.{ClientModel}
 use Rattle.sm_report.specs.Lines.{line}
 use Rattle.sm_report.specs.Ending.{server_name}
 use Rattle.sm_report.specs.PlayLines.{word_line, executed_line}
@@ -50,6 +50,6 @@ client_line setup i None = []
 client_line setup i (Some answer) = ask_line setup i answer
 
 -- the lines of clients, numbered from i
-abbrev pub client_lines : Setup → ℕ → List Asking → List ℕ
+abbrev pub client_lines : Setup → ℕ → List ClientModel → List ℕ
 client_lines setup i [] = []
 client_lines setup i (client ∷ clients) = client_line setup i client.asked ++ client_lines setup (i + 1) clients

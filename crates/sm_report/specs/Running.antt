@@ -7,9 +7,9 @@ use Rattle.sm_placement.specs.Place.{Place}
 use Rattle.sm_reservation.specs.declared.stream_id.StreamId.{StreamId}
 use Rattle.sm_plan_code.specs.Plan.{PlanModel}
 use Rattle.sm_protocol.specs.State.{State, opened, plan_at, stream_count, stream_id}
-use Rattle.sm_executor.specs.Clients.{Asking, IsClient}
+use Rattle.sm_executor.specs.Clients.{ClientModel, IsClient}
 use Rattle.sm_executor.specs.Closed.{IsClosed}
-use Rattle.sm_executor.specs.Views.{Finished, streams_ended}
+use Rattle.sm_executor.specs.Views.{EndedModel, streams_ended}
 use Rattle.sm_plan_text.specs.declared.member.Member.TheVariants as member
 use Rattle.sm_plan_text.specs.Documents.{DocumentModel}
 use Rattle.sm_report.specs.Checking.{accepted_line}
@@ -28,7 +28,7 @@ abbrev pub first_streams : ℕ → List StreamId
 first_streams n = map (stream_id 0) (range_with_len 0 n)
 
 -- There is an end for each of the plan's streams, in their order, and each client has asked.
-pub record HasRun (streams : ℕ) (ended : List Finished) (clients : List Asking) : Type 0 where
+pub record HasRun (streams : ℕ) (ended : List EndedModel) (clients : List ClientModel) : Type 0 where
   pub ends : streams_ended ended ≡ first_streams streams
   pub answered : All (λ client. client.asked ≢ None) clients
 
@@ -37,8 +37,8 @@ pub record HasRun (streams : ℕ) (ended : List Finished) (clients : List Asking
 -- of this state's streams, those of the asks, and the placement there.
 pub record WasRun (begun : State) (setup : Setup) (asks : List ℕ) (output : Output) : Type 0 where
   pub now : State
-  pub ended : List Finished
-  pub clients : List Asking
+  pub ended : List EndedModel
+  pub clients : List ClientModel
   pub ran : HasRun (stream_count begun 0) ended clients
   pub shards : map (λ client. client.shard) clients ≡ asks
   pub ways : All IsClient clients

@@ -15,6 +15,7 @@ ghost use Rattle.sm_report.specs.Report.{done, refused};
 ghost use Rattle.sm_report.specs.RunLines.{end_lines, client_lines};
 ghost use Rattle.sm_report.specs.Running.{HasRun, WasRun, IsStartedForRun};
 ghost use Rattle.sm_report.specs.Unmade.{IfUnmade, IfRan};
+ghost use Rattle.sm_plan_code.specs.declared.limits.TheConstants.{MOST_STREAMS};
 
 use crate::early::Early;
 use crate::ending::push_ending;
@@ -307,7 +308,7 @@ fn report_on_ground<
     requires refused { (ground.refused ≡ C.name) × (C.parts ≡ 2 ^ 62) × (C.all ≡ 2 ^ 62) }
     requires one { length (state_of machine).plans ≡ 1 }
     requires tokens { AreTokens 0 (stream_count (state_of machine) 0) tokens.items }
-    requires few { length tokens.items ≤ 64 }
+    requires few { length tokens.items ≤ MOST_STREAMS }
     requires accepted { string_bytes accepted ≡ accepted_line (plan_at (state_of machine) 0) }
     requires known { All (λ shard. shard < length N.words.opening) asks.now }
     ensures { IfRan result (WasRun N.opened N.setup asks.now) }

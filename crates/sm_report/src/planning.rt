@@ -14,6 +14,7 @@ ghost use Rattle.sm_report.specs.Planning.{move_of, aim_of, aim_stage, IsAimOf, 
 ghost use Rattle.sm_report.specs.Report.{bad_input, refused, done};
 ghost use Rattle.sm_report.specs.BadInput.{text_fault_line};
 ghost use Rattle.sm_report.specs.Output.{IsLoggedForPlan, IsPlacedForPlan, IsOpenedForPlan, IsPlanningReport};
+ghost use Rattle.sm_plan_code.specs.declared.limits.TheConstants.{MOST_PLACES};
 
 use crate::early::Early;
 use crate::made::Made;
@@ -116,7 +117,7 @@ fn report_answer(
 fn open(alloc: Global, placement: Placement, log: u32) -> Result<Director, AllocError>
     requires settled { IsSettled (sizes_of placement.setup) (place_of placement) }
     requires room { down_count (sizes_of placement.setup) (place_of placement) ≤ log }
-    requires most { log ≤ 1048576 }
+    requires most { log ≤ MOST_PLACES }
     ensures state { IfOk result (λ d. state_of d ≡ opened (sizes_of placement.setup) (place_of placement) log) }
     ensures setup { IfOk result (λ d. d.placement.setup ≡ placement.setup) }
 {

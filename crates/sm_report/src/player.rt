@@ -11,6 +11,7 @@ ghost use Rattle.sm_machine.specs.Hand.{AreFor, hand_plan};
 ghost use Rattle.sm_machine.specs.State.{state_of};
 ghost use Rattle.sm_report.specs.Playing.{start_number, named_stream};
 ghost use Rattle.sm_report.specs.Player.{scene_of, IsSetUp, IsEventPlayed};
+ghost use Rattle.sm_plan_code.specs.declared.limits.TheConstants.{MOST_CALLS, MOST_PLACES};
 
 use sm_machine::{Director, Machine, OpenFault, make_ready};
 use sm_placement::Placement;
@@ -61,7 +62,7 @@ impl Player {
     ) -> Result<Player, AllocError>
         requires settled { IsSettled (sizes_of placement.setup) (place_of placement) }
         requires room { down_count (sizes_of placement.setup) (place_of placement) ≤ log }
-        requires most { log ≤ 1048576 }
+        requires most { log ≤ MOST_PLACES }
         requires checked { AreFor placement.setup waiting.items }
         ensures state { IfOk result (λ p. (scene_of p).state ≡ opened (sizes_of placement.setup) (place_of placement) log) }
         ensures waiting { IfOk result (λ p. (scene_of p).waiting ≡ map hand_plan waiting.items) }
@@ -145,7 +146,7 @@ impl Player {
 
     fn refill(&mut self, place: u32, stream: u32, more: u32) -> Played
         requires ready { IsSetUp self.old }
-        requires more { more ≤ 262144 }
+        requires more { more ≤ MOST_CALLS }
         ensures { IsEventPlayed self.old (text.Refill place stream more) result self.new }
     {
         match self.named_stream(place, stream) {

@@ -19,6 +19,7 @@ ghost use Rattle.sm_report.specs.PlayLines.{plan_front, event_lines, all_plan_li
 ghost use Rattle.sm_report.specs.Report.{Output};
 ghost use Rattle.sm_report.specs.Stages.{AtChecks, IsFaultReport, Then, begin_stage};
 ghost use Rattle.sm_report.specs.Output.{played_output, IsBegunForPlay, IsLoggedForPlay, IsPlacedForPlay, IsOpenedForPlay, IsAloneForPlay, IsPlayReport, IsPlayedOutput};
+ghost use Rattle.sm_plan_code.specs.declared.limits.TheConstants.{MOST_PLACES};
 
 use crate::early::Early;
 use crate::ending::push_ending;
@@ -87,7 +88,7 @@ fn open_player(
 ) -> Result<Player, Early>
     requires settled { IsSettled (sizes_of placement.setup) (place_of placement) }
     requires room { down_count (sizes_of placement.setup) (place_of placement) ≤ log }
-    requires most { log ≤ 1048576 }
+    requires most { log ≤ MOST_PLACES }
     requires known { All (IsKnownPlan (length placement.setup.shards) (length placement.setup.servers)) plans.items }
     ensures scene { IfOk result (λ p. scene_of p ≡ opened_scene (sizes_of placement.setup) (place_of placement) log plans.items) }
     ensures setup { IfOk result (λ p. p.director.placement.setup ≡ placement.setup) }
@@ -153,7 +154,7 @@ fn report_list(
     requires setup { placement.setup ≡ config.now }
     requires settled { IsSettled (sizes_of placement.setup) (place_of placement) }
     requires room { down_count (sizes_of placement.setup) (place_of placement) ≤ log }
-    requires most { log ≤ 1048576 }
+    requires most { log ≤ MOST_PLACES }
     requires known { All (IsKnownPlan (length placement.setup.shards) (length placement.setup.servers)) plans.items }
     requires events { All (IsKnownEvent (length placement.setup.shards) (length placement.setup.servers)) events.now }
     ensures { IfMade result (AtChecks (sizes_of config.now) many 0 plans.items
@@ -212,7 +213,7 @@ fn report_one(
     requires setup { placement.setup ≡ config.now }
     requires settled { IsSettled (sizes_of placement.setup) (place_of placement) }
     requires room { down_count (sizes_of placement.setup) (place_of placement) ≤ log }
-    requires most { log ≤ 1048576 }
+    requires most { log ≤ MOST_PLACES }
     requires known { IsKnownPlan (length placement.setup.shards) (length placement.setup.servers) plan }
     requires events { All (IsKnownEvent (length placement.setup.shards) (length placement.setup.servers)) events.now }
     ensures { IfMade result (AtChecks (sizes_of config.now) false 0 (plan ∷ [])

@@ -15,6 +15,7 @@ ghost use Rattle.sm_report.specs.Report.{Output};
 ghost use Rattle.sm_report.specs.Running.{IsStartedForRun, IsLoggedForRun, IsPlacedForRun, IsOpenedForRun, IsRunReport, IsRunReportOf, IsWritten};
 ghost use Rattle.sm_report.specs.Status.{code_of};
 ghost use Rattle.sm_report.specs.Unmade.{unrun_text, IfRan, IfReadRan};
+ghost use Rattle.sm_plan_code.specs.declared.limits.TheConstants.{MOST_PLACES};
 
 use crate::boards::report_started;
 use crate::delivery::deliver;
@@ -47,7 +48,7 @@ fn report_checked<R: Threads + Wait + Sync>(
 ) -> Result<Made, Unmade>
     requires settled { IsSettled (sizes_of placement.setup) (place_of placement) }
     requires room { down_count (sizes_of placement.setup) (place_of placement) ≤ log }
-    requires most { log ≤ 1048576 }
+    requires most { log ≤ MOST_PLACES }
     requires setup { checked.setup ≡ placement.setup }
     requires known { All (λ shard. shard < length placement.setup.shards) asks.now }
     ensures { IfRan result (IsStartedForRun (opened (sizes_of placement.setup) (place_of placement) log) placement.setup checked.plan asks.now) }

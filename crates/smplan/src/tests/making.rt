@@ -17,8 +17,20 @@ const TWO_MOVES: Row = Row {
 {"name":"t","load":6,"want":1,"cap":0,"spread":1,"listed":"b","cells":[{"server":"b","state":"primary"}]},
 {"name":"x","load":8,"want":1,"cap":0,"spread":1,"listed":"d","cells":[{"server":"d","state":"primary"}]}],
 "moves":[{"shard":"x","from":"d","to":"b"},{"shard":"t","from":"b","to":"a"}]}"#,
-    text: r#"{"budget":8,"format":1,"signals":[{"cells":[],"crowns":[],"room":[{"amount":4,"server":"b"}],"spare":[]}],"streams":[{"budget":4,"code":[{"do":"prepare_add","other":"b","server":"a","shard":"t"},{"do":"prepare_drop","other":"a","server":"b","shard":"t"},{"do":"add","role":"primary","server":"a","shard":"t"},{"do":"publish","shard":"t"},{"do":"drop","server":"b","shard":"t"},{"do":"signal","signal":0}],"holds":{"cells":[{"server":"a","shard":"t","state":"absent"}],"crowns":[{"lead":"at","listed":"b","server":"b","shard":"t"}],"room":[{"amount":6,"server":"a"}],"spare":[]}},{"budget":4,"code":[{"do":"wait","signal":0},{"do":"prepare_add","other":"d","server":"b","shard":"x"},{"do":"prepare_drop","other":"b","server":"d","shard":"x"},{"do":"add","role":"primary","server":"b","shard":"x"},{"do":"publish","shard":"x"},{"do":"drop","server":"d","shard":"x"}],"holds":{"cells":[{"server":"b","shard":"x","state":"absent"}],"crowns":[{"lead":"at","listed":"d","server":"d","shard":"x"}],"room":[{"amount":4,"server":"b"}],"spare":[]}}]}
-"#,
+    text: concat!(
+        r#"{"budget":8,"format":1,"signals":[{"cells":[],"crowns":[],"room":[{"amount":4,"server":"b"}],"spare":[]}],"#,
+        r#""streams":[{"budget":4,"code":[{"do":"prepare_add","other":"b","server":"a","shard":"t"},"#,
+        r#"{"do":"prepare_drop","other":"a","server":"b","shard":"t"},{"do":"add","role":"primary","server":"a","shard":"t"},"#,
+        r#"{"do":"publish","shard":"t"},{"do":"drop","server":"b","shard":"t"},{"do":"signal","signal":0}],"#,
+        r#""holds":{"cells":[{"server":"a","shard":"t","state":"absent"}],"#,
+        r#""crowns":[{"lead":"at","listed":"b","server":"b","shard":"t"}],"room":[{"amount":6,"server":"a"}],"spare":[]}},"#,
+        r#"{"budget":4,"code":[{"do":"wait","signal":0},{"do":"prepare_add","other":"d","server":"b","shard":"x"},"#,
+        r#"{"do":"prepare_drop","other":"b","server":"d","shard":"x"},{"do":"add","role":"primary","server":"b","shard":"x"},"#,
+        r#"{"do":"publish","shard":"x"},{"do":"drop","server":"d","shard":"x"}],"#,
+        r#""holds":{"cells":[{"server":"b","shard":"x","state":"absent"}],"#,
+        r#""crowns":[{"lead":"at","listed":"d","server":"d","shard":"x"}],"room":[{"amount":4,"server":"b"}],"spare":[]}}]}"#,
+        "\n",
+    ),
 };
 
 #[test]
