@@ -18,6 +18,7 @@ BEGUN := $(shell date +%s)
 test:
 	scripts/check-layout
 	scripts/check-words
+	scripts/check-lemmas
 	rt ci
 	mkdir -p build
 	cp crates/smplan/out/smplan build/smplan
