@@ -1,5 +1,5 @@
 //! Lists of events, played with a hand.
-ghost use Rattle.std.specs.Prelude.{◌≡◌, ◌≢◌, ◌≤◌, ◌<◌, ◌==◌, ℕ, count_by, IfOk, OnOk, OnErr, [], length, map, take};
+ghost use Rattle.std.specs.Prelude.{◌≡◌, ◌≢◌, ◌≤◌, ◌<◌, ◌==◌, ◌↔◌, ℕ, count_by, IsTrue, IfOk, OnOk, OnErr, [], length, map, take};
 ghost use Rattle.std.specs.List.{AllByRecursion};
 ghost use Rattle.sm_placement.specs.Setup.{Setup};
 ghost use Rattle.sm_protocol.specs.declared.event.Event.TheVariants as event;
@@ -18,6 +18,7 @@ use crate::lists::{add_left, add_tokens, put_back, put_plan, settle};
 use crate::machine::Machine;
 use crate::searches::{first_permit, first_ticket, has_token};
 use crate::step::played_of;
+use sm_plan_code::MOST_CALLS;
 use sm_protocol::{Event, Passage, Played};
 use sm_reservation::StreamId;
 use sm_server::{ServerId, ShardId};
@@ -222,6 +223,24 @@ impl Machine {
         let _tokens = token_room(hand.plans.as_slice());
         let _count = events.len();
         self.is_reached();
+    }
+
+    /// Whether `play` takes an event: what a caller whose events come from elsewhere has to test of each.
+    pub fn is_known(&self, event: &Event) -> bool
+        ensures { IsTrue result ↔ NamesKnown (state_of self.now).sizes event.now }
+    {
+        let config = self.config();
+        match *event {
+            Event::Arrive { shard, server } => {
+                shard.number() < config.shard_count() && server.number() < config.server_count()
+            }
+            Event::Approve { server } | Event::Done { server } => {
+                server.number() < config.server_count()
+            }
+            Event::Refill { more, .. } => more <= MOST_CALLS,
+            Event::Step { .. } | Event::Lose { .. } | Event::PassOn { .. } | Event::Begin { .. } =>
+                true,
+        }
     }
 
     /// Plays a list of events with a hand: each is answered as the protocol says, and what it needs is taken out of the hand, into
