@@ -1,7 +1,5 @@
 //! Lists of events, played with a hand on a machine of their own.
 ghost use Rattle.std.specs.Prelude.{IsTrue};
-ghost use Rattle.sm_placement.specs.Setup.{sizes_of};
-ghost use Rattle.sm_protocol.specs.Laws.{NamesKnown};
 ghost use Rattle.sm_machine.specs.Hand.{AreFor};
 
 use super::begun_boards::is_for;
@@ -9,32 +7,11 @@ use super::boards::{assert_log, machine};
 use super::events::Turn;
 use super::given::put;
 use sm_machine::{Hand, Machine, ReadyPlan, make_ready};
-use sm_placement::{Config, Placement};
+use sm_placement::Placement;
 use sm_protocol::{Event, Played};
 use sm_verifier::Checked;
 use std::alloc::{AllocError, Global};
 use std::process::Abort;
-
-/// The event names known shards and servers, and a refill is within its limit.
-fn is_known(config: &Config, event: &Event) -> bool
-    ensures { IsTrue result → NamesKnown (sizes_of config.now) event.now }
-{
-    match *event {
-        Event::Arrive { shard, server } => {
-            shard.number() < config.shard_count() && server.number() < config.server_count()
-        }
-        Event::Approve { server } => server.number() < config.server_count(),
-        Event::Done { server } => server.number() < config.server_count(),
-        Event::Refill { stream: _, more } => more <= 262_144,
-        Event::Step { stream: _ } => true,
-        Event::Lose {
-            stream: _,
-            after: _,
-        } => true,
-        Event::PassOn { place: _ } => true,
-        Event::Begin { plan: _ } => true,
-    }
-}
 
 /// There is one place for a plan, and the plan there, if it is left, was checked for the machine's configuration.
 fn has_one_for(machine: &Machine, plans: &[Option<ReadyPlan>]) -> bool
@@ -75,7 +52,7 @@ fn play(
     hand: &mut Hand,
     event: Event,
 ) -> Played {
-    assert!(rt; is_known(machine.config(), &event));
+    assert!(rt; machine.is_known(&event));
     assert!(rt; has_one_for(machine, hand.plans.as_slice()));
     match machine.play(alloc, hand, &[event]) {
         Ok(answers) => {

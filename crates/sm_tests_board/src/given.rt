@@ -5,6 +5,7 @@ use super::answers::{answered, played_of, ticket_place};
 use super::links::Loses;
 use sm_executor::{Board, Caller, Naming, Runner, Side};
 use sm_machine::{Answer, BeginFault, Permit, Ticket};
+use sm_plan_code::MOST_CALLS;
 use sm_protocol::{Event, Played};
 use sm_reservation::StreamId;
 use sm_server::{ServerId, ShardId};
@@ -109,7 +110,7 @@ impl<A: Side> Given<A> {
         let Some(at) = runner_place(self.runners.as_slice(), id) else {
             return Played::Unknown;
         };
-        assert!(rt; at < self.runners.len() && more <= 262_144);
+        assert!(rt; at < self.runners.len() && more <= MOST_CALLS);
         match board.hold(rt).refill(&mut self.runners[at], more) {
             Ok(()) => Played::Refilled,
             Err(why) => Played::RefillRefused(why),

@@ -5,6 +5,7 @@ use super::plans::{S_TO_B, handover_plan};
 use super::run::{Outcome, Run, open_in, outcome_of};
 use super::worlds::{World, server_id};
 use sm_machine::{BeginFault, Step};
+use sm_plan_code::MOST_CALLS;
 use sm_protocol::RefillFault;
 use sm_task_controller::Denied;
 use std::alloc::Global;
@@ -68,7 +69,7 @@ pub(super) fn assert_refill(
     more: u32,
     answer: Result<(), RefillFault>,
 ) {
-    assert!(rt; more <= 262_144 && !run.tokens.is_empty());
+    assert!(rt; more <= MOST_CALLS && !run.tokens.is_empty());
     assert_eq!(rt; run.machine.refill(&mut run.tokens[0], more), answer);
 }
 

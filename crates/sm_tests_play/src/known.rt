@@ -1,45 +1,20 @@
 //! What a caller tests before it plays a list of events.
 ghost use Rattle.std.specs.Prelude.{◌≡◌, IsTrue, IfSome};
 ghost use Rattle.std.specs.List.{AllByRecursion};
-ghost use Rattle.sm_placement.specs.Setup.{sizes_of};
 ghost use Rattle.sm_protocol.specs.Laws.{NamesKnown};
 ghost use Rattle.sm_machine.specs.State.{state_of};
 ghost use Rattle.sm_machine.specs.Hand.{AreFor};
 
 use sm_machine::{Machine, ReadyPlan};
-use sm_placement::Config;
 use sm_protocol::Event;
 use sm_verifier::Checked;
-
-/// The event names known shards and servers, and a refill is within its limit.
-fn is_known(config: &Config, event: &Event) -> bool
-    ensures { IsTrue result → NamesKnown (sizes_of config.now) event.now }
-{
-    match *event {
-        Event::Arrive { shard, server } => {
-            shard.number() < config.shard_count() && server.number() < config.server_count()
-        }
-        Event::Approve { server } => server.number() < config.server_count(),
-        Event::Done { server } => server.number() < config.server_count(),
-        Event::Refill { stream: _, more } => more <= 262_144,
-        Event::Step { stream: _ } => true,
-        Event::Lose {
-            stream: _,
-            after: _,
-        } => true,
-        Event::PassOn { place: _ } => true,
-        Event::Begin { plan: _ } => true,
-    }
-}
 
 /// Each event names what is known to the machine.
 pub(crate) fn are_known(machine: &Machine, events: &[Event]) -> bool
     ensures { IsTrue result → AllByRecursion (NamesKnown (state_of machine.now).sizes) events.now }
 {
-    let config = machine.config();
     for event in events {
-        let known = is_known(config, event);
-        if !known {
+        if !machine.is_known(event) {
             return false;
         }
     }

@@ -3,6 +3,7 @@ use super::known::is_for;
 use super::table::{Table, put};
 use super::worlds::{server_id, shard_id};
 use sm_machine::{Answer, Link, ReadyPlan, Step, StreamToken, Ticket};
+use sm_plan_code::MOST_CALLS;
 use sm_protocol::{Event, Passage, Played};
 use sm_reservation::StreamId;
 use sm_server::{ServerId, ShardId};
@@ -110,7 +111,7 @@ impl Table {
         let Some(at) = token_place(self.hand.tokens.as_slice(), id) else {
             return Played::Unknown;
         };
-        assert!(rt; at < self.hand.tokens.len() && more <= 262_144);
+        assert!(rt; at < self.hand.tokens.len() && more <= MOST_CALLS);
         match self.machine.refill(&mut self.hand.tokens[at], more) {
             Ok(()) => Played::Refilled,
             Err(why) => Played::RefillRefused(why),
