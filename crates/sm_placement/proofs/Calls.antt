@@ -2,7 +2,7 @@
 use Rattle.std.proofs.Common.{◌≡◌, ◌≢◌, ℕ, ◌+◌, ◌-◌, ◌<◌, ◌≤◌, Bool, true, false, not, eqb, ltb, refl, sym, ap, ◌∙◌, arith, inl, inr, subst, ◌⊎◌, ◌↔◌, Option, Some, None}
 use Rattle.std.specs.Prelude.{Result, Ok, Err, IfOk}
 use Rattle.std.proofs.Math.Path.{fun_ext}
-use Rattle.std.proofs.lemmas.Bool.{cases_eq, cases_Bool, eq-eqb, ne_eqb, ltb-false, le-ltb}
+use Rattle.std.proofs.lemmas.Bool.{cases_eq, cases_Bool, eq-eqb, ne_eqb, ltb-false, le-ltb, not-true}
 use Rattle.sm_server.specs.declared.call.Cell.{Cell}
 use Rattle.sm_server.specs.declared.call.Cell.TheVariants.{Absent, Prepared, Secondary, Primary, Forwarding}
 use Rattle.sm_server.specs.declared.call.Role.{Role}
@@ -179,10 +179,6 @@ pub allowed_answer : (c : Sizes) (p : Place) (s v : ℕ) (call : Call) (to : Cel
     ((led_to call (p.cells s v) ≡ Some to) ↔ Leads call (p.cells s v) to) → (answer_at c p s v call ≡ Ok to) ↔ IsAllowed c p s v call to
 allowed_answer c p s v call to fits law = (forth, back)
   where
-    not_down : (b : Bool) → not b ≡ true → b ≡ false
-    not_down true e = cc
-    not_down false e = refl
-
     absent_test : (x : Cell) → x ≡ Absent → is_absent x ≡ true
     absent_test x e = rw e refl
 
@@ -198,7 +194,7 @@ allowed_answer c p s v call to fits law = (forth, back)
         let ok = served_ok (p.cells s v) (c.room v - load_at c p v) (c.load s) (not (p.down v)) call to e in
         record {
           leads = law.0 ok.1;
-          up = not_down (p.down v) ok.0;
+          up = not-true (p.down v) ok.0;
           room = λ a. let free : c.load s ≤ c.room v - load_at c p v = ok.2 (absent_test (p.cells s v) a) in omega arith;
         }
 

@@ -40,60 +40,56 @@ has_double_append (n ∷ names) more h =
     ap (λ b. b || has_double (names ++ more)) (list_any-append (bytes_eq n) names more) ∙
     or_more (list_any (bytes_eq n) names) (has_double names) (list_any (bytes_eq n) more) (has_double (names ++ more)) h (has_double_append names more)
 
+-- the names of the first rows with the next one's
+names_more : {T R : Type 0} (row : T → R) (name : R → List ℕ) (xs : List T) (i : ℕ) (d : T) → i < length xs → map name (map row (take (i + 1) xs)) ≡ map name (map row (take i xs)) ++ name (row (get_or xs i d)) ∷ []
+names_more row name xs i d h =
+    ap (λ ys. map name (map row ys)) (take_more xs i d h) ∙
+    ap (map name) (map_push row (take i xs) (get_or xs i d)) ∙
+    map_push name (map row (take i xs)) (row (get_or xs i d))
+
+-- the names of all rows are those of the first ones, and then those of the others
+names_split : {T R : Type 0} (row : T → R) (name : R → List ℕ) (xs : List T) (n : ℕ) → map name (map row xs) ≡ map name (map row (take n xs)) ++ map name (map row (drop n xs))
+names_split row name xs n =
+    ap (λ ys. map name (map row ys)) (sym (take-append-drop n xs)) ∙
+    ap (map name) (map-append row (take n xs) (drop n xs)) ∙
+    map-append name (map row (take n xs)) (map row (drop n xs))
+
+module _ (name : List ℕ) {names more seen : List (List ℕ)} (m : more ≡ names ++ name ∷ []) (e : seen ≡ names) where
+  double_more : has_double more ≡ (has_double names || list_any (bytes_eq name) seen)
+  double_more = ap has_double m ∙ has_double_push names name ∙ ap (λ ns. has_double names || list_any (bytes_eq name) ns) (sym e)
+
+  -- a new name leaves none doubled
+  single_more : has_double names ≡ false → list_any (bytes_eq name) seen ≡ false → has_double more ≡ false
+  single_more single new = double_more ∙ ap (λ b. b || list_any (bytes_eq name) seen) single ∙ new
+
+  -- a name that was seen is doubled, whatever names follow
+  double_here : (all rest : List (List ℕ)) → all ≡ more ++ rest → has_double names ≡ false → list_any (bytes_eq name) seen ≡ true → has_double all ≡ true
+  double_here all rest a single old = ap has_double a ∙ has_double_append more rest (double_more ∙ ap (λ b. b || list_any (bytes_eq name) seen) single ∙ old)
+
 module _ (servers : List Server) (i : ℕ) (d : Server) (h : i < length servers) where
   -- the names of the first servers with the next one's
   pub server_names_more : server_names (take (i + 1) servers) ≡ server_names (take i servers) ++ string_bytes (get_or servers i d).name ∷ []
-  server_names_more =
-      ap server_names (take_more servers i d h) ∙
-      ap (map (λ r. r.name)) (map_push server_row (take i servers) (get_or servers i d)) ∙
-      map_push (λ r. r.name) (map server_row (take i servers)) (server_row (get_or servers i d))
+  server_names_more = names_more server_row (λ r. r.name) servers i d h
 
   module _ (seen : List (List ℕ)) (e : seen ≡ server_names (take i servers)) where
-    server_double_more : has_double (server_names (take (i + 1) servers)) ≡ (has_double (server_names (take i servers)) || list_any (bytes_eq (string_bytes (get_or servers i d).name)) seen)
-    server_double_more =
-        ap has_double server_names_more ∙
-        has_double_push (server_names (take i servers)) (string_bytes (get_or servers i d).name) ∙
-        ap (λ ns. has_double (server_names (take i servers)) || list_any (bytes_eq (string_bytes (get_or servers i d).name)) ns) (sym e)
-
     -- a new name leaves none doubled
     pub server_single_more : has_double (server_names (take i servers)) ≡ false → list_any (bytes_eq (string_bytes (get_or servers i d).name)) seen ≡ false → has_double (server_names (take (i + 1) servers)) ≡ false
-    server_single_more single new = server_double_more ∙ ap (λ b. b || list_any (bytes_eq (string_bytes (get_or servers i d).name)) seen) single ∙ new
+    server_single_more single new = single_more (string_bytes (get_or servers i d).name) server_names_more e single new
 
     -- a name that was seen is doubled
     pub server_double_here : has_double (server_names (take i servers)) ≡ false → list_any (bytes_eq (string_bytes (get_or servers i d).name)) seen ≡ true → has_double (server_names servers) ≡ true
-    server_double_here single old =
-        let here : has_double (server_names (take (i + 1) servers)) ≡ true = server_double_more ∙ ap (λ b. b || list_any (bytes_eq (string_bytes (get_or servers i d).name)) seen) single ∙ old in
-        let whole : server_names servers ≡ server_names (take (i + 1) servers) ++ server_names (drop (i + 1) servers) =
-        ap server_names (sym (take-append-drop (i + 1) servers)) ∙
-        ap (map (λ r. r.name)) (map-append server_row (take (i + 1) servers) (drop (i + 1) servers)) ∙
-        map-append (λ r. r.name) (map server_row (take (i + 1) servers)) (map server_row (drop (i + 1) servers)) in
-        ap has_double whole ∙ has_double_append (server_names (take (i + 1) servers)) (server_names (drop (i + 1) servers)) here
+    server_double_here single old = double_here (string_bytes (get_or servers i d).name) server_names_more e (server_names servers) (server_names (drop (i + 1) servers)) (names_split server_row (λ r. r.name) servers (i + 1)) single old
 
 module _ (shards : List Shard) (i : ℕ) (d : Shard) (h : i < length shards) where
   -- the names of the first shards with the next one's
   pub shard_names_more : shard_names (take (i + 1) shards) ≡ shard_names (take i shards) ++ string_bytes (get_or shards i d).name ∷ []
-  shard_names_more =
-      ap shard_names (take_more shards i d h) ∙
-      ap (map (λ r. r.name)) (map_push shard_row (take i shards) (get_or shards i d)) ∙
-      map_push (λ r. r.name) (map shard_row (take i shards)) (shard_row (get_or shards i d))
+  shard_names_more = names_more shard_row (λ r. r.name) shards i d h
 
   module _ (seen : List (List ℕ)) (e : seen ≡ shard_names (take i shards)) where
-    shard_double_more : has_double (shard_names (take (i + 1) shards)) ≡ (has_double (shard_names (take i shards)) || list_any (bytes_eq (string_bytes (get_or shards i d).name)) seen)
-    shard_double_more =
-        ap has_double shard_names_more ∙
-        has_double_push (shard_names (take i shards)) (string_bytes (get_or shards i d).name) ∙
-        ap (λ ns. has_double (shard_names (take i shards)) || list_any (bytes_eq (string_bytes (get_or shards i d).name)) ns) (sym e)
-
     -- a new name leaves none doubled
     pub shard_single_more : has_double (shard_names (take i shards)) ≡ false → list_any (bytes_eq (string_bytes (get_or shards i d).name)) seen ≡ false → has_double (shard_names (take (i + 1) shards)) ≡ false
-    shard_single_more single new = shard_double_more ∙ ap (λ b. b || list_any (bytes_eq (string_bytes (get_or shards i d).name)) seen) single ∙ new
+    shard_single_more single new = single_more (string_bytes (get_or shards i d).name) shard_names_more e single new
 
     -- a name that was seen is doubled
     pub shard_double_here : has_double (shard_names (take i shards)) ≡ false → list_any (bytes_eq (string_bytes (get_or shards i d).name)) seen ≡ true → has_double (shard_names shards) ≡ true
-    shard_double_here single old =
-        let here : has_double (shard_names (take (i + 1) shards)) ≡ true = shard_double_more ∙ ap (λ b. b || list_any (bytes_eq (string_bytes (get_or shards i d).name)) seen) single ∙ old in
-        let whole : shard_names shards ≡ shard_names (take (i + 1) shards) ++ shard_names (drop (i + 1) shards) =
-        ap shard_names (sym (take-append-drop (i + 1) shards)) ∙
-        ap (map (λ r. r.name)) (map-append shard_row (take (i + 1) shards) (drop (i + 1) shards)) ∙
-        map-append (λ r. r.name) (map shard_row (take (i + 1) shards)) (map shard_row (drop (i + 1) shards)) in
-        ap has_double whole ∙ has_double_append (shard_names (take (i + 1) shards)) (shard_names (drop (i + 1) shards)) here
+    shard_double_here single old = double_here (string_bytes (get_or shards i d).name) shard_names_more e (shard_names shards) (shard_names (drop (i + 1) shards)) (names_split shard_row (λ r. r.name) shards (i + 1)) single old

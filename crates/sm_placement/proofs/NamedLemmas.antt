@@ -2,6 +2,7 @@
 use Rattle.std.proofs.Common.{◌≡◌, ◌+◌, ◌<◌, ◌||◌, ℕ, zero, suc, Bool, true, false, cond, not, List, [], ◌∷◌, length, get_or, Some, None, nat_lt, lt-ltb, refl, sym, ap, ◌∙◌, true≢false, arith}
 use Rattle.std.specs.List.{list_any, position, position_or_len}
 use Rattle.std.specs.Str.{bytes_eq}
+use Rattle.std.proofs.lemmas.Bool.{or_parts}
 use Rattle.std.proofs.lemmas.Cmp.{nat_list_eq_equiv}
 use Rattle.std.proofs.lemmas.List.{get_or-map}
 use Rattle.std.proofs.lemmas.List.Folds.{list_any_at}
@@ -11,13 +12,11 @@ use Rattle.sm_placement.specs.Setup.{Setup, ServerRow, ShardRow, IsSetup, names_
 
 -- where neither holds the first one doesn't
 pub or_first : (a b : Bool) → (a || b) ≡ false → a ≡ false
-or_first true b h = absurd (true≢false h)
-or_first false b h = refl
+or_first a b h = (or_parts a b h).0
 
 -- where neither holds the second one doesn't
 pub or_second : (a b : Bool) → (a || b) ≡ false → b ≡ false
-or_second true b h = absurd (true≢false h)
-or_second false b h = h
+or_second a b h = (or_parts a b h).1
 
 -- a name at a place stands at no earlier place
 first_place : (names : List (List ℕ)) (i : ℕ) (d : List ℕ) → has_double names ≡ false → i < length names → position_or_len (bytes_eq (get_or names i d)) names ≡ i

@@ -15,11 +15,11 @@ use Rattle.sm_placement.specs.Sums.{put2, count_below, bit, any_below, first_fro
 use Rattle.sm_placement.specs.Place.{Place, down_count}
 use Rattle.sm_placement.specs.Layout.{PlacementModel, IsPlacement, entries_of, place_of}
 use Rattle.sm_placement.specs.Grid.{TableModel, IsGrid, cells_of, lasts_of, down_of}
-use Rattle.sm_placement.proofs.GridLemmas.{entries_of-empty, entries_of-past}
+use Rattle.sm_placement.proofs.GridLemmas.{entries_of-is, entries_of-empty, entries_of-past}
 use Rattle.sm_placement.specs.Lead.{IsSettled}
 use Rattle.sm_placement.specs.Opening.{NamedCell, Opening, is_of, cell_named, opened_place, is_wrong_size, is_unknown, is_unknown_cell, AreKnown, IsNamedOnce, has_unknown_id, is_double, is_handing, tally, put_all, first_below, double_of, has_bad_lead, has_bad_listing, is_over_room, is_short, first_fault, fault_if, list_faults, standing_faults, open_fault, unpublished}
 use Rattle.sm_placement.proofs.Sums.{put2-here, put2-row, put2-apart, sum_apart, same_sum}
-use Rattle.sm_placement.proofs.Searches.{first_none, first_from_none, any_none, count_none}
+use Rattle.sm_placement.proofs.Searches.{none_mapped, first_none, first_from_none, any_none, count_none}
 use Rattle.sm_placement.proofs.Settling.{settled_from}
 
 -- a named cell that is of a pair names the shard and the server of that pair
@@ -174,16 +174,12 @@ tally-is t m n s (x ∷ xs) z k once =
           omega arith
     ]
 
-option_none : {A B : Type 0} (f : A → B) (o : Option A) → option_map f o ≡ None → o ≡ None
-option_none f None e = refl
-option_none f (Some x) e = cc
-
 -- where no pair is found doubled, each is named once at most
 pub once_from : (m n : ℕ) (cells : List NamedCell) → AreKnown m n cells → first_from 0 m (double_of n cells) ≡ None → IsNamedOnce cells
 once_from m n cells k e s v = elim (cases_lt s m) [
   | inl l ↦ elim (cases_lt v n) [
     | inl h ↦
-        let none : first_below n (is_double cells s) ≡ None = option_none (λ w. DoubleCell s w) (first_below n (is_double cells s)) (first_from_none (double_of n cells) 0 m e s (omega arith) (omega arith)) in
+        let none : first_below n (is_double cells s) ≡ None = none_mapped (λ w. DoubleCell s w) (first_below n (is_double cells s)) (first_from_none (double_of n cells) 0 m e s (omega arith) (omega arith)) in
         ltb-false 1 (count_by (is_of s v) cells) (first_none n (is_double cells s) none v h)
     | inr h ↦ let z : count_by (is_of s v) cells ≡ 0 = none_unknown m n cells s v k (λ a b. absurd (omega arith)) in omega arith
   ]
@@ -212,11 +208,6 @@ listed_known n (x ∷ xs) zero u k e = let z = (or_parts (is_unknown n x) (list_
     at None z e = cc
     at (Some w) z e = let same : w ≡ u = cc in let l : w < n = ltb-true w n (not-false (ltb w n) z) in omega arith
 listed_known n (x ∷ xs) (suc s) u k e = listed_known n xs s u (or_parts (is_unknown n x) (list_any (is_unknown n) xs) k).1 e
-
--- what a list has at a place is what is got there, or nothing past its end
-pub entries_of-get : {A : Type 0} (none : A) (xs : List A) (k : ℕ) → entries_of none xs k ≡ get_or xs k none
-unfolding entries_of
-entries_of-get none xs k = refl
 
 -- the parts of what is unknown
 pub cells_known : (c : Sizes) (o : Opening) → has_unknown_id c o ≡ false → AreKnown c.shards c.servers o.cells
@@ -312,7 +303,7 @@ grid_placement g listed limit is many known stands = record {
   no_entry = λ s l. entries_of-past None listed s (omega (arith, many));
   no_down = is.up;
   known = is.known;
-  listed = λ s u e. listed_known (length g.setup.servers) listed s u known (sym (entries_of-get None listed s) ∙ e);
+  listed = λ s u e. listed_known (length g.setup.servers) listed s u known (sym (entries_of-is None listed s) ∙ e);
   rooms = λ v l. ltb-false _ _ (first_none (length g.setup.servers) (is_over_room (sizes_of g.setup) (cells_of g)) stands.rooms v l);
 }
 

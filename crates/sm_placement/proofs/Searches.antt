@@ -1,15 +1,21 @@
 -- Searches and counts over the numbers below n.
 use Rattle.std.proofs.Common.{◌≡◌, ◌≢◌, ℕ, zero, suc, ◌+◌, ◌-◌, ◌<◌, ◌≤◌, Bool, true, false, cond, ltb, refl, sym, ap, ◌∙◌, arith, inl, inr, ◌⊎◌, Option, Some, None, List, [], ◌∷◌, length}
+use Rattle.std.specs.Option.{option_map}
 use Rattle.std.specs.List.{find, filter, range_with_len}
 use Rattle.std.proofs.lemmas.Bool.{cases_eq, cases_Bool, or_parts, or_from, or_left, or_right, false_from_ne_true, lt-ltb, le-ltb}
 use Rattle.sm_placement.specs.Sums.{put, sum_below, count_below, bit, any_below, first_from}
 use Rattle.sm_placement.specs.Opening.{first_below}
-use Rattle.sm_placement.proofs.Sums.{put-here, put-apart, same_sum, sum_apart, sum_zero, part_of_sum}
+use Rattle.sm_placement.proofs.Sums.{put-here, put-apart, same_sum, sum_apart, sum_zero, part_of_sum, bit-le-one}
 
 -- there is an answer or none
 pub cases_Option : {A : Type 0} (o : Option A) → (o ≡ None) ⊎ ((x : A) × (o ≡ Some x))
 cases_Option None = inl refl
 cases_Option (Some x) = inr (x, refl)
+
+-- nothing is made of an answer only where there is none
+pub none_mapped : {A B : Type 0} (f : A → B) (o : Option A) → option_map f o ≡ None → o ≡ None
+none_mapped f None e = refl
+none_mapped f (Some x) e = cc
 
 -- a search that stands at a number
 pub find_range_more : (t : ℕ → Bool) (i n : ℕ) → i < n → find t (range_with_len i (n - i)) ≡ cond (t i) (Some i) (find t (range_with_len (i + 1) (n - (i + 1))))
@@ -126,17 +132,13 @@ count_one zero t u h = omega arith
 count_one (suc n) t u h = elim (cases_eq n u) [
   | inl d ↦
       let none : count_below n t ≡ 0 = same_sum n (λ k. bit (t k)) (λ k. 0) (λ k l. rw (h k (omega arith) (λ e. absurd (omega arith))) refl) ∙ sum_zero n (λ k. 0) (λ k. refl) in
-      let top : bit (t n) ≤ 1 = bit_small (t n) in
+      let top : bit (t n) ≤ 1 = bit-le-one (t n) in
       omega arith
   | inr d ↦
       let rest : count_below n t ≤ 1 = count_one n t u (λ k l. h k (omega arith)) in
       let top : bit (t n) ≡ 0 = rw (h n (omega arith) d) refl in
       omega arith
 ]
-  where
-    bit_small : (b : Bool) → bit b ≤ 1
-    bit_small true = omega arith
-    bit_small false = omega arith
 
 -- where no number below n passes, the count is 0
 pub count_none : (n : ℕ) (t : ℕ → Bool) → ((k : ℕ) → k < n → t k ≡ false) → count_below n t ≡ 0

@@ -3,7 +3,7 @@ use Rattle.std.proofs.Common.{◌≡◌, ℕ, ◌<◌, ◌≤◌, ◌^◌, Bool,
 use Rattle.std.specs.Prelude.{IsTrue, is_some}
 use Rattle.std.specs.List.{All}
 use Rattle.std.proofs.lemmas.List.{get_or_default}
-use Rattle.std.proofs.lemmas.Bool.{cases_eq, cases_lt, or_parts, or_from, false_from_ne_true, ltb-false, le-ltb}
+use Rattle.std.proofs.lemmas.Bool.{cases_eq, cases_lt, or_parts, or_from, false_from_ne_true, ltb-false, le-ltb, not-false}
 use Rattle.sm_server.specs.declared.call.Cell.{Cell}
 use Rattle.sm_server.specs.declared.call.Cell.TheVariants.{Absent, Prepared, Secondary, Primary, Forwarding}
 use Rattle.sm_server.specs.Cell.{is_primary, is_prepared, is_forwarding}
@@ -125,11 +125,7 @@ settled_from c p out leads listings rooms floors down versions = record {
 }
   where
     listing : (row : ℕ → Cell) (u : ℕ) → not (is_primary (row u)) ≡ false → row u ≡ Primary
-    listing row u e = primary_from (row u) (go (is_primary (row u)) e)
-      where
-        go : (b : Bool) → not b ≡ false → b ≡ true
-        go true e = refl
-        go false e = cc
+    listing row u e = primary_from (row u) (not-false (is_primary (row u)) e)
 
 -- in a settled placement no shard has a bad lead
 pub settled_leads : (c : Sizes) (p : Place) → IsSettled c p → first_below c.shards (λ s. has_bad_lead c.servers (p.cells s)) ≡ None

@@ -28,24 +28,19 @@ load-small setup cells v h =
     let b : length setup.shards ≤ 4096 = h.shards in
     omega arith
 
--- a shard of a configuration has at most 1,024 live replicas
-pub live-small : (setup : Setup) (row : ℕ → Cell) (down : ℕ → Bool) → IsSetup setup → live_in (length setup.servers) row down ≤ 1024
-live-small setup row down h =
-    let a : live_in (length setup.servers) row down ≤ length setup.servers = count-le (length setup.servers) (is_live row down) in
-    let b : length setup.servers ≤ 1024 = h.servers in
-    omega arith
-
-pub serving-small : (setup : Setup) (row : ℕ → Cell) → IsSetup setup → serving_in (length setup.servers) row ≤ 1024
-serving-small setup row h =
-    let a : serving_in (length setup.servers) row ≤ length setup.servers = count-le (length setup.servers) (serves row) in
-    let b : length setup.servers ≤ 1024 = h.servers in
-    omega arith
-
+-- of the servers of a configuration at most 1,024 pass a test
 pub down-small : (setup : Setup) (down : ℕ → Bool) → IsSetup setup → count_below (length setup.servers) down ≤ 1024
 down-small setup down h =
     let a : count_below (length setup.servers) down ≤ length setup.servers = count-le (length setup.servers) down in
     let b : length setup.servers ≤ 1024 = h.servers in
     omega arith
+
+-- a shard of a configuration has at most 1,024 live replicas
+pub live-small : (setup : Setup) (row : ℕ → Cell) (down : ℕ → Bool) → IsSetup setup → live_in (length setup.servers) row down ≤ 1024
+live-small setup row down h = down-small setup (is_live row down) h
+
+pub serving-small : (setup : Setup) (row : ℕ → Cell) → IsSetup setup → serving_in (length setup.servers) row ≤ 1024
+serving-small setup row h = down-small setup (serves row) h
 
 -- what callers know of each table
 pub IsGrid-from_counted : (g : TableModel) (t : Totals) → IsCounted g t → IsGrid g
