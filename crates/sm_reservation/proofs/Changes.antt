@@ -19,6 +19,10 @@ pub record Changed2 {A : Type 0} (f g : ℕ → ℕ → A) (s v : ℕ) (x : A) :
 pub put_changed : {A : Type 0} (f : ℕ → A) (k : ℕ) (x : A) → Changed f (put f k x) k x
 put_changed f k x = record { here = put-here f k x k refl; apart = λ q e. put-apart f k x q e }
 
+-- it is changed there to what it then has there
+pub put_moved : {A : Type 0} (f : ℕ → A) (k : ℕ) (x : A) → Changed f (put f k x) k (put f k x k)
+put_moved f k x = record { here = refl; apart = λ q e. put-apart f k x q e }
+
 -- a value put into a function of pairs at one pair changes it there alone
 pub put2_changed : {A : Type 0} (f : ℕ → ℕ → A) (s v : ℕ) (x : A) → Changed2 f (put2 f s v x) s v x
 put2_changed f s v x = record { here = put2-here f s v x; row = λ q e. put2-row f s v x q e; apart = λ r q e. put2-apart f s v x r q e }

@@ -1,22 +1,20 @@
 -- A parcel's rows worked into the lists of a hold: they are taken out of the hold, or put into it.
-use Rattle.std.proofs.Common.{◌≡◌, ℕ, ◌+◌, ◌-◌, ◌≤◌, ◌<◌, ◌&&◌, nat_lt, ◌==◌, true, false, cond, Bool, eqb, Option, Some, None, is_some, is_none, List, [], ◌∷◌, length, refl, sym, ◌∙◌, ap, subst, arith, inl, inr}
-use Rattle.std.proofs.lemmas.Bool.{cases_Bool}
-use Rattle.std.proofs.lemmas.Bool.Decides.{nat_tests}
+use Rattle.std.proofs.Common.{◌≡◌, ℕ, ◌+◌, ◌-◌, ◌<◌, Option, Some, None, is_some, is_none, List, [], ◌∷◌, length, refl, sym, ◌∙◌, ap, subst, arith}
 use Rattle.sm_placement.specs.Sums.{bit}
 use Rattle.sm_reservation.specs.declared.right.CellRight.{CellRight}
 use Rattle.sm_reservation.specs.declared.right.Crown.{Crown}
 use Rattle.sm_reservation.specs.declared.right.Room.{Room}
 use Rattle.sm_reservation.specs.declared.right.Spare.{Spare}
 use Rattle.sm_reservation.specs.Rights.{Rights}
-use Rattle.sm_reservation.specs.Rows.{same, row_at, amount_of, amount_at, Rises, HasPositive}
+use Rattle.sm_reservation.specs.Rows.{row_at, Rises, HasPositive}
 use Rattle.sm_reservation.specs.Key.{key_of_cell, key_of_crown, key_of_room, key_of_spare}
 use Rattle.sm_reservation.specs.Hold.{Hold, with_cell, with_crown, without_crown, get_room, pay_room, get_spare, pay_spare, minus_cells, minus_crowns, minus_room, minus_spare, plus_cells, plus_crowns, plus_room, plus_spare}
 use Rattle.sm_reservation.specs.HoldOf.{hold_of, plain_state_of, crown_of}
 use Rattle.sm_reservation.specs.Steps.{count_steps, AllSteps}
 use Rattle.sm_reservation.specs.Turns.{out_cell, out_crown, out_room, out_spare, in_cell, in_crown, in_room, in_spare, lacks_cell, lacks_crown, lacks_room, lacks_spare, loses_cell, loses_crown, loses_room, loses_spare, HasRoom, HasSpare}
-use Rattle.sm_reservation.specs.Edits.{StaysAt, edited, edited_all, row_out, row_in, room_of, room_row_out, room_row_in, spare_of, spare_row_out, spare_row_in}
+use Rattle.sm_reservation.specs.Edits.{StaysAt, edited, edited_all, row_out, row_in, room_row_out, room_row_in, spare_row_out, spare_row_in}
 use Rattle.sm_reservation.proofs.HoldLemmas.{cells_put, crowns_put, room_put, spare_put}
-use Rattle.sm_reservation.proofs.AmountLemmas.{positive_at}
+use Rattle.sm_reservation.proofs.AmountRows.{of_room, of_spare, out_of, into, stays_by, some_by, amount_edited, length_out, length_in}
 use Rattle.sm_reservation.proofs.EditLemmas.{row_at-edited, Rises-edited, length-edited, positive-edited}
 
 -- ---- what each edit leaves
@@ -29,77 +27,37 @@ stays_out key_of held y z e = cc
 pub stays_in : {T : Type 0} (key_of : T → ℕ × ℕ) → StaysAt key_of row_in
 stays_in key_of held y z e = let d : y ≡ z = cc in ap key_of (sym d)
 
--- a row made of an amount of room has the key of the row that it was made for, and is not of 0
-pub room_stays : (y z : Room) (n : ℕ) → room_of y n ≡ Some z → (key_of_room z ≡ key_of_room y) × (0 < z.amount)
-room_stays y z n e = elim (cases_Bool (eqb n 0)) [
-  | inl b ↦ let f = rw b at e in absurd cc
-  | inr b ↦
-      let f = rw b at e in
-      let d : record y { amount = n } ≡ z = cc in
-      let key_of : key_of_room z ≡ key_of_room y = ap key_of_room (sym d) in
-      let amount : n ≡ z.amount = ap (λ (x : Room). x.amount) d in
-      (key_of, (let some : 0 < n = grind (arith, nat_tests) in omega arith))
-]
-
--- so it is of spare replicas
-pub spare_stays : (y z : Spare) (n : ℕ) → spare_of y n ≡ Some z → (key_of_spare z ≡ key_of_spare y) × (0 < z.amount)
-spare_stays y z n e = elim (cases_Bool (eqb n 0)) [
-  | inl b ↦ let f = rw b at e in absurd cc
-  | inr b ↦
-      let f = rw b at e in
-      let d : record y { amount = n } ≡ z = cc in
-      let key_of : key_of_spare z ≡ key_of_spare y = ap key_of_spare (sym d) in
-      let amount : n ≡ z.amount = ap (λ (x : Spare). x.amount) d in
-      (key_of, (let some : 0 < n = grind (arith, nat_tests) in omega arith))
-]
-
 -- what is left of room stands at its key
 pub room_stays_out : StaysAt key_of_room room_row_out
-room_stays_out held y z e = (room_stays y z (amount_of (λ x. x.amount) held - y.amount) e).0
+room_stays_out = stays_by of_room out_of
 
 -- and so does room that some is added to
 pub room_stays_in : StaysAt key_of_room room_row_in
-room_stays_in held y z e = (room_stays y z (amount_of (λ x. x.amount) held + y.amount) e).0
+room_stays_in = stays_by of_room into
 
 -- what is left of spare replicas stands at their key
 pub spare_stays_out : StaysAt key_of_spare spare_row_out
-spare_stays_out held y z e = (spare_stays y z (amount_of (λ x. x.amount) held - y.amount) e).0
+spare_stays_out = stays_by of_spare out_of
 
 -- and so do those that some are added to
 pub spare_stays_in : StaysAt key_of_spare spare_row_in
-spare_stays_in held y z e = (spare_stays y z (amount_of (λ x. x.amount) held + y.amount) e).0
+spare_stays_in = stays_by of_spare into
 
 -- a row of what is left of room is not of 0
 pub room_some_out : (held : Option Room) (y z : Room) → room_row_out held y ≡ Some z → 0 < z.amount
-room_some_out held y z e = (room_stays y z (amount_of (λ x. x.amount) held - y.amount) e).1
+room_some_out = some_by of_room out_of
 
 -- nor is one of room that some is added to
 pub room_some_in : (held : Option Room) (y z : Room) → room_row_in held y ≡ Some z → 0 < z.amount
-room_some_in held y z e = (room_stays y z (amount_of (λ x. x.amount) held + y.amount) e).1
+room_some_in = some_by of_room into
 
 -- a row of what is left of spare replicas is not of 0
 pub spare_some_out : (held : Option Spare) (y z : Spare) → spare_row_out held y ≡ Some z → 0 < z.amount
-spare_some_out held y z e = (spare_stays y z (amount_of (λ x. x.amount) held - y.amount) e).1
+spare_some_out = some_by of_spare out_of
 
 -- nor is one of those that some are added to
 pub spare_some_in : (held : Option Spare) (y z : Spare) → spare_row_in held y ≡ Some z → 0 < z.amount
-spare_some_in held y z e = (spare_stays y z (amount_of (λ x. x.amount) held + y.amount) e).1
-
-amount_of_room : (y : Room) (n : ℕ) → amount_of (λ x. x.amount) (room_of y n) ≡ n
-amount_of_room y n = elim (cases_Bool (eqb n 0)) [
-  | inl b ↦ rw b (let z : n ≡ 0 = grind (arith, nat_tests) in sym z)
-  | inr b ↦ rw b refl
-]
-
-amount_of_spare : (y : Spare) (n : ℕ) → amount_of (λ x. x.amount) (spare_of y n) ≡ n
-amount_of_spare y n = elim (cases_Bool (eqb n 0)) [
-  | inl b ↦ rw b (let z : n ≡ 0 = grind (arith, nat_tests) in sym z)
-  | inr b ↦ rw b refl
-]
-
-amount_cond : {T : Type 0} (amount : T → ℕ) (b : Bool) (o p : Option T) → amount_of amount (cond b o p) ≡ cond b (amount_of amount o) (amount_of amount p)
-amount_cond amount true o p = refl
-amount_cond amount false o p = refl
+spare_some_in = some_by of_spare into
 
 -- ---- one row
 
@@ -117,33 +75,21 @@ crown_put_in r y o = crowns_put r (edited key_of_crown row_in r.crowns y) y.shar
 
 room_taken : (r : Rights) (y : Room) → Rises key_of_room r.room → hold_of (record r { room = edited key_of_room room_row_out r.room y }) ≡ pay_room (hold_of r) y.server y.amount
 unfolding hold_of
-room_taken r y o = room_put r (edited key_of_room room_row_out r.room y) y.server ((hold_of r).room y.server - y.amount) (λ q.
-    ap (amount_of (λ (x : Room). x.amount)) (row_at-edited key_of_room room_row_out y q r.room room_stays_out o)
-    ∙ amount_cond (λ (x : Room). x.amount) (same (key_of_room y) q) (room_row_out (row_at key_of_room r.room (key_of_room y)) y) (row_at key_of_room r.room q)
-    ∙ ap (λ (n : ℕ). cond (same (key_of_room y) q) n (amount_at key_of_room (λ (x : Room). x.amount) r.room q)) (amount_of_room y (amount_of (λ (x : Room). x.amount) (row_at key_of_room r.room (key_of_room y)) - y.amount)))
+room_taken r y o = room_put r (edited key_of_room room_row_out r.room y) y.server ((hold_of r).room y.server - y.amount) (λ q. amount_edited of_room out_of y q r.room o)
 
 -- a row of room worked into the list is room that the hold gets
 pub room_put_in : (r : Rights) (y : Room) → Rises key_of_room r.room → hold_of (record r { room = edited key_of_room room_row_in r.room y }) ≡ get_room (hold_of r) y.server y.amount
 unfolding hold_of
-room_put_in r y o = room_put r (edited key_of_room room_row_in r.room y) y.server ((hold_of r).room y.server + y.amount) (λ q.
-    ap (amount_of (λ (x : Room). x.amount)) (row_at-edited key_of_room room_row_in y q r.room room_stays_in o)
-    ∙ amount_cond (λ (x : Room). x.amount) (same (key_of_room y) q) (room_row_in (row_at key_of_room r.room (key_of_room y)) y) (row_at key_of_room r.room q)
-    ∙ ap (λ (n : ℕ). cond (same (key_of_room y) q) n (amount_at key_of_room (λ (x : Room). x.amount) r.room q)) (amount_of_room y (amount_of (λ (x : Room). x.amount) (row_at key_of_room r.room (key_of_room y)) + y.amount)))
+room_put_in r y o = room_put r (edited key_of_room room_row_in r.room y) y.server ((hold_of r).room y.server + y.amount) (λ q. amount_edited of_room into y q r.room o)
 
 spare_taken : (r : Rights) (y : Spare) → Rises key_of_spare r.spare → hold_of (record r { spare = edited key_of_spare spare_row_out r.spare y }) ≡ pay_spare (hold_of r) y.shard y.amount
 unfolding hold_of
-spare_taken r y o = spare_put r (edited key_of_spare spare_row_out r.spare y) y.shard ((hold_of r).spare y.shard - y.amount) (λ q.
-    ap (amount_of (λ (x : Spare). x.amount)) (row_at-edited key_of_spare spare_row_out y q r.spare spare_stays_out o)
-    ∙ amount_cond (λ (x : Spare). x.amount) (same (key_of_spare y) q) (spare_row_out (row_at key_of_spare r.spare (key_of_spare y)) y) (row_at key_of_spare r.spare q)
-    ∙ ap (λ (n : ℕ). cond (same (key_of_spare y) q) n (amount_at key_of_spare (λ (x : Spare). x.amount) r.spare q)) (amount_of_spare y (amount_of (λ (x : Spare). x.amount) (row_at key_of_spare r.spare (key_of_spare y)) - y.amount)))
+spare_taken r y o = spare_put r (edited key_of_spare spare_row_out r.spare y) y.shard ((hold_of r).spare y.shard - y.amount) (λ q. amount_edited of_spare out_of y q r.spare o)
 
 -- a row of spare replicas worked into the list is what the hold gets of them
 pub spare_put_in : (r : Rights) (y : Spare) → Rises key_of_spare r.spare → hold_of (record r { spare = edited key_of_spare spare_row_in r.spare y }) ≡ get_spare (hold_of r) y.shard y.amount
 unfolding hold_of
-spare_put_in r y o = spare_put r (edited key_of_spare spare_row_in r.spare y) y.shard ((hold_of r).spare y.shard + y.amount) (λ q.
-    ap (amount_of (λ (x : Spare). x.amount)) (row_at-edited key_of_spare spare_row_in y q r.spare spare_stays_in o)
-    ∙ amount_cond (λ (x : Spare). x.amount) (same (key_of_spare y) q) (spare_row_in (row_at key_of_spare r.spare (key_of_spare y)) y) (row_at key_of_spare r.spare q)
-    ∙ ap (λ (n : ℕ). cond (same (key_of_spare y) q) n (amount_at key_of_spare (λ (x : Spare). x.amount) r.spare q)) (amount_of_spare y (amount_of (λ (x : Spare). x.amount) (row_at key_of_spare r.spare (key_of_spare y)) + y.amount)))
+spare_put_in r y o = spare_put r (edited key_of_spare spare_row_in r.spare y) y.shard ((hold_of r).spare y.shard + y.amount) (λ q. amount_edited of_spare into y q r.spare o)
 
 -- ---- all rows of a list
 
@@ -253,48 +199,16 @@ crowns_gained r (y ∷ ys) o =
     let here = none_crown (row_at key_of_crown r.crowns (y.shard, 0)) in
     omega arith
 
-left_over : (had n : ℕ) → n ≤ had → bit (nat_lt 0 had) ≡ bit (nat_lt 0 n && (had == n)) + bit (nat_lt 0 (had - n))
-left_over had n l = elim (cases_Bool (nat_lt 0 n)) [
-  | inl a ↦ elim (cases_Bool (eqb had n)) [
-    | inl b ↦ rw (a, b, (let z : nat_lt 0 had ≡ true = grind (arith, nat_tests) in z), (let z : nat_lt 0 (had - n) ≡ false = grind (arith, nat_tests) in z)) refl
-    | inr b ↦ rw (a, b, (let z : nat_lt 0 had ≡ true = grind (arith, nat_tests) in z), (let z : nat_lt 0 (had - n) ≡ true = grind (arith, nat_tests) in z)) refl
-  ]
-  | inr a ↦ rw a (let z : had - n ≡ had = grind (arith, nat_tests) in rw z (omega arith))
-]
-
-more_then : (had n : ℕ) → bit (nat_lt 0 (had + n)) ≡ bit (nat_lt 0 had) + bit (nat_lt 0 n && (had == 0))
-more_then had n = elim (cases_Bool (nat_lt 0 n)) [
-  | inl a ↦ elim (cases_Bool (eqb had 0)) [
-    | inl b ↦ rw (a, b, (let z : nat_lt 0 had ≡ false = grind (arith, nat_tests) in z), (let z : nat_lt 0 (had + n) ≡ true = grind (arith, nat_tests) in z)) refl
-    | inr b ↦ rw (a, b, (let z : nat_lt 0 had ≡ true = grind (arith, nat_tests) in z), (let z : nat_lt 0 (had + n) ≡ true = grind (arith, nat_tests) in z)) refl
-  ]
-  | inr a ↦ rw a (let z : had + n ≡ had = grind (arith, nat_tests) in rw z (omega arith))
-]
-
-some_held : {T : Type 0} (key_of : T → ℕ × ℕ) (amount : T → ℕ) (k : ℕ × ℕ) (xs : List T) (o : Option T) → HasPositive amount xs → row_at key_of xs k ≡ o → bit (is_some o) ≡ bit (nat_lt 0 (amount_of amount o))
-some_held key_of amount k xs None p e = refl
-some_held key_of amount k xs (Some x) p e = let l = positive_at key_of amount k xs x p e in let z : nat_lt 0 (amount x) ≡ true = grind (arith, nat_tests) in rw z refl
-
-some_room : (y : Room) (n : ℕ) → bit (is_some (room_of y n)) ≡ bit (nat_lt 0 n)
-some_room y n = elim (cases_Bool (eqb n 0)) [
-  | inl b ↦ rw (b, (let z : nat_lt 0 n ≡ false = grind (arith, nat_tests) in z)) refl
-  | inr b ↦ rw (b, (let z : nat_lt 0 n ≡ true = grind (arith, nat_tests) in z)) refl
-]
-
 -- the list has as many rows fewer as there are servers of which the hold pays all its room
 pub rooms_lost : (r : Rights) (ys : List Room) → Rises key_of_room r.room → HasPositive (λ x. x.amount) r.room → AllSteps out_room HasRoom (hold_of r) ys → length (edited_all key_of_room room_row_out r.room ys) + count_steps out_room loses_room (hold_of r) ys ≡ length r.room
 unfolding hold_of
 rooms_lost r [] o p has = omega arith
 rooms_lost r (y ∷ ys) o p has =
     let s = record r { room = edited key_of_room room_row_out r.room y } in
-    let had = amount_of (λ (x : Room). x.amount) (row_at key_of_room r.room (y.server, 0)) in
     let now = room_taken r y o in
     let rest = rooms_lost s ys (Rises-edited key_of_room room_row_out y r.room room_stays_out o) (positive-edited key_of_room room_row_out (λ (x : Room). x.amount) y r.room (λ held z e. room_some_out held y z e) p) (subst (λ (h : Hold). AllSteps out_room HasRoom h ys) (sym now) has.1) in
     let same_count = ap (λ (h : Hold). count_steps out_room loses_room h ys) now in
-    let len = length-edited key_of_room room_row_out y r.room o in
-    let held = some_held key_of_room (λ (x : Room). x.amount) (y.server, 0) r.room (row_at key_of_room r.room (y.server, 0)) p refl in
-    let left = some_room y (had - y.amount) in
-    let parts = left_over had y.amount has.0 in
+    let one = length_out of_room y r.room o p has.0 in
     omega arith
 
 -- and as many more as there are servers of which it had none
@@ -303,21 +217,11 @@ unfolding hold_of
 rooms_gained r [] o p = omega arith
 rooms_gained r (y ∷ ys) o p =
     let s = record r { room = edited key_of_room room_row_in r.room y } in
-    let had = amount_of (λ (x : Room). x.amount) (row_at key_of_room r.room (y.server, 0)) in
     let now = room_put_in r y o in
     let rest = rooms_gained s ys (Rises-edited key_of_room room_row_in y r.room room_stays_in o) (positive-edited key_of_room room_row_in (λ (x : Room). x.amount) y r.room (λ held z e. room_some_in held y z e) p) in
     let same_count = ap (λ (h : Hold). count_steps in_room lacks_room h ys) now in
-    let len = length-edited key_of_room room_row_in y r.room o in
-    let held = some_held key_of_room (λ (x : Room). x.amount) (y.server, 0) r.room (row_at key_of_room r.room (y.server, 0)) p refl in
-    let together = some_room y (had + y.amount) in
-    let parts = more_then had y.amount in
+    let one = length_in of_room y r.room o p in
     omega arith
-
-some_spare : (y : Spare) (n : ℕ) → bit (is_some (spare_of y n)) ≡ bit (nat_lt 0 n)
-some_spare y n = elim (cases_Bool (eqb n 0)) [
-  | inl b ↦ rw (b, (let z : nat_lt 0 n ≡ false = grind (arith, nat_tests) in z)) refl
-  | inr b ↦ rw (b, (let z : nat_lt 0 n ≡ true = grind (arith, nat_tests) in z)) refl
-]
 
 -- the list has as many rows fewer as there are shards of which the hold pays all its spare replicas
 pub spares_lost : (r : Rights) (ys : List Spare) → Rises key_of_spare r.spare → HasPositive (λ x. x.amount) r.spare → AllSteps out_spare HasSpare (hold_of r) ys → length (edited_all key_of_spare spare_row_out r.spare ys) + count_steps out_spare loses_spare (hold_of r) ys ≡ length r.spare
@@ -325,14 +229,10 @@ unfolding hold_of
 spares_lost r [] o p has = omega arith
 spares_lost r (y ∷ ys) o p has =
     let s = record r { spare = edited key_of_spare spare_row_out r.spare y } in
-    let had = amount_of (λ (x : Spare). x.amount) (row_at key_of_spare r.spare (y.shard, 0)) in
     let now = spare_taken r y o in
     let rest = spares_lost s ys (Rises-edited key_of_spare spare_row_out y r.spare spare_stays_out o) (positive-edited key_of_spare spare_row_out (λ (x : Spare). x.amount) y r.spare (λ held z e. spare_some_out held y z e) p) (subst (λ (h : Hold). AllSteps out_spare HasSpare h ys) (sym now) has.1) in
     let same_count = ap (λ (h : Hold). count_steps out_spare loses_spare h ys) now in
-    let len = length-edited key_of_spare spare_row_out y r.spare o in
-    let held = some_held key_of_spare (λ (x : Spare). x.amount) (y.shard, 0) r.spare (row_at key_of_spare r.spare (y.shard, 0)) p refl in
-    let left = some_spare y (had - y.amount) in
-    let parts = left_over had y.amount has.0 in
+    let one = length_out of_spare y r.spare o p has.0 in
     omega arith
 
 -- and as many more as there are shards of which it had none
@@ -341,12 +241,8 @@ unfolding hold_of
 spares_gained r [] o p = omega arith
 spares_gained r (y ∷ ys) o p =
     let s = record r { spare = edited key_of_spare spare_row_in r.spare y } in
-    let had = amount_of (λ (x : Spare). x.amount) (row_at key_of_spare r.spare (y.shard, 0)) in
     let now = spare_put_in r y o in
     let rest = spares_gained s ys (Rises-edited key_of_spare spare_row_in y r.spare spare_stays_in o) (positive-edited key_of_spare spare_row_in (λ (x : Spare). x.amount) y r.spare (λ held z e. spare_some_in held y z e) p) in
     let same_count = ap (λ (h : Hold). count_steps in_spare lacks_spare h ys) now in
-    let len = length-edited key_of_spare spare_row_in y r.spare o in
-    let held = some_held key_of_spare (λ (x : Spare). x.amount) (y.shard, 0) r.spare (row_at key_of_spare r.spare (y.shard, 0)) p refl in
-    let together = some_spare y (had + y.amount) in
-    let parts = more_then had y.amount in
+    let one = length_in of_spare y r.spare o p in
     omega arith

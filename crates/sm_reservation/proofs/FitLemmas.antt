@@ -17,6 +17,7 @@ use Rattle.sm_reservation.specs.HoldOf.{hold_of, plain_state_of, crown_of}
 use Rattle.sm_reservation.specs.CanJoin.{AreApart, CanJoin}
 use Rattle.sm_reservation.specs.Turns.{lacks_cell, lacks_crown, RoomFits, SpareFits}
 use Rattle.sm_reservation.specs.Pool.{IsKnownHold}
+use Rattle.sm_placement.proofs.Searches.{cases_Option}
 use Rattle.sm_reservation.proofs.Places.{same_is}
 use Rattle.sm_reservation.proofs.AmountLemmas.{each_of}
 use Rattle.sm_reservation.proofs.ParcelRows.{IsFound, all_found, all_map, rooms_fit, spares_fit}
@@ -136,15 +137,26 @@ pub record AreKnown (shards servers : ℕ) (r : Rights) : Type 0 where
   pub room : AllByRecursion (λ x. x.server < servers) r.room
   pub spare : AllByRecursion (λ x. x.shard < shards) r.spare
 
+-- where the numbers of all rows are below a count, no row stands past it
+none_past : {T : Type 0} (key_of : T → ℕ × ℕ) (count : ℕ) (xs : List T) (s : ℕ) → count ≤ s → AllByRecursion (λ x. (key_of x).0 < count) xs → row_at key_of xs (s, 0) ≡ None
+none_past key_of count xs s past all = elim (cases_Option (row_at key_of xs (s, 0))) [
+  | inl none ↦ none
+  | inr some ↦
+      let t = all_at key_of (λ x. (key_of x).0 < count) (s, 0) some.0 xs all some.1 in
+      let a : (key_of some.0).0 ≡ s = ap (λ (q : ℕ × ℕ). q.0) t.1 in
+      let c : (key_of some.0).0 < count = t.0 in
+      absurd (omega arith)
+]
+
 -- where all rows are of known shards and servers, so are all rights of the hold
 pub known_below : (shards servers : ℕ) (r : Rights) → AreKnown shards servers r → IsKnownHold shards servers (hold_of r)
 unfolding hold_of
 known_below shards servers r k = record {
   no_shard = λ s v l. cell (row_at key_of_cell r.cells (s, v)) s v refl (inl l);
   no_server = λ s v l. cell (row_at key_of_cell r.cells (s, v)) s v refl (inr l);
-  crowns = λ s l. crown (row_at key_of_crown r.crowns (s, 0)) s refl l;
-  room = λ v l. room (row_at key_of_room r.room (v, 0)) v refl l;
-  spare = λ s l. spare (row_at key_of_spare r.spare (s, 0)) s refl l;
+  crowns = λ s l. ap crown_of (none_past key_of_crown shards r.crowns s l k.crowns);
+  room = λ v l. ap (amount_of (λ (x : Room). x.amount)) (none_past key_of_room servers r.room v l k.room);
+  spare = λ s l. ap (amount_of (λ (x : Spare). x.amount)) (none_past key_of_spare shards r.spare s l k.spare);
 }
   where
     cell : (o : Option CellRight) (s v : ℕ) → row_at key_of_cell r.cells (s, v) ≡ o → (shards ≤ s) ⊎ (servers ≤ v) → plain_state_of o ≡ None
@@ -156,30 +168,6 @@ known_below shards servers r k = record {
         let c : y.shard < shards = t.0.0 in
         let d : y.server < servers = t.0.1 in
         absurd (elim l [ inl m ↦ omega arith | inr m ↦ omega arith ])
-
-    crown : (o : Option Crown) (s : ℕ) → row_at key_of_crown r.crowns (s, 0) ≡ o → shards ≤ s → crown_of o ≡ None
-    crown None s e l = refl
-    crown (Some y) s e l =
-        let t = all_at key_of_crown (λ x. x.shard < shards) (s, 0) y r.crowns k.crowns e in
-        let a : y.shard ≡ s = ap (λ (q : ℕ × ℕ). q.0) t.1 in
-        let c : y.shard < shards = t.0 in
-        absurd (omega arith)
-
-    room : (o : Option Room) (v : ℕ) → row_at key_of_room r.room (v, 0) ≡ o → servers ≤ v → amount_of (λ x. x.amount) o ≡ 0
-    room None v e l = refl
-    room (Some y) v e l =
-        let t = all_at key_of_room (λ x. x.server < servers) (v, 0) y r.room k.room e in
-        let a : y.server ≡ v = ap (λ (q : ℕ × ℕ). q.0) t.1 in
-        let c : y.server < servers = t.0 in
-        absurd (omega arith)
-
-    spare : (o : Option Spare) (s : ℕ) → row_at key_of_spare r.spare (s, 0) ≡ o → shards ≤ s → amount_of (λ x. x.amount) o ≡ 0
-    spare None s e l = refl
-    spare (Some y) s e l =
-        let t = all_at key_of_spare (λ x. x.shard < shards) (s, 0) y r.spare k.spare e in
-        let a : y.shard ≡ s = ap (λ (q : ℕ × ℕ). q.0) t.1 in
-        let c : y.shard < shards = t.0 in
-        absurd (omega arith)
 
 -- the same, where std's word says it of all rows
 pub all_known : (shards servers : ℕ) (r : Rights) → All (λ x. (x.shard < shards) × (x.server < servers)) r.cells → All (λ x. x.shard < shards) r.crowns → All (λ x. x.server < servers) r.room → All (λ x. x.shard < shards) r.spare → AreKnown shards servers r

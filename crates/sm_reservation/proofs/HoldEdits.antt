@@ -1,24 +1,23 @@
 -- Whole lists worked into the lists of a hold: what the code's edits leave.
-use Rattle.std.proofs.Common.{◌≡◌, ℕ, ◌+◌, ◌-◌, ◌%◌, ◌^◌, ◌≤◌, ◌<◌, ◌&&◌, nat_lt, ◌==◌, true, false, Bool, eqb, Option, Some, None, is_some, is_none, List, [], ◌∷◌, refl, sym, ◌∙◌, ap, subst, arith, inl, inr}
-use Rattle.std.proofs.lemmas.Bool.{cases_Bool}
-use Rattle.std.proofs.lemmas.Bool.Decides.{nat_tests}
+use Rattle.std.proofs.Common.{◌≡◌, ℕ, ◌+◌, ◌-◌, ◌^◌, ◌≤◌, ◌<◌, ◌&&◌, true, false, Bool, Option, Some, None, is_some, is_none, List, [], ◌∷◌, refl, sym, ◌∙◌, ap, subst, arith}
 use Rattle.sm_placement.specs.Sums.{bit}
 use Rattle.sm_reservation.specs.declared.right.CellRight.{CellRight}
 use Rattle.sm_reservation.specs.declared.right.Crown.{Crown}
 use Rattle.sm_reservation.specs.declared.right.Room.{Room}
 use Rattle.sm_reservation.specs.declared.right.Spare.{Spare}
 use Rattle.sm_reservation.specs.Rights.{Rights}
-use Rattle.sm_reservation.specs.Rows.{row_at, amount_of, Rises}
+use Rattle.sm_reservation.specs.Rows.{row_at, Rises}
 use Rattle.sm_reservation.specs.Key.{key_of_cell, key_of_crown, key_of_room, key_of_spare}
 use Rattle.sm_reservation.specs.Hold.{Hold}
 use Rattle.sm_reservation.specs.HoldOf.{hold_of, plain_state_of, crown_of}
 use Rattle.sm_reservation.specs.Steps.{count_steps, AllSteps}
 use Rattle.sm_reservation.specs.Turns.{in_cell, in_crown, in_room, in_spare, lacks_cell, lacks_crown, lacks_room, lacks_spare, RoomFits, SpareFits}
-use Rattle.sm_reservation.specs.Edits.{StaysAt, edited, edited_all, new_rows, row_in, room_of, room_row_out, room_row_in, room_in_word, spare_of, spare_row_out, spare_row_in, spare_in_word}
+use Rattle.sm_reservation.specs.Edits.{StaysAt, edited, edited_all, new_rows, row_in, room_row_out, room_row_in, room_in_word, spare_row_out, spare_row_in, spare_in_word}
 use Rattle.sm_reservation.proofs.StepLemmas.{tally, tally_is}
 use Rattle.sm_reservation.proofs.TurnLemmas.{lacks-cells, lacks-crowns, lacks-room, lacks-spare}
-use Rattle.sm_reservation.proofs.EditLemmas.{Rises-edited, edited_same}
-use Rattle.sm_reservation.proofs.EditedHolds.{room_stays, spare_stays, room_stays_in, spare_stays_in, room_put_in, spare_put_in}
+use Rattle.sm_reservation.proofs.EditLemmas.{Rises-edited}
+use Rattle.sm_reservation.proofs.AmountRows.{of_room, of_spare, into_word, stays_by, some_by, out_small, word_small, comes_new, edited_in_word}
+use Rattle.sm_reservation.proofs.EditedHolds.{room_stays_in, spare_stays_in, room_put_in, spare_put_in}
 
 -- ---- how many rows come in
 
@@ -60,54 +59,33 @@ crowns_come r ys o = rw (lacks-crowns (hold_of r) ys o, ← tally_is (lacks_crow
 pub room_never : (y : Room) → room_row_out None y ≡ None
 room_never y = rw (let z : 0 - y.amount ≡ 0 = omega arith in z) refl
 
-room_come : (y : Room) (o : Option Room) → bit (is_none o && is_some (room_in_word None y)) ≤ bit (nat_lt 0 y.amount && (amount_of (λ x. x.amount) o == 0))
-room_come y (Some x) = omega arith
-room_come y None = elim (cases_Bool (nat_lt 0 y.amount)) [
-  | inl a ↦ rw a (one_at_most (is_some (room_in_word None y)))
-  | inr a ↦ rw (a, (let z : (0 + y.amount) % 2 ^ 64 ≡ 0 = (let n : y.amount ≡ 0 = grind (arith, nat_tests) in rw n refl) in z)) (omega arith)
-]
-  where
-    one_at_most : (b : Bool) → bit b ≤ 1
-    one_at_most true = omega arith
-    one_at_most false = omega arith
-
 -- no more rows of room come in than there are servers of which the hold has none
 pub rooms_come : (r : Rights) (ys : List Room) → Rises key_of_room ys → new_rows key_of_room room_in_word r.room ys ≤ count_steps in_room lacks_room (hold_of r) ys
 unfolding hold_of
-rooms_come r ys o = rw (lacks-room (hold_of r) ys o, ← tally_is (lacks_room (hold_of r)) ys) (few_come key_of_room room_in_word (lacks_room (hold_of r)) r.room ys (λ y. room_come y (row_at key_of_room r.room (key_of_room y))))
+rooms_come r ys o = rw (lacks-room (hold_of r) ys o, ← tally_is (lacks_room (hold_of r)) ys) (few_come key_of_room room_in_word (lacks_room (hold_of r)) r.room ys (λ y. comes_new of_room y (row_at key_of_room r.room (key_of_room y))))
 
 -- room that is added as a machine word stands at its key
 pub room_stays_in_word : StaysAt key_of_room room_in_word
-room_stays_in_word held y z e = (room_stays y z ((amount_of (λ x. x.amount) held + y.amount) % 2 ^ 64) e).0
+room_stays_in_word = stays_by of_room into_word
 
 -- and its row is not of 0
 pub room_some_in_word : (held : Option Room) (y z : Room) → room_in_word held y ≡ Some z → 0 < z.amount
-room_some_in_word held y z e = (room_stays y z ((amount_of (λ x. x.amount) held + y.amount) % 2 ^ 64) e).1
-
-room_is : (y z : Room) (n : ℕ) → room_of y n ≡ Some z → z.amount ≡ n
-room_is y z n e = elim (cases_Bool (eqb n 0)) [
-  | inl b ↦ let f = rw b at e in absurd cc
-  | inr b ↦ let f = rw b at e in let d : record y { amount = n } ≡ z = cc in sym (ap (λ (x : Room). x.amount) d)
-]
+room_some_in_word = some_by of_room into_word
 
 -- and its amount is a u64
 pub room_word_small : (held : Option Room) (y z : Room) → ((x : Room) → held ≡ Some x → x.amount < 2 ^ 64) → room_in_word held y ≡ Some z → z.amount < 2 ^ 64
-room_word_small held y z h e = let is = room_is y z ((amount_of (λ x. x.amount) held + y.amount) % 2 ^ 64) e in omega arith
+room_word_small = word_small of_room
 
 -- what is left of a u64 of room is one
 pub room_out_small : (held : Option Room) (y z : Room) → ((x : Room) → held ≡ Some x → x.amount < 2 ^ 64) → room_row_out held y ≡ Some z → z.amount < 2 ^ 64
-room_out_small None y z h e = let is = room_is y z (0 - y.amount) e in omega arith
-room_out_small (Some x) y z h e = let is = room_is y z (x.amount - y.amount) e in let l : x.amount < 2 ^ 64 = h x refl in omega arith
+room_out_small = out_small of_room
 
 -- where each sum fits, a machine word holds it
 pub rooms_in_word : (r : Rights) (ys : List Room) → Rises key_of_room r.room → AllSteps in_room RoomFits (hold_of r) ys → edited_all key_of_room room_in_word r.room ys ≡ edited_all key_of_room room_row_in r.room ys
 unfolding hold_of
 rooms_in_word r [] o fits = refl
 rooms_in_word r (y ∷ ys) o fits =
-    let had = amount_of (λ (x : Room). x.amount) (row_at key_of_room r.room (key_of_room y)) in
-    let small : (had + y.amount) % 2 ^ 64 ≡ had + y.amount = (let l = fits.0 in omega arith) in
-    let here : edited key_of_room room_in_word r.room y ≡ edited key_of_room room_row_in r.room y = edited_same key_of_room room_in_word room_row_in y r.room o (ap (room_of y) small) in
-    ap (λ (l : List Room). edited_all key_of_room room_in_word l ys) here ∙ rooms_in_word (record r { room = edited key_of_room room_row_in r.room y }) ys (Rises-edited key_of_room room_row_in y r.room room_stays_in o) (subst (λ (h : Hold). AllSteps in_room RoomFits h ys) (sym (room_put_in r y o)) fits.1)
+    ap (λ (l : List Room). edited_all key_of_room room_in_word l ys) (edited_in_word of_room y r.room o fits.0) ∙ rooms_in_word (record r { room = edited key_of_room room_row_in r.room y }) ys (Rises-edited key_of_room room_row_in y r.room room_stays_in o) (subst (λ (h : Hold). AllSteps in_room RoomFits h ys) (sym (room_put_in r y o)) fits.1)
 
 -- ---- spare
 
@@ -115,51 +93,30 @@ rooms_in_word r (y ∷ ys) o fits =
 pub spare_never : (y : Spare) → spare_row_out None y ≡ None
 spare_never y = rw (let z : 0 - y.amount ≡ 0 = omega arith in z) refl
 
-spare_come : (y : Spare) (o : Option Spare) → bit (is_none o && is_some (spare_in_word None y)) ≤ bit (nat_lt 0 y.amount && (amount_of (λ x. x.amount) o == 0))
-spare_come y (Some x) = omega arith
-spare_come y None = elim (cases_Bool (nat_lt 0 y.amount)) [
-  | inl a ↦ rw a (one_at_most (is_some (spare_in_word None y)))
-  | inr a ↦ rw (a, (let z : (0 + y.amount) % 2 ^ 64 ≡ 0 = (let n : y.amount ≡ 0 = grind (arith, nat_tests) in rw n refl) in z)) (omega arith)
-]
-  where
-    one_at_most : (b : Bool) → bit b ≤ 1
-    one_at_most true = omega arith
-    one_at_most false = omega arith
-
 -- no more rows of spare replicas come in than there are shards of which the hold has none
 pub spares_come : (r : Rights) (ys : List Spare) → Rises key_of_spare ys → new_rows key_of_spare spare_in_word r.spare ys ≤ count_steps in_spare lacks_spare (hold_of r) ys
 unfolding hold_of
-spares_come r ys o = rw (lacks-spare (hold_of r) ys o, ← tally_is (lacks_spare (hold_of r)) ys) (few_come key_of_spare spare_in_word (lacks_spare (hold_of r)) r.spare ys (λ y. spare_come y (row_at key_of_spare r.spare (key_of_spare y))))
+spares_come r ys o = rw (lacks-spare (hold_of r) ys o, ← tally_is (lacks_spare (hold_of r)) ys) (few_come key_of_spare spare_in_word (lacks_spare (hold_of r)) r.spare ys (λ y. comes_new of_spare y (row_at key_of_spare r.spare (key_of_spare y))))
 
 -- spare replicas that are added as a machine word stand at their key
 pub spare_stays_in_word : StaysAt key_of_spare spare_in_word
-spare_stays_in_word held y z e = (spare_stays y z ((amount_of (λ x. x.amount) held + y.amount) % 2 ^ 64) e).0
+spare_stays_in_word = stays_by of_spare into_word
 
 -- and their row is not of 0
 pub spare_some_in_word : (held : Option Spare) (y z : Spare) → spare_in_word held y ≡ Some z → 0 < z.amount
-spare_some_in_word held y z e = (spare_stays y z ((amount_of (λ x. x.amount) held + y.amount) % 2 ^ 64) e).1
-
-spare_is : (y z : Spare) (n : ℕ) → spare_of y n ≡ Some z → z.amount ≡ n
-spare_is y z n e = elim (cases_Bool (eqb n 0)) [
-  | inl b ↦ let f = rw b at e in absurd cc
-  | inr b ↦ let f = rw b at e in let d : record y { amount = n } ≡ z = cc in sym (ap (λ (x : Spare). x.amount) d)
-]
+spare_some_in_word = some_by of_spare into_word
 
 -- and their amount is a u64
 pub spare_word_small : (held : Option Spare) (y z : Spare) → ((x : Spare) → held ≡ Some x → x.amount < 2 ^ 64) → spare_in_word held y ≡ Some z → z.amount < 2 ^ 64
-spare_word_small held y z h e = let is = spare_is y z ((amount_of (λ x. x.amount) held + y.amount) % 2 ^ 64) e in omega arith
+spare_word_small = word_small of_spare
 
 -- what is left of a u64 of spare replicas is one
 pub spare_out_small : (held : Option Spare) (y z : Spare) → ((x : Spare) → held ≡ Some x → x.amount < 2 ^ 64) → spare_row_out held y ≡ Some z → z.amount < 2 ^ 64
-spare_out_small None y z h e = let is = spare_is y z (0 - y.amount) e in omega arith
-spare_out_small (Some x) y z h e = let is = spare_is y z (x.amount - y.amount) e in let l : x.amount < 2 ^ 64 = h x refl in omega arith
+spare_out_small = out_small of_spare
 
 -- where each sum fits, a machine word holds it
 pub spares_in_word : (r : Rights) (ys : List Spare) → Rises key_of_spare r.spare → AllSteps in_spare SpareFits (hold_of r) ys → edited_all key_of_spare spare_in_word r.spare ys ≡ edited_all key_of_spare spare_row_in r.spare ys
 unfolding hold_of
 spares_in_word r [] o fits = refl
 spares_in_word r (y ∷ ys) o fits =
-    let had = amount_of (λ (x : Spare). x.amount) (row_at key_of_spare r.spare (key_of_spare y)) in
-    let small : (had + y.amount) % 2 ^ 64 ≡ had + y.amount = (let l = fits.0 in omega arith) in
-    let here : edited key_of_spare spare_in_word r.spare y ≡ edited key_of_spare spare_row_in r.spare y = edited_same key_of_spare spare_in_word spare_row_in y r.spare o (ap (spare_of y) small) in
-    ap (λ (l : List Spare). edited_all key_of_spare spare_in_word l ys) here ∙ spares_in_word (record r { spare = edited key_of_spare spare_row_in r.spare y }) ys (Rises-edited key_of_spare spare_row_in y r.spare spare_stays_in o) (subst (λ (h : Hold). AllSteps in_spare SpareFits h ys) (sym (spare_put_in r y o)) fits.1)
+    ap (λ (l : List Spare). edited_all key_of_spare spare_in_word l ys) (edited_in_word of_spare y r.spare o fits.0) ∙ spares_in_word (record r { spare = edited key_of_spare spare_row_in r.spare y }) ys (Rises-edited key_of_spare spare_row_in y r.spare spare_stays_in o) (subst (λ (h : Hold). AllSteps in_spare SpareFits h ys) (sym (spare_put_in r y o)) fits.1)

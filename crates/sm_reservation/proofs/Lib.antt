@@ -14,6 +14,7 @@ pub mod HoldLemmas
 pub mod EditLemmas
 pub mod MergeLemmas
 pub mod PlacedRows
+pub mod AmountRows
 pub mod EditedHolds
 pub mod HoldEdits
 pub mod HoldSizes

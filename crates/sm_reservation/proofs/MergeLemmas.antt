@@ -1,17 +1,14 @@
 -- Rows of a list worked into rows in order in one pass: what each turn of the pass leaves.
-use Rattle.std.proofs.Common.{◌≡◌, ℕ, zero, suc, ◌+◌, ◌≤◌, ◌<◌, true, false, ◌&&◌, Option, Some, None, is_some, is_none, IsSome, List, [], ◌∷◌, ◌++◌, length, get_or, set, take, drop, refl, sym, ◌∙◌, ap, arith, inl, inr, append_assoc, zero-add, drop-cons, length-drop, Bool}
+use Rattle.std.proofs.Common.{◌≡◌, ℕ, zero, suc, ◌+◌, ◌≤◌, ◌<◌, true, ◌&&◌, Option, Some, None, is_some, is_none, IsSome, List, [], ◌∷◌, ◌++◌, length, get_or, set, take, drop, refl, sym, ◌∙◌, ap, arith, inl, inr, append_assoc, zero-add, drop-cons, length-drop}
 use Rattle.std.proofs.Math.Seq.{take-suc, take-suc-set}
 use Rattle.std.proofs.lemmas.List.{drop-set-lt}
 use Rattle.std.proofs.lemmas.Bool.{cases_Bool}
 use Rattle.sm_placement.specs.Sums.{bit}
 use Rattle.sm_reservation.specs.Rows.{same, before, row_at, AllAfter, Rises, count_before}
 use Rattle.sm_reservation.specs.Edits.{in_front, edited, edited_all, StaysAt, head_at, new_rows}
+use Rattle.sm_placement.proofs.Sums.{bit-le-one}
 use Rattle.sm_reservation.proofs.Places.{same_here, same_is, before_not_same, before_from_not}
 use Rattle.sm_reservation.proofs.RowLemmas.{none_after, AllAfter-trans}
-
-one_at_most : (b : Bool) → bit b ≤ 1
-one_at_most true = omega arith
-one_at_most false = omega arith
 
 some_bit : {A : Type 0} (o : Option A) → IsSome o → bit (is_some o) ≡ 1
 some_bit (Some x) s = refl
@@ -82,7 +79,7 @@ new_turn key_of edit y (x ∷ xs) ys o r = elim (cases_Bool (before (key_of x) (
 -- no more rows come in than the list has
 pub new_rows-le : {T : Type 0} (key_of : T → ℕ × ℕ) (edit : Option T → T → Option T) (xs ys : List T) → new_rows key_of edit xs ys ≤ length ys
 new_rows-le key_of edit xs [] = omega arith
-new_rows-le key_of edit xs (y ∷ ys) = omega (arith, new_rows-le key_of edit xs ys, one_at_most (is_none (row_at key_of xs (key_of y)) && is_some (edit None y)))
+new_rows-le key_of edit xs (y ∷ ys) = omega (arith, new_rows-le key_of edit xs ys, bit-le-one (is_none (row_at key_of xs (key_of y)) && is_some (edit None y)))
 
 -- ---- parts of lists
 
@@ -128,7 +125,7 @@ turn_room {T} key_of edit y ys xs write read n None o r e room =
 turn_room {T} key_of edit y ys xs write read n (Some x) o r e room =
     let turn = new_turn key_of edit y xs ys o r in
     let same_bit = ap (λ (held : Option T). bit (is_none held && is_some (edit None y))) e in
-    let one = one_at_most (is_some (edit (Some x) y)) in
+    let one = bit-le-one (is_some (edit (Some x) y)) in
     (λ s. omega (arith, turn, same_bit), omega (arith, turn, same_bit, one))
 
 -- ---- one turn of a loop that moves rows down

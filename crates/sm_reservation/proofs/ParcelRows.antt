@@ -1,5 +1,5 @@
 -- Each row of a parcel: it is found at its key, so that what a hold says of all keys holds of it.
-use Rattle.std.proofs.Common.{subst, sym, ◌≡◌, ℕ, ◌+◌, ◌<◌, ◌^◌, Some, List, [], ◌∷◌, refl, ap, arith, inl, inr, None, Option}
+use Rattle.std.proofs.Common.{subst, sym, ◌≡◌, ℕ, ◌+◌, ◌<◌, ◌≤◌, ◌^◌, Some, List, [], ◌∷◌, refl, ap, arith, inl, inr, None, Option}
 use Rattle.std.specs.List.{AllByRecursion}
 use Rattle.std.proofs.lemmas.Bool.{cases_lt}
 use Rattle.sm_placement.specs.declared.lead.Lead.{Lead}
@@ -10,7 +10,7 @@ use Rattle.sm_reservation.specs.declared.right.Room.{Room}
 use Rattle.sm_reservation.specs.declared.right.Spare.{Spare}
 use Rattle.sm_reservation.specs.Rights.{Rights}
 use Rattle.sm_reservation.specs.Hold.{Hold}
-use Rattle.sm_reservation.specs.Rows.{row_at, amount_of, Rises, AllAfter, HasPositive}
+use Rattle.sm_reservation.specs.Rows.{row_at, amount_of, amount_at, Rises, AllAfter, HasPositive}
 use Rattle.sm_reservation.specs.Key.{key_of_cell, key_of_crown, key_of_room, key_of_spare, IsOrdered}
 use Rattle.sm_reservation.specs.HoldOf.{plain_state_of, crown_of, hold_of}
 use Rattle.sm_reservation.specs.Steps.{AllSteps}
@@ -76,29 +76,24 @@ crowns_known shards servers p o is = all_map (IsFound key_of_crown p.crowns) (λ
     shard : (x : Crown) → IsFound key_of_crown p.crowns x → x.shard < shards
     shard x e = elim (cases_lt x.shard shards) [ inl l ↦ l | inr l ↦ absurd (let z = is.crowns x.shard l in let y = ap crown_of e in cc) ]
 
+known_amounts : {T : Type 0} (key_of : T → ℕ × ℕ) (amount : T → ℕ) (count : ℕ) (xs : List T) → Rises key_of xs → HasPositive amount xs → ((x : T) → count ≤ (key_of x).0 → amount_at key_of amount xs (key_of x) ≡ 0) → AllByRecursion (λ x. (key_of x).0 < count) xs
+known_amounts {T} key_of amount count xs o some none = all_map (λ x. (0 < amount x) × IsFound key_of xs x) (λ x. (key_of x).0 < count) xs (λ x e. below x e.0 e.1) (both key_of amount xs xs some (all_found key_of xs o))
+  where
+    below : (x : T) → 0 < amount x → IsFound key_of xs x → (key_of x).0 < count
+    below x l e = elim (cases_lt (key_of x).0 count) [
+      | inl m ↦ m
+      | inr m ↦ absurd (let z = none x m in let y : amount_at key_of amount xs (key_of x) ≡ amount x = ap (amount_of amount) e in omega arith)
+    ]
+
 -- and those of room, where none is of 0
 pub rooms_known : (shards servers : ℕ) (p : Rights) → Rises key_of_room p.room → HasPositive (λ x. x.amount) p.room → IsKnownHold shards servers (hold_of p) → AllByRecursion (λ x. x.server < servers) p.room
 unfolding hold_of
-rooms_known shards servers p o some is =
-    all_map (λ x. (0 < x.amount) × IsFound key_of_room p.room x) (λ x. x.server < servers) p.room (λ x e. server x e.0 e.1) (both key_of_room (λ x. x.amount) p.room p.room some (all_found key_of_room p.room o))
-  where
-    server : (x : Room) → 0 < x.amount → IsFound key_of_room p.room x → x.server < servers
-    server x l e = elim (cases_lt x.server servers) [
-      | inl m ↦ m
-      | inr m ↦ absurd (let z = is.room x.server m in let y : amount_of (λ (r : Room). r.amount) (row_at key_of_room p.room (x.server, 0)) ≡ x.amount = ap (amount_of (λ (r : Room). r.amount)) e in omega arith)
-    ]
+rooms_known shards servers p o some is = known_amounts key_of_room (λ x. x.amount) servers p.room o some (λ x l. is.room x.server l)
 
 -- and those of spare replicas, where none is of 0
 pub spares_known : (shards servers : ℕ) (p : Rights) → Rises key_of_spare p.spare → HasPositive (λ x. x.amount) p.spare → IsKnownHold shards servers (hold_of p) → AllByRecursion (λ x. x.shard < shards) p.spare
 unfolding hold_of
-spares_known shards servers p o some is =
-    all_map (λ x. (0 < x.amount) × IsFound key_of_spare p.spare x) (λ x. x.shard < shards) p.spare (λ x e. shard x e.0 e.1) (both key_of_spare (λ x. x.amount) p.spare p.spare some (all_found key_of_spare p.spare o))
-  where
-    shard : (x : Spare) → 0 < x.amount → IsFound key_of_spare p.spare x → x.shard < shards
-    shard x l e = elim (cases_lt x.shard shards) [
-      | inl m ↦ m
-      | inr m ↦ absurd (let z = is.spare x.shard m in let y : amount_of (λ (r : Spare). r.amount) (row_at key_of_spare p.spare (x.shard, 0)) ≡ x.amount = ap (amount_of (λ (r : Spare). r.amount)) e in omega arith)
-    ]
+spares_known shards servers p o some is = known_amounts key_of_spare (λ x. x.amount) shards p.spare o some (λ x l. is.spare x.shard l)
 
 -- what a hold has all of is of known shards and servers, as the hold is
 pub covered_below : (shards servers : ℕ) (h k : Hold) → IsKnownHold shards servers h → Covers h k → IsKnownHold shards servers k

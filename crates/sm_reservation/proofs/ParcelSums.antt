@@ -103,123 +103,75 @@ put2_at f s v x t w = elim (cases_eq t s) [
   | inr d ↦ rw (apart_first t w s v d) (put2-apart f s v x t w d)
 ]
 
+-- a key's value once a row is worked in and then the rows behind it is what it is once all of them are
+worked_row : {T B : Type 0} (key_of : T → ℕ × ℕ) (work : Option T → B → B) (x : T) (xs : List T) (q : ℕ × ℕ) {now new had : B} → now ≡ cond (same (key_of x) q) new had →
+    (same (key_of x) q ≡ true → work (row_at key_of xs q) new ≡ work (Some x) had) → work (row_at key_of xs q) now ≡ work (row_at key_of (x ∷ xs) q) had
+worked_row key_of work x xs q here once = elim (cases_Bool (same (key_of x) q)) [
+  | inl e ↦ ap (work (row_at key_of xs q)) (rw e at here) ∙ once e ∙ rw e refl
+  | inr e ↦ ap (work (row_at key_of xs q)) (rw e at here) ∙ rw e refl
+]
+
 pub minus_cells_at : (h : Hold) (xs : List CellRight) (s v : ℕ) → (minus_cells h xs).cells s v ≡ left (plain_state_of (row_at key_of_cell xs (s, v))) (h.cells s v)
 minus_cells_at h [] s v = refl
 minus_cells_at h (x ∷ xs) s v =
-    let rest = minus_cells_at (with_cell h x.shard x.server None) xs s v in
-    let here = put2_at h.cells x.shard x.server None s v in
-    elim (cases_Bool (same (key_of_cell x) (s, v))) [
-      | inl e ↦ rest ∙ ap (λ (o : Option PlainCell). left (plain_state_of (row_at key_of_cell xs (s, v))) o) (rw e at here) ∙ left_none (plain_state_of (row_at key_of_cell xs (s, v))) ∙ rw e refl
-      | inr e ↦ rest ∙ ap (λ (o : Option PlainCell). left (plain_state_of (row_at key_of_cell xs (s, v))) o) (rw e at here) ∙ rw e refl
-    ]
+    minus_cells_at (with_cell h x.shard x.server None) xs s v
+    ∙ worked_row key_of_cell (λ o. left (plain_state_of o)) x xs (s, v) (put2_at h.cells x.shard x.server None s v) (λ e. left_none (plain_state_of (row_at key_of_cell xs (s, v))))
 
 pub minus_crowns_at : (h : Hold) (xs : List Crown) (s : ℕ) → (minus_crowns h xs).crowns s ≡ left (crown_of (row_at key_of_crown xs (s, 0))) (h.crowns s)
 minus_crowns_at h [] s = refl
 minus_crowns_at h (x ∷ xs) s =
-    let rest = minus_crowns_at (without_crown h x.shard) xs s in
-    let here = put_at h.crowns x.shard None s in
-    elim (cases_Bool (same (key_of_crown x) (s, 0))) [
-      | inl e ↦ rest ∙ ap (λ (o : Option (Lead × Option ℕ)). left (crown_of (row_at key_of_crown xs (s, 0))) o) (rw e at here) ∙ left_none (crown_of (row_at key_of_crown xs (s, 0))) ∙ rw e refl
-      | inr e ↦ rest ∙ ap (λ (o : Option (Lead × Option ℕ)). left (crown_of (row_at key_of_crown xs (s, 0))) o) (rw e at here) ∙ rw e refl
-    ]
+    minus_crowns_at (without_crown h x.shard) xs s
+    ∙ worked_row key_of_crown (λ o. left (crown_of o)) x xs (s, 0) (put_at h.crowns x.shard None s) (λ e. left_none (crown_of (row_at key_of_crown xs (s, 0))))
 
 pub minus_room_at : (h : Hold) (xs : List Room) (v : ℕ) → Rises key_of_room xs → (minus_room h xs).room v ≡ h.room v - amount_at key_of_room (λ x. x.amount) xs (v, 0)
 minus_room_at h [] v r = omega arith
 minus_room_at h (x ∷ xs) v r =
-    let rest = minus_room_at (pay_room h x.server x.amount) xs v r.1 in
-    let here = put_at h.room x.server (h.room x.server - x.amount) v in
-    elim (cases_Bool (same (key_of_room x) (v, 0))) [
-      | inl e ↦
-          let none : amount_at key_of_room (λ y. y.amount) xs (v, 0) ≡ 0 = ap (amount_of (λ (y : Room). y.amount)) (none_after key_of_room (key_of_room x) (v, 0) xs r.0 e) in
-          let first : amount_at key_of_room (λ y. y.amount) (x ∷ xs) (v, 0) ≡ x.amount = rw e refl in
-          let there = rw e at here in
-          let k : x.server ≡ v = ap (λ (q : ℕ × ℕ). q.0) (same_is (key_of_room x) (v, 0) e) in
-          let same_room : h.room x.server ≡ h.room v = ap h.room k in
-          omega arith
-      | inr e ↦
-          let later : amount_at key_of_room (λ y. y.amount) (x ∷ xs) (v, 0) ≡ amount_at key_of_room (λ y. y.amount) xs (v, 0) = rw e refl in
-          let there = rw e at here in
-          omega arith
-    ]
+    minus_room_at (pay_room h x.server x.amount) xs v r.1
+    ∙ worked_row key_of_room (λ o n. n - amount_of (λ (y : Room). y.amount) o) x xs (v, 0) (put_at h.room x.server (h.room x.server - x.amount) v) (λ e.
+    let none : amount_at key_of_room (λ y. y.amount) xs (v, 0) ≡ 0 = ap (amount_of (λ (y : Room). y.amount)) (none_after key_of_room (key_of_room x) (v, 0) xs r.0 e) in
+    let same_room : h.room x.server ≡ h.room v = ap (λ (q : ℕ × ℕ). h.room q.0) (same_is (key_of_room x) (v, 0) e) in
+    omega arith)
 
 pub minus_spare_at : (h : Hold) (xs : List Spare) (s : ℕ) → Rises key_of_spare xs → (minus_spare h xs).spare s ≡ h.spare s - amount_at key_of_spare (λ x. x.amount) xs (s, 0)
 minus_spare_at h [] s r = omega arith
 minus_spare_at h (x ∷ xs) s r =
-    let rest = minus_spare_at (pay_spare h x.shard x.amount) xs s r.1 in
-    let here = put_at h.spare x.shard (h.spare x.shard - x.amount) s in
-    elim (cases_Bool (same (key_of_spare x) (s, 0))) [
-      | inl e ↦
-          let none : amount_at key_of_spare (λ y. y.amount) xs (s, 0) ≡ 0 = ap (amount_of (λ (y : Spare). y.amount)) (none_after key_of_spare (key_of_spare x) (s, 0) xs r.0 e) in
-          let first : amount_at key_of_spare (λ y. y.amount) (x ∷ xs) (s, 0) ≡ x.amount = rw e refl in
-          let there = rw e at here in
-          let k : x.shard ≡ s = ap (λ (q : ℕ × ℕ). q.0) (same_is (key_of_spare x) (s, 0) e) in
-          let same_spare : h.spare x.shard ≡ h.spare s = ap h.spare k in
-          omega arith
-      | inr e ↦
-          let later : amount_at key_of_spare (λ y. y.amount) (x ∷ xs) (s, 0) ≡ amount_at key_of_spare (λ y. y.amount) xs (s, 0) = rw e refl in
-          let there = rw e at here in
-          omega arith
-    ]
+    minus_spare_at (pay_spare h x.shard x.amount) xs s r.1
+    ∙ worked_row key_of_spare (λ o n. n - amount_of (λ (y : Spare). y.amount) o) x xs (s, 0) (put_at h.spare x.shard (h.spare x.shard - x.amount) s) (λ e.
+    let none : amount_at key_of_spare (λ y. y.amount) xs (s, 0) ≡ 0 = ap (amount_of (λ (y : Spare). y.amount)) (none_after key_of_spare (key_of_spare x) (s, 0) xs r.0 e) in
+    let same_spare : h.spare x.shard ≡ h.spare s = ap (λ (q : ℕ × ℕ). h.spare q.0) (same_is (key_of_spare x) (s, 0) e) in
+    omega arith)
 
 pub plus_cells_at : (h : Hold) (xs : List CellRight) (s v : ℕ) → Rises key_of_cell xs → (plus_cells h xs).cells s v ≡ option_or (plain_state_of (row_at key_of_cell xs (s, v))) (h.cells s v)
 plus_cells_at h [] s v r = refl
 plus_cells_at h (x ∷ xs) s v r =
-    let rest = plus_cells_at (with_cell h x.shard x.server (Some x.state)) xs s v r.1 in
-    let here = put2_at h.cells x.shard x.server (Some x.state) s v in
-    elim (cases_Bool (same (key_of_cell x) (s, v))) [
-      | inl e ↦ rest ∙ ap (λ (o : Option CellRight). option_or (plain_state_of o) ((with_cell h x.shard x.server (Some x.state)).cells s v)) (none_after key_of_cell (key_of_cell x) (s, v) xs r.0 e) ∙ rw e at here ∙ rw e refl
-      | inr e ↦ rest ∙ ap (λ (o : Option PlainCell). option_or (plain_state_of (row_at key_of_cell xs (s, v))) o) (rw e at here) ∙ rw e refl
-    ]
+    plus_cells_at (with_cell h x.shard x.server (Some x.state)) xs s v r.1
+    ∙ worked_row key_of_cell (λ o. option_or (plain_state_of o)) x xs (s, v) (put2_at h.cells x.shard x.server (Some x.state) s v) (λ e. ap (λ (o : Option CellRight). option_or (plain_state_of o) (Some x.state)) (none_after key_of_cell (key_of_cell x) (s, v) xs r.0 e))
 
 pub plus_crowns_at : (h : Hold) (xs : List Crown) (s : ℕ) → Rises key_of_crown xs → (plus_crowns h xs).crowns s ≡ option_or (crown_of (row_at key_of_crown xs (s, 0))) (h.crowns s)
 plus_crowns_at h [] s r = refl
 plus_crowns_at h (x ∷ xs) s r =
-    let rest = plus_crowns_at (with_crown h x.shard x.lead x.listed) xs s r.1 in
-    let here = put_at h.crowns x.shard (Some (x.lead, x.listed)) s in
-    elim (cases_Bool (same (key_of_crown x) (s, 0))) [
-      | inl e ↦ rest ∙ ap (λ (o : Option Crown). option_or (crown_of o) ((with_crown h x.shard x.lead x.listed).crowns s)) (none_after key_of_crown (key_of_crown x) (s, 0) xs r.0 e) ∙ rw e at here ∙ rw e refl
-      | inr e ↦ rest ∙ ap (λ (o : Option (Lead × Option ℕ)). option_or (crown_of (row_at key_of_crown xs (s, 0))) o) (rw e at here) ∙ rw e refl
-    ]
+    plus_crowns_at (with_crown h x.shard x.lead x.listed) xs s r.1
+    ∙ worked_row key_of_crown (λ o. option_or (crown_of o)) x xs (s, 0) (put_at h.crowns x.shard (Some (x.lead, x.listed)) s) (λ e. ap (λ (o : Option Crown). option_or (crown_of o) (Some (x.lead, x.listed))) (none_after key_of_crown (key_of_crown x) (s, 0) xs r.0 e))
 
 -- a server's room is more by the amount that the list has of it
 pub plus_room_at : (h : Hold) (xs : List Room) (v : ℕ) → Rises key_of_room xs → (plus_room h xs).room v ≡ h.room v + amount_at key_of_room (λ x. x.amount) xs (v, 0)
 plus_room_at h [] v r = omega arith
 plus_room_at h (x ∷ xs) v r =
-    let rest = plus_room_at (get_room h x.server x.amount) xs v r.1 in
-    let here = put_at h.room x.server (h.room x.server + x.amount) v in
-    elim (cases_Bool (same (key_of_room x) (v, 0))) [
-      | inl e ↦
-          let none : amount_at key_of_room (λ y. y.amount) xs (v, 0) ≡ 0 = ap (amount_of (λ (y : Room). y.amount)) (none_after key_of_room (key_of_room x) (v, 0) xs r.0 e) in
-          let first : amount_at key_of_room (λ y. y.amount) (x ∷ xs) (v, 0) ≡ x.amount = rw e refl in
-          let there = rw e at here in
-          let k : x.server ≡ v = ap (λ (q : ℕ × ℕ). q.0) (same_is (key_of_room x) (v, 0) e) in
-          let same_room : h.room x.server ≡ h.room v = ap h.room k in
-          omega arith
-      | inr e ↦
-          let later : amount_at key_of_room (λ y. y.amount) (x ∷ xs) (v, 0) ≡ amount_at key_of_room (λ y. y.amount) xs (v, 0) = rw e refl in
-          let there = rw e at here in
-          omega arith
-    ]
+    plus_room_at (get_room h x.server x.amount) xs v r.1
+    ∙ worked_row key_of_room (λ o n. n + amount_of (λ (y : Room). y.amount) o) x xs (v, 0) (put_at h.room x.server (h.room x.server + x.amount) v) (λ e.
+    let none : amount_at key_of_room (λ y. y.amount) xs (v, 0) ≡ 0 = ap (amount_of (λ (y : Room). y.amount)) (none_after key_of_room (key_of_room x) (v, 0) xs r.0 e) in
+    let same_room : h.room x.server ≡ h.room v = ap (λ (q : ℕ × ℕ). h.room q.0) (same_is (key_of_room x) (v, 0) e) in
+    omega arith)
 
 -- a shard's spare replicas are more by the amount that the list has of them
 pub plus_spare_at : (h : Hold) (xs : List Spare) (s : ℕ) → Rises key_of_spare xs → (plus_spare h xs).spare s ≡ h.spare s + amount_at key_of_spare (λ x. x.amount) xs (s, 0)
 plus_spare_at h [] s r = omega arith
 plus_spare_at h (x ∷ xs) s r =
-    let rest = plus_spare_at (get_spare h x.shard x.amount) xs s r.1 in
-    let here = put_at h.spare x.shard (h.spare x.shard + x.amount) s in
-    elim (cases_Bool (same (key_of_spare x) (s, 0))) [
-      | inl e ↦
-          let none : amount_at key_of_spare (λ y. y.amount) xs (s, 0) ≡ 0 = ap (amount_of (λ (y : Spare). y.amount)) (none_after key_of_spare (key_of_spare x) (s, 0) xs r.0 e) in
-          let first : amount_at key_of_spare (λ y. y.amount) (x ∷ xs) (s, 0) ≡ x.amount = rw e refl in
-          let there = rw e at here in
-          let k : x.shard ≡ s = ap (λ (q : ℕ × ℕ). q.0) (same_is (key_of_spare x) (s, 0) e) in
-          let same_spare : h.spare x.shard ≡ h.spare s = ap h.spare k in
-          omega arith
-      | inr e ↦
-          let later : amount_at key_of_spare (λ y. y.amount) (x ∷ xs) (s, 0) ≡ amount_at key_of_spare (λ y. y.amount) xs (s, 0) = rw e refl in
-          let there = rw e at here in
-          omega arith
-    ]
+    plus_spare_at (get_spare h x.shard x.amount) xs s r.1
+    ∙ worked_row key_of_spare (λ o n. n + amount_of (λ (y : Spare). y.amount) o) x xs (s, 0) (put_at h.spare x.shard (h.spare x.shard + x.amount) s) (λ e.
+    let none : amount_at key_of_spare (λ y. y.amount) xs (s, 0) ≡ 0 = ap (amount_of (λ (y : Spare). y.amount)) (none_after key_of_spare (key_of_spare x) (s, 0) xs r.0 e) in
+    let same_spare : h.spare x.shard ≡ h.spare s = ap (λ (q : ℕ × ℕ). h.spare q.0) (same_is (key_of_spare x) (s, 0) e) in
+    omega arith)
 
 -- ---- a whole parcel
 

@@ -1,5 +1,5 @@
 -- Parcels worked into the lists of a hold as the code does it: sums as machine words, and what stays within a u64.
-use Rattle.std.proofs.Common.{◌≡◌, ℕ, ◌+◌, ◌≤◌, ◌<◌, ◌^◌, ◌&&◌, ◌==◌, nat_lt, Bool, true, false, Option, Some, None, is_none, refl, arith}
+use Rattle.std.proofs.Common.{◌≡◌, ℕ, ◌+◌, ◌≤◌, ◌<◌, ◌^◌, ◌&&◌, ◌==◌, nat_lt, Bool, true, false, refl, arith}
 use Rattle.std.proofs.lemmas.Bool.Decides.{nat_tests}
 use Rattle.sm_placement.specs.Sums.{bit}
 use Rattle.sm_reservation.specs.Rights.{Rights}
@@ -41,11 +41,6 @@ bounded-given r p o q fits b = record {
 pub one_more : (b : Bool) (capacity : ℕ) {n : ℕ} → n ≤ capacity → (b ≡ true → n < capacity) → n + bit b ≤ capacity
 one_more true capacity l more = let m = more refl in omega arith
 one_more false capacity l more = omega arith
-
--- what is found to be none is none
-pub none_lacks : {A : Type 0} (o : Option A) → is_none o ≡ true → o ≡ None
-none_lacks None t = refl
-none_lacks (Some x) t = cc
 
 -- an amount that is new to a hold is positive, and the hold had none
 pub amount_lacks : (n had : ℕ) → nat_lt 0 n && (had == 0) ≡ true → (0 < n) × (had ≡ 0)
