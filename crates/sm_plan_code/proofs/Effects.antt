@@ -1,5 +1,5 @@
 -- The law of effects: each line of the table of rights.
-use Rattle.std.proofs.Common.{◌≡◌, ◌≢◌, ℕ, ◌+◌, ◌<◌, ◌≤◌, Bool, true, false, refl, sym, ap, ◌∙◌, arith, inl, inr, subst, Option, Some, None, Ok}
+use Rattle.std.proofs.Common.{◌≡◌, ◌≢◌, ℕ, ◌+◌, ◌<◌, ◌≤◌, Bool, true, false, refl, ap, ◌∙◌, arith, inl, inr, subst, Option, Some, None, Ok}
 use Rattle.std.specs.Prelude.{is_some}
 use Rattle.std.proofs.lemmas.Bool.{cases_eq, cases_lt, eqb-true}
 use Rattle.sm_server.specs.declared.call.Cell.{Cell}
@@ -17,6 +17,7 @@ use Rattle.sm_placement.specs.Lead.{Describes, lead_of}
 use Rattle.sm_placement.proofs.Sums.{put-here, put-apart}
 use Rattle.sm_placement.proofs.Calls.{served_from, called_keeps}
 use Rattle.sm_placement.proofs.LeadOf.{lead_of_is}
+use Rattle.sm_placement.proofs.Layouts.{published_placement}
 use Rattle.sm_reservation.specs.declared.right.PlainCell.{PlainCell}
 use Rattle.sm_reservation.specs.declared.right.PlainCell.TheVariants as plain
 use Rattle.sm_reservation.specs.Rights.{Rights}
@@ -51,7 +52,7 @@ record Outcome (c : Sizes) (p : Place) (leads : ℕ → Lead) (numbers : ℕ →
 
 -- a call that goes is answered by its cell
 answered : (c : Sizes) (p : Place) (leads : ℕ → Lead) (numbers : ℕ → ℕ) (h h' : Hold) (s v : ℕ) (call : Call) (n' : ℕ) (g : Goes c p leads numbers h h' s v call n') → answer_at c p s v call ≡ Ok g.to
-answered c p leads numbers h h' s v call n' g = rw g.moves.up (served_from (p.cells s v) _ (c.load s) call g.to g.led g.room)
+answered c p leads numbers h h' s v call n' g = rw g.moves.stands.up (served_from (p.cells s v) _ (c.load s) call g.to g.led g.room)
 
 -- a true hold that moves as the placement does stays true
 still_true : (c : Sizes) (p p' : Place) (leads leads' : ℕ → Lead) (h h' : Hold) → IsTrueOf c p leads h →
@@ -74,7 +75,7 @@ by_call c p leads numbers h h' s v call n' next_numbers i sc g known ch is =
       next_numbers = next_numbers;
       made = is ∙ rw answer refl;
       scene = record {
-        placement = called_keeps c p s v call g.to sc.placement g.moves.in_shards g.moves.in_servers known answer;
+        placement = called_keeps c p s v call g.to sc.placement g.moves.stands.in_shards g.moves.stands.in_servers known answer;
         described = λ r. elim (cases_eq r s) [
           | inl e ↦ rw e (rw (put-here leads s g.lead s refl, ch.here) g.moves.is)
           | inr e ↦ rw (put-apart leads s g.lead r e, ch.apart r e, put-apart p.cells s (put (p.cells s) v g.to) r e) (sc.described r)
@@ -187,21 +188,7 @@ module _ (c : Sizes) (p : Place) (leads : ℕ → Lead) (numbers : ℕ → ℕ) 
         next_numbers = numbers;
         made = e;
         scene = record {
-          placement = record {
-            no_server = sc.placement.no_server;
-            no_shard = sc.placement.no_shard;
-            no_entry = λ r l. elim (cases_eq r s) [
-              | inl q ↦ absurd (omega arith)
-              | inr q ↦ put-apart p.listed s to r q ∙ sc.placement.no_entry r l
-            ];
-            no_down = sc.placement.no_down;
-            known = sc.placement.known;
-            listed = λ r u f. elim (cases_eq r s) [
-              | inl q ↦ known u (sym (put-here p.listed s to r q) ∙ f)
-              | inr q ↦ sc.placement.listed r u (sym (put-apart p.listed s to r q) ∙ f)
-            ];
-            rooms = sc.placement.rooms;
-          };
+          placement = published_placement c p s to below sc.placement known;
           described = sc.described;
           truth = still_true c p (publish p s to) leads leads h (with_crown h s lead to) sc.truth (trade mine);
         };

@@ -15,13 +15,13 @@ use Rattle.sm_placement.specs.Sums.{put2}
 use Rattle.sm_placement.specs.Setup.{Sizes}
 use Rattle.sm_placement.specs.Place.{Place, load_at}
 use Rattle.sm_placement.specs.Lead.{Describes}
-use Rattle.sm_placement.proofs.Sums.{put-here, put-apart, put2-here, put2-row}
+use Rattle.sm_placement.proofs.Sums.{put-here, put2-here, put2-row}
 use Rattle.sm_reservation.specs.declared.right.PlainCell.TheVariants as plain
 use Rattle.sm_reservation.specs.Hold.{Hold, with_cell, with_crown, pay_room, get_room, pay_spare, get_spare}
 use Rattle.sm_reservation.specs.Amounts.{OfRoom, same_listed}
-use Rattle.sm_reservation.proofs.Changes.{put2_changed, unchanged}
+use Rattle.sm_reservation.proofs.Changes.{put2_changed, put_moved, unchanged}
 use Rattle.sm_reservation.proofs.Truths.{true_cell, no_true_cell, true_crown, absent_from, secondary_from, crown_kept, crown_changed, plain_change}
-use Rattle.sm_reservation.proofs.Exchange.{Moves}
+use Rattle.sm_reservation.proofs.Exchange.{Stands, Moves}
 use Rattle.sm_plan_code.specs.Effects.{IsScene, IsListable, MayHavePassed}
 
 -- the shard and the server of a call are known, and the server is up
@@ -42,30 +42,14 @@ pub record Goes (c : Sizes) (p : Place) (leads : ℕ → Lead) (numbers : ℕ �
 
 -- ---- who may be listed
 
-listable_ready : (u v : ℕ) (l : Option ℕ) → IsListable (At u) l → IsListable (Ready u v) l
-listable_ready u v None h = tt
-listable_ready u v (Some x) h = h
-
-listable_handing : (u v : ℕ) (l : Option ℕ) → IsListable (Ready u v) l → IsListable (Handing u v) l
-listable_handing u v None h = tt
-listable_handing u v (Some x) h = h
-
-listable_handed : (u v : ℕ) (l : Option ℕ) → IsListable (Handing u v) l → IsListable (Handed u v) l
-listable_handed u v None h = tt
-listable_handed u v (Some x) h = inl h
+listable_from : (lead next : Lead) (l : Option ℕ) → ((x : ℕ) → IsListable lead (Some x) → IsListable next (Some x)) → IsListable lead l → IsListable next l
+listable_from lead next None may h = tt
+listable_from lead next (Some x) may h = may x h
 
 listable_settled : (u v : ℕ) (l : Option ℕ) → not (same_listed l (Some u)) ≡ true → IsListable (Handed u v) l → IsListable (At v) l
 listable_settled u v None t h = tt
 listable_settled u v (Some x) t (inl h) = absurd (let e : not (eqb x u) ≡ true = t in let f : eqb x u ≡ true = eq-eqb x u h in let g : not true ≡ true = rw f at e in let k : false ≡ true = g in cc)
 listable_settled u v (Some x) t (inr h) = h
-
-listable_back : (u v : ℕ) (l : Option ℕ) → IsListable (Ready u v) l → IsListable (At u) l
-listable_back u v None h = tt
-listable_back u v (Some x) h = h
-
-listable_from_gone : (v : ℕ) (l : Option ℕ) → IsListable Gone l → IsListable (At v) l
-listable_from_gone v None h = tt
-listable_from_gone v (Some x) h = absurd h
 
 listable_unlisted : (lead : Lead) (l : Option ℕ) → is_none l ≡ true → IsListable lead l
 listable_unlisted lead None e = tt
@@ -76,6 +60,13 @@ not_asked : {a b : ℕ} (x : Cell) → is_absent x ≡ false → is_absent x ≡
 not_asked x e f = absurd (cc)
 
 module _ (c : Sizes) (p : Place) (leads : ℕ → Lead) (numbers : ℕ → ℕ) (h : Hold) (sc : IsScene c p leads numbers h) where
+  there : (s v : ℕ) → Reaches c p s v → Stands c p leads s v (numbers s)
+  there s v at = record { in_shards = at.shard; in_servers = at.server; up = at.up; was = sc.described s; no_server = sc.placement.no_server s }
+
+  -- the lead of a crown that is held describes the shard's cells
+  described_by : (s : ℕ) (lead : Lead) (l : Option ℕ) → h.crowns s ≡ Some (lead, l) → Describes lead (numbers s) (p.cells s)
+  described_by s lead l crown = subst (λ x. Describes x (numbers s) (p.cells s)) (true_crown c p leads h sc.truth s lead l crown).0 (sc.described s)
+
   -- the room that is held is there
   fits : (s v : ℕ) → leb (c.load s) (h.room v) ≡ true → c.load s ≤ c.room v - load_at c p v
   fits s v e =
@@ -97,18 +88,14 @@ module _ (c : Sizes) (p : Place) (leads : ℕ → Lead) (numbers : ℕ → ℕ) 
         led = rw was refl;
         room = λ e. fits s v room;
         moves = record {
-          in_shards = at.shard;
-          in_servers = at.server;
-          up = at.up;
-          was = sc.described s;
+          stands = there s v at;
           is = plain_change (leads s) (numbers s) (p.cells s) (put2 p.cells s v Secondary s) v (sc.described s) (rw was tt) (rw (put2-here p.cells s v Secondary) tt) (λ q e. put2-row p.cells s v Secondary q e);
-          no_server = sc.placement.no_server s;
           right_was = held ∙ sym right;
           right_is = put2_changed h.cells s v (Some plain.Secondary);
           crown_moves = crown_kept leads p.listed h.crowns s;
-          room_moves = record { here = refl; apart = λ q e. put-apart h.room v (h.room v - c.load s) q e };
+          room_moves = put_moved h.room v (h.room v - c.load s);
           room_here = rw (put-here h.room v (h.room v - c.load s) v refl, was) (omega arith);
-          spare_moves = record { here = refl; apart = λ q e. put-apart h.spare s (h.spare s + 1) q e };
+          spare_moves = put_moved h.spare s (h.spare s + 1);
           spare_here = rw (put-here h.spare s (h.spare s + 1) s refl, was) (omega arith);
         };
         listable = λ before. before;
@@ -124,7 +111,7 @@ module _ (c : Sizes) (p : Place) (leads : ℕ → Lead) (numbers : ℕ → ℕ) 
       let was : p.cells s v ≡ Absent = absent_from (p.cells s v) right in
       let pays : c.load s ≤ h.room v = leb-true (c.load s) (h.room v) room in
       let mine = true_crown c p leads h sc.truth s (At u) l crown in
-      let d : Describes (At u) (numbers s) (p.cells s) = subst (λ x. Describes x (numbers s) (p.cells s)) mine.0 (sc.described s) in
+      let d : Describes (At u) (numbers s) (p.cells s) = described_by s (At u) l crown in
       let apart : u ≢ v = λ e. let f : p.cells s u ≡ Primary = d.0 in let g : p.cells s u ≡ Absent = rw e was in cc in
       record {
         to = Prepared u n;
@@ -132,21 +119,17 @@ module _ (c : Sizes) (p : Place) (leads : ℕ → Lead) (numbers : ℕ → ℕ) 
         led = rw was refl;
         room = λ e. fits s v room;
         moves = record {
-          in_shards = at.shard;
-          in_servers = at.server;
-          up = at.up;
-          was = sc.described s;
+          stands = there s v at;
           is = (apart, put2-row p.cells s v (Prepared u n) u apart ∙ d.0, put2-here p.cells s v (Prepared u n), λ x e f. rw (put2-row p.cells s v (Prepared u n) x f) (d.1 x e));
-          no_server = sc.placement.no_server s;
           right_was = held ∙ sym right;
           right_is = put2_changed h.cells s v None;
           crown_moves = crown_changed leads p.listed h.crowns s (At u) (Ready u v) l crown mine.0 mine.1;
-          room_moves = record { here = refl; apart = λ q e. put-apart h.room v (h.room v - c.load s) q e };
+          room_moves = put_moved h.room v (h.room v - c.load s);
           room_here = rw (put-here h.room v (h.room v - c.load s) v refl, was) (omega arith);
           spare_moves = unchanged h.spare s;
           spare_here = rw (was, mine.0) refl;
         };
-        listable = λ before. listable_ready u v (p.listed s) (rw mine.0 at before);
+        listable = λ before. listable_from (At u) (Ready u v) (p.listed s) (λ x e. e) (rw mine.0 at before);
         passed = λ m h. let a = h.0 in (omega arith, λ r. omega arith);
       }
 
@@ -155,7 +138,7 @@ module _ (c : Sizes) (p : Place) (leads : ℕ → Lead) (numbers : ℕ → ℕ) 
       Goes c p leads numbers h (with_crown h s (Handing u v) l) s u (call.PrepareDrop v (numbers s)) (numbers s)
   prepare_drop s u v at in_range v_up l crown =
       let mine = true_crown c p leads h sc.truth s (Ready u v) l crown in
-      let d : Describes (Ready u v) (numbers s) (p.cells s) = subst (λ x. Describes x (numbers s) (p.cells s)) mine.0 (sc.described s) in
+      let d : Describes (Ready u v) (numbers s) (p.cells s) = described_by s (Ready u v) l crown in
       let was : p.cells s u ≡ Primary = d.1 in
       record {
         to = Forwarding v (numbers s);
@@ -163,12 +146,8 @@ module _ (c : Sizes) (p : Place) (leads : ℕ → Lead) (numbers : ℕ → ℕ) 
         led = rw was refl;
         room = λ e. not_asked (p.cells s u) (rw was refl) e;
         moves = record {
-          in_shards = at.shard;
-          in_servers = at.server;
-          up = at.up;
-          was = sc.described s;
+          stands = there s u at;
           is = (d.0, put2-here p.cells s u (Forwarding v (numbers s)), put2-row p.cells s u (Forwarding v (numbers s)) v (λ e. d.0 (sym e)) ∙ d.2, λ x e f. rw (put2-row p.cells s u (Forwarding v (numbers s)) x e) (d.3 x e f));
-          no_server = sc.placement.no_server s;
           right_was = no_true_cell c p leads h sc.truth s u (rw was) ∙ sym (rw was);
           right_is = record { here = no_true_cell c p leads h sc.truth s u (rw was); row = λ q e. refl; apart = λ r q e. refl };
           crown_moves = crown_changed leads p.listed h.crowns s (Ready u v) (Handing u v) l crown mine.0 mine.1;
@@ -177,7 +156,7 @@ module _ (c : Sizes) (p : Place) (leads : ℕ → Lead) (numbers : ℕ → ℕ) 
           spare_moves = unchanged h.spare s;
           spare_here = rw (was, mine.0, at.up, v_up) refl;
         };
-        listable = λ before. listable_handing u v (p.listed s) (rw mine.0 at before);
+        listable = λ before. listable_from (Ready u v) (Handing u v) (p.listed s) (λ x e. e) (rw mine.0 at before);
         passed = λ m h. (h.0, λ r. absurd r);
       }
 
@@ -186,7 +165,7 @@ module _ (c : Sizes) (p : Place) (leads : ℕ → Lead) (numbers : ℕ → ℕ) 
       Goes c p leads numbers h (with_crown h s (Handed u v) l) s v (call.Add role.Primary) (numbers s)
   add_handing s u v at l crown =
       let mine = true_crown c p leads h sc.truth s (Handing u v) l crown in
-      let d : Describes (Handing u v) (numbers s) (p.cells s) = subst (λ x. Describes x (numbers s) (p.cells s)) mine.0 (sc.described s) in
+      let d : Describes (Handing u v) (numbers s) (p.cells s) = described_by s (Handing u v) l crown in
       let was : p.cells s v ≡ Prepared u (numbers s) = d.2 in
       record {
         to = Primary;
@@ -194,12 +173,8 @@ module _ (c : Sizes) (p : Place) (leads : ℕ → Lead) (numbers : ℕ → ℕ) 
         led = rw was refl;
         room = λ e. not_asked (p.cells s v) (rw was refl) e;
         moves = record {
-          in_shards = at.shard;
-          in_servers = at.server;
-          up = at.up;
-          was = sc.described s;
+          stands = there s v at;
           is = (d.0, put2-row p.cells s v Primary u d.0 ∙ d.1, put2-here p.cells s v Primary, λ x e f. rw (put2-row p.cells s v Primary x f) (d.3 x e f));
-          no_server = sc.placement.no_server s;
           right_was = no_true_cell c p leads h sc.truth s v (rw was) ∙ sym (rw was);
           right_is = record { here = no_true_cell c p leads h sc.truth s v (rw was); row = λ q e. refl; apart = λ r q e. refl };
           crown_moves = crown_changed leads p.listed h.crowns s (Handing u v) (Handed u v) l crown mine.0 mine.1;
@@ -208,7 +183,7 @@ module _ (c : Sizes) (p : Place) (leads : ℕ → Lead) (numbers : ℕ → ℕ) 
           spare_moves = unchanged h.spare s;
           spare_here = rw (was, mine.0) refl;
         };
-        listable = λ before. listable_handed u v (p.listed s) (rw mine.0 at before);
+        listable = λ before. listable_from (Handing u v) (Handed u v) (p.listed s) (λ x e. inl e) (rw mine.0 at before);
         passed = λ m h. (h.0, λ r. absurd r);
       }
 
@@ -217,7 +192,7 @@ module _ (c : Sizes) (p : Place) (leads : ℕ → Lead) (numbers : ℕ → ℕ) 
       Goes c p leads numbers h (get_room (with_cell (with_crown h s (At w) l) s u (Some plain.Absent)) u (c.load s)) s u call.Drop (numbers s)
   drop_handed s u w at l crown free =
       let mine = true_crown c p leads h sc.truth s (Handed u w) l crown in
-      let d : Describes (Handed u w) (numbers s) (p.cells s) = subst (λ x. Describes x (numbers s) (p.cells s)) mine.0 (sc.described s) in
+      let d : Describes (Handed u w) (numbers s) (p.cells s) = described_by s (Handed u w) l crown in
       let was : p.cells s u ≡ Forwarding w (numbers s) = d.1 in
       record {
         to = Absent;
@@ -225,16 +200,12 @@ module _ (c : Sizes) (p : Place) (leads : ℕ → Lead) (numbers : ℕ → ℕ) 
         led = rw was refl;
         room = λ e. not_asked (p.cells s u) (rw was refl) e;
         moves = record {
-          in_shards = at.shard;
-          in_servers = at.server;
-          up = at.up;
-          was = sc.described s;
+          stands = there s u at;
           is = (put2-row p.cells s u Absent w (λ e. d.0 (sym e)) ∙ d.2, λ x e. elim (cases_eq x u) [ inl f ↦ rw (f, put2-here p.cells s u Absent) tt | inr f ↦ rw (put2-row p.cells s u Absent x f) (d.3 x f e) ]);
-          no_server = sc.placement.no_server s;
           right_was = no_true_cell c p leads h sc.truth s u (rw was) ∙ sym (rw was);
           right_is = put2_changed h.cells s u (Some plain.Absent);
           crown_moves = crown_changed leads p.listed h.crowns s (Handed u w) (At w) l crown mine.0 mine.1;
-          room_moves = record { here = refl; apart = λ q e. put-apart h.room u (h.room u + c.load s) q e };
+          room_moves = put_moved h.room u (h.room u + c.load s);
           room_here = rw (put-here h.room u (h.room u + c.load s) u refl, was) (omega arith);
           spare_moves = unchanged h.spare s;
           spare_here = rw (was, mine.0) refl;
@@ -248,7 +219,7 @@ module _ (c : Sizes) (p : Place) (leads : ℕ → Lead) (numbers : ℕ → ℕ) 
       Goes c p leads numbers h (get_room (with_cell (with_crown h s (At u) l) s w (Some plain.Absent)) w (c.load s)) s w call.Drop (numbers s)
   drop_ready s u w at l crown =
       let mine = true_crown c p leads h sc.truth s (Ready u w) l crown in
-      let d : Describes (Ready u w) (numbers s) (p.cells s) = subst (λ x. Describes x (numbers s) (p.cells s)) mine.0 (sc.described s) in
+      let d : Describes (Ready u w) (numbers s) (p.cells s) = described_by s (Ready u w) l crown in
       let was : p.cells s w ≡ Prepared u (numbers s) = d.2 in
       record {
         to = Absent;
@@ -256,21 +227,17 @@ module _ (c : Sizes) (p : Place) (leads : ℕ → Lead) (numbers : ℕ → ℕ) 
         led = rw was refl;
         room = λ e. not_asked (p.cells s w) (rw was refl) e;
         moves = record {
-          in_shards = at.shard;
-          in_servers = at.server;
-          up = at.up;
-          was = sc.described s;
+          stands = there s w at;
           is = (put2-row p.cells s w Absent u d.0 ∙ d.1, λ x e. elim (cases_eq x w) [ inl f ↦ rw (f, put2-here p.cells s w Absent) tt | inr f ↦ rw (put2-row p.cells s w Absent x f) (d.3 x e f) ]);
-          no_server = sc.placement.no_server s;
           right_was = no_true_cell c p leads h sc.truth s w (rw was) ∙ sym (rw was);
           right_is = put2_changed h.cells s w (Some plain.Absent);
           crown_moves = crown_changed leads p.listed h.crowns s (Ready u w) (At u) l crown mine.0 mine.1;
-          room_moves = record { here = refl; apart = λ q e. put-apart h.room w (h.room w + c.load s) q e };
+          room_moves = put_moved h.room w (h.room w + c.load s);
           room_here = rw (put-here h.room w (h.room w + c.load s) w refl, was) (omega arith);
           spare_moves = unchanged h.spare s;
           spare_here = rw (was, mine.0) refl;
         };
-        listable = λ before. listable_back u w (p.listed s) (rw mine.0 at before);
+        listable = λ before. listable_from (Ready u w) (At u) (p.listed s) (λ x e. e) (rw mine.0 at before);
         passed = λ m h. (h.0, λ r. absurd r);
       }
 
@@ -279,7 +246,7 @@ module _ (c : Sizes) (p : Place) (leads : ℕ → Lead) (numbers : ℕ → ℕ) 
       Goes c p leads numbers h (get_room (pay_spare (with_cell (with_crown h s Gone l) s u (Some plain.Absent)) s 1) u (c.load s)) s u call.Drop (numbers s)
   drop_at s u at l crown spare free =
       let mine = true_crown c p leads h sc.truth s (At u) l crown in
-      let d : Describes (At u) (numbers s) (p.cells s) = subst (λ x. Describes x (numbers s) (p.cells s)) mine.0 (sc.described s) in
+      let d : Describes (At u) (numbers s) (p.cells s) = described_by s (At u) l crown in
       let was : p.cells s u ≡ Primary = d.0 in
       let pays : 1 ≤ h.spare s = leb-true 1 (h.spare s) spare in
       record {
@@ -288,18 +255,14 @@ module _ (c : Sizes) (p : Place) (leads : ℕ → Lead) (numbers : ℕ → ℕ) 
         led = rw was refl;
         room = λ e. not_asked (p.cells s u) (rw was refl) e;
         moves = record {
-          in_shards = at.shard;
-          in_servers = at.server;
-          up = at.up;
-          was = sc.described s;
+          stands = there s u at;
           is = λ x. elim (cases_eq x u) [ inl f ↦ rw (f, put2-here p.cells s u Absent) tt | inr f ↦ rw (put2-row p.cells s u Absent x f) (d.1 x f) ];
-          no_server = sc.placement.no_server s;
           right_was = no_true_cell c p leads h sc.truth s u (rw was) ∙ sym (rw was);
           right_is = put2_changed h.cells s u (Some plain.Absent);
           crown_moves = crown_changed leads p.listed h.crowns s (At u) Gone l crown mine.0 mine.1;
-          room_moves = record { here = refl; apart = λ q e. put-apart h.room u (h.room u + c.load s) q e };
+          room_moves = put_moved h.room u (h.room u + c.load s);
           room_here = rw (put-here h.room u (h.room u + c.load s) u refl, was) (omega arith);
-          spare_moves = record { here = refl; apart = λ q e. put-apart h.spare s (h.spare s - 1) q e };
+          spare_moves = put_moved h.spare s (h.spare s - 1);
           spare_here = rw (put-here h.spare s (h.spare s - 1) s refl, was, mine.0, at.up) (omega arith);
         };
         listable = λ before. listable_unlisted Gone (p.listed s) (rw mine.1 free);
@@ -310,8 +273,8 @@ module _ (c : Sizes) (p : Place) (leads : ℕ → Lead) (numbers : ℕ → ℕ) 
   pub add_gone : (s v : ℕ) → Reaches c p s v → (l : Option ℕ) → h.crowns s ≡ Some (Gone, l) → h.cells s v ≡ Some plain.Absent → leb (c.load s) (h.room v) ≡ true →
       Goes c p leads numbers h (get_spare (pay_room (with_cell (with_crown h s (At v) l) s v None) v (c.load s)) s 1) s v (call.Add role.Primary) (numbers s)
   add_gone s v at l crown held room =
-      let mine = true_crown c p leads h sc.truth s (Gone) l crown in
-      let d : Describes (Gone) (numbers s) (p.cells s) = subst (λ x. Describes x (numbers s) (p.cells s)) mine.0 (sc.described s) in
+      let mine = true_crown c p leads h sc.truth s Gone l crown in
+      let d : Describes Gone (numbers s) (p.cells s) = described_by s Gone l crown in
       let right = true_cell c p leads h sc.truth s v plain.Absent held in
       let was : p.cells s v ≡ Absent = absent_from (p.cells s v) right in
       let pays : c.load s ≤ h.room v = leb-true (c.load s) (h.room v) room in
@@ -321,21 +284,17 @@ module _ (c : Sizes) (p : Place) (leads : ℕ → Lead) (numbers : ℕ → ℕ) 
         led = rw was refl;
         room = λ e. fits s v room;
         moves = record {
-          in_shards = at.shard;
-          in_servers = at.server;
-          up = at.up;
-          was = sc.described s;
+          stands = there s v at;
           is = (put2-here p.cells s v Primary, λ x e. rw (put2-row p.cells s v Primary x e) (d x));
-          no_server = sc.placement.no_server s;
           right_was = held ∙ sym right;
           right_is = put2_changed h.cells s v None;
           crown_moves = crown_changed leads p.listed h.crowns s Gone (At v) l crown mine.0 mine.1;
-          room_moves = record { here = refl; apart = λ q e. put-apart h.room v (h.room v - c.load s) q e };
+          room_moves = put_moved h.room v (h.room v - c.load s);
           room_here = rw (put-here h.room v (h.room v - c.load s) v refl, was) (omega arith);
-          spare_moves = record { here = refl; apart = λ q e. put-apart h.spare s (h.spare s + 1) q e };
+          spare_moves = put_moved h.spare s (h.spare s + 1);
           spare_here = rw (put-here h.spare s (h.spare s + 1) s refl, was, mine.0, at.up) (omega arith);
         };
-        listable = λ before. listable_from_gone v (p.listed s) (rw mine.0 at before);
+        listable = λ before. listable_from Gone (At v) (p.listed s) (λ x e. absurd e) (rw mine.0 at before);
         passed = λ m h. (h.0, λ r. absurd r);
       }
 
@@ -343,8 +302,8 @@ module _ (c : Sizes) (p : Place) (leads : ℕ → Lead) (numbers : ℕ → ℕ) 
   pub to_primary : (s v : ℕ) → Reaches c p s v → (l : Option ℕ) → h.crowns s ≡ Some (Gone, l) → h.cells s v ≡ Some plain.Secondary →
       Goes c p leads numbers h (with_cell (with_crown h s (At v) l) s v None) s v (call.Change role.Secondary role.Primary) (numbers s)
   to_primary s v at l crown held =
-      let mine = true_crown c p leads h sc.truth s (Gone) l crown in
-      let d : Describes (Gone) (numbers s) (p.cells s) = subst (λ x. Describes x (numbers s) (p.cells s)) mine.0 (sc.described s) in
+      let mine = true_crown c p leads h sc.truth s Gone l crown in
+      let d : Describes Gone (numbers s) (p.cells s) = described_by s Gone l crown in
       let right = true_cell c p leads h sc.truth s v plain.Secondary held in
       let was : p.cells s v ≡ Secondary = secondary_from (p.cells s v) right in
       record {
@@ -353,12 +312,8 @@ module _ (c : Sizes) (p : Place) (leads : ℕ → Lead) (numbers : ℕ → ℕ) 
         led = rw was refl;
         room = λ e. not_asked (p.cells s v) (rw was refl) e;
         moves = record {
-          in_shards = at.shard;
-          in_servers = at.server;
-          up = at.up;
-          was = sc.described s;
+          stands = there s v at;
           is = (put2-here p.cells s v Primary, λ x e. rw (put2-row p.cells s v Primary x e) (d x));
-          no_server = sc.placement.no_server s;
           right_was = held ∙ sym right;
           right_is = put2_changed h.cells s v None;
           crown_moves = crown_changed leads p.listed h.crowns s Gone (At v) l crown mine.0 mine.1;
@@ -367,7 +322,7 @@ module _ (c : Sizes) (p : Place) (leads : ℕ → Lead) (numbers : ℕ → ℕ) 
           spare_moves = unchanged h.spare s;
           spare_here = rw (was, mine.0, at.up) refl;
         };
-        listable = λ before. listable_from_gone v (p.listed s) (rw mine.0 at before);
+        listable = λ before. listable_from Gone (At v) (p.listed s) (λ x e. absurd e) (rw mine.0 at before);
         passed = λ m h. (h.0, λ r. absurd r);
       }
 
@@ -376,7 +331,7 @@ module _ (c : Sizes) (p : Place) (leads : ℕ → Lead) (numbers : ℕ → ℕ) 
       Goes c p leads numbers h (with_cell (with_crown h s Gone l) s u (Some plain.Secondary)) s u (call.Change role.Primary role.Secondary) (numbers s)
   to_secondary s u at l crown free =
       let mine = true_crown c p leads h sc.truth s (At u) l crown in
-      let d : Describes (At u) (numbers s) (p.cells s) = subst (λ x. Describes x (numbers s) (p.cells s)) mine.0 (sc.described s) in
+      let d : Describes (At u) (numbers s) (p.cells s) = described_by s (At u) l crown in
       let was : p.cells s u ≡ Primary = d.0 in
       record {
         to = Secondary;
@@ -384,12 +339,8 @@ module _ (c : Sizes) (p : Place) (leads : ℕ → Lead) (numbers : ℕ → ℕ) 
         led = rw was refl;
         room = λ e. not_asked (p.cells s u) (rw was refl) e;
         moves = record {
-          in_shards = at.shard;
-          in_servers = at.server;
-          up = at.up;
-          was = sc.described s;
+          stands = there s u at;
           is = λ x. elim (cases_eq x u) [ inl f ↦ rw (f, put2-here p.cells s u Secondary) tt | inr f ↦ rw (put2-row p.cells s u Secondary x f) (d.1 x f) ];
-          no_server = sc.placement.no_server s;
           right_was = no_true_cell c p leads h sc.truth s u (rw was) ∙ sym (rw was);
           right_is = put2_changed h.cells s u (Some plain.Secondary);
           crown_moves = crown_changed leads p.listed h.crowns s (At u) Gone l crown mine.0 mine.1;
@@ -415,18 +366,14 @@ module _ (c : Sizes) (p : Place) (leads : ℕ → Lead) (numbers : ℕ → ℕ) 
         led = rw was refl;
         room = λ e. not_asked (p.cells s v) (rw was refl) e;
         moves = record {
-          in_shards = at.shard;
-          in_servers = at.server;
-          up = at.up;
-          was = sc.described s;
+          stands = there s v at;
           is = plain_change (leads s) (numbers s) (p.cells s) (put2 p.cells s v Absent s) v (sc.described s) (rw was tt) (rw (put2-here p.cells s v Absent) tt) (λ q e. put2-row p.cells s v Absent q e);
-          no_server = sc.placement.no_server s;
           right_was = held ∙ sym right;
           right_is = put2_changed h.cells s v (Some plain.Absent);
           crown_moves = crown_kept leads p.listed h.crowns s;
-          room_moves = record { here = refl; apart = λ q e. put-apart h.room v (h.room v + c.load s) q e };
+          room_moves = put_moved h.room v (h.room v + c.load s);
           room_here = rw (put-here h.room v (h.room v + c.load s) v refl, was) (omega arith);
-          spare_moves = record { here = refl; apart = λ q e. put-apart h.spare s (h.spare s - 1) q e };
+          spare_moves = put_moved h.spare s (h.spare s - 1);
           spare_here = rw (put-here h.spare s (h.spare s - 1) s refl, was) (omega arith);
         };
         listable = λ before. before;

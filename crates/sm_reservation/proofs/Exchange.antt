@@ -52,15 +52,19 @@ leader_known lead n row servers d out x e = elim (cases_lt x servers) [
 pub none_beyond-put : (c : Sizes) (p : Place) (s v : ℕ) (y : Cell) → v < c.servers → ((q : ℕ) → c.servers ≤ q → p.cells s q ≡ Absent) → (q : ℕ) → c.servers ≤ q → (set_cell p s v y).cells s q ≡ Absent
 none_beyond-put c p s v y l out q m = put2-row p.cells s v y q (λ e. absurd (omega arith)) ∙ out q m
 
--- What a call changes in one shard, from the hold h to the hold h': the cell of s at v becomes y, and the lead of s
--- becomes lead'.
-pub record Moves (c : Sizes) (p : Place) (leads : ℕ → Lead) (h h' : Hold) (s v : ℕ) (y : Cell) (lead' : Lead) (n n' : ℕ) : Type 0 where
+-- the shard and the server of a call are known, the server is up, and a lead describes the shard's cells
+pub record Stands (c : Sizes) (p : Place) (leads : ℕ → Lead) (s v n : ℕ) : Type 0 where
   pub in_shards : s < c.shards
   pub in_servers : v < c.servers
   pub up : p.down v ≡ false
   pub was : Describes (leads s) n (p.cells s)
-  pub is : Describes lead' n' ((set_cell p s v y).cells s)
   pub no_server : (q : ℕ) → c.servers ≤ q → p.cells s q ≡ Absent
+
+-- What a call changes in one shard, from the hold h to the hold h': the cell of s at v becomes y, and the lead of s
+-- becomes lead'.
+pub record Moves (c : Sizes) (p : Place) (leads : ℕ → Lead) (h h' : Hold) (s v : ℕ) (y : Cell) (lead' : Lead) (n n' : ℕ) : Type 0 where
+  pub stands : Stands c p leads s v n
+  pub is : Describes lead' n' ((set_cell p s v y).cells s)
   pub right_was : h.cells s v ≡ plain_of (p.cells s v)
   pub right_is : Changed2 h.cells h'.cells s v (plain_of y)
   pub crown_moves : (r : ℕ) (lead : Lead) (l : Option ℕ) →
@@ -81,12 +85,12 @@ exchange c p leads h h' s v y lead' n n' m (OfCell r q state) =
     omega arith
 exchange c p leads h h' s v y lead' n n' m (OfCrown r lead l) = let e = m.crown_moves r lead l in omega arith
 exchange c p leads h h' s v y lead' n n' m (OfRoom q) = elim (cases_eq q v) [
-  | inl e ↦ rw e (let a = load_of-put c p.cells s v y m.in_shards in let b = m.room_here in omega arith)
+  | inl e ↦ rw e (let a = load_of-put c p.cells s v y m.stands.in_shards in let b = m.room_here in omega arith)
   | inr e ↦ let a = load_of-apart c p.cells s v y q e in let b = m.room_moves.apart q e in omega arith
 ]
 exchange c p leads h h' s v y lead' n n' m (OfSpare r) = elim (cases_eq r s) [
-  | inl e ↦ rw e (let a = live_at-put c p s v y (leads s) lead' n n' m.in_servers m.up m.was m.is
-      (leader_known (leads s) n (p.cells s) c.servers m.was m.no_server)
-      (leader_known lead' n' ((set_cell p s v y).cells s) c.servers m.is (none_beyond-put c p s v y m.in_servers m.no_server)) in let b = m.spare_here in omega arith)
+  | inl e ↦ rw e (let a = live_at-put c p s v y (leads s) lead' n n' m.stands.in_servers m.stands.up m.stands.was m.is
+      (leader_known (leads s) n (p.cells s) c.servers m.stands.was m.stands.no_server)
+      (leader_known lead' n' ((set_cell p s v y).cells s) c.servers m.is (none_beyond-put c p s v y m.stands.in_servers m.stands.no_server)) in let b = m.spare_here in omega arith)
   | inr e ↦ let a = live_at-apart c p s v y r e in let b = m.spare_moves.apart r e in omega arith
 ]
