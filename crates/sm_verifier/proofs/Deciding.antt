@@ -30,7 +30,7 @@ use Rattle.sm_verifier.specs.Order.{code_at, PlanStep, IsPosted, IsRun, HasOrder
 use Rattle.sm_verifier.specs.Plan.{total_budget, posts, waits, IsUsedOnce}
 use Rattle.sm_verifier.specs.Verdict.{HasVerdict}
 use Rattle.sm_verifier.specs.Walk.{CanGoOn}
-use Rattle.sm_verifier.proofs.Streams.{one_more, made_of, made_ok, no_break, not_good, said_of}
+use Rattle.sm_verifier.proofs.Streams.{one_more, made_of, made_ok, said_of, first_break}
 use Rattle.sm_verifier.proofs.Runs.{no_further}
 use Rattle.sm_verifier.proofs.Runs.{one_more as run_more}
 use Rattle.sm_verifier.proofs.Walks.{same_run}
@@ -78,15 +78,7 @@ module _ (s : Course) (limit : ℕ) (none : (t : ℕ) → limit ≤ t → (final
     made : (q : ℕ) → q < p → IfSome (slice_get s.code q) (λ i. IsOk (made_at s q i))
 
   breaks_here : (p : ℕ) (why : Why) → p ≤ length s.code → IsMadeTo p → BreaksAt s p why → Breaks
-  breaks_here p why within is here = (
-    p,
-    why,
-    record {
-      here = here;
-      before = λ q w l. no_break s q w (slice_get s.code q) (omega arith) (is.made q l);
-      bad = not_good s p why here;
-    },
-  )
+  breaks_here p why within is here = (p, why, first_break s p why within is.made here)
 
   -- the next instruction is made, or breaks the stream off
   next_made : (p : ℕ) (i : Instr) (said : Result Hold Why) → p < length s.code → slice_get s.code p ≡ Some i → made_at s p i ≡ said → IsMadeTo p → IsMadeTo (suc p) ⊎ Breaks

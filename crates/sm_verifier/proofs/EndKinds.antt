@@ -1,5 +1,5 @@
 -- What a hold at a stream's end sets: cells, and who is listed.
-use Rattle.std.proofs.Common.{◌≡◌, ◌≢◌, ◌⊎◌, ℕ, ◌+◌, ◌≤◌, Bool, true, false, refl, sym, ap, ◌∙◌, inl, inr, arith, subst, Option, Some, None}
+use Rattle.std.proofs.Common.{◌≡◌, ◌≢◌, ◌⊎◌, ℕ, ◌+◌, ◌≤◌, true, refl, sym, ap, ◌∙◌, inl, inr, arith, subst, Option, Some, None}
 use Rattle.std.proofs.lemmas.Bool.{cases_Bool, cases_eq, eq-eqb, ne_eqb, and_parts}
 use Rattle.std.specs.Prelude.{◌&&◌, IfSome}
 use Rattle.sm_placement.specs.Lead.{Describes, IsPlain, is_at_rest}
@@ -12,7 +12,7 @@ use Rattle.sm_plan_code.proofs.Exclusive.{named_is_not_plain}
 use Rattle.sm_plan_code.specs.Effects.{IsScene, touched, Effect}
 use Rattle.sm_plan_code.specs.Reach.{LeadNames, HoldsLead, IsWithinReach}
 use Rattle.sm_plan_code.specs.declared.instruction.Instr.{Instr}
-use Rattle.sm_reservation.proofs.Truths.{true_cell, true_crown, no_true_cell, is_cell_self, is_cell_true, same_lead_self, same_lead_true, same_server_self, same_server_true, absent_from, secondary_from}
+use Rattle.sm_reservation.proofs.Truths.{true_cell, true_crown, no_true_cell, is_cell_self, is_cell_true, same_lead_self, same_lead_true, same_server_self, same_server_true, absent_from, secondary_from, bit_true}
 use Rattle.sm_reservation.specs.Amounts.{Right, OfCell, OfCrown, is_cell, is_crown, same_lead, same_listed, plain_of, count, stock}
 use Rattle.sm_reservation.specs.Hold.{Hold}
 use Rattle.sm_reservation.specs.declared.right.PlainCell.{PlainCell}
@@ -21,6 +21,7 @@ use Rattle.sm_verifier.specs.PlanEnd.{cell_by_crown, cell_by_right, listed_by, s
 use Rattle.sm_verifier.specs.Stream.{HasCrownsAtRest}
 use Rattle.sm_server.specs.declared.call.Cell.TheVariants as cell
 use Rattle.sm_reservation.specs.declared.right.PlainCell.TheVariants.{Absent, Secondary}
+use Rattle.sm_reservation.proofs.ParcelSums.{crown_is}
 
 -- What is looked at of a placement, what a hold at a stream's end sets it to, which holds reach it, and the one right that
 -- it stands under.
@@ -36,10 +37,6 @@ pub record IsKind (A : Type 0) (now : Place → A) (set : Hold → A → A) (rea
   pub same : (leads : ℕ → Lead) (p q : Place) → q.cells ≡ p.cells → q.listed ≡ p.listed → (now q ≡ now p) × (rule leads q ≡ rule leads p)
   pub by_set : (h : Hold) (p : Place) → now (set_by h p) ≡ set h (now p)
 
-bit_positive : (b : Bool) → 1 ≤ bit b → b ≡ true
-bit_positive true l = refl
-bit_positive false l = absurd (omega arith)
-
 -- ---- crowns
 
 -- there is the crown of the shard
@@ -51,14 +48,6 @@ crown_counted c p leads numbers h scene s k =
     let t = true_crown c p leads h scene.truth s k.0 k.1 k.2 in
     let e : bit (is_crown (leads s) (p.listed s) (h.crowns s)) ≡ 1 = rw (k.2, t.0, t.1, same_lead_self k.0, same_server_self k.1) refl in
     omega arith
-
-crown_from : (lead : Lead) (listed : Option ℕ) (o : Option (Lead × Option ℕ)) → is_crown lead listed o ≡ true → o ≡ Some (lead, listed)
-crown_from lead listed None e = cc
-crown_from lead listed (Some crown) e =
-    let q = and_parts (same_lead lead crown.0) (same_listed listed crown.1) e in
-    let a = same_lead_true lead crown.0 q.0 in
-    let b = same_server_true listed crown.1 q.1 in
-    sym (ap (λ (l : Lead). Some (l, listed)) a ∙ ap (λ (x : Option ℕ). Some (crown.0, x)) b)
 
 -- the crown moves with what is true of it, or it is held before and after
 crown_moves : (c : Sizes) (p : Place) (leads : ℕ → Lead) (numbers : ℕ → ℕ) (h h' : Hold) (i : Instr) → (e : Effect c p leads numbers h h' i) → (s : ℕ) →
@@ -118,7 +107,7 @@ listed_kind s = record {
   unset = λ h old n. go h old n (h.crowns s) refl;
   sets = λ c p leads numbers h scene rest r old. ap (λ o. listed_by o old) r.2 ∙ sym (true_crown c p leads h scene.truth s r.0 r.1 r.2).1;
   counted = λ c p leads numbers h scene r. crown_counted c p leads numbers h scene s r;
-  reached = λ c p leads numbers h scene l. (leads s, p.listed s, crown_from (leads s) (p.listed s) (h.crowns s) (bit_positive (is_crown (leads s) (p.listed s) (h.crowns s)) l));
+  reached = λ c p leads numbers h scene l. (leads s, p.listed s, crown_is (h.crowns s) (leads s) (p.listed s) (bit_true (is_crown (leads s) (p.listed s) (h.crowns s)) l));
   one = λ c p leads. crown_one (leads s) (p.listed s);
   moves = λ c p leads numbers h h' i scene e. elim (crown_moves c p leads numbers h h' i e s) [
     | inl m ↦ inl (ap (λ (l : Lead). OfCrown s l (e.next_place.listed s)) m.0 ∙ ap (λ (x : Option ℕ). OfCrown s (leads s) x) m.1, m.1, m.2)
@@ -234,10 +223,10 @@ module _ (s v : ℕ) where
         go : (o : Option PlainCell) → plain_of (p.cells s v) ≡ o → IsWithinReach h s v
         go (Some state) e =
             let f : count h (cell_rule s v leads p) ≡ count h (OfCell s v state) = ap (λ o. count h (rule_by o s v (leads s) (p.listed s))) e in
-            inl (state, is_cell_true state (h.cells s v) (bit_positive (is_cell state (h.cells s v)) (omega arith)))
+            inl (state, is_cell_true state (h.cells s v) (bit_true (is_cell state (h.cells s v)) (omega arith)))
         go None e =
             let f : count h (cell_rule s v leads p) ≡ count h (OfCrown s (leads s) (p.listed s)) = ap (λ o. count h (rule_by o s v (leads s) (p.listed s))) e in
-            inr (leads s, p.listed s, crown_from (leads s) (p.listed s) (h.crowns s) (bit_positive (is_crown (leads s) (p.listed s) (h.crowns s)) (omega arith)), names_cell (leads s) (numbers s) (p.cells s) v (scene.described s) e)
+            inr (leads s, p.listed s, crown_is (h.crowns s) (leads s) (p.listed s) (bit_true (is_crown (leads s) (p.listed s) (h.crowns s)) (omega arith)), names_cell (leads s) (numbers s) (p.cells s) v (scene.described s) e)
 
     module _ (h' : Hold) (i : Instr) (e : Effect c p leads numbers h h' i) where
       untouched : touched i ≢ Some (s, v) →

@@ -1,7 +1,7 @@
 -- The first row that passes a test, and the lowest key that is not kept.
 use Rattle.std.proofs.Common.{◌≡◌, ℕ, Bool, true, false, Option, Some, None, List, [], ◌∷◌, refl, sym, ap, ◌∙◌, inl, inr}
 use Rattle.std.specs.Prelude.{IfSome, IfNone, find, not, option_map}
-use Rattle.std.proofs.lemmas.Bool.{cases_Bool}
+use Rattle.std.proofs.lemmas.Bool.{cases_Bool, not-true, not-false}
 use Rattle.sm_reservation.specs.declared.right.CellRight.{CellRight}
 use Rattle.sm_reservation.specs.declared.right.Crown.{Crown}
 use Rattle.sm_reservation.specs.declared.right.Key.{Key}
@@ -13,6 +13,7 @@ use Rattle.sm_reservation.proofs.Places.{same_here, same_is, same_sym, before_no
 use Rattle.sm_reservation.proofs.RowLemmas.{none_after, AllAfter-trans}
 use Rattle.sm_verifier.specs.Finding.{first_cell, first_crown}
 use Rattle.sm_verifier.specs.Admission.{IsLowestKey}
+use Rattle.sm_placement.proofs.Searches.{none_mapped}
 
 -- a row that passes, and none at a lower key does
 pub record IsFirstRow {T : Type 0} (key_of : T → ℕ × ℕ) (test : T → Bool) (xs : List T) (x : T) : Type 0 where
@@ -77,16 +78,6 @@ pub record Judges (r : Rights) (cell : CellRight → Bool) (crown : Crown → Bo
   pub room : (v : ℕ) → Kept (key.Room v)
   pub spare : (s : ℕ) → Kept (key.Spare s)
 
--- a test fails where its opposite passes
-pub not_true : (b : Bool) → not b ≡ true → b ≡ false
-not_true true e = cc
-not_true false e = refl
-
--- a test passes where its opposite fails
-pub not_false : (b : Bool) → not b ≡ false → b ≡ true
-not_false true e = refl
-not_false false e = cc
-
 cell_moved : (Kept : Key → Type 0) (a b s v : ℕ) → ◌≡◌ {A = ℕ × ℕ} (a, b) (s, v) → Kept (key.CellRight a b) → Kept (key.CellRight s v)
 cell_moved Kept a b s v e k = let d : a ≡ s = ap (λ (q : ℕ × ℕ). q.0) e in let f : b ≡ v = ap (λ (q : ℕ × ℕ). q.1) e in rw (← d, ← f) k
 
@@ -97,13 +88,13 @@ cell_kept : (r : Rights) (cell : CellRight → Bool) (crown : Crown → Bool) (K
 cell_kept r cell crown Kept j s v None e t = j.no_cell s v e
 cell_kept r cell crown Kept j s v (Some y) e t =
     let here : ◌≡◌ {A = ℕ × ℕ} (y.shard, y.server) (s, v) = row_is key_of_cell r.cells (s, v) y e in
-    cell_moved Kept y.shard y.server s v here (j.cell_yes y (ap (row_at key_of_cell r.cells) here ∙ e) (not_false (cell y) t))
+    cell_moved Kept y.shard y.server s v here (j.cell_yes y (ap (row_at key_of_cell r.cells) here ∙ e) (not-false (cell y) t))
 
 crown_kept : (r : Rights) (cell : CellRight → Bool) (crown : Crown → Bool) (Kept : Key → Type 0) → Judges r cell crown Kept → (s : ℕ) → (o : Option Crown) → row_at key_of_crown r.crowns (s, 0) ≡ o → IfSome o (λ y. not (crown y) ≡ false) → Kept (key.Crown s)
 crown_kept r cell crown Kept j s None e t = j.no_crown s e
 crown_kept r cell crown Kept j s (Some y) e t =
     let here : ◌≡◌ {A = ℕ × ℕ} (y.shard, 0) (s, 0) = row_is key_of_crown r.crowns (s, 0) y e in
-    crown_moved Kept y.shard s here (j.crown_yes y (ap (row_at key_of_crown r.crowns) here ∙ e) (not_false (crown y) t))
+    crown_moved Kept y.shard s here (j.crown_yes y (ap (row_at key_of_crown r.crowns) here ∙ e) (not-false (crown y) t))
 
 -- a cell right that does not pass
 pub cell_lowest : (r : Rights) (cell : CellRight → Bool) (crown : Crown → Bool) (Kept : Key → Type 0) → Judges r cell crown Kept → Rises key_of_cell r.cells → (k : Key) → first_cell cell r.cells ≡ Some k → IsLowestKey Kept k
@@ -121,17 +112,13 @@ cell_lowest r cell crown Kept j rises k e = go (find (λ x. not (cell x)) r.cell
         let first = first_row key_of_cell (λ x. not (cell x)) r.cells x rises f in
         let is : key.CellRight x.shard x.server ≡ k = cc in
         rw (← is) (record {
-          broken = j.cell_no x first.here (not_true (cell x) first.passes);
+          broken = j.cell_no x first.here (not-true (cell x) first.passes);
           below = λ lower. under x first lower;
         })
 
-no_key : {T : Type 0} (f : T → Key) (o : Option T) → option_map f o ≡ None → o ≡ None
-no_key f None e = refl
-no_key f (Some x) e = cc
-
 cells_kept : (r : Rights) (cell : CellRight → Bool) (crown : Crown → Bool) (Kept : Key → Type 0) → Judges r cell crown Kept → first_cell cell r.cells ≡ None → (s v : ℕ) → Kept (key.CellRight s v)
 cells_kept r cell crown Kept j e s v =
-    let none : find (λ x. not (cell x)) r.cells ≡ None = no_key (λ x. key.CellRight x.shard x.server) _ e in
+    let none : find (λ x. not (cell x)) r.cells ≡ None = none_mapped (λ x. key.CellRight x.shard x.server) _ e in
     cell_kept r cell crown Kept j s v (row_at key_of_cell r.cells (s, v)) refl (no_row key_of_cell (λ x. not (cell x)) r.cells none (s, v))
 
 -- a crown that does not pass, where all cell rights do
@@ -150,7 +137,7 @@ crown_lowest r cell crown Kept j rises cells k e = go (find (λ x. not (crown x)
         let first = first_row key_of_crown (λ x. not (crown x)) r.crowns x rises f in
         let is : key.Crown x.shard ≡ k = cc in
         rw (← is) (record {
-          broken = j.crown_no x first.here (not_true (crown x) first.passes);
+          broken = j.crown_no x first.here (not-true (crown x) first.passes);
           below = λ lower. under x first lower;
         })
 
@@ -158,7 +145,7 @@ crown_lowest r cell crown Kept j rises cells k e = go (find (λ x. not (crown x)
 pub all_kept : (r : Rights) (cell : CellRight → Bool) (crown : Crown → Bool) (Kept : Key → Type 0) → Judges r cell crown Kept → first_cell cell r.cells ≡ None → first_crown crown r.crowns ≡ None → (k : Key) → Kept k
 all_kept r cell crown Kept j cells crowns (key.CellRight s v) = cells_kept r cell crown Kept j cells s v
 all_kept r cell crown Kept j cells crowns (key.Crown s) =
-    let none : find (λ x. not (crown x)) r.crowns ≡ None = no_key (λ x. key.Crown x.shard) _ crowns in
+    let none : find (λ x. not (crown x)) r.crowns ≡ None = none_mapped (λ x. key.Crown x.shard) _ crowns in
     crown_kept r cell crown Kept j s (row_at key_of_crown r.crowns (s, 0)) refl (no_row key_of_crown (λ x. not (crown x)) r.crowns none (s, 0))
 all_kept r cell crown Kept j cells crowns (key.Room v) = j.room v
 all_kept r cell crown Kept j cells crowns (key.Spare s) = j.spare s

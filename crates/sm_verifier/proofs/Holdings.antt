@@ -6,7 +6,7 @@ use Rattle.std.proofs.lemmas.Bool.{cases_eq, cases_lt, le-leb, lt-leb}
 use Rattle.sm_placement.specs.Sums.{first_from}
 use Rattle.sm_placement.specs.Setup.{Sizes}
 use Rattle.sm_placement.specs.Place.{Place}
-use Rattle.sm_placement.proofs.Searches.{cases_Option, first_from_none}
+use Rattle.sm_placement.proofs.Searches.{cases_Option, first_from_none, none_mapped}
 use Rattle.sm_reservation.specs.declared.right.CellRight.{CellRight}
 use Rattle.sm_reservation.specs.declared.right.Crown.{Crown}
 use Rattle.sm_reservation.specs.declared.right.Key.{Key}
@@ -38,10 +38,6 @@ or_some (Some y) b x e = inl e
 map_some : {A B : Type 0} (f : A → B) (o : Option A) (y : B) → option_map f o ≡ Some y → (x : A) × (o ≡ Some x) × (f x ≡ y)
 map_some f None y e = cc
 map_some f (Some x) y e = (x, refl, cc)
-
-map_none : {A B : Type 0} (f : A → B) (o : Option A) → option_map f o ≡ None → o ≡ None
-map_none f None e = refl
-map_none f (Some x) e = cc
 
 -- the first answer of a search stands at some number, and none stands before it
 record IsFirstAnswer {A : Type 0} (f : ℕ → Option A) (from to : ℕ) (x : A) : Type 0 where
@@ -223,11 +219,11 @@ module _ (c : Sizes) (p : Place) (pool : Hold) (plan : PlanModel) (ordered : Has
       let room = or_none short_one from_few taken.1 in
       let spare = or_none few_one down_one room.1 in
       record {
-        true_ones = none_untrue c p plan.streams (map_none (λ key. Untrue key) _ untrue.0);
-        free_ones = none_taken pool plan.streams (map_none (λ key. Taken key) _ taken.0);
+        true_ones = none_untrue c p plan.streams (none_mapped (λ key. Untrue key) _ untrue.0);
+        free_ones = none_taken pool plan.streams (none_mapped (λ key. Taken key) _ taken.0);
         room = none_short c.servers (declared_room plan.streams) pool.room (λ v. ShortRoom v (pool.room v) (declared_room plan.streams v)) room_beyond room.0;
         spare = none_short c.shards (declared_spare plan.streams) pool.spare (λ s. ShortSpare s (pool.spare s) (declared_spare plan.streams s)) spare_beyond spare.0;
-        up = all_up p plan.streams (map_none (λ v. ServerDown v) _ spare.1);
+        up = all_up p plan.streams (none_mapped (λ v. ServerDown v) _ spare.1);
       }
 
   some_found : (h : Holding) → first_holding c p pool plan ≡ Some h → IsHolding c p pool plan h
@@ -237,13 +233,13 @@ module _ (c : Sizes) (p : Place) (pool : Hold) (plan : PlanModel) (ordered : Has
         let at = map_some (λ key. Untrue key) (first_untrue c p plan.streams) h untrue in
         subst (IsHolding c p pool plan) at.2 (untrue_found c p plan.streams ordered.streams at.0 at.1)
     | inr no_untrue ↦
-        let true_ones = none_untrue c p plan.streams (map_none (λ key. Untrue key) _ no_untrue.0) in
+        let true_ones = none_untrue c p plan.streams (none_mapped (λ key. Untrue key) _ no_untrue.0) in
         elim (or_some taken_one from_short h no_untrue.1) [
           | inl taken ↦
               let at = map_some (λ key. Taken key) (first_taken pool plan.streams) h taken in
               subst (IsHolding c p pool plan) at.2 (true_ones, taken_found pool plan.streams ordered.streams at.0 at.1)
           | inr no_taken ↦
-              let free_ones = none_taken pool plan.streams (map_none (λ key. Taken key) _ no_taken.0) in
+              let free_ones = none_taken pool plan.streams (none_mapped (λ key. Taken key) _ no_taken.0) in
               elim (or_some short_one from_few h no_taken.1) [
                 | inl short ↦
                     let at = short_found c.servers (declared_room plan.streams) pool.room (λ v. ShortRoom v (pool.room v) (declared_room plan.streams v)) h short in

@@ -4,7 +4,7 @@ use Rattle.std.specs.Prelude.{is_some, not}
 use Rattle.std.specs.List.{list_any}
 use Rattle.std.proofs.Math.Nat.{min-le_left}
 use Rattle.std.proofs.lemmas.List.{get_or_past, get_or-take, length-take}
-use Rattle.std.proofs.lemmas.Bool.{cases_Bool, cases_lt, both_ways, and_parts, and_cases, or_parts}
+use Rattle.std.proofs.lemmas.Bool.{cases_Bool, cases_lt, both_ways, and_parts, and_cases, or_parts, not-true, not-false}
 use Rattle.sm_placement.specs.declared.lead.Lead.{Lead}
 use Rattle.sm_reservation.specs.declared.right.CellRight.{CellRight}
 use Rattle.sm_reservation.specs.declared.right.Crown.{Crown}
@@ -16,22 +16,18 @@ use Rattle.sm_reservation.specs.Rows.{row_at}
 use Rattle.sm_reservation.specs.Key.{key_of_cell, key_of_crown}
 use Rattle.sm_reservation.specs.Hold.{Hold}
 use Rattle.sm_reservation.specs.HoldOf.{hold_of}
-use Rattle.sm_reservation.specs.Amounts.{is_cell, is_crown, same_lead, same_listed}
-use Rattle.sm_reservation.proofs.Truths.{is_cell_true, is_cell_self, same_lead_true, same_lead_self, same_server_true, same_server_self}
+use Rattle.sm_reservation.specs.Amounts.{is_cell, is_crown}
+use Rattle.sm_reservation.proofs.Truths.{is_cell_true, is_cell_self, same_lead_self, same_server_self}
+use Rattle.sm_reservation.proofs.ParcelSums.{crown_is}
 use Rattle.sm_plan_code.specs.Plan.{StreamModel}
 use Rattle.sm_verifier.specs.Stream.{no_stream}
 use Rattle.sm_verifier.specs.Finding.{holds_cell, holds_crown, is_free_cell, is_free_crown, IsFree}
 use Rattle.sm_verifier.specs.Admission.{IsIn, Has, declared, IsFreeAt, IsLowestKey}
-use Rattle.sm_verifier.proofs.FirstRows.{Judges, not_true, not_false}
+use Rattle.sm_verifier.proofs.FirstRows.{Judges}
 
 -- a crown that passes the test of a lead and a listed server has these
 pub crown_true : (lead : Lead) (listed : Option ℕ) (o : Option (Lead × Option ℕ)) → is_crown lead listed o ≡ true → o ≡ Some (lead, listed)
-crown_true lead listed None e = cc
-crown_true lead listed (Some c) e =
-    let both = and_parts (same_lead lead c.0) (same_listed listed c.1) e in
-    let a : lead ≡ c.0 = same_lead_true lead c.0 both.0 in
-    let b : listed ≡ c.1 = same_server_true listed c.1 both.1 in
-    rw (a, b) refl
+crown_true lead listed o e = crown_is o lead listed e
 
 -- and it passes the test of its own lead and listed server
 pub crown_self : (lead : Lead) (listed : Option ℕ) → is_crown lead listed (Some (lead, listed)) ≡ true
@@ -117,26 +113,26 @@ judges_free r pool streams =
           let test = declares_cell x.shard x.server in
           let both = and_parts (holds_cell pool x) (not (list_any test streams)) passed in
           let out = not_some (test no_stream) (no_stream_has (key.CellRight x.shard x.server)) in
-          (alone.cell_yes x e both.0 has, λ j d. both_ways (test (get_or streams j no_stream)) (none_passes test out streams (not_true _ both.1) j) d);
+          (alone.cell_yes x e both.0 has, λ j d. both_ways (test (get_or streams j no_stream)) (none_passes test out streams (not-true _ both.1) j) d);
       cell_no = λ x e failed kept.
           let test = declares_cell x.shard x.server in
           let free = kept (cell_there r x e) in
           elim (and_cases (holds_cell pool x) (not (list_any test streams)) failed) [
             | inl other ↦ alone.cell_no x e other (λ has. free.0)
-            | inr taken ↦ let one = one_passes test streams (not_false _ taken) in free.1 one.0 one.1
+            | inr taken ↦ let one = one_passes test streams (not-false _ taken) in free.1 one.0 one.1
           ];
       no_crown = λ s e has. absurd (no_crown_there r s e has);
       crown_yes = λ x e passed has.
           let test = declares_crown x.shard in
           let both = and_parts (holds_crown pool x) (not (list_any test streams)) passed in
           let out = not_some (test no_stream) (no_stream_has (key.Crown x.shard)) in
-          (alone.crown_yes x e both.0 has, λ j d. both_ways (test (get_or streams j no_stream)) (none_passes test out streams (not_true _ both.1) j) d);
+          (alone.crown_yes x e both.0 has, λ j d. both_ways (test (get_or streams j no_stream)) (none_passes test out streams (not-true _ both.1) j) d);
       crown_no = λ x e failed kept.
           let test = declares_crown x.shard in
           let free = kept (crown_there r x e) in
           elim (and_cases (holds_crown pool x) (not (list_any test streams)) failed) [
             | inl other ↦ alone.crown_no x e other (λ has. free.0)
-            | inr taken ↦ let one = one_passes test streams (not_false _ taken) in free.1 one.0 one.1
+            | inr taken ↦ let one = one_passes test streams (not-false _ taken) in free.1 one.0 one.1
           ];
       room = λ v has. absurd has;
       spare = λ s has. absurd has;

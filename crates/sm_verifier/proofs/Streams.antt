@@ -113,15 +113,18 @@ not_good s p why broken good = go (slice_get s.code p) refl broken (good.made p)
     ]
     go None e broken ok = broken.2 good.settled
 
+-- a stream breaks off where it cannot go on, and all before was made
+pub first_break : (s : Course) (p : ℕ) (why : Why) → p ≤ length s.code → ((q : ℕ) → q < p → IfSome (slice_get s.code q) (λ i. IsOk (made_at s q i))) → BreaksAt s p why → IsFirstBreak s p why
+first_break s p why within made here = record {
+  here = here;
+  before = λ q w l. no_break s q w (slice_get s.code q) (omega arith) (made q l);
+  bad = not_good s p why here;
+}
+
 pub breaks : (s : Course) (p n : ℕ) (h : Hold) (i : Instr) (why : Why) → IsFollowed s p n h → slice_get s.code p ≡ Some i → within_budget s.budget n i (said_of s i h) ≡ Err why → IsFirstBreak s p why
 breaks s p n h i why f e refused =
     let less : p < length s.code = slice_get_within s.code p i e in
-    let here : BreaksAt s p why = rw e (here_is s p n h i f ∙ refused) in
-    record {
-      here = here;
-      before = λ q w l. no_break s q w (slice_get s.code q) (omega arith) (f.made q l);
-      bad = not_good s p why here;
-    }
+    first_break s p why (omega arith) f.made (rw e (here_is s p n h i f ∙ refused))
 
 -- where the instruction at the position was not made, for want of memory or because it may not be
 pub breaks_by : (s : Course) (p n at : ℕ) (h h' : Hold) (i : Instr) (fault : StepFault) → at ≡ p → IsFollowed s p n h → slice_get s.code p ≡ Some i → IsAnswer {U = Unit {0}} (Err fault) h' (within_budget s.budget n i (said_of s i h)) → IsBad s (bad_at at fault)
@@ -135,12 +138,7 @@ pub unsettled : (s : Course) (p n : ℕ) (h : Hold) → p ≡ length s.code → 
 unsettled s p n h end f open_handover =
     let past : slice_get s.code p ≡ None = slice_get_past s.code p (omega arith) in
     let settled : ¬ HasCrownsAtRest (final_hold s) = λ rest. open_handover (rw (f.hold, end) rest) in
-    let here : BreaksAt s p Unsettled = rw past (end, refl, settled) in
-    record {
-      here = here;
-      before = λ q w l. no_break s q w (slice_get s.code q) (omega arith) (f.made q l);
-      bad = not_good s p Unsettled here;
-    }
+    first_break s p Unsettled (omega arith) f.made (rw past (end, refl, settled))
 
 -- what may be made within the budget passes the tests of its line of the table
 pub made_ok : (s : Course) (p : ℕ) (o : Option Instr) → IfSome o (λ i. IsOk (made_at s p i)) → IfSome o (λ i. IsOk (said_of s i (hold_before s p)))

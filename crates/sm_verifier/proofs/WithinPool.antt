@@ -1,5 +1,5 @@
 -- A plan is admitted exactly where what it declares of each right is within a pool that is true of the placement.
-use Rattle.std.proofs.Common.{◌≡◌, ◌≢◌, ℕ, ◌<◌, ◌≤◌, Bool, true, false, Option, Some, None, List, [], ◌∷◌, length, refl, sym, ap, ◌∙◌, inl, inr, arith}
+use Rattle.std.proofs.Common.{◌≡◌, ◌≢◌, ℕ, ◌<◌, ◌≤◌, Option, Some, None, List, [], ◌∷◌, length, refl, sym, ap, ◌∙◌, inl, inr, arith}
 use Rattle.std.specs.Prelude.{IsSome}
 use Rattle.std.specs.List.{AllByRecursion}
 use Rattle.std.proofs.lemmas.Bool.{cases_Bool, cases_lt, cases_order, lt-ltb}
@@ -20,7 +20,7 @@ use Rattle.sm_reservation.specs.Hold.{Hold}
 use Rattle.sm_reservation.specs.HoldOf.{hold_of, plain_state_of, crown_of}
 use Rattle.sm_reservation.specs.Amounts.{Right, OfCell, OfCrown, OfRoom, OfSpare, is_cell, is_crown, count}
 use Rattle.sm_reservation.proofs.Places.{same_is}
-use Rattle.sm_reservation.proofs.Truths.{is_cell_true, is_cell_self, true_cell, true_crown}
+use Rattle.sm_reservation.proofs.Truths.{is_cell_true, is_cell_self, true_cell, true_crown, bit_true}
 use Rattle.sm_plan_code.specs.Plan.{StreamModel, PlanModel, IsKnownCellRight, IsKnownCrown, IsKnownParcel, IsKnownPlan}
 use Rattle.sm_plan_code.specs.Effects.{IsScene}
 use Rattle.sm_verifier.specs.Stream.{no_stream}
@@ -30,10 +30,6 @@ use Rattle.sm_verifier.proofs.SumLemmas.{sum_by-below, sum_once, two_of_sum}
 use Rattle.sm_verifier.proofs.Judging.{crown_true, crown_self, nothing_past}
 use Rattle.sm_reservation.proofs.RowLemmas.{some_of}
 use Rattle.sm_reservation.proofs.AmountLemmas.{present_at as some_is}
-
-bit_yes : (b : Bool) → 0 < bit b → b ≡ true
-bit_yes true l = refl
-bit_yes false l = absurd (omega arith)
 
 -- a cell right and a crown that a hold has are counted once
 cell_counts : (h : Hold) (s v : ℕ) (state : PlainCell) → h.cells s v ≡ Some state → count h (OfCell s v state) ≡ 1
@@ -61,7 +57,7 @@ module _ (c : Sizes) (p : Place) (pool : Hold) (plan : PlanModel) (admitted : Is
   cell_within s v state = sum_once (length plan.streams) (count pool (OfCell s v state)) (λ i. count (held i) (OfCell s v state)) (λ i l. each i) (λ i j l m at there. declared_once i j (key.CellRight s v) (has i at) (has j there))
     where
       has : (i : ℕ) → 0 < count (held i) (OfCell s v state) → Has (held i) (key.CellRight s v)
-      has i some = some_is ((held i).cells s v) state (is_cell_true state ((held i).cells s v) (bit_yes (is_cell state ((held i).cells s v)) some))
+      has i some = some_is ((held i).cells s v) state (is_cell_true state ((held i).cells s v) (bit_true (is_cell state ((held i).cells s v)) (omega (arith, some))))
 
       each : (i : ℕ) → count (held i) (OfCell s v state) ≤ count pool (OfCell s v state)
       each i = elim (cases_Bool (is_cell state ((held i).cells s v))) [
@@ -77,7 +73,7 @@ module _ (c : Sizes) (p : Place) (pool : Hold) (plan : PlanModel) (admitted : Is
   crown_within s lead listed = sum_once (length plan.streams) (count pool (OfCrown s lead listed)) (λ i. count (held i) (OfCrown s lead listed)) (λ i l. each i) (λ i j l m at there. declared_once i j (key.Crown s) (has i at) (has j there))
     where
       has : (i : ℕ) → 0 < count (held i) (OfCrown s lead listed) → Has (held i) (key.Crown s)
-      has i some = some_is ((held i).crowns s) (lead, listed) (crown_true lead listed ((held i).crowns s) (bit_yes (is_crown lead listed ((held i).crowns s)) some))
+      has i some = some_is ((held i).crowns s) (lead, listed) (crown_true lead listed ((held i).crowns s) (bit_true (is_crown lead listed ((held i).crowns s)) (omega (arith, some))))
 
       each : (i : ℕ) → count (held i) (OfCrown s lead listed) ≤ count pool (OfCrown s lead listed)
       each i = elim (cases_Bool (is_crown lead listed ((held i).crowns s))) [
@@ -159,10 +155,10 @@ module _ (c : Sizes) (p : Place) (leads : ℕ → Lead) (numbers : ℕ → ℕ) 
       absurd (omega arith)
 
   pool_cell : (i s v : ℕ) (state : PlainCell) → (holds i).cells s v ≡ Some state → pool.cells s v ≡ Some state
-  pool_cell i s v state e = is_cell_true state (pool.cells s v) (bit_yes (is_cell state (pool.cells s v)) (has_one i (OfCell s v state) (known i (key.CellRight s v) (some_is _ state e)) (cell_counts (holds i) s v state e)))
+  pool_cell i s v state e = is_cell_true state (pool.cells s v) (bit_true (is_cell state (pool.cells s v)) (omega (arith, has_one i (OfCell s v state) (known i (key.CellRight s v) (some_is _ state e)) (cell_counts (holds i) s v state e))))
 
   pool_crown : (i s : ℕ) (lead : Lead) (listed : Option ℕ) → (holds i).crowns s ≡ Some (lead, listed) → pool.crowns s ≡ Some (lead, listed)
-  pool_crown i s lead listed e = crown_true lead listed (pool.crowns s) (bit_yes (is_crown lead listed (pool.crowns s)) (has_one i (OfCrown s lead listed) (known i (key.Crown s) (some_is _ (lead, listed) e)) (crown_counts (holds i) s lead listed e)))
+  pool_crown i s lead listed e = crown_true lead listed (pool.crowns s) (bit_true (is_crown lead listed (pool.crowns s)) (omega (arith, has_one i (OfCrown s lead listed) (known i (key.Crown s) (some_is _ (lead, listed) e)) (crown_counts (holds i) s lead listed e))))
 
   true_at : (i : ℕ) (k : Key) → IsTrueAt c p plan.streams i k
   true_at i (key.CellRight s v) has =
