@@ -1,8 +1,9 @@
 -- The account of placed moves, one move further.
-use Rattle.std.proofs.Common.{◌≡◌, ◌<◌, ◌≤◌, ◌+◌, ◌-◌, ◌*◌, ◌^◌, ◌∙◌, inl, inr, ℕ, Bool, true, false, cond, eqb, leb, ◌||◌, subst, Option, Some, List, [], ◌∷◌, ◌++◌, length, take, get_or, set, replicate, map, sym, ap, refl, arith}
+use Rattle.std.proofs.Common.{◌≡◌, ◌<◌, ◌≤◌, ◌+◌, ◌-◌, ◌*◌, ◌^◌, ◌∙◌, inl, inr, ℕ, Bool, true, false, cond, eqb, leb, subst, Option, Some, List, [], ◌∷◌, ◌++◌, length, take, get_or, set, replicate, map, sym, ap, refl, arith}
 use Rattle.std.specs.Prelude.{sum_by, count_by, not, All}
 use Rattle.std.specs.List.{range_with_len}
-use Rattle.std.proofs.lemmas.Bool.{cases_Bool, cases_eq, cases_lt, eq-eqb, ne_eqb, and_parts, leb-true, or_right}
+use Rattle.std.proofs.Math.Bool.{or-false}
+use Rattle.std.proofs.lemmas.Bool.{cases_Bool, cases_eq, cases_lt, eq-eqb, ne_eqb, and_parts, leb-true, or_right, not-true}
 use Rattle.std.proofs.lemmas.List.{get_or-set_same, get_or-set_other, length-set, take-append-le, take_at, get_or_append_left, get_or_push, length_push, length-replicate, get_or-replicate, get_or_past}
 use Rattle.std.proofs.lemmas.List.Elements.{All-nil, All-push}
 use Rattle.std.proofs.lemmas.List.Folds.{list_any-append, sum_by-replicate}
@@ -114,11 +115,7 @@ pub fits_in : (b : Basis) (moves : List Move) (placed : List ℕ) (i : ℕ) → 
 fits_in b moves placed i e =
     let found = first_some (length moves) (fits b moves placed) i e in
     let both = and_parts (not (is_placed placed i)) (leb (move_load b.setup (move_at moves i)) (room_left b moves placed (move_at moves i).to)) found.1 in
-    (found.0, not_true (is_placed placed i) both.0, leb-true (move_load b.setup (move_at moves i)) (room_left b moves placed (move_at moves i).to) both.1)
-  where
-    not_true : (t : Bool) → not t ≡ true → t ≡ false
-    not_true true q = cc
-    not_true false q = refl
+    (found.0, not-true (is_placed placed i) both.0, leb-true (move_load b.setup (move_at moves i)) (room_left b moves placed (move_at moves i).to) both.1)
 
 pub kept_more : (b : Basis) (moves : List Move) (placed : List ℕ) (marks : List Bool) (room : List ℕ) (i : ℕ) →
     IsKept b moves placed marks room → first_fit b moves placed ≡ Some i → IsWithin b moves room i →
@@ -150,14 +147,10 @@ kept_more b moves placed marks room i kept first within = record {
     wide : length (room_after b.setup (move_at moves i) room) ≡ length room
     wide = simp length-set
 
-    or_none : (t : Bool) → (t || false) ≡ t
-    or_none true = refl
-    or_none false = refl
-
     flagged : (j : ℕ) → cond (eqb i j) true (is_placed placed j) ≡ is_placed (placed ++ i ∷ []) j
     flagged j = elim (cases_eq i j) [
       | inl e ↦ rw (eq-eqb i j e, list_any-append (λ k. eqb k j) placed (i ∷ []), eq-eqb i j e) (sym (or_right (is_placed placed j) true refl))
-      | inr e ↦ rw (ne_eqb i j e, list_any-append (λ k. eqb k j) placed (i ∷ []), ne_eqb i j e) (sym (or_none (is_placed placed j)))
+      | inr e ↦ rw (ne_eqb i j e, list_any-append (λ k. eqb k j) placed (i ∷ []), ne_eqb i j e) (sym (or-false (is_placed placed j)))
     ]
 
     sums : (v : ℕ) → (sum_by (λ i. taken_by b.setup v (move_at moves i)) (placed ++ i ∷ []) ≡ sum_by (λ i. taken_by b.setup v (move_at moves i)) placed + taken_by b.setup v (move_at moves i)) × (sum_by (λ i. freed_by b.setup v (move_at moves i)) (placed ++ i ∷ []) ≡ sum_by (λ i. freed_by b.setup v (move_at moves i)) placed + freed_by b.setup v (move_at moves i))

@@ -14,7 +14,7 @@ use Rattle.sm_planner.specs.Payment.{overlap, from_pool}
 use Rattle.sm_planner.specs.Stretches.{stretch}
 use Rattle.sm_planner.specs.Draft.{IsDraft, ArePayments}
 use Rattle.sm_planner.specs.Accounts.{no_amounts, room_freed}
-use Rattle.sm_planner.proofs.Stretching.{put_at}
+use Rattle.sm_planner.proofs.Stretching.{put_at, no_amount_at}
 
 -- the k-th placed move of a draft
 pub placed_is : (b : Basis) (draft : Draft) (k : ℕ) (p : Placed) → IsDraft b draft → k < length draft.moves.items → p ≡ get_or draft.placed.items k p → p ≡ stretch b draft.moves.items k
@@ -53,12 +53,9 @@ payer_is b draft k p d l read =
 pub paid_none : (b : Basis) (order : List Move) (setup : Setup) (amounts : List ℕ) → setup ≡ b.setup → amounts ≡ no_amounts (length setup.servers) → ArePayments b order [] amounts
 paid_none b order setup amounts same is = rw (is, same) (record {
   wide = length-map-range_with_len (λ v. 0) 0 (length b.setup.servers);
-  paid = λ v l. nothing v l;
-  small = λ v l. rw (nothing v l) (omega arith);
+  paid = λ v l. no_amount_at (length b.setup.servers) v l;
+  small = λ v l. rw (no_amount_at (length b.setup.servers) v l) (omega arith);
 })
-  where
-    nothing : (v : ℕ) → v < length b.setup.servers → get_or (no_amounts (length b.setup.servers)) v 0 ≡ 0
-    nothing v l = get_or-map-range_with_len (λ v. 0) 0 (length b.setup.servers) v v 0 l (omega arith)
 
 -- what the next placed move pays, added where it goes, makes the payments one move further
 pub paid_more : (b : Basis) (order : List Move) (numbers : List ℕ) (i k : ℕ) (amounts later : List ℕ) (to amount : ℕ) →

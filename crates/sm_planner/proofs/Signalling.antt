@@ -1,5 +1,5 @@
 -- The room that stretches hand on is that of the rule's signals.
-use Rattle.std.proofs.Common.{◌≡◌, ◌<◌, ◌≤◌, ◌+◌, ◌∙◌, ℕ, zero, suc, Bool, true, false, cond, eqb, ltb, ◌&&◌, ◌++◌, List, ◌∷◌, length, get_or, map, filter, ap, refl, arith}
+use Rattle.std.proofs.Common.{◌≡◌, ◌<◌, ◌≤◌, ◌+◌, ◌∙◌, ℕ, zero, suc, Bool, cond, eqb, ltb, ◌&&◌, ◌++◌, List, ◌∷◌, length, get_or, map, filter, ap, refl, arith}
 use Rattle.std.specs.Prelude.{All, not}
 use Rattle.std.specs.List.{range_with_len, flat_map}
 use Rattle.std.proofs.lemmas.Bool.{lt-ltb, ltb-true, and_parts}
@@ -11,7 +11,7 @@ use Rattle.sm_planner.specs.declared.payment.Placed.{Placed}
 use Rattle.sm_planner.specs.Basis.{Basis, IsMoveOf, no_move, move_at}
 use Rattle.sm_planner.specs.Payment.{Handed, handed, from_move, is_handed, signals_of, stream_of}
 use Rattle.sm_planner.specs.Stretches.{stretch, no_stretch, placed_at, paid_from, is_paid_by, handed_to, IsGiven}
-use Rattle.sm_planner.proofs.Streams.{passed_known}
+use Rattle.sm_planner.proofs.Streams.{passed_known, beside_true}
 
 same_filter : (t r : ℕ → Bool) (a n : ℕ) → ((k : ℕ) → a ≤ k → k < a + n → t k ≡ r k) → filter t (range_with_len a n) ≡ filter r (range_with_len a n)
 same_filter t r a zero h = refl
@@ -34,14 +34,10 @@ ordered_known setup moves placed known within = All-map (IsMoveOf setup) (move_a
 -- by stretches or by the rule
 paid_is : (b : Basis) (order : List Move) (placed : List Placed) (k j : ℕ) → placed ≡ map (stretch b order) (range_with_len 0 (length order)) → k < length order → j < k →
     is_paid_by placed k j ≡ is_handed b order k j
-paid_is b order placed k j is l m = ap (λ x. ltb 0 x && not (eqb (stream_of k) (stream_of j))) (ap (λ (p : Placed). paid_from p (placed_at placed j)) (at k l) ∙ ap (paid_from (stretch b order k)) (at j (omega arith)) ∙ earlier (ltb j k) (eqb (move_at order j).from (move_at order k).to) _ (lt-ltb j k m))
+paid_is b order placed k j is l m = ap (λ x. ltb 0 x && not (eqb (stream_of k) (stream_of j))) (ap (λ (p : Placed). paid_from p (placed_at placed j)) (at k l) ∙ ap (paid_from (stretch b order k)) (at j (omega arith)) ∙ beside_true (ltb j k) (eqb (move_at order j).from (move_at order k).to) _ (lt-ltb j k m))
   where
     at : (k : ℕ) → k < length order → placed_at placed k ≡ stretch b order k
     at k l = ap (λ (xs : List Placed). get_or xs k no_stretch) is ∙ get_or-map-range_with_len (stretch b order) 0 (length order) k k no_stretch l (omega arith)
-
-    earlier : (s t : Bool) (x : ℕ) → s ≡ true → cond t x 0 ≡ cond (s && t) x 0
-    earlier true t x e = refl
-    earlier false t x e = cc
 
 -- the signals that are made of the stretches are those of the rule
 pub signals_are : (b : Basis) (order : List Move) (placed : List Placed) (signals : List Handed) → placed ≡ map (stretch b order) (range_with_len 0 (length order)) →

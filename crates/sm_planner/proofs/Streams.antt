@@ -48,8 +48,9 @@ waits_few signals k = let a = length-map (filter (λ q. (signal_at signals q).pa
 posts_few : (signals : List Handed) (k : ℕ) → length (posts_of signals k) ≤ length signals
 posts_few signals k = let a = length-map (filter (λ q. (signal_at signals q).source == k) (range_with_len 0 (length signals))) Signal in let b = passed_few (λ q. (signal_at signals q).source == k) (length signals) in omega arith
 
-moves_short : (p : Place) (m : Move) → length (instructions p m) ≤ 5
-moves_short p m = by (is_primary (left_cell p m)) (p.listed m.shard)
+-- the instructions of a move are at most five
+pub instructions_short : (p : Place) (m : Move) → length (instructions p m) ≤ 5
+instructions_short p m = by (is_primary (left_cell p m)) (p.listed m.shard)
   where
     by : (t : Bool) (o : Option ℕ) → length (cond t (handing_over o m) (copying m)) ≤ 5
     by true None = omega arith
@@ -60,7 +61,7 @@ code_short : (p : Place) (order : List Move) (signals : List Handed) (k : ℕ) �
 code_short p order signals k few =
     let a = waits_few signals k in
     let b = posts_few signals k in
-    let m = moves_short p (move_at order k) in
+    let m = instructions_short p (move_at order k) in
     let e = length-append (waits_of signals k) (instructions p (move_at order k) ++ posts_of signals k) in
     let f = length-append (instructions p (move_at order k)) (posts_of signals k) in
     omega arith
@@ -92,6 +93,11 @@ stream_is b order signals number numbers code budget holds s n c k h =
 
 -- ---- what signals carry
 
+-- beside a test that holds another one counts as it does alone
+pub beside_true : (s t : Bool) (x : ℕ) → s ≡ true → cond t x 0 ≡ cond (s && t) x 0
+beside_true true t x e = refl
+beside_true false t x e = cc
+
 -- the stretches of a draft say of a signal where its room is and how much of it the rule hands on
 pub handed_is : (b : Basis) (draft : Draft) (h : Handed) (payer source : Placed) → IsDraft b draft → IsGiven b draft.moves.items h →
     payer ≡ get_or draft.placed.items h.payer payer → source ≡ get_or draft.placed.items h.source source →
@@ -101,11 +107,7 @@ handed_is b draft h payer source d g p q =
     let s : h.source < length draft.moves.items = (let a = g.source in omega arith) in
     let e = placed_is b draft h.payer payer d l p in
     let f = placed_is b draft h.source source d s q in
-    (ap (λ (x : Placed). x.wanted.to) e, ap (λ (x : Placed). paid_from x source) e ∙ ap (paid_from (stretch b draft.moves.items h.payer)) f ∙ earlier (ltb h.source h.payer) (eqb (move_at draft.moves.items h.source).from (move_at draft.moves.items h.payer).to) _ (lt-ltb h.source h.payer g.source))
-  where
-    earlier : (s t : Bool) (x : ℕ) → s ≡ true → cond t x 0 ≡ cond (s && t) x 0
-    earlier true t x e = refl
-    earlier false t x e = cc
+    (ap (λ (x : Placed). x.wanted.to) e, ap (λ (x : Placed). paid_from x source) e ∙ ap (paid_from (stretch b draft.moves.items h.payer)) f ∙ beside_true (ltb h.source h.payer) (eqb (move_at draft.moves.items h.source).from (move_at draft.moves.items h.payer).to) _ (lt-ltb h.source h.payer g.source))
 
 -- a parcel of that room alone is the one that the signal carries
 pub carried_is : (b : Basis) (order : List Move) (h : Handed) (server amount : ℕ) (cells : List CellRight) (crowns : List Crown) (room : List Room) (spare : List Spare) → IsGiven b order h →

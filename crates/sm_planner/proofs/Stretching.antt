@@ -25,19 +25,20 @@ pub record IsSummed (b : Basis) (order : List Move) (takes frees : List ℕ) : T
   pub taken_small : (v : ℕ) → v < length b.setup.servers → get_or takes v 0 ≤ length order * 2 ^ 32
   pub freed_small : (v : ℕ) → v < length b.setup.servers → get_or frees v 0 ≤ 2 ^ 64 + length order * 2 ^ 32
 
+-- where nothing is paid or freed, the amount at each server is 0
+pub no_amount_at : (n v : ℕ) → v < n → get_or (no_amounts n) v 0 ≡ 0
+no_amount_at n v l = get_or-map-range_with_len (λ v. 0) 0 n v v 0 l (omega arith)
+
 pub summed_none : (b : Basis) → All (λ x. x < 2 ^ 64) (map b.pool.room (range_with_len 0 (length b.setup.servers))) →
     IsSummed b [] (no_amounts (length b.setup.servers)) (map b.pool.room (range_with_len 0 (length b.setup.servers)))
 summed_none b small = record {
   taken_wide = length-map-range_with_len (λ v. 0) 0 (length b.setup.servers);
   freed_wide = length-map-range_with_len b.pool.room 0 (length b.setup.servers);
-  taken = λ v l. nothing v l;
+  taken = λ v l. no_amount_at (length b.setup.servers) v l;
   freed = λ v l. get_or-map-range_with_len b.pool.room 0 (length b.setup.servers) v v 0 l (omega arith) ∙ omega arith;
-  taken_small = λ v l. rw (nothing v l) (omega arith);
+  taken_small = λ v l. rw (no_amount_at (length b.setup.servers) v l) (omega arith);
   freed_small = λ v l. let s : get_or (map b.pool.room (range_with_len 0 (length b.setup.servers))) v 0 < 2 ^ 64 = small v 0 (let w = length-map-range_with_len b.pool.room 0 (length b.setup.servers) in omega arith) in omega arith;
 }
-  where
-    nothing : (v : ℕ) → v < length b.setup.servers → get_or (no_amounts (length b.setup.servers)) v 0 ≡ 0
-    nothing v l = get_or-map-range_with_len (λ v. 0) 0 (length b.setup.servers) v v 0 l (omega arith)
 
 -- an amount that is added at a server comes to the room of that server alone
 pub put_at : (room : List ℕ) (u amount v : ℕ) → u < length room → get_or (room_freed room u amount) v 0 ≡ get_or room v 0 + cond (eqb u v) amount 0

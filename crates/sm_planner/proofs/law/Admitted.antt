@@ -1,5 +1,5 @@
 -- A plan of open moves that pay is admitted at a pool that is true of the placement.
-use Rattle.std.proofs.Common.{◌≡◌, ℕ, zero, suc, ◌<◌, ◌≤◌, Bool, true, false, cond, Option, Some, List, length, refl, sym, ap, ◌∙◌, arith, inl, inr, subst}
+use Rattle.std.proofs.Common.{◌≡◌, ℕ, zero, suc, ◌<◌, ◌≤◌, true, false, cond, Option, Some, List, length, refl, sym, ap, ◌∙◌, arith, inl, inr, subst}
 use Rattle.std.specs.Prelude.{◌==◌, ◌&&◌, ◌||◌, not}
 use Rattle.std.proofs.lemmas.Bool.{cases_Bool, cases_eq, eq-eqb, ne_eqb, and_parts, or_cases, both_ways, not_from_true}
 use Rattle.sm_server.specs.Cell.{is_secondary}
@@ -13,7 +13,7 @@ use Rattle.sm_reservation.specs.declared.right.PlainCell.TheVariants.{Absent, Se
 use Rattle.sm_reservation.specs.Hold.{Hold}
 use Rattle.sm_reservation.specs.HoldOf.{hold_of}
 use Rattle.sm_reservation.specs.Amounts.{Right, OfCell, OfCrown, OfRoom, OfSpare, is_cell, is_crown, count}
-use Rattle.sm_reservation.proofs.Truths.{is_cell_true, is_cell_self}
+use Rattle.sm_reservation.proofs.Truths.{is_cell_true, is_cell_self, bit_true}
 use Rattle.sm_plan_code.specs.Plan.{StreamModel}
 use Rattle.sm_verifier.specs.Admission.{declared}
 use Rattle.sm_verifier.specs.Within.{declared_sum, AreWithin}
@@ -44,9 +44,10 @@ sum_of_classes class f wide (suc n) known =
     (omega arith) in
     omega arith
 
-bit_yes : (t : Bool) → 0 < bit t → t ≡ true
-bit_yes true l = refl
-bit_yes false l = absurd (omega arith)
+-- the sum of ones is their number
+pub ones : (m : ℕ) → sum_below m (λ k. 1) ≡ m
+ones zero = refl
+ones (suc m) = let e = ones m in omega arith
 
 module _ (b : Basis) (order : List Move) (apart : AreAllApart b order) (opened : (k : ℕ) → k < length order → IsOpened b (move_at order k)) where
   abbrev holds : ℕ → Hold
@@ -94,7 +95,7 @@ module _ (b : Basis) (order : List Move) (apart : AreAllApart b order) (opened :
   -- ---- of each right
 
   needs : (i s v : ℕ) (state : PlainCell) → 0 < count (holds i) (OfCell s v state) → IsNeeded b order apart opened i s v state
-  needs i s v state some = cell_from b order apart opened i s v state (is_cell_true state ((holds i).cells s v) (bit_yes (is_cell state ((holds i).cells s v)) some))
+  needs i s v state some = cell_from b order apart opened i s v state (is_cell_true state ((holds i).cells s v) (bit_true (is_cell state ((holds i).cells s v)) (omega (arith, some))))
 
   cell_within : (s v : ℕ) (state : PlainCell) → sum_below (width order) (λ i. count (holds i) (OfCell s v state)) ≤ count b.pool (OfCell s v state)
   cell_within s v state = sum_once (width order) (count b.pool (OfCell s v state)) (λ i. count (holds i) (OfCell s v state)) (λ i l. each i) (λ i j l m at there. once i j (needs i s v state at) (needs j s v state there))
@@ -116,7 +117,7 @@ module _ (b : Basis) (order : List Move) (apart : AreAllApart b order) (opened :
       ]
 
   crowned : (i s : ℕ) (lead : Lead) (listed : Option ℕ) → 0 < count (holds i) (OfCrown s lead listed) → IsCrowned b order apart opened i s (lead, listed)
-  crowned i s lead listed some = crown_from b order apart opened i s (lead, listed) (crown_true lead listed ((holds i).crowns s) (bit_yes (is_crown lead listed ((holds i).crowns s)) some))
+  crowned i s lead listed some = crown_from b order apart opened i s (lead, listed) (crown_true lead listed ((holds i).crowns s) (bit_true (is_crown lead listed ((holds i).crowns s)) (omega (arith, some))))
 
   crown_within : (s : ℕ) (lead : Lead) (listed : Option ℕ) → sum_below (width order) (λ i. count (holds i) (OfCrown s lead listed)) ≤ count b.pool (OfCrown s lead listed)
   crown_within s lead listed = sum_once (width order) (count b.pool (OfCrown s lead listed)) (λ i. count (holds i) (OfCrown s lead listed)) (λ i l. each i) (λ i j l m at there. once i j (crowned i s lead listed at) (crowned j s lead listed there))

@@ -15,31 +15,25 @@ use Rattle.sm_planner.specs.Refusal.{in_placed_order, refusal}
 use Rattle.sm_planner.specs.Laws.{AnswersOnce}
 use Rattle.std.proofs.Math.Seq.{take-length}
 use Rattle.std.proofs.lemmas.Option.{same_Some}
-use Rattle.sm_planner.proofs.law.Placings.{IsGreedy, place_known, placed_once}
-use Rattle.sm_planner.proofs.law.Admitted.{sum_of_classes}
+use Rattle.sm_planner.proofs.law.Placings.{place_known, placed_once}
+use Rattle.sm_planner.proofs.law.Admitted.{sum_of_classes, ones}
+use Rattle.sm_planner.proofs.Accounting.{IsGreedy}
+use Rattle.sm_planner.proofs.law.Owing.{part_of}
 
 -- different numbers below a bound are no more than the bound
 few_distinct : (n : ℕ) (xs : List ℕ) → ((k : ℕ) → k < length xs → get_or xs k 0 < n) → ((j k : ℕ) → j < length xs → k < length xs → get_or xs j 0 ≡ get_or xs k 0 → j ≡ k) → length xs ≤ n
 few_distinct n xs low once =
     let all = sum_of_classes (λ k. get_or xs k 0) (λ k. 1) n (length xs) low in
-    let ones = ones_are (length xs) in
+    let all_ones = ones (length xs) in
     let most = sum-le n 1 (λ i. sum_below (length xs) (λ k. cond (get_or xs k 0 == i) 1 0)) (λ i l. one i) in
     omega arith
   where
-    ones_are : (m : ℕ) → sum_below m (λ k. 1) ≡ m
-    ones_are zero = refl
-    ones_are (suc m) = let e = ones_are m in omega arith
-
-    at_most : (t : Bool) → cond t 1 0 ≤ 1
-    at_most true = omega arith
-    at_most false = omega arith
-
     passes : (t : Bool) → 0 < cond t 1 0 → t ≡ true
     passes true l = refl
     passes false l = absurd (omega arith)
 
     one : (i : ℕ) → sum_below (length xs) (λ k. cond (get_or xs k 0 == i) 1 0) ≤ 1
-    one i = sum_once (length xs) 1 (λ k. cond (get_or xs k 0 == i) 1 0) (λ k l. at_most (get_or xs k 0 == i)) (λ j k l m at there. once j k l m (eqb-true (get_or xs j 0) i (passes (get_or xs j 0 == i) at) ∙ sym (eqb-true (get_or xs k 0) i (passes (get_or xs k 0 == i) there))))
+    one i = sum_once (length xs) 1 (λ k. cond (get_or xs k 0 == i) 1 0) (λ k l. part_of (get_or xs k 0 == i) 1) (λ j k l m at there. once j k l m (eqb-true (get_or xs j 0) i (passes (get_or xs j 0 == i) at) ∙ sym (eqb-true (get_or xs k 0) i (passes (get_or xs k 0 == i) there))))
 
 -- no more are placed than there are
 pub placed_few : (b : Basis) (moves : List Move) (placed : List ℕ) → IsGreedy b moves placed → length placed ≤ length moves

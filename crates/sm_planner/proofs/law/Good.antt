@@ -26,7 +26,7 @@ use Rattle.sm_planner.proofs.law.Codes.{code_to, stream_count, stream_is}
 use Rattle.sm_planner.proofs.law.Payments.{to, from, IsAffordable}
 use Rattle.sm_planner.proofs.law.Leading.{Leads, leads_made, leads_end}
 use Rattle.sm_planner.proofs.law.Moving.{IsReady}
-use Rattle.sm_planner.proofs.law.Handing.{sum_of_range, sum_of_picked}
+use Rattle.sm_planner.proofs.law.Handing.{sum_of_range, sum_of_picked, cond_nothing}
 use Rattle.sm_planner.proofs.law.Owing.{comes, own_pay, owed}
 use Rattle.sm_planner.proofs.law.Streams.{shard, leads_shard, AreAllApart, IsAt, follows}
 use Rattle.sm_planner.proofs.law.Opened.{IsOpened}
@@ -93,11 +93,7 @@ module _ (b : Basis) (order : List Move) (apart : AreAllApart b order) (opened :
       ]
     where
       no_such : (v : ℕ) → (sizes_of b.setup).servers ≤ v → room_paid b order i v ≡ 0
-      no_such v past = room_paid_is b order i v ∙ same_sum (length order) (λ k. cond (stream_of k == i) (cond (to b order k == v) (from_pool b order k) 0) 0) (λ k. 0) (λ k l. rw (ne_eqb (to b order k) v (λ e. (let low = known k l in absurd (omega arith)))) (none (stream_of k == i))) ∙ sum_zero (length order) (λ k. 0) (λ k. refl)
-        where
-          none : (t : Bool) → ◌≡◌ {A = ℕ} (cond t 0 0) 0
-          none true = refl
-          none false = refl
+      no_such v past = room_paid_is b order i v ∙ same_sum (length order) (λ k. cond (stream_of k == i) (cond (to b order k == v) (from_pool b order k) 0) 0) (λ k. 0) (λ k l. rw (ne_eqb (to b order k) v (λ e. (let low = known k l in absurd (omega arith)))) (cond_nothing (stream_of k == i))) ∙ sum_zero (length order) (λ k. 0) (λ k. refl)
 
   pub begins : IsAt b order i 0 start
   begins = record {

@@ -64,6 +64,11 @@ sum_of_picked g f test (x ∷ xs) =
           ap (sum_by g) (picked_out f test x xs fails) ∙ (omega arith)
     ]
 
+-- where 0 is what counts, it does not matter whether a test holds
+pub cond_nothing : (t : Bool) → ◌≡◌ {A = ℕ} (cond t 0 0) 0
+cond_nothing true = refl
+cond_nothing false = refl
+
 module _ (b : Basis) (order : List Move) where
   abbrev signals : List Handed
   signals = signals_of b order
@@ -97,12 +102,8 @@ module _ (b : Basis) (order : List Move) where
   waited n l =
       sum_of_signals (λ h. cond (h.payer == n) (from_move b order h.payer h.source) 0)
       ∙ sum_one (length order) (λ k. sum_below k (λ j. cond (is_handed b order k j) (cond (k == n) (from_move b order k j) 0) 0)) n l
-      (λ k apart. sum_zero k (λ j. cond (is_handed b order k j) (cond (k == n) (from_move b order k j) 0) 0) (λ j. rw (ne_eqb k n apart) (nothing (is_handed b order k j))))
+      (λ k apart. sum_zero k (λ j. cond (is_handed b order k j) (cond (k == n) (from_move b order k j) 0) 0) (λ j. rw (ne_eqb k n apart) (cond_nothing (is_handed b order k j))))
       ∙ same_sum n (λ j. cond (is_handed b order n j) (cond (n == n) (from_move b order n j) 0) 0) (of_others n) (λ j m. rw (eq-eqb n n refl) (if_handed n j))
-    where
-      nothing : (t : Bool) → ◌≡◌ {A = ℕ} (cond t 0 0) 0
-      nothing true = refl
-      nothing false = refl
 
   pub handed_on : (n : ℕ) → sum_by (λ q. cond ((signal_at signals q).source == n) (amount q) 0) (range_with_len 0 (length signals)) ≡ sum_below (length order) (λ k. of_others k n)
   handed_on n =
@@ -110,11 +111,7 @@ module _ (b : Basis) (order : List Move) where
       ∙ same_sum (length order) (λ k. sum_below k (λ j. cond (is_handed b order k j) (cond (j == n) (from_move b order k j) 0) 0)) (λ k. of_others k n) (λ k l. each k)
     where
       none : (k j : ℕ) → j ≢ n → cond (is_handed b order k j) (cond (j == n) (from_move b order k j) 0) 0 ≡ 0
-      none k j apart = rw (ne_eqb j n apart) (go (is_handed b order k j))
-        where
-          go : (t : Bool) → ◌≡◌ {A = ℕ} (cond t 0 0) 0
-          go true = refl
-          go false = refl
+      none k j apart = rw (ne_eqb j n apart) (cond_nothing (is_handed b order k j))
 
       all_none : (k m : ℕ) → m ≤ n → sum_below m (λ j. cond (is_handed b order k j) (cond (j == n) (from_move b order k j) 0) 0) ≡ 0
       all_none k zero l = refl

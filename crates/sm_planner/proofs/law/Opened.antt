@@ -27,16 +27,13 @@ use Rattle.sm_planner.proofs.law.Sorting.{stands_from}
 use Rattle.sm_planner.proofs.law.Payments.{to, from}
 use Rattle.sm_planner.proofs.law.Placings.{move_is, count_is, place_known, placed_once}
 use Rattle.sm_planner.proofs.law.Streams.{AreAllApart}
+use Rattle.sm_reservation.proofs.ShortLemmas.{no_answer}
 
 -- ---- searches that find nothing
 
 none_mapped : {X Y : Type 0} (f : X → Y) (o : Option X) → option_map f o ≡ None → o ≡ None
 none_mapped f None e = refl
 none_mapped f (Some x) e = absurd cc
-
-neither : {X : Type 0} (o p : Option X) → option_or o p ≡ None → (o ≡ None) × (p ≡ None)
-neither None p e = (refl, e)
-neither (Some x) p e = absurd cc
 
 not_found : {X : Type 0} (test : X → Bool) (xs : List X) (x : X) → find test xs ≡ None → StandsIn x xs → test x ≡ false
 not_found test [] x e s = absurd s
@@ -135,10 +132,10 @@ pub record IsOpened (b : Basis) (m : Move) : Type 0 where
 
 module _ (b : Basis) (moves : List Move) (none : first_refused b moves ≡ None) where
   parts : (first_not_there b.place moves ≡ None) × (option_or (first_held b moves) (first_down b.place moves) ≡ None)
-  parts = neither (first_not_there b.place moves) (option_or (first_held b moves) (first_down b.place moves)) none
+  parts = no_answer (first_not_there b.place moves) (option_or (first_held b moves) (first_down b.place moves)) none
 
   others : (first_held b moves ≡ None) × (first_down b.place moves ≡ None)
-  others = neither (first_held b moves) (first_down b.place moves) parts.1
+  others = no_answer (first_held b moves) (first_down b.place moves) parts.1
 
   move_there : (i : ℕ) → i < length moves → StandsIn (move_at moves i) moves
   move_there i l = stands_from (move_at moves i) moves (Contains-get_or moves i no_move l)
@@ -191,13 +188,13 @@ module _ (b : Basis) (moves : List Move) (placed : List ℕ) (is : IsPlacing b m
   order = in_placed_order moves placed
 
   first : (first_refused b moves ≡ None) × (option_or (no_room moves placed) (option_or (no_spread b moves) (too_many b moves placed)) ≡ None)
-  first = neither (first_refused b moves) (option_or (no_room moves placed) (option_or (no_spread b moves) (too_many b moves placed))) none
+  first = no_answer (first_refused b moves) (option_or (no_room moves placed) (option_or (no_spread b moves) (too_many b moves placed))) none
 
   second : (no_room moves placed ≡ None) × (option_or (no_spread b moves) (too_many b moves placed) ≡ None)
-  second = neither (no_room moves placed) (option_or (no_spread b moves) (too_many b moves placed)) first.1
+  second = no_answer (no_room moves placed) (option_or (no_spread b moves) (too_many b moves placed)) first.1
 
   third : too_many b moves placed ≡ None
-  third = (neither (no_spread b moves) (too_many b moves placed) second.1).1
+  third = (no_answer (no_spread b moves) (too_many b moves placed) second.1).1
 
   -- no move is left
   pub none_left : first_left moves placed ≡ None

@@ -8,7 +8,7 @@ use Rattle.sm_planner.specs.declared.moving.Move.{Move}
 use Rattle.sm_planner.specs.Basis.{Basis}
 use Rattle.sm_planner.specs.Payment.{from_pool, from_move, stream_of}
 use Rattle.sm_planner.proofs.law.Payments.{load, to, from, from_move_other, IsAffordable, pays_its_load, hands_what_it_freed}
-use Rattle.sm_planner.proofs.law.Handing.{of_others}
+use Rattle.sm_planner.proofs.law.Handing.{of_others, cond_nothing}
 
 -- a function that is nowhere above another has no higher sum
 pub sum_each : (n : ℕ) (f g : ℕ → ℕ) → ((k : ℕ) → k < n → f k ≤ g k) → sum_below n f ≤ sum_below n g
@@ -19,9 +19,10 @@ cond_sum : (t : Bool) (a x : ℕ) → cond t (a + x) 0 ≡ cond t a 0 + cond t x
 cond_sum true a x = refl
 cond_sum false a x = refl
 
-cond_nothing : (t : Bool) → ◌≡◌ {A = ℕ} (cond t 0 0) 0
-cond_nothing true = refl
-cond_nothing false = refl
+-- an amount that counts only where a test holds is no more than itself
+pub part_of : (t : Bool) (x : ℕ) → cond t x 0 ≤ x
+part_of true x = omega arith
+part_of false x = omega arith
 
 same_either_way : (a c : ℕ) → (a == c) ≡ (c == a)
 same_either_way a c = elim (cases_eq a c) [
@@ -115,16 +116,12 @@ module _ (b : Basis) (order : List Move) (i : ℕ) where
       let most = hands_what_it_freed b order n in
       omega arith
     where
-      small : (t : Bool) (x : ℕ) → cond t x 0 ≤ x
-      small true x = omega arith
-      small false x = omega arith
-
       one : (k : ℕ) → cond (comes (suc n) v k) (cond (stream_of n == i) (from_move b order k n) 0) 0 + of_others b order k n ≤ from_move b order k n
       one k = elim (cases_eq (stream_of k) i) [
         | inl same ↦
             let none : of_others b order k n ≡ 0 = rw (eq-eqb (stream_of k) (stream_of n) (same ∙ sym own)) refl in
-            let outer = small (comes (suc n) v k) (cond (stream_of n == i) (from_move b order k n) 0) in
-            let inner = small (stream_of n == i) (from_move b order k n) in
+            let outer = part_of (comes (suc n) v k) (cond (stream_of n == i) (from_move b order k n) 0) in
+            let inner = part_of (stream_of n == i) (from_move b order k n) in
             omega arith
         | inr apart ↦
             let all : of_others b order k n ≡ from_move b order k n = rw (ne_eqb (stream_of k) (stream_of n) (λ e. apart (e ∙ own))) refl in

@@ -1,26 +1,23 @@
 -- Moves that are placed as the rule says: each once, each where its load fits, and none left.
-use Rattle.std.proofs.Common.{◌≡◌, ◌≢◌, ℕ, zero, suc, ◌+◌, ◌-◌, ◌<◌, ◌≤◌, true, false, None, Some, List, [], ◌∷◌, length, get_or, take, refl, sym, ap, ◌∙◌, arith, inl, inr, subst}
-use Rattle.std.specs.Prelude.{◌==◌, not, nat_le, sum_by, map}
-use Rattle.std.proofs.lemmas.Bool.{cases_Bool, cases_eq, cases_lt, eq-eqb, ne_eqb, eqb-true, leb-true, and_parts, not-true, not-false, both_ways}
+use Rattle.std.proofs.Common.{◌≡◌, ◌≢◌, ℕ, zero, suc, ◌+◌, ◌-◌, ◌<◌, ◌≤◌, true, false, None, List, [], ◌∷◌, length, get_or, take, refl, sym, ap, ◌∙◌, arith, inl, inr, subst}
+use Rattle.std.specs.Prelude.{◌==◌, not, sum_by, map}
+use Rattle.std.proofs.lemmas.Bool.{cases_Bool, cases_eq, cases_lt, eq-eqb, ne_eqb, eqb-true, not-false, both_ways}
 use Rattle.std.proofs.lemmas.List.{length-map, get_or-map, take-map, get_or-take, length-take-le}
 use Rattle.std.proofs.lemmas.List.Sums.{sum_by-cons, sum_by_more}
-use Rattle.sm_placement.proofs.Searches.{first_some, first_none}
+use Rattle.std.proofs.lemmas.List.Folds.{list_any_at}
+use Rattle.sm_placement.proofs.Searches.{first_none}
 use Rattle.sm_planner.specs.declared.moving.Move.{Move}
 use Rattle.sm_planner.specs.Basis.{Basis, move_at, move_load, no_move}
-use Rattle.sm_planner.specs.Placing.{taken_by, freed_by, room_left, is_placed, fits, first_fit, first_left}
+use Rattle.sm_planner.specs.Placing.{taken_by, freed_by, room_left, is_placed, fits, first_left}
 use Rattle.sm_planner.specs.Refusal.{in_placed_order}
 use Rattle.sm_planner.proofs.law.Payments.{IsAffordable, load, to, taken, freed}
+use Rattle.sm_planner.proofs.Accounting.{IsGreedy, fits_in}
 
 -- ---- numbers in a list
 
 -- a number that stands at a place among the placed ones is placed
 pub any_there : (i : ℕ) (xs : List ℕ) (k : ℕ) → k < length xs → get_or xs k 0 ≡ i → is_placed xs i ≡ true
-any_there i [] k l e = absurd (omega arith)
-any_there i (x ∷ xs) zero l e = rw (eq-eqb x i e) refl
-any_there i (x ∷ xs) (suc k) l e = elim (cases_Bool (x == i)) [
-  | inl here ↦ rw here refl
-  | inr apart ↦ rw apart (any_there i xs k (omega arith) e)
-]
+any_there i xs k l e = list_any_at (λ x. x == i) xs k 0 l (eq-eqb (get_or xs k 0) i e)
 
 there_any : (i : ℕ) (xs : List ℕ) → is_placed xs i ≡ true → (k : ℕ) × (k < length xs) × (get_or xs k 0 ≡ i)
 there_any i [] e = absurd cc
@@ -37,10 +34,6 @@ sum_of_map f g (x ∷ xs) =
     let b = sum_by-cons (λ x. f (g x)) x xs in
     let low = sum_of_map f g xs in
     omega arith
-
--- each placed move is the first that fits once those before it are placed
-abbrev pub IsGreedy : Basis → List Move → List ℕ → Type 0
-IsGreedy b moves placed = (k : ℕ) → k < length placed → first_fit b moves (take k placed) ≡ Some (get_or placed k 0)
 
 module _ (b : Basis) (moves : List Move) (placed : List ℕ) (greedy : IsGreedy b moves placed) where
   abbrev order : List Move
@@ -65,14 +58,8 @@ module _ (b : Basis) (moves : List Move) (placed : List ℕ) (greedy : IsGreedy 
 
   placed_at : (k : ℕ) → k < length placed → IsPlacedAt k
   placed_at k l =
-      let found = first_some (length moves) (fits b moves (take k placed)) (place_of k) (greedy k l) in
-      let i : ℕ = place_of k in
-      let both = and_parts (not (is_placed (take k placed) i)) (nat_le (move_load b.setup (move_at moves i)) (room_left b moves (take k placed) (move_at moves i).to)) found.1 in
-      record {
-        known = found.0;
-        anew = not-true (is_placed (take k placed) i) both.0;
-        fits = leb-true (move_load b.setup (move_at moves i)) (room_left b moves (take k placed) (move_at moves i).to) both.1;
-      }
+      let fit = fits_in b moves (take k placed) (place_of k) (greedy k l) in
+      record { known = fit.0; anew = fit.1; fits = fit.2 }
 
   -- what is placed is a move of the list
   pub place_known : (k : ℕ) → k < length placed → place_of k < length moves

@@ -1,5 +1,5 @@
 -- The plan of moves that the rule does not refuse is within the limits of plans.
-use Rattle.std.proofs.Common.{◌≡◌, ℕ, zero, suc, ◌+◌, ◌-◌, ◌*◌, ◌<◌, ◌≤◌, Bool, true, false, cond, Option, Some, None, List, [], ◌∷◌, ◌++◌, length, refl, ap, ◌∙◌, arith, inl, inr, length-append}
+use Rattle.std.proofs.Common.{◌≡◌, ℕ, zero, suc, ◌+◌, ◌-◌, ◌*◌, ◌<◌, ◌≤◌, Bool, true, false, cond, List, [], ◌∷◌, ◌++◌, length, refl, ap, ◌∙◌, arith, inl, inr, length-append}
 use Rattle.std.specs.Prelude.{filter, sum_by, ◌==◌, ◌/◌, nat_lt}
 use Rattle.std.specs.List.{range_with_len, AllByRecursion}
 use Rattle.std.proofs.lemmas.Bool.{cases_Bool, cases_eq, eq-eqb, ne_eqb}
@@ -28,16 +28,16 @@ use Rattle.sm_planner.specs.Plan.{signal_at, handed_parcel, instructions, waits_
 use Rattle.sm_planner.proofs.law.Gathered.{gathered, gathered_own, gathered_other, StandsIn, stands_below}
 use Rattle.sm_planner.proofs.law.Codes.{width, stream_count}
 use Rattle.sm_planner.proofs.law.Signals.{IsHandedOn, is_handed_on, are_handed_on}
-use Rattle.sm_planner.proofs.law.Uses.{handing}
 use Rattle.sm_planner.proofs.law.Placings.{sum_of_map}
 use Rattle.std.proofs.lemmas.List.FromFn.{length-map-range_with_len}
 use Rattle.sm_planner.proofs.law.Payments.{load, IsAffordable, pays_its_load, pool_paid, pool_pays_what_it_has}
 use Rattle.sm_planner.proofs.law.Handing.{sum_of_range}
-use Rattle.sm_planner.proofs.law.Owing.{sum_each}
+use Rattle.sm_planner.proofs.law.Owing.{sum_each, part_of}
 use Rattle.sm_planner.proofs.law.Sorting.{from_sorted, stood, stands_mapped}
 use Rattle.sm_planner.proofs.law.Good.{room_paid_is}
 use Rattle.sm_planner.proofs.law.Knowns.{all_standing}
-use Rattle.sm_planner.proofs.law.Admitted.{sum_of_classes}
+use Rattle.sm_planner.proofs.law.Admitted.{sum_of_classes, ones}
+use Rattle.sm_planner.proofs.Streams.{instructions_short}
 
 -- ---- lengths of what is gathered
 
@@ -87,24 +87,6 @@ times class f i m (suc n) most =
 cond_three : (t : Bool) (x y z : ℕ) → cond t (x + (y + z)) 0 ≡ cond t x 0 + (cond t y 0 + cond t z 0)
 cond_three true x y z = refl
 cond_three false x y z = refl
-
-part_of : (t : Bool) (x : ℕ) → cond t x 0 ≤ x
-part_of true x = omega arith
-part_of false x = omega arith
-
-ones : (m : ℕ) → sum_below m (λ k. 1) ≡ m
-ones zero = refl
-ones (suc m) = let e = ones m in omega arith
-
-handing_short : (o : Option ℕ) (m : Move) → length (handing o m) ≤ 5
-handing_short None m = omega arith
-handing_short (Some u) m = omega arith
-
-instructions_short : (p : Place) (m : Move) → length (instructions p m) ≤ 5
-instructions_short p m = elim (cases_Bool (is_primary (left_cell p m))) [
-  | inl leads ↦ rw leads (handing_short (p.listed m.shard) m)
-  | inr follows ↦ rw follows (omega arith)
-]
 
 needed_short : (p : Place) (m : Move) → length (cells_needed p m) ≤ 2
 needed_short p m = elim (cases_Bool (is_primary (left_cell p m))) [ inl leads ↦ rw leads (omega arith) | inr follows ↦ rw follows (omega arith) ]

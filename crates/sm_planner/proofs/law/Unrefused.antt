@@ -8,6 +8,7 @@ use Rattle.std.proofs.lemmas.Bool.{cases_Bool, cases_eq, cases_lt, eq-eqb, ne_eq
 use Rattle.std.proofs.lemmas.List.{take-append-le, take_at, get_or_append_left, get_or_at, get_or-take, length-take-le}
 use Rattle.std.proofs.lemmas.List.Elements.{All-nil, All-push, All-weaker, All-get_or, All-head, All-tail, All-from_get_or}
 use Rattle.std.proofs.lemmas.List.Sums.{sum_by_push}
+use Rattle.std.proofs.lemmas.List.Folds.{list_any_at}
 use Rattle.sm_server.specs.Cell.{is_absent, is_primary, is_secondary}
 use Rattle.sm_placement.specs.Setup.{IsSetup, sizes_of}
 use Rattle.sm_placement.specs.Sums.{sum_below}
@@ -277,11 +278,6 @@ any_at test (x ∷ xs) d e = elim (cases_Bool (test x)) [
   | inr fails ↦ (let more = any_at test xs d (rw fails at e) in let l = more.1 in (suc more.0, omega arith, more.2))
 ]
 
-any_there_at : {X : Type 0} (test : X → Bool) (xs : List X) (d : X) (k : ℕ) → k < length xs → test (get_or xs k d) ≡ true → list_any test xs ≡ true
-any_there_at test [] d k l e = absurd (omega arith)
-any_there_at test (x ∷ xs) d zero l e = rw e refl
-any_there_at test (x ∷ xs) d (suc k) l e = elim (cases_Bool (test x)) [ inl passes ↦ rw passes refl | inr fails ↦ rw fails (any_there_at test xs d k (omega arith) e) ]
-
 module _ (b : Basis) (v : ℕ) (n : ℕ) (moves : List Move) (leave : AreLeaving b v n moves) where
   chosen_at : (i : ℕ) → i < length moves → IsChosen b v n (take i moves) (move_at moves i)
   chosen_at i l = chosen b v n moves leave i l
@@ -308,7 +304,7 @@ module _ (b : Basis) (v : ℕ) (n : ℕ) (moves : List Move) (leave : AreLeaving
 
     goes_there : (w : ℕ) → list_any (λ m. (m.shard == s) && (m.to == w)) moves ≡ (w == u)
     goes_there w = elim (cases_eq w u) [
-      | inl here ↦ any_there_at (λ m. (m.shard == s) && (m.to == w)) moves no_move i l (and_from (s == s) (u == w) (eq-eqb s s refl) (eq-eqb u w (sym here))) ∙ sym (eq-eqb w u here)
+      | inl here ↦ list_any_at (λ m. (m.shard == s) && (m.to == w)) moves i no_move l (and_from (s == s) (u == w) (eq-eqb s s refl) (eq-eqb u w (sym here))) ∙ sym (eq-eqb w u here)
       | inr other ↦ any_nothing (λ m. (m.shard == s) && (m.to == w)) moves (All-from_get_or (λ m. ((m.shard == s) && (m.to == w)) ≡ false) moves no_move (λ j k. false_from_ne_true _ (λ e.
           let parts = and_parts ((move_at moves j).shard == s) ((move_at moves j).to == w) e in
           let same = one_of_shard j i k l (eqb-true (move_at moves j).shard s parts.0) in
@@ -317,7 +313,7 @@ module _ (b : Basis) (v : ℕ) (n : ℕ) (moves : List Move) (leave : AreLeaving
 
     comes_there : (w : ℕ) → list_any (λ m. (m.shard == s) && (m.from == w)) moves ≡ (w == v)
     comes_there w = elim (cases_eq w v) [
-      | inl here ↦ any_there_at (λ m. (m.shard == s) && (m.from == w)) moves no_move i l (and_from (s == s) ((move_at moves i).from == w) (eq-eqb s s refl) (eq-eqb (move_at moves i).from w ((chosen_at i l).from ∙ sym here))) ∙ sym (eq-eqb w v here)
+      | inl here ↦ list_any_at (λ m. (m.shard == s) && (m.from == w)) moves i no_move l (and_from (s == s) ((move_at moves i).from == w) (eq-eqb s s refl) (eq-eqb (move_at moves i).from w ((chosen_at i l).from ∙ sym here))) ∙ sym (eq-eqb w v here)
       | inr other ↦ any_nothing (λ m. (m.shard == s) && (m.from == w)) moves (All-from_get_or (λ m. ((m.shard == s) && (m.from == w)) ≡ false) moves no_move (λ j k. and_right ((move_at moves j).shard == s) ((move_at moves j).from == w) (ne_eqb (move_at moves j).from w (λ e. other (sym e ∙ (chosen_at j k).from))))) ∙ sym (ne_eqb w v other)
     ]
 
