@@ -13,6 +13,7 @@ ghost use Rattle.sm_machine.specs.Played.{played_of};
 ghost use Rattle.sm_machine.specs.Restarted.{approval_of, restart_of};
 ghost use Rattle.sm_machine.specs.Losses.{refill_answer, is_lost_answer};
 ghost use Rattle.sm_placement.specs.Sums.{bit};
+ghost use Rattle.sm_executor.specs.Closed.{GoesOn};
 ghost use Rattle.sm_executor.specs.Counting.{Counts, executes, refuses};
 ghost use Rattle.sm_executor.specs.Ending.{HasEnded};
 ghost use Rattle.sm_executor.specs.Stepping.{HasStepped, is_waiting};
@@ -271,10 +272,13 @@ impl<A: Side, B: Side, C: Side, N: Naming> Board<A, B, C, N> {
     }
 
     /// The locked machine.
-    pub fn hold<R: Wait>(&self, rt: &R) -> Guard<'_, A, B, C, N> {
-        Guard {
-            held: self.held.lock(rt),
-        }
+    pub fn hold<R: Wait>(&self, rt: &R) -> Guard<'_, A, B, C, N>
+        ensures goes_on { GoesOn N.opened (state_in result) }
+        ensures setup { result.machine.placement.setup ≡ N.setup }
+    {
+        let held = self.held.lock(rt);
+        held.goes_on();
+        Guard { held }
     }
 }
 
