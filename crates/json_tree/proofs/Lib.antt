@@ -1,2 +1,2 @@
-mod Turns
-mod Trees
+pub mod Turns
+pub mod Trees

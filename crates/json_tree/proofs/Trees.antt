@@ -9,6 +9,7 @@ use Rattle.serde_json.proofs.Views.{get_member-put, get_member-put_other}
 use Rattle.json_tree.specs.View.{view, items_view, members_view, members_after}
 use Rattle.json_tree.specs.declared.tree.Tree.{Tree, Array, Object, the_lemmas}
 
+-- a member of an object: its name and its value
 abbrev pub Member : Type 0
 Member = Bor (List ℕ) × Tree
 

@@ -7,6 +7,6 @@ mod number;
 mod read;
 mod tree;
 
-pub use json::Scratch;
-pub use read::ReadFault;
-pub use tree::Tree;
+pub use json::{Reader, Scratch, Token};
+pub use read::{MAX_DEPTH, ReadFault, read_value};
+pub use tree::{Tree, find_member};

@@ -12,7 +12,7 @@ use std::alloc::{AllocError, Global};
 use thiserror::Error;
 
 /// How deep arrays and objects may nest.
-const MAX_DEPTH: usize = 127;
+pub const MAX_DEPTH: usize = 127;
 
 /// Why a text was not read.
 #[derive(Clone, Copy, Debug, Drop, PartialEq, Eq, Error)]
@@ -69,7 +69,7 @@ impl<'a> Tree<'a> {
 /// The next value of the reader, in which arrays and objects nest no deeper than that.
 #[cycle(read)]
 #[inline(always)]
-fn read_value<'a>(
+pub fn read_value<'a>(
     alloc: Global,
     reader: &mut Reader<'a>,
     depth: usize,

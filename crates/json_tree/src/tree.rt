@@ -89,14 +89,14 @@ impl<'a> Tree<'a> {
         ensures { option_map (λ tree. view tree.now) result ≡ get name.now (view self.now) }
     {
         match self {
-            Tree::Object(members) => find(members.as_slice(), name),
+            Tree::Object(members) => find_member(members.as_slice(), name),
             _ => None,
         }
     }
 }
 
 /// The value of the last member of that name.
-fn find<'t, 'a>(members: &'t [(&'a str, Tree<'a>)], name: &str) -> Option<&'t Tree<'a>>
+pub fn find_member<'t, 'a>(members: &'t [(&'a str, Tree<'a>)], name: &str) -> Option<&'t Tree<'a>>
     ensures { option_map (λ tree. view tree.now) result ≡ get_member name.now (members_view members.now) }
 {
     let mut left = members.len();

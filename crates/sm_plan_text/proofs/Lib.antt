@@ -9,6 +9,7 @@ pub mod KeyLemmas
 pub mod PlanLemmas
 pub mod DistinctNames
 pub mod DocumentLemmas
+pub mod OutlineLemmas
 pub mod Texts
 pub mod Faultless
 pub mod FaultlessParcel

@@ -15,4 +15,5 @@ pub mod PlanTexts
 pub mod Documents
 pub mod Work
 pub mod Opened
+pub mod Outlines
 pub mod Reading

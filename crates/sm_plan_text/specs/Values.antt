@@ -59,8 +59,12 @@ items_of d = unwrap_or (option_map entries (as_array d)) []
 abbrev pub list_in : Member → Data → Option (List Data)
 list_in member d = option_map items_of (found member d)
 
+-- the entries of what was found, where that is a list
+abbrev pub entries_found : Option Data → List Data
+entries_found found = unwrap_or (option_map items_of found) []
+
 abbrev pub entries_in : Member → Data → List Data
-entries_in member d = unwrap_or (list_in member d) []
+entries_in member d = entries_found (found member d)
 
 -- the names of these objects, each once
 abbrev pub names_in : List Data → List (List ℕ)

@@ -1,11 +1,13 @@
 //! A document, from its text.
-ghost use Rattle.std.specs.Prelude.{◌≡◌, ◌≢◌, ℕ, List, Some, None, Ok, Err, IfOk, IfErr, OnOk, [], option_map, option_and_then, unwrap_or, map};
+ghost use Rattle.std.specs.Prelude.{◌≡◌, ◌≢◌, ℕ, List, Option, Some, None, Ok, Err, IfOk, IfErr, OnOk, [], option_map, option_and_then, unwrap_or, map};
+ghost use Rattle.serde_json.specs.Data.{Data};
 ghost use Rattle.json_tree.specs.View.{view};
 ghost use Rattle.sm_placement.specs.Config.{setup_of, config_fault};
 ghost use Rattle.sm_plan_text.specs.Faults.{noted};
 ghost use Rattle.sm_plan_text.specs.Documents.{document_table, document_faults, rows_in, IsDocument};
 ghost use Rattle.sm_plan_text.specs.Rules.{HasIds};
-ghost use Rattle.sm_plan_text.specs.Work.{IsWork, work_noted};
+ghost use Rattle.sm_plan_text.specs.Work.{AreKept, IsWork, work_noted};
+ghost use Rattle.sm_plan_text.specs.Outlines.{IsOutlined, IsOutline};
 ghost use Rattle.sm_plan_text.specs.Reading.{data_of, read_data, read, rows_of, rows_of_parts};
 
 use crate::entry::Entry;
@@ -15,6 +17,7 @@ use crate::limits::{DOWN_LIMIT, LOG_PLACES, MOST_EVENTS, MOST_MOVES};
 use crate::member::Member;
 use crate::moves::MoveText;
 use crate::names::Names;
+use crate::outline::{Early, Outline, lists_of};
 use crate::place::{Place, id_named};
 use crate::rule::{Form, Rule};
 use crate::server::{Servers, read_servers};
@@ -119,6 +122,29 @@ pub fn parse<'a>(
     }
 }
 
+/// An outline of the JSON value of the bytes. Where its lists cannot be read early, all of it is kept.
+#[tactic(auto, using(crate::proofs::Texts::data_of_text, crate::proofs::Texts::data_of_none))]
+fn outline_of<'a>(
+    alloc: Global,
+    bytes: &'a [u8],
+    scratch: &'a mut Scratch,
+    spare: &'a mut Scratch,
+) -> Result<Outline<'a>, TextFault>
+    ensures ok { IfOk result (λ outline. (d : Data) × (data_of bytes.now ≡ Some d) × IsOutline outline d) }
+    ensures fault { IfErr result (λ why. why ≢ TextFault.NoMemory → why ≡ TextFault.NotJson) }
+    ensures none { IfErr result (λ why. why ≢ TextFault.NoMemory → data_of bytes.now ≡ None) }
+{
+    if let Ok(text) = str::from_utf8(bytes) {
+        match Outline::read_early(alloc, text, scratch) {
+            Ok(outline) => return Ok(outline),
+            Err(ReadFault::NoMemory) => return Err(TextFault::NoMemory),
+            Err(ReadFault::NotJson) => {}
+        }
+    }
+    let tree = parse(alloc, bytes, spare)?;
+    Ok(Outline { tree, early: None })
+}
+
 const DOCUMENT: &[Rule] = &[
     Rule::One(Member::Limit, Form::Whole(DOWN_LIMIT)),
     Rule::One(Member::Servers, Form::List(MOST_SERVERS)),
@@ -149,17 +175,24 @@ impl Entry for ShardId {
 }
 
 /// What a document says beside its servers and shards, whose names the scope has.
-fn read_work(place: &Place<'_, '_>, faults: &mut Faults) -> Result<Work, AllocError>
-    ensures work { IfOk result (λ work. HasIds place.now.scope → faults.new.lowest ≡ None → IsWork place.now.scope (view place.now.tree.now) work) }
-    ensures faults { OnOk result (faults.new.lowest ≡ work_noted place.now.scope (view place.now.tree.now) faults.old.lowest) }
+fn read_work(
+    place: &Place<'_, '_>,
+    early: Option<Early>,
+    faults: &mut Faults,
+) -> Result<Work, AllocError>
+    ensures work { (calls events : Option Data) → AreKept place.now.scope early (view place.now.tree.now) calls events
+        → IfOk result (λ work. HasIds place.now.scope → faults.new.lowest ≡ None → IsWork place.now.scope (view place.now.tree.now) calls events work) }
+    ensures faults { (calls events : Option Data) → AreKept place.now.scope early (view place.now.tree.now) calls events
+        → OnOk result (faults.new.lowest ≡ work_noted place.now.scope (view place.now.tree.now) calls events faults.old.lowest) }
 {
+    let (calls, events) = lists_of(early);
     Ok(Work {
         limit: place.number(Member::Limit, DOWN_LIMIT),
         log: place.number_or(Member::Log, MOST_PLACES, LOG_PLACES),
-        calls: place.list_or_none(Member::Calls, faults)?,
+        calls: place.list_or_early(Member::Calls, calls, faults)?,
         plan: place.inner(Member::Plan, faults)?,
         plans: place.list_or_none(Member::Plans, faults)?,
-        events: place.list_or_none(Member::Events, faults)?,
+        events: place.list_or_early(Member::Events, events, faults)?,
         moves: place.list_or_none(Member::Moves, faults)?,
         drain: place.server_found(Member::Drain),
         asks: place.list(Member::Asks, faults)?,
@@ -170,10 +203,11 @@ fn read_work(place: &Place<'_, '_>, faults: &mut Faults) -> Result<Work, AllocEr
 fn read_parts(
     alloc: Global,
     tree: &Tree<'_>,
+    early: Option<Early>,
     faults: &mut Faults,
 ) -> Result<(Servers, Shards, Work), AllocError>
-    ensures rows { IfOk result (λ parts. faults.new.lowest ≡ None → rows_of_parts parts ≡ rows_in (view tree.now)) }
-    ensures faults { OnOk result (faults.new.lowest ≡ noted faults.old.lowest (document_faults (view tree.now))) }
+    ensures rows { (d : Data) → IsOutlined early (view tree.now) d → IfOk result (λ parts. faults.new.lowest ≡ None → rows_of_parts parts ≡ rows_in d) }
+    ensures faults { (d : Data) → IsOutlined early (view tree.now) d → OnOk result (faults.new.lowest ≡ noted faults.old.lowest (document_faults d)) }
 {
     // Some members of the document name what stands in its lists, and their faults come before those of the lists.
     let mut listed = Faults { lowest: None };
@@ -191,7 +225,7 @@ fn read_parts(
     );
     place.note_own(DOCUMENT, faults)?;
     faults.append(listed);
-    let work = read_work(&place, faults)?;
+    let work = read_work(&place, early, faults)?;
     Ok((servers, shards, work))
 }
 
@@ -207,14 +241,16 @@ fn configuration(alloc: Global, servers: &[Server], shards: &[Shard]) -> Result<
     }
 }
 
-/// The document that a JSON value is.
-fn from_value(alloc: Global, value: &Tree<'_>) -> Result<Document, TextFault>
-    ensures ok { IfOk result (λ document. read_data (Some (view value.now)) ≡ Ok (rows_of document)) }
-    ensures refused { IfErr result (λ why. why ≢ TextFault.NoMemory → read_data (Some (view value.now)) ≡ Err why) }
+/// The document whose outline this is.
+fn from_outline(alloc: Global, outline: Outline<'_>) -> Result<Document, TextFault>
+    requires { (d : Data) × IsOutline outline d }
+    ensures ok { (d : Data) → IsOutline outline.entry d → IfOk result (λ document. read_data (Some d) ≡ Ok (rows_of document)) }
+    ensures refused { (d : Data) → IsOutline outline.entry d → IfErr result (λ why. why ≢ TextFault.NoMemory → read_data (Some d) ≡ Err why) }
     ensures known { IfOk result (λ document. IsDocument (rows_of document)) }
 {
+    let Outline { tree, early } = outline;
     let mut faults = Faults { lowest: None };
-    let (servers, shards, work) = read_parts(alloc, value, &mut faults)?;
+    let (servers, shards, work) = read_parts(alloc, &tree, early, &mut faults)?;
     if let Some(fault) = faults.lowest {
         return Err(fault);
     }
@@ -243,6 +279,7 @@ pub fn read_document(alloc: Global, bytes: &[u8]) -> Result<Document, TextFault>
     ensures known { IfOk result (λ document. IsDocument (rows_of document)) }
 {
     let mut scratch = Scratch::new(alloc);
-    let value = parse(alloc, bytes, &mut scratch)?;
-    from_value(alloc, &value)
+    let mut spare = Scratch::new(alloc);
+    let outline = outline_of(alloc, bytes, &mut scratch, &mut spare)?;
+    from_outline(alloc, outline)
 }

@@ -1,14 +1,17 @@
 //! What stands in a list, or in a member, and is read as one value.
-ghost use Rattle.std.specs.Prelude.{◌≡◌, [], None, map, option_map, IfOk, OnOk};
+ghost use Rattle.std.specs.Prelude.{◌≡◌, [], Option, None, map, option_map, IfOk, OnOk};
+ghost use Rattle.serde_json.specs.Data.{Data};
 ghost use Rattle.json_tree.specs.View.{view};
 ghost use Rattle.sm_plan_text.specs.Faults.{noted};
-ghost use Rattle.sm_plan_text.specs.Values.{found, list_in, entries_in};
+ghost use Rattle.sm_plan_text.specs.Values.{found, list_in, items_of, entries_in, entries_found};
 ghost use Rattle.sm_plan_text.specs.Tables.{walked};
 ghost use Rattle.sm_plan_text.specs.Plans.{faults_within};
 ghost use Rattle.sm_plan_text.specs.Rules.{HasIds};
+ghost use Rattle.sm_plan_text.specs.Outlines.{IsKept};
 
 use crate::fault::Faults;
 use crate::member::Member;
+use crate::outline::EarlyList;
 use crate::place::Place;
 use std::alloc::AllocError;
 
@@ -91,5 +94,26 @@ impl<'p, 't> Place<'p, 't> {
             Some(_) => Ok(Some(self.list(member, faults)?)),
             None => Ok(None),
         }
+    }
+
+    /// What the entries of a list are that was read early, or stands here and may be missing.
+    pub fn list_or_early<T: Entry>(
+        &self,
+        member: Member,
+        early: Option<EarlyList<T>>,
+        faults: &mut Faults,
+    ) -> Result<Option<Vec<T>>, AllocError>
+        ensures list { (whole : Option Data) → IsKept (λ _ entry. T.faults_of self.now.scope member entry) (T.value self.now.scope) (HasIds self.now.scope) early (found member (view self.now.tree.now)) whole
+            → IfOk result (λ list. HasIds self.now.scope → faults.new.lowest ≡ None
+            → option_map (λ list. list.items) list ≡ option_map (map (T.value self.now.scope)) (option_map items_of whole)) }
+        ensures faults { (whole : Option Data) → IsKept (λ _ entry. T.faults_of self.now.scope member entry) (T.value self.now.scope) (HasIds self.now.scope) early (found member (view self.now.tree.now)) whole
+            → OnOk result (faults.new.lowest
+            ≡ noted faults.old.lowest (walked (λ _ entry. T.faults_of self.now.scope member entry) [] (entries_found whole))) }
+    {
+        let Some(early) = early else {
+            return self.list_or_none(member, faults);
+        };
+        faults.append(early.faults);
+        Ok(Some(early.values))
     }
 }

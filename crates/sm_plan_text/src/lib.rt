@@ -11,6 +11,7 @@ mod limits;
 mod member;
 mod moves;
 mod names;
+mod outline;
 mod parcel;
 mod place;
 mod plan;

@@ -3,7 +3,7 @@ use Rattle.std.proofs.lemmas.List.{take_more}
 use Rattle.serde_json.specs.Find.{get_member}
 use Rattle.json_tree.specs.View.{view, members_view}
 use Rattle.json_tree.proofs.Trees.{get_member-push}
-use Rattle.json_tree.proofs.tree.find.Goals as goal
+use Rattle.json_tree.proofs.tree.find_member.Goals as goal
 
 pub returns-then-eq : goal.returns-then-eq
 returns-then-eq c =

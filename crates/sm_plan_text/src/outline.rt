@@ -1,0 +1,300 @@
+//! A document's text, read so that its longest lists are never kept as trees: each of their entries is read as it comes.
+ghost use Rattle.std.specs.Prelude.{◌≡◌, ◌<◌, ◌≤◌, ◌++◌, ◌∷◌, [], None, Some, false, map, length, IsTrue, IfOk, IfSome, OnOk};
+ghost use Rattle.json.specs.Json.{value, items, members};
+ghost use Rattle.serde_json.specs.Data.{Data, Items, Members, array, no_items, put};
+ghost use Rattle.serde_json.specs.Read.{of_json, of_items, of_members, converted, read as read_text};
+ghost use Rattle.json_tree.specs.View.{view, members_view};
+ghost use Rattle.sm_plan_text.specs.Faults.{noted, answered};
+ghost use Rattle.sm_plan_text.specs.Values.{entries, names_in};
+ghost use Rattle.sm_plan_text.specs.Tables.{walked};
+ghost use Rattle.sm_plan_text.specs.Rules.{HasIds};
+ghost use Rattle.sm_plan_text.specs.Outlines.{IsEarly, IsPartialOutline, IsOutline, calls_of, events_of};
+ghost use Rattle.sm_plan_text.specs.declared.limits.TheConstants.{MOST_EVENTS};
+
+use crate::entry::Entry;
+use crate::event::EventText;
+use crate::fault::Faults;
+use crate::limits::MOST_EVENTS;
+use crate::member::Member;
+use crate::names::Names;
+use crate::place::{Place, Scope, items_of};
+use json_tree::{MAX_DEPTH, ReadFault, Reader, Scratch, Token, Tree, find_member, read_value};
+use sm_server::{Call, ServerId, ShardId};
+use std::alloc::{AllocError, Global};
+
+/// What was read of a list: the values of its entries, and what is wrong with them.
+#[derive(Drop)]
+pub struct EarlyList<T> {
+    pub values: Vec<T>,
+    pub faults: Faults,
+}
+
+/// What was read early of a document: the names of its shards and servers, and the lists that came behind these.
+#[derive(Drop)]
+pub struct Early {
+    pub shards: Names,
+    pub servers: Names,
+    pub calls: Option<EarlyList<(ShardId, ServerId, Call)>>,
+    pub events: Option<EarlyList<EventText>>,
+}
+
+/// A document's tree, in which a list that was read early is empty.
+#[derive(Drop)]
+pub struct Outline<'a> {
+    pub tree: Tree<'a>,
+    pub early: Option<Early>,
+}
+
+/// The members of a document that have been read so far.
+#[derive(Drop)]
+struct PartialOutline<'a> {
+    members: Vec<(&'a str, Tree<'a>)>,
+    early: Option<Early>,
+}
+
+/// Adds an entry at the end.
+fn push<T: Drop>(list: &mut Vec<T>, entry: T) -> Result<(), AllocError>
+    ensures { OnOk result (list.new.items ≡ list.old.items ++ entry ∷ []) }
+{
+    list.push(entry)?;
+    Ok(())
+}
+
+/// The next entry of a list.
+fn read_entry<'a, T: Entry>(
+    alloc: Global,
+    reader: &mut Reader<'a>,
+    depth: usize,
+    member: Member,
+    scope: Scope<'_>,
+    faults: &mut Faults,
+) -> Result<T, ReadFault>
+    ensures ok { IfOk result (λ read. (d : Data) × (converted of_json (value depth reader.old) ≡ Some (d, reader.new))
+        × (faults.new.lowest ≡ noted faults.old.lowest (T.faults_of scope.entry member d))
+        × (HasIds scope.entry → faults.new.lowest ≡ None → read ≡ T.value scope.entry d)) }
+    ensures shorter { OnOk result (length reader.new < length reader.old) }
+{
+    let tree = read_value(alloc, reader, depth)?;
+    let place = Place {
+        alloc,
+        tree: &tree,
+        member,
+        scope,
+    };
+    Ok(T::read(&place, faults)?)
+}
+
+/// The entries of a list, to its end.
+fn read_entries<'a, T: Entry>(
+    alloc: Global,
+    reader: &mut Reader<'a>,
+    depth: usize,
+    member: Member,
+    scope: Scope<'_>,
+) -> Result<EarlyList<T>, ReadFault>
+    ensures ok { IfOk result (λ list. (ds : Items) × (converted of_items (items (value depth) (length reader.old) reader.old) ≡ Some (ds, reader.new))
+        × (list.faults.lowest ≡ answered (walked (λ _ entry. T.faults_of scope.entry member entry) [] (entries ds)))
+        × (length list.values.items ≡ length (entries ds))
+        × (HasIds scope.entry → list.faults.lowest ≡ None → list.values.items ≡ map (T.value scope.entry) (entries ds))) }
+    ensures shorter { OnOk result (length reader.new < length reader.old) }
+{
+    let mut values = Vec::new(alloc);
+    let mut faults = Faults { lowest: None };
+    'entries: while !reader.take_end_array() {
+        let entry = read_entry(alloc, reader, depth, member, scope, &mut faults)?;
+        push(&mut values, entry)?;
+    }
+    Ok(EarlyList { values, faults })
+}
+
+/// The list that stands in this member, if it is one that has no more entries than it may.
+fn read_list<'a, T: Entry>(
+    alloc: Global,
+    reader: &mut Reader<'a>,
+    member: Member,
+    scope: Scope<'_>,
+) -> Result<EarlyList<T>, ReadFault>
+    ensures ok { IfOk result (λ list. (ds : Items) × (converted of_json (value 126 reader.old) ≡ Some (array ds, reader.new))
+        × (list.faults.lowest ≡ answered (walked (λ _ entry. T.faults_of scope.entry member entry) [] (entries ds)))
+        × (length (entries ds) ≤ MOST_EVENTS)
+        × (HasIds scope.entry → list.faults.lowest ≡ None → list.values.items ≡ map (T.value scope.entry) (entries ds))) }
+    ensures shorter { OnOk result (length reader.new < length reader.old) }
+{
+    let Some(Token::BeginArray) = reader.next() else {
+        return Err(ReadFault::NotJson);
+    };
+    let list = read_entries(alloc, reader, MAX_DEPTH - 2, member, scope)?;
+    if list.values.len() > MOST_EVENTS {
+        return Err(ReadFault::NotJson);
+    }
+    Ok(list)
+}
+
+/// The names of the objects of a list.
+fn names_of(alloc: Global, items: &[Tree<'_>]) -> Result<Names, AllocError>
+    ensures { IfOk result (λ names. names ≡ names_in (map view items.now)) }
+{
+    let none = Names::new(alloc);
+    let mut names = Names::new(alloc);
+    for item in items {
+        let place = Place::new(alloc, item, Member::Document, &none, &none);
+        names.insert(place.name(Member::Name)?)?;
+    }
+    Ok(names)
+}
+
+impl Early {
+    /// The names of the shards and servers among these members, where both stand there.
+    fn begin<'a>(
+        alloc: Global,
+        members: &[(&'a str, Tree<'a>)],
+    ) -> Result<Option<Early>, AllocError>
+        ensures { IfOk result (λ found. IfSome found (λ early. IsEarly early (members_view members.now) (members_view members.now))) }
+    {
+        let Some(shards) = find_member(members, "shards") else {
+            return Ok(None);
+        };
+        let Some(servers) = find_member(members, "servers") else {
+            return Ok(None);
+        };
+        Ok(Some(Early {
+            shards: names_of(alloc, items_of(shards))?,
+            servers: names_of(alloc, items_of(servers))?,
+            calls: None,
+            events: None,
+        }))
+    }
+
+    /// Reads the member of this name, if it is a list that is read early. Where what the names are of comes once more, nothing
+    /// can be read early.
+    fn take(
+        &mut self,
+        alloc: Global,
+        reader: &mut Reader<'_>,
+        name: &str,
+    ) -> Result<bool, ReadFault>
+        ensures taken { IfOk result (λ taken. IsTrue taken → (ds : Items) × (converted of_json (value 126 reader.old) ≡ Some (array ds, reader.new))
+            × ((kept whole : Members) → IsEarly self.old kept whole → IsEarly self.new (put name.now (array no_items) kept) (put name.now (array ds) whole))) }
+        ensures left { IfOk result (λ taken. taken ≡ false → (reader.new ≡ reader.old)
+            × ((d : Data) (kept whole : Members) → IsEarly self.old kept whole → IsEarly self.new (put name.now d kept) (put name.now d whole))) }
+        ensures shorter { IfOk result (λ taken. IsTrue taken → length reader.new < length reader.old) }
+    {
+        let scope = Scope {
+            shards: &self.shards,
+            servers: &self.servers,
+            signals: 0,
+            retries: false,
+        };
+        match name {
+            "calls" => {
+                self.calls = Some(read_list(alloc, reader, Member::Calls, scope)?);
+                Ok(true)
+            }
+            "events" => {
+                self.events = Some(read_list(alloc, reader, Member::Events, scope)?);
+                Ok(true)
+            }
+            "servers" | "shards" => Err(ReadFault::NotJson),
+            _ => Ok(false),
+        }
+    }
+}
+
+/// The calls and the events that were read early.
+pub fn lists_of(
+    early: Option<Early>,
+) -> (
+    Option<EarlyList<(ShardId, ServerId, Call)>>,
+    Option<EarlyList<EventText>>,
+)
+    ensures { result ≡ (calls_of early, events_of early) }
+{
+    match early {
+        Some(early) => (early.calls, early.events),
+        None => (None, None),
+    }
+}
+
+impl<'a> PartialOutline<'a> {
+    /// Finds the names that a list with this name needs, where they have been read.
+    fn find_names(&mut self, alloc: Global, name: &str) -> Result<(), AllocError>
+        ensures members { self.new.members ≡ self.old.members }
+        ensures same { OnOk result ((whole : Members) → IsPartialOutline self.old whole → IsPartialOutline self.new whole) }
+    {
+        if self.early.is_none() && (name == "calls" || name == "events") {
+            self.early = Early::begin(alloc, self.members.as_slice())?;
+        }
+        Ok(())
+    }
+
+    /// Keeps a member.
+    fn keep(&mut self, name: &'a str, tree: Tree<'a>) -> Result<(), AllocError>
+        ensures members { OnOk result (members_view self.new.members.items ≡ put name.now (view tree.entry) (members_view self.old.members.items)) }
+        ensures early { self.new.early ≡ self.old.early }
+    {
+        self.members.push((name, tree))?;
+        Ok(())
+    }
+
+    /// Reads the member of this name.
+    fn read_member(
+        &mut self,
+        alloc: Global,
+        reader: &mut Reader<'a>,
+        name: &'a str,
+    ) -> Result<(), ReadFault>
+        ensures ok { OnOk result ((d : Data) × (converted of_json (value 126 reader.old) ≡ Some (d, reader.new))
+            × ((whole : Members) → IsPartialOutline self.old whole → IsPartialOutline self.new (put name.now d whole))) }
+        ensures shorter { OnOk result (length reader.new < length reader.old) }
+    {
+        self.find_names(alloc, name)?;
+        if let Some(early) = &mut self.early {
+            if early.take(alloc, reader, name)? {
+                return Ok(self.keep(name, Tree::Array(Vec::new(alloc)))?);
+            }
+            let tree = read_value(alloc, reader, MAX_DEPTH - 1)?;
+            return Ok(self.keep(name, tree)?);
+        }
+        let tree = read_value(alloc, reader, MAX_DEPTH - 1)?;
+        Ok(self.keep(name, tree)?)
+    }
+
+    /// Reads all members, to the end of the object.
+    fn read_members(&mut self, alloc: Global, reader: &mut Reader<'a>) -> Result<(), ReadFault>
+        ensures { OnOk result ((whole : Members) → IsPartialOutline self.old whole → (found : Members) × IsPartialOutline self.new found
+            × (converted (λ ms. of_members ms whole) (members (value 126) (length reader.old) reader.old) ≡ Some (found, reader.new))) }
+    {
+        'members: while let Some(name) = reader.next_key()? {
+            self.read_member(alloc, reader, name)?;
+        }
+        Ok(())
+    }
+}
+
+impl<'a> Outline<'a> {
+    /// Reads a text, if it is one object in which servers and shards stand once and before the lists that name them.
+    pub fn read_early(
+        alloc: Global,
+        text: &'a str,
+        scratch: &'a mut Scratch,
+    ) -> Result<Outline<'a>, ReadFault>
+        ensures { IfOk result (λ outline. (d : Data) × (read_text text.now ≡ Some d) × IsOutline outline d) }
+    {
+        let mut reader = Reader::new(text, scratch)?;
+        let Some(Token::BeginObject) = reader.next() else {
+            return Err(ReadFault::NotJson);
+        };
+        let mut partial = PartialOutline {
+            members: Vec::new(alloc),
+            early: None,
+        };
+        partial.read_members(alloc, &mut reader)?;
+        if reader.next().is_some() {
+            return Err(ReadFault::NotJson);
+        }
+        Ok(Outline {
+            tree: Tree::Object(partial.members),
+            early: partial.early,
+        })
+    }
+}
