@@ -36,6 +36,58 @@ def cases_of(path):
             yield f"{path.name}, {group['title']} {case['what']}", edited(case, base).encode(), case["answer"]
 
 
+def members_of(text):
+    """The members of a document, each as its text stands, with its name; None where the text is no object."""
+    decoder, found, at = json.JSONDecoder(), [], 0
+
+    def skip(marks):
+        nonlocal at
+        while text[at : at + 1] in (" ", "\t", "\n", "\r"):
+            at += 1
+        if text[at : at + 1] not in marks or at == len(text):
+            raise ValueError(f"none of {marks} at {at}")
+        at += 1
+        return text[at - 1]
+
+    try:
+        skip("{")
+        while not found or skip(",}") == ",":
+            skip('"')
+            begin = at - 1
+            name, at = decoder.raw_decode(text, begin)
+            skip(":")
+            while text[at : at + 1].isspace():
+                at += 1
+            _, at = decoder.raw_decode(text, at)
+            found.append((name, text[begin:at]))
+        return None if text[at:].strip() else found
+    except ValueError:
+        return None
+
+
+def in_other_orders(case):
+    """The document of a case with its members in other orders, which say the same: lists are read in another way where what they name
+    stands before them. Of members with one name the last counts, so these stay in their order."""
+    where, text, answer = case
+    members = members_of(text.decode(errors="replace"))
+    keys = [lambda it: it[0] not in ("servers", "shards"), lambda it: it[0] in ("servers", "shards"), lambda it: it[0]]
+    for order, key in zip(("names first", "names last", "sorted"), keys):
+        other = "{" + ",".join(it[1] for it in sorted(members or [], key=key)) + "}"
+        if members and other != text.decode(errors="replace"):
+            yield f"{where}, {order}", other.encode(), answer
+
+
+def behind_many():
+    """Faults behind 100,000 good entries of a list, and of a list that comes twice."""
+    for name, good, bad in [("calls", CALL, '{"call":"drop","shard":"1","server":"0"}'), ("events", EVENT, '{"event":"step","stream":-1}')]:
+        for wrong, answer in [(bad, "4 UnknownName shard" if name == "calls" else "6 Number stream"), ("null", f"3 Shape {name}")]:
+            yield f"{wrong} behind 100000 {name}", document(server_entries(1), shard_entries(1), **{name: f"[{entries(100000, good)},{wrong}]"}), answer
+        once = document(server_entries(1), shard_entries(1), **{name: f"[{bad}]"})
+        yield f"{name} once more, and good", once[:-1] + f',"{name}":[{good}]}}'.encode(), None
+        yield f"{name} once more, and no list", once[:-1] + f',"{name}":0}}'.encode(), f"3 Shape {name}"
+        yield f"servers once more, behind {name}", listed(name, 1, good)[:-1] + b',"servers":[]}', "4 UnknownName server" if name == "calls" else None
+
+
 def cut_and_nested():
     """A document cut at each byte, or with a byte that no text has at each place, and lists in lists."""
     whole = (documents / "bases/placement.json").read_bytes()
@@ -149,16 +201,17 @@ def told(case):
 
 files = sorted((documents / "faults").glob("*.json"))
 written = [case for path in files for case in cases_of(path)]
-made = list(cut_and_nested())
-if not written or not made or not SIZES:
+made = [*cut_and_nested(), *behind_many()]
+turned = [other for case in [*written, *behind_many()] for other in in_other_orders(case)]
+if not written or not made or not turned or not SIZES:
     sys.exit("faults: a table is empty")
 with ThreadPoolExecutor(os.cpu_count()) as workers:
-    answers = list(workers.map(told, written + made))
+    answers = list(workers.map(told, written + made + turned))
 # A large document takes over a gigabyte of memory.
 with ThreadPoolExecutor(2) as workers:
     answers += workers.map(told, SIZES)
 failed = [answer for answer in answers if answer is not None]
 for line in failed[:20]:
     print(line)
-print(f"faults: {len(written)} of {len(files)} files, {len(made)} cut or nested, {len(SIZES)} large, {len(failed)} failed")
+print(f"faults: {len(written)} of {len(files)} files, {len(made)} cut, nested or doubled, {len(turned)} in another order, {len(SIZES)} large, {len(failed)} failed")
 sys.exit(1 if failed else 0)
