@@ -1,7 +1,7 @@
 -- The names of the board.
 use Rattle.std.proofs.Common.{◌^◌}
 use Rattle.sm_machine.specs.State.{state_of}
-use Rattle.board_runs.proofs.run.run_beside.Given as goal
+use Rattle.board_runs.proofs.run.run_begun.Given as goal
 
 abbrev pub ghosts-run_on_ground-A-Side : goal.ghosts-run_on_ground-A-Side
 ghosts-run_on_ground-A-Side g a = record { all = 2 ^ 62 }
