@@ -123,6 +123,7 @@ fn read_items<'a>(
         let item = read_value(alloc, reader, depth)?;
         push(&mut found, item)?;
     }
+    found.shrink_to_fit();
     Ok(found)
 }
 
@@ -145,6 +146,7 @@ fn read_members<'a>(
         let member = read_value(alloc, reader, depth)?;
         push(&mut found, (name, member))?;
     }
+    found.shrink_to_fit();
     Ok(found)
 }
 

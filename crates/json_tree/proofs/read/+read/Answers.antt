@@ -6,7 +6,7 @@ use Rattle.json.proofs.Grammar.{value_is, value-begin_array, value-begin_object,
 use Rattle.serde_json.specs.Data.{null, boolean, number, string, array, object, put}
 use Rattle.serde_json.specs.Read.{of_json, of_items, of_members, converted}
 use Rattle.serde_json.specs.View.{number_view}
-use Rattle.json_tree.specs.View.{view, members_view}
+use Rattle.json_tree.specs.View.{view, items_view, members_view}
 use Rattle.json_tree.specs.declared.tree.Tree.{String, Number, Bool, Null, the_lemmas}
 use Rattle.json_tree.proofs.Trees.{view-Array, view-Object, items_before, items_before-no_items, one_more_item, one_more_member}
 use Rattle.json_tree.proofs.Turns.{converted-array, converted-object, item_read, item_refused, items_over, member_read, member_refused, key_refused, members_over}
@@ -130,6 +130,7 @@ read_items-returns-clause-ok t c =
     let n = l.invariant.0 in
     let r = c.take_end_array.new.self in
     l.invariant.2 ∙ ap (parse_map (items_before l.found.items)) (items_over p n l.reader r l.invariant.1 (grind arith)) ∙ ap (λ ds. Some (ds, r)) (items_before-no_items l.found.items)
+    ∙ ap (λ vs. Some (items_view vs, r)) (sym c.shrink_to_fit.ensures.items)
 
 pub read_members-returns-in_err-name-clause-not_json : goal.read_members-returns-in_err-name-clause-not_json
 read_members-returns-in_err-name-clause-not_json t c refused =
@@ -179,4 +180,4 @@ read_members-returns-clause-ok t c =
     let l = c.members in
     let n = l.invariant.0 in
     let old = members_view l.found.items in
-    l.invariant.2 ∙ members_over p old n l.reader c.next_key.new.self l.invariant.1 (grind arith)
+    l.invariant.2 ∙ members_over p old n l.reader c.next_key.new.self l.invariant.1 (grind arith) ∙ ap (λ ms. Some (members_view ms, c.next_key.new.self)) (sym c.shrink_to_fit.ensures.items)
