@@ -1,5 +1,6 @@
 /* Preloaded into a program: refuses the allocation whose number REFUSED_ALLOCATION gives, the first being 1. A byte then goes
-   to file 9. */
+   to file 9. To make a block smaller takes no memory, and is no allocation: a program may do without. */
+#include <malloc.h>
 #include <stdlib.h>
 #include <unistd.h>
 
@@ -19,5 +20,9 @@ void *malloc(size_t size) {
 }
 
 void *realloc(void *old, size_t size) {
+  /* (a block has up to 16 bytes more than were asked for) */
+  if (old && size + 16 <= malloc_usable_size(old)) {
+    return __libc_realloc(old, size);
+  }
   return is_refused() ? NULL : __libc_realloc(old, size);
 }
