@@ -63,6 +63,7 @@ list_in member d = option_map items_of (found member d)
 abbrev pub entries_found : Option Data → List Data
 entries_found found = unwrap_or (option_map items_of found) []
 
+-- the entries of the list in a member
 abbrev pub entries_in : Member → Data → List Data
 entries_in member d = entries_found (found member d)
 
