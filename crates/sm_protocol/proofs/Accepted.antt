@@ -1,11 +1,12 @@
 -- Accepted plans: those that nothing holds up at the pool.
 use Rattle.sm_protocol.proofs.Below.{◌≡◌, ℕ, ◌+◌, ◌<◌, ◌≤◌, Bool, true, false, Option, Some, None, refl, sym, ap, ◌∙◌, arith, inl, inr, ◌⊎◌, length, ◌==◌, nat_lt, if◌then◌else◌, cases_lt, lt-ltb, le-ltb, Lead, bit, Setup, load_at, live_at, PlainCell, Hold, leads_of, true_rights, IsKnownHold, Right, OfCell, OfCrown, OfRoom, OfSpare, count, stock, bound, is_cell, is_crown, plain_of, PlanModel, IsScene, Holding, no_stream, declared, first_holding, declared_sum, AreWithin, sum_zero, same_sum, bit-le-one, is_cell_true, is_cell_self, parcel_below, finds_holding, crown_true, crown_self, admitted_within, within_admitted, eqb-false}
 use Rattle.sm_protocol.proofs.Words.{State, held, pool, free_cell, free_crown, places_of, free_places, Outcome, Answered, begun, has_all_plans, Begin, happens, started, IsAccepted, IsReached, IsCheckedPlan, BegunWhereAccepted}
+use Rattle.sm_reservation.proofs.ParcelSums.{no_cell}
 use Rattle.sm_protocol.specs.declared.event.Played.TheVariants as played
 use Rattle.sm_protocol.specs.declared.event.BeginFault.TheVariants as fault
 use Rattle.sm_protocol.proofs.Invariant.{IsKept}
 use Rattle.sm_protocol.proofs.Steps.{leads_are, lead_is}
-use Rattle.sm_protocol.proofs.Pools.{no_cell, pool_within, room_conserved, spare_conserved}
+use Rattle.sm_protocol.proofs.Pools.{pool_within, room_conserved, spare_conserved}
 use Rattle.sm_protocol.proofs.Replays.{AcceptsUnheld}
 use Rattle.sm_protocol.proofs.Whole.{reached_keeps}
 
@@ -91,9 +92,9 @@ module _ (w : State) (v : IsKept w) where
       -- what the streams declare is in the pool
       left : AreWithin (pool w) plan.streams
       left (OfCell s u state) = elim (cases_lt s w.sizes.shards) [
-        | inr out ↦ let n = none_declared (OfCell s u state) (λ h b. ap (λ o. bit (is_cell state o)) (b.no_shard s u out) ∙ ap bit (no_cell state)) in omega arith
+        | inr out ↦ let n = none_declared (OfCell s u state) (λ h b. ap (λ o. bit (is_cell state o)) (b.no_shard s u out) ∙ no_cell state) in omega arith
         | inl ls ↦ elim (cases_lt u w.sizes.servers) [
-          | inr out ↦ let n = none_declared (OfCell s u state) (λ h b. ap (λ o. bit (is_cell state o)) (b.no_server s u out) ∙ ap bit (no_cell state)) in omega arith
+          | inr out ↦ let n = none_declared (OfCell s u state) (λ h b. ap (λ o. bit (is_cell state o)) (b.no_server s u out) ∙ no_cell state) in omega arith
           | inl lu ↦ cell_left s u state ls lu
         ]
       ]

@@ -25,7 +25,8 @@ begun_parts w id e =
 
 -- ---- a stream goes on
 
-length_logged : (w : State) (x : Event) (a : Played) → length (logged w x a) ≡ length w.log + 1
+-- a log with one more event is one longer
+pub length_logged : (w : State) (x : Event) (a : Played) → length (logged w x a) ≡ length w.log + 1
 length_logged w x a = length-append w.log (record { event = x; answer = a } ∷ [])
 
 -- A stream stands otherwise, and an event is recorded: it takes a place less, and its tries are within its allowance.
@@ -48,7 +49,8 @@ went_on w id x p entries numbers n marks event answer h b down tries less =
       budgets = h.budgets;
     }
 
-ok_is : (x y : CallEffect) → ◌≡◌ {A = Result CallEffect Refusal} (Ok x) (Ok y) → x ≡ y
+-- of two answers that are one, the effects are one
+pub ok_is : (x y : CallEffect) → ◌≡◌ {A = Result CallEffect Refusal} (Ok x) (Ok y) → x ≡ y
 ok_is x y e = cc
 
 -- a call changes neither who is down nor the limit nor a version

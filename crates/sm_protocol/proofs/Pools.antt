@@ -1,14 +1,9 @@
 -- The pool of a state: what is in it, what is held and what nobody may use are together what there is.
 use Rattle.sm_protocol.proofs.Below.{◌≡◌, ℕ, ◌+◌, ◌-◌, ◌<◌, ◌≤◌, Bool, true, false, Option, Some, None, refl, sym, ap, ◌∙◌, arith, inl, inr, ◌==◌, if◌then◌else◌, cases_Bool, cases_lt, eqb-true, lt-ltb, le-ltb, and_parts, Lead, bit, load_at, live_at, PlainCell, Right, OfCell, OfCrown, OfRoom, OfSpare, count, stock, bound, is_cell, is_crown, same_lead, same_listed, plain_of, true_rights, is_cell_true, same_lead_true, same_server_true}
 use Rattle.sm_protocol.proofs.Words.{State, held, pool, free_cell, free_crown}
-use Rattle.sm_reservation.specs.declared.right.PlainCell.TheVariants.{Absent, Secondary}
+use Rattle.sm_reservation.proofs.ParcelSums.{no_cell}
 use Rattle.sm_protocol.proofs.Invariant.{IsKept}
 use Rattle.sm_protocol.proofs.Steps.{lead_is}
-
--- no state is that of a cell without a right
-pub no_cell : (state : PlainCell) → is_cell state None ≡ false
-no_cell Absent = refl
-no_cell Secondary = refl
 
 if_some : {A : Type 0} (t : Bool) (x y : A) → (if t then Some x else None) ≡ Some y → (t ≡ true) × (x ≡ y)
 if_some true x y e = (refl, cc)
@@ -27,7 +22,7 @@ module _ (w : State) (v : IsKept w) where
 
       inside : (st : PlainCell) (free : Bool) → (held w (OfCell s u st) == 0) ≡ free → plain_of (w.place.cells s u) ≡ Some st →
           bit (is_cell state (if free then Some st else None)) + held w (OfCell s u state) ≤ bit (is_cell state (plain_of (w.place.cells s u)))
-      inside st false h e = let n : bit (is_cell state None) ≡ 0 = rw (no_cell state) refl in let f = fits in omega arith
+      inside st false h e = let n = no_cell state in let f = fits in omega arith
       inside st true h e = elim (cases_Bool (is_cell state (Some st))) [
         | inr other ↦ let n : bit (is_cell state (Some st)) ≡ 0 = rw other refl in let f = fits in omega arith
         | inl it ↦
@@ -40,7 +35,7 @@ module _ (w : State) (v : IsKept w) where
 
       go : (o : Option PlainCell) → (true_rights w.sizes w.place).cells s u ≡ o → count (pool w) (OfCell s u state) + held w (OfCell s u state) ≤ bit (is_cell state (plain_of (w.place.cells s u)))
       go None e =
-          let n : count (pool w) (OfCell s u state) ≡ 0 = ap (λ o. bit (is_cell state (free_cell (held w) s u o))) e ∙ ap bit (no_cell state) in
+          let n : count (pool w) (OfCell s u state) ≡ 0 = ap (λ o. bit (is_cell state (free_cell (held w) s u o))) e ∙ no_cell state in
           let f = fits in omega arith
       go (Some st) e =
           let n : count (pool w) (OfCell s u state) ≡ bit (is_cell state (if held w (OfCell s u st) == 0 then Some st else None)) = ap (λ o. bit (is_cell state (free_cell (held w) s u o))) e in

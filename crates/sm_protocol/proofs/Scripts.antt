@@ -39,7 +39,7 @@ passes_before log x n l =
     let a = length_passes [] log in
     ap (λ ts. slice_index_or ts n None) (passes_push [] log x) ∙ get_or_append_left (passes log) _ None n (omega arith)
 
--- the recorded passes are those of the lines before
+-- a place with a pass is within the log
 pub pass_below : (log : List Logged) (n : ℕ) (t : Ticket) → slice_index_or (passes log) n None ≡ Some t → n < length log
 pass_below log n t e = elim (cases_lt n (length log)) [
   | inl l ↦ l

@@ -1,11 +1,11 @@
 -- Versions and numbers rise with recorded events alone, so they stay small.
-use Rattle.sm_protocol.proofs.Below.{◌≡◌, ℕ, suc, ◌+◌, ◌^◌, ◌<◌, ◌≤◌, Bool, true, false, ap, inl, inr, arith, Ok, [], ◌∷◌, length, length-append, ◌==◌, if◌then◌else◌, cases_eq, put, Setup, sizes_of, Place, CallEffect, StreamId, ServerCall, Instr, PrepareAdd, numbers_after, put-here, put-apart}
+use Rattle.sm_protocol.proofs.Below.{◌≡◌, ℕ, suc, ◌+◌, ◌^◌, ◌<◌, ◌≤◌, Bool, true, false, ap, inl, inr, arith, Ok, length, ◌==◌, if◌then◌else◌, cases_eq, put, Setup, sizes_of, Place, CallEffect, StreamId, ServerCall, Instr, PrepareAdd, numbers_after, put-here, put-apart}
 use Rattle.sm_protocol.proofs.Words.{Event, Passage, Through, LostBefore, LostAfter, Played, State, Progress, opened, progress_of, logged, call_number, number_after_try, Happening, happens, IsOpening, EachReached, IsSmall}
 use Rattle.sm_protocol.specs.declared.event.Event.TheVariants as event
 use Rattle.sm_protocol.specs.declared.event.Played.TheVariants as played
 use Rattle.sm_protocol.proofs.Cases.{OfSteps, of_happens, answer_to}
 use Rattle.sm_protocol.proofs.Reached.{by_events, of_opening}
-use Rattle.sm_protocol.proofs.LogRoom.{has_room, of_call}
+use Rattle.sm_protocol.proofs.LogRoom.{has_room, length_logged, of_call}
 use Rattle.sm_protocol.proofs.Whole.{reached_keeps}
 
 -- numbers and versions within what the log's length allows
@@ -17,9 +17,6 @@ pub record AreWithin (shards length_of_log : ℕ) (highest : ℕ → ℕ) (next 
 -- the state's numbers and versions are within what its log allows
 abbrev pub IsWithinLog : State → Type 0
 IsWithinLog w = AreWithin w.sizes.shards (length w.log) w.numbers w.next_number w.place.version
-
-length_logged : (w : State) (x : Event) (a : Played) → length (logged w x a) ≡ length w.log + 1
-length_logged w x a = length-append w.log (record { event = x; answer = a } ∷ [])
 
 -- one place more allows each one more
 more : (w : State) (x : Event) (a : Played) (numbers : ℕ → ℕ) (next : ℕ) (version : ℕ → ℕ) → IsWithinLog w → ((s : ℕ) → numbers s ≤ w.numbers s + 1) → next ≤ w.next_number + 1 →

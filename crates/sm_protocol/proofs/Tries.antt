@@ -14,7 +14,8 @@ use Rattle.sm_protocol.proofs.Keeping.{begun, is_begun_true, unbegun_after, plan
 
 -- ---- the cell of a call
 
-call_is_own : (x : Instr) → is_call x ≡ true → IsOwn x
+-- a call is neither a signal nor a wait
+pub call_is_own : (x : Instr) → is_call x ≡ true → IsOwn x
 call_is_own (Signal k) e = cc
 call_is_own (Wait k) e = cc
 call_is_own _ e = tt

@@ -18,7 +18,8 @@ left_of_none : {A B : Type 0} (k : Option A) (h : Option B) → h ≡ None → l
 left_of_none None h e = e
 left_of_none (Some x) h e = refl
 
-neither_of : {A : Type 0} (k h : Option A) → k ≡ None → h ≡ None → option_or k h ≡ None
+-- of two that are None there is none
+pub neither_of : {A : Type 0} (k h : Option A) → k ≡ None → h ≡ None → option_or k h ≡ None
 neither_of k h e d = rw (e, d) refl
 
 -- what is left is of known shards and servers, as what there was

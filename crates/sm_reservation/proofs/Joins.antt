@@ -98,7 +98,7 @@ pub joins_in_placement : (setup : Setup) (p : Place) (leads : ℕ → Lead) (h k
 joins_in_placement setup p leads h k is both = joins_within_stock (sizes_of setup) p leads h k both (row_small setup is) (live_small setup p is)
 
 -- a hold of known shards and servers has nothing of a right of others
-nothing_unknown : (c : Sizes) (h : Hold) → IsKnownHold c.shards c.servers h → (r : Right) → (IsKnownRight c r → ⊥) → count h r ≡ 0
+pub nothing_unknown : (c : Sizes) (h : Hold) → IsKnownHold c.shards c.servers h → (r : Right) → (IsKnownRight c r → ⊥) → count h r ≡ 0
 nothing_unknown c h is (OfCell s v state) unknown = elim (cases_lt s c.shards) [
   | inl l ↦ elim (cases_lt v c.servers) [
     | inl m ↦ absurd (unknown (l, m))
@@ -110,7 +110,8 @@ nothing_unknown c h is (OfCrown s lead listed) unknown = elim (cases_lt s c.shar
 nothing_unknown c h is (OfRoom v) unknown = elim (cases_lt v c.servers) [ inl l ↦ absurd (unknown l) | inr l ↦ is.room v l ]
 nothing_unknown c h is (OfSpare s) unknown = elim (cases_lt s c.shards) [ inl l ↦ absurd (unknown l) | inr l ↦ is.spare s l ]
 
-known_or_not : (c : Sizes) (r : Right) → IsKnownRight c r ⊎ (IsKnownRight c r → ⊥)
+-- a right is of known shards and servers, or is not
+pub known_or_not : (c : Sizes) (r : Right) → IsKnownRight c r ⊎ (IsKnownRight c r → ⊥)
 known_or_not c (OfCell s v state) = elim (cases_lt s c.shards) [
   | inl l ↦ elim (cases_lt v c.servers) [
     | inl m ↦ inl (l, m)

@@ -193,7 +193,8 @@ joined h k = record {
   spare = λ s. h.spare s + k.spare s;
 }
 
-same_hold : (h k : Hold) → ((s v : ℕ) → h.cells s v ≡ k.cells s v) → ((s : ℕ) → h.crowns s ≡ k.crowns s) → ((v : ℕ) → h.room v ≡ k.room v) → ((s : ℕ) → h.spare s ≡ k.spare s) → h ≡ k
+-- two holds that are read the same by every key are one
+pub same_hold : (h k : Hold) → ((s v : ℕ) → h.cells s v ≡ k.cells s v) → ((s : ℕ) → h.crowns s ≡ k.crowns s) → ((v : ℕ) → h.room v ≡ k.room v) → ((s : ℕ) → h.spare s ≡ k.spare s) → h ≡ k
 same_hold h k a b c d =
     ap (λ (f : ℕ → ℕ → Option PlainCell). record h { cells = f }) (fun_ext (λ s. fun_ext (λ v. a s v)))
     ∙ ap (λ (f : ℕ → Option (Lead × Option ℕ)). record h { cells = k.cells; crowns = f }) (fun_ext b)

@@ -15,12 +15,14 @@ use Rattle.sm_reservation.specs.Pool.{PoolModel, IsStocked, IsKnownHold, pool_ho
 
 -- ---- a function that is put where it is anyway
 
+-- a function is what it is where it is put to what it gives there
 pub put_same : {A : Type 0} (f : ℕ → A) (k : ℕ) (x : A) → f k ≡ x → f ≡ put f k x
 put_same f k x e = fun_ext (λ q. elim (cases_eq q k) [
   | inl d ↦ ap f d ∙ e ∙ sym (put-here f k x q d)
   | inr d ↦ sym (put-apart f k x q d)
 ])
 
+-- of two numbers
 pub put2_same : {A : Type 0} (f : ℕ → ℕ → A) (s v : ℕ) (x : A) → f s v ≡ x → f ≡ put2 f s v x
 put2_same f s v x e = put_same f s (put (f s) v x) (put_same (f s) v x e)
 
