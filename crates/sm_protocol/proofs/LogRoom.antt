@@ -209,7 +209,8 @@ plan_places plan f all =
     same_sum (length plan.streams) _ _ (λ i l. ap (places_left (slice_index_or plan.streams i no_stream)) (all i) ∙ fresh_places (slice_index_or plan.streams i no_stream))
     ∙ sym (sum_by-below (λ (stream : StreamModel). stream.budget + stream.retries + count_by is_no_call stream.code + 1) plan.streams no_stream)
 
-left_started : (w : State) (plan : PlanModel) → HasRoom w → streams_left (started w plan) w.progress ≡ streams_left w w.progress + places_of plan
+-- a start leaves to all streams together the places of its plan more
+pub left_started : (w : State) (plan : PlanModel) → HasRoom w → streams_left (started w plan) w.progress ≡ streams_left w w.progress + places_of plan
 left_started w plan h =
     let of_plan : PlanModel → ℕ → ℕ = λ pl k. sum_below (length pl.streams) (λ i. places_left (slice_index_or pl.streams i no_stream) (w.progress k i)) in
     let last : of_plan (plan_at (started w plan) (length w.plans)) (length w.plans) ≡ places_of plan =
