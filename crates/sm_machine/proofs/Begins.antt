@@ -6,6 +6,7 @@ use Rattle.sm_placement.specs.Sums.{bit}
 use Rattle.sm_reservation.specs.Capacity.{HoldModel}
 use Rattle.sm_reservation.specs.declared.stream_id.StreamId.{StreamId}
 use Rattle.std.proofs.lemmas.List.Elements.{All-get_or}
+use Rattle.sm_placement.proofs.NamedLemmas.{or_first, or_second}
 use Rattle.sm_reservation.proofs.ParcelSums.{plus_none}
 use Rattle.sm_plan_code.specs.Plan.{StreamModel, PlanModel, IsOrderedParcel}
 use Rattle.sm_machine.proofs.ties.Carrying.{no_rights_hold}
@@ -26,6 +27,7 @@ use Rattle.sm_protocol.specs.Happens.{happens, begun, started, running_plans, ha
 use Rattle.sm_protocol.specs.Laws.{IsReached, IsCheckedPlan}
 use Rattle.sm_protocol.proofs.Starts.{length_push, get_push_old, get_push_new}
 use Rattle.sm_protocol.proofs.Keeping.{begun as known_begun, is_begun_true}
+use Rattle.sm_protocol.proofs.Reached.{reached_next}
 use Rattle.sm_machine.specs.Course.{hold_in, capacity_in}
 use Rattle.sm_machine.specs.Begun.{course_at}
 use Rattle.sm_machine.specs.State.{Whole}
@@ -34,7 +36,6 @@ use Rattle.sm_machine.specs.Working.{IsWorking, HasRoomOn, IsUnsent}
 use Rattle.sm_machine.specs.Starts.{empty_kept, ready_course, begun_of, CanFillAt, CanFillAll, IsBegunIn, fault_after, begin_fault}
 use Rattle.sm_machine.specs.Started.{AreRoomsOf, IsStarted, IsNotStarted}
 use Rattle.sm_machine.proofs.Readied.{first_at}
-use Rattle.sm_machine.proofs.ties.Reaching.{reached_next}
 use Rattle.sm_machine.proofs.ties.Starting.{can_fill, tied_started}
 use Rattle.sm_machine.proofs.ties.Counters.{counted_started}
 
@@ -43,17 +44,6 @@ some_not_none e = cc
 
 some_same : {A : Type 0} {a b : A} → Some a ≡ Some b → a ≡ b
 some_same e = cc
-
-not_less : (m n : ℕ) → nat_lt m n ≡ false → n ≤ m
-not_less m n e = ltb-false m n e
-
-second : (a b : Bool) → (a || b) ≡ false → b ≡ false
-second true b e = absurd (cc)
-second false b e = e
-
-first : (a b : Bool) → (a || b) ≡ false → a ≡ false
-first true b e = absurd (cc)
-first false b e = refl
 
 -- the tests in the order of the faults
 record Passes (x : Whole) (plan : PlanModel) (o : Option Holding) : Type 0 where
@@ -91,11 +81,11 @@ refused w plan None free running f r why x xs xf xr e = go (nat_lt (free_places 
 
 -- where nothing holds a plan up, another number is left
 pub few_by : (x : Whole) (plan : PlanModel) → begin_fault x plan ≡ None → length x.state.plans ≤ 4294967295
-few_by x plan e = not_less 4294967295 (length x.state.plans) (second (nat_le 16 x.running) _ (passes x plan (first_holding x.state.sizes x.state.place x.pool plan) e).plans)
+few_by x plan e = ltb-false 4294967295 (length x.state.plans) (or_second (nat_le 16 x.running) _ (passes x plan (first_holding x.state.sizes x.state.place x.pool plan) e).plans)
 
 -- and another plan may run
 pub runs_by : (x : Whole) (plan : PlanModel) → begin_fault x plan ≡ None → x.running < 16
-runs_by x plan e = leb-false 16 x.running (first (nat_le 16 x.running) _ (passes x plan (first_holding x.state.sizes x.state.place x.pool plan) e).plans)
+runs_by x plan e = leb-false 16 x.running (or_first (nat_le 16 x.running) _ (passes x plan (first_holding x.state.sizes x.state.place x.pool plan) e).plans)
 
 module _ (x : Whole) (g : IsWorking x) (p : CheckedModel) (checked : IsCheckedPlan x.state.sizes p.plan) where
   abbrev w : State
@@ -128,7 +118,7 @@ module _ (x : Whole) (g : IsWorking x) (p : CheckedModel) (checked : IsCheckedPl
     not_all = subst (λ n. (nat_le 16 n || nat_lt 4294967295 (length w.plans)) ≡ false) g.counted.plans tests.plans
 
     pub enough : places_of p.plan ≤ free_places w
-    enough = not_less (free_places w) (places_of p.plan) roomy
+    enough = ltb-false (free_places w) (places_of p.plan) roomy
 
     -- it starts, as the protocol says
     pub happens_so : happens w (Begin p.plan) ≡ (Answered (played.Begun (length w.plans)), started w p.plan)
@@ -206,13 +196,13 @@ module _ (x : Whole) (g : IsWorking x) (p : CheckedModel) (checked : IsCheckedPl
         ]
 
         reached_here : IsReached g.setup next
-        reached_here = subst (λ z. IsReached g.setup z) (ap (λ z. z.1) happens_so) (reached_next g.setup w g.reached (Begin p.plan) checked)
+        reached_here = subst (λ z. IsReached g.setup z) (ap (λ z. z.1) happens_so) (reached_next g.setup w (Begin p.plan) g.reached checked)
 
         counted_here : (free running : ℕ) → free ≡ x.free - places_of p.plan → running ≡ x.running + bit (nat_lt 0 (length p.plan.streams)) → HasCounters next y.unfinished running free
         counted_here free running f r =
             subst (λ n. HasCounters next y.unfinished n free) (sym r)
             (subst (λ n. HasCounters next y.unfinished (x.running + bit (nat_lt 0 (length p.plan.streams))) n) (sym f)
-            (counted_started g.setup w g.reached x.unfinished x.running x.free g.counted p.plan (not_less x.free (places_of p.plan) tests.places) y.unfinished b.unfinished b.counted))
+            (counted_started g.setup w g.reached x.unfinished x.running x.free g.counted p.plan (ltb-false x.free (places_of p.plan) tests.places) y.unfinished b.unfinished b.counted))
 
         -- it has started, with this many places free and plans running
         pub started_here : (free running : ℕ) → free ≡ x.free - places_of p.plan → running ≡ x.running + bit (nat_lt 0 (length p.plan.streams)) →

@@ -1,10 +1,11 @@
 -- Starts of plans that a hand has.
 use Rattle.std.proofs.Common.{◌≡◌, ◌<◌, ◌≤◌, ◌+◌, ◌^◌, ◌++◌, ◌∷◌, [], ℕ, zero, suc, Bool, true, false, List, Option, Some, None, length, map, refl, sym, ap, ◌∙◌, subst, arith}
-use Rattle.std.specs.Prelude.{◌||◌, slice_index_or, slice_set, option_map, if◌then◌else◌, vec_capacity, nat_lt, nat_le}
+use Rattle.std.specs.Prelude.{slice_index_or, slice_set, option_map, if◌then◌else◌, vec_capacity, nat_lt, nat_le}
 use Rattle.std.specs.List.{sum_by, range_with_len}
 use Rattle.std.proofs.lemmas.Bool.{ltb-false}
 use Rattle.std.proofs.lemmas.List.{map-set, length-append}
 use Rattle.std.proofs.lemmas.List.Sums.{sum_by-set}
+use Rattle.sm_placement.proofs.NamedLemmas.{or_second}
 use Rattle.sm_reservation.specs.declared.stream_id.StreamId.{StreamId}
 use Rattle.sm_plan_code.specs.Plan.{PlanModel}
 use Rattle.sm_verifier.specs.declared.admission.Holding.{Holding}
@@ -44,14 +45,10 @@ not_all_by : (w : State) (plan : PlanModel) (n : ℕ) (o : Option Holding) → (
 not_all_by w plan n None e = not_all w plan n (nat_lt (free_places w) (places_of plan)) (has_all_plans w) e
 not_all_by w plan n (Some why) e = absurd (cc)
 
-second : (a b : Bool) → (a || b) ≡ false → b ≡ false
-second true b e = absurd (cc)
-second false b e = e
-
 -- where a plan begins, fewer than 2^32 plans were begun before it
 pub number_fits : (w : State) (plan : PlanModel) (n : ℕ) → (happens w (Begin plan)).0 ≡ Answered (played.Begun n) → length w.plans < 2 ^ 32
 number_fits w plan n e =
-    let few = ltb-false 4294967295 (length w.plans) (second (nat_le 16 (running_plans w)) _ (not_all_by w plan n (first_holding w.sizes w.place (pool w) plan) e)) in
+    let few = ltb-false 4294967295 (length w.plans) (or_second (nat_le 16 (running_plans w)) _ (not_all_by w plan n (first_holding w.sizes w.place (pool w) plan) e)) in
     omega arith
 
 -- ---- the tokens that a start gives

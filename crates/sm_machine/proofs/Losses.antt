@@ -1,7 +1,7 @@
 -- Refills, and steps over links that may lose calls.
 use Rattle.std.proofs.Common.{◌≡◌, ◌≤◌, ◌+◌, ◌-◌, ℕ, Bool, true, false, not, refl, sym, ap, ◌∙◌, arith, subst, Option, Some, None, Result, Ok, Err}
 use Rattle.std.specs.Prelude.{◌==◌, ◌&&◌, nat_lt, if◌then◌else◌}
-use Rattle.std.proofs.lemmas.Bool.{and_parts, ltb-false}
+use Rattle.std.proofs.lemmas.Bool.{and_parts, ltb-false, not-true}
 use Rattle.sm_server.specs.declared.call.Refusal.{Refusal}
 use Rattle.sm_placement.specs.Sums.{bit}
 use Rattle.sm_placement.specs.Place.{CallEffect, called_numbered}
@@ -140,10 +140,6 @@ has_call (Unlist s) n e = cc
 has_call (Signal q) n e = cc
 has_call (Wait q) n e = cc
 
-not_true : (b : Bool) → not b ≡ true → b ≡ false
-not_true true e = cc
-not_true false e = refl
-
 module _ (w : State) (id : StreamId) where
   -- a step that tries a call
   try_says : makes_try w id ≡ true → (p : Passage) (a : Played) → (step w id p).0 ≡ Answered a → is_lost_answer a ≡ is_lost p
@@ -157,12 +153,12 @@ module _ (w : State) (id : StreamId) where
       let s = call_shard n.0 n.2 in
       let x = has_call n.0 (handover_number w.numbers n.0 s.0 now.ahead) n.2 in
       let t : IsTry w id n.0 x.0 = record {
-        before = record { begun = runs.0; running = not_true now.done runs.1; next_is = n.1 };
+        before = record { begun = runs.0; running = not-true now.done runs.1; next_is = n.1 };
         call = n.2;
-        unspent = not_true (now.tries == allowance w id) d.1;
+        unspent = not-true (now.tries == allowance w id) d.1;
         call_is = call_is w now n.0 s.0 s.1 ∙ x.1;
       } in
-      tried_says w id n.0 p (answer_to w id x.0) a (ap (λ z. z.0) (sym (step_tried w id p (not_true w.halted b.0) n.0 x.0 t)) ∙ e)
+      tried_says w id n.0 p (answer_to w id x.0) a (ap (λ z. z.0) (sym (step_tried w id p (not-true w.halted b.0) n.0 x.0 t)) ∙ e)
 
   module _ {L : Type 0} (asked : L → StreamId → ℕ → Passage → L → Type 0) (answer : Played) (v : State) where
     pub over_untried : (link : L) → makes_try w id ≡ false → step w id Through ≡ (Answered answer, v) → IsStepOver asked link link w id answer v

@@ -9,15 +9,15 @@ use Rattle.sm_reservation.specs.Pool.{IsKnownHold, leads_of}
 use Rattle.sm_reservation.specs.CanJoin.{CanJoin}
 use Rattle.sm_reservation.specs.declared.stream_id.StreamId.{StreamId}
 use Rattle.sm_plan_code.specs.declared.instruction.Instr.{Instr}
-use Rattle.sm_plan_code.specs.declared.instruction.Instr.TheVariants.{PrepareAdd, PrepareDrop, Add, Drop, Change, Publish, Unlist, Signal, Wait}
+use Rattle.sm_plan_code.specs.declared.instruction.Instr.TheVariants.{Publish, Unlist, Signal, Wait}
 use Rattle.sm_plan_code.specs.declared.call.ServerCall.{ServerCall}
-use Rattle.sm_plan_code.specs.Instr.{is_call, IsOwn}
+use Rattle.sm_plan_code.specs.Instr.{IsOwn}
 use Rattle.sm_plan_code.specs.Plan.{IsSmallStream}
 use Rattle.sm_plan_code.specs.After.{to_list}
 use Rattle.sm_plan_code.specs.Table.{gives_of, crown}
 use Rattle.sm_verifier.specs.Step.{parcels_of}
 use Rattle.sm_verifier.specs.Stream.{no_stream, stream_at}
-use Rattle.sm_protocol.specs.State.{State, Progress, plan_at, stream_parts, progress_of, is_begun, is_running, next_instruction, allowance, hold_of_stream, signal_count, parcel_at}
+use Rattle.sm_protocol.specs.State.{State, plan_at, stream_parts, progress_of, is_begun, is_running, hold_of_stream, signal_count, parcel_at}
 use Rattle.sm_protocol.specs.State as state
 use Rattle.sm_protocol.proofs.Invariant.{IsKept}
 use Rattle.sm_protocol.proofs.Cases.{IsBefore, IsTry, answer_to}
@@ -28,6 +28,7 @@ use Rattle.sm_reservation.specs.Short.{first_short}
 use Rattle.sm_protocol.proofs.LogRoom.{has_room}
 use Rattle.sm_protocol.proofs.Safety.{is_safe}
 use Rattle.sm_protocol.proofs.SmallNumbers.{numbers_stay_small}
+use Rattle.sm_protocol.proofs.Tries.{call_is_own}
 use Rattle.sm_machine.specs.Course.{hold_in, rights_in, HasCapacityIn, IsGrantInOrder}
 use Rattle.sm_machine.specs.State.{Whole}
 use Rattle.sm_machine.specs.Trade.{CanTrade, CanTradeUnless, IsTradedBy}
@@ -39,18 +40,6 @@ use Rattle.sm_machine.proofs.ties.Calling.{can_call}
 use Rattle.sm_machine.proofs.ties.Freeing.{room_to_step}
 use Rattle.sm_machine.proofs.ties.Publishing.{can_publish, can_unlist, publish_gives}
 use Rattle.sm_machine.proofs.ties.Carrying.{can_send, can_take, can_give_back}
-
--- a call is neither a signal nor a wait
-pub call_is_own : (i : Instr) → is_call i ≡ true → IsOwn i
-call_is_own (PrepareAdd s v u) e = tt
-call_is_own (PrepareDrop s u v) e = tt
-call_is_own (Add s v role) e = tt
-call_is_own (Drop s v) e = tt
-call_is_own (Change s v role) e = tt
-call_is_own (Publish s) e = tt
-call_is_own (Unlist s) e = tt
-call_is_own (Signal q) e = absurd (cc)
-call_is_own (Wait q) e = absurd (cc)
 
 -- what is not refused is answered
 answered : {A B : Type 0} (r : Result A B) → ((why : B) → r ≡ Err why → ⊥) → IsOk r

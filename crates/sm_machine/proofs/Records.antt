@@ -1,22 +1,17 @@
 -- What stands beside a log: what it tells of tickets, and what it is once one more event is recorded.
-use Rattle.std.proofs.Common.{◌≡◌, ◌<◌, ◌∙◌, ℕ, Bool, true, false, not, List, [], ◌∷◌, ◌++◌, length, length-append, Option, Some, None, get_or, refl, sym, ap, inl, inr, arith}
+use Rattle.std.proofs.Common.{◌≡◌, ◌<◌, ◌∙◌, ℕ, Bool, true, false, not, List, [], ◌∷◌, ◌++◌, length, length-append, Option, Some, None, get_or, sym, ap, arith}
 use Rattle.std.specs.Prelude.{◌||◌, slice_index_or}
-use Rattle.std.proofs.lemmas.Bool.{cases_lt}
-use Rattle.std.proofs.lemmas.Option.{none-some}
-use Rattle.std.proofs.lemmas.List.{get_or_past, get_or_read_under}
+use Rattle.std.proofs.Math.Bool.{or-false}
+use Rattle.std.proofs.lemmas.List.{get_or_read_under}
 use Rattle.std.proofs.lemmas.List.Folds.{list_any-append}
 use Rattle.sm_protocol.specs.declared.event.Logged.{Logged}
 use Rattle.sm_protocol.specs.Ticket.{Ticket, passes, pass_of, is_pass_on, is_passed_on, same_ticket, is_open_ticket}
-use Rattle.sm_protocol.proofs.Scripts.{passes_push, length_passes}
+use Rattle.sm_protocol.proofs.Scripts.{passes_push, pass_below}
 use Rattle.sm_machine.specs.Journal.{JournalModel, flag_at, AreRaised, IsIndexed}
-
-or_false : (b : Bool) → (b || false) ≡ b
-or_false true = refl
-or_false false = refl
 
 -- a place was passed on once more
 passed_on_push : (log : List Logged) (x : Logged) (place : ℕ) → is_passed_on (log ++ x ∷ []) place ≡ (is_passed_on log place || is_pass_on place x.event)
-passed_on_push log x place = list_any-append (λ (y : Logged). is_pass_on place y.event) log (x ∷ []) ∙ ap (λ b. is_passed_on log place || b) (or_false (is_pass_on place x.event))
+passed_on_push log x place = list_any-append (λ (y : Logged). is_pass_on place y.event) log (x ∷ []) ∙ ap (λ b. is_passed_on log place || b) (or-false (is_pass_on place x.event))
 
 -- what stands beside a log is right of it with one event more, its pass put behind and its flag raised
 pub indexed_push : (log grown : List Logged) (room : ℕ) (tickets more : List (Option Ticket)) (flags raised all : List Bool) (x : Logged) (new : Option Ticket) →
@@ -28,15 +23,6 @@ indexed_push log grown room tickets more flags raised all x new h l p g m w r a 
   width = w ∙ h.width;
   passed_on = λ place k. r place (omega (arith, h.width)) ∙ ap (λ b. b || is_pass_on place x.event) (h.passed_on place k) ∙ sym (passed_on_push log x place);
 })
-
--- a place with a pass is within the log
-pub pass_below : (log : List Logged) (n : ℕ) (t : Ticket) → slice_index_or (passes log) n None ≡ Some t → n < length log
-pass_below log n t e = elim (cases_lt n (length log)) [
-  | inl l ↦ l
-  | inr l ↦
-      let k = length_passes [] log in
-      absurd (let f : slice_index_or (passes log) n None ≡ None = get_or_past (passes log) n None (omega arith) in none-some t (sym f ∙ e))
-]
 
 -- a ticket is open where its place has just its pass and no flag
 pub open_by_flag : (parts : JournalModel) (t pass : Ticket) (log : List Logged) (room n : ℕ) (tickets : List (Option Ticket)) (flags : List Bool) (flag : Bool) →

@@ -2,6 +2,7 @@
 use Rattle.std.proofs.Common.{◌≡◌, ◌≢◌, ◌≤◌, ◌+◌, ◌∙◌, ℕ, Bool, true, false, List, [], ◌∷◌, ◌++◌, refl, sym, ap, inl, inr, arith}
 use Rattle.std.specs.Prelude.{◌&&◌, ◌||◌, ◌==◌, nat_lt, if◌then◌else◌}
 use Rattle.std.proofs.Math.Path.{fun_ext}
+use Rattle.std.proofs.Math.Bool.{or-false}
 use Rattle.std.proofs.lemmas.Bool.{cases_eq, cases_lt, lt-ltb, le-ltb, ne_eqb, eq-eqb}
 use Rattle.std.proofs.lemmas.List.Folds.{list_any-append}
 use Rattle.sm_server.specs.declared.call.Cell.{Cell}
@@ -118,10 +119,6 @@ below_more v n d = elim (cases_lt v n) [
   | inr l ↦ le-ltb v n l ∙ sym (le-ltb v (n + 1) (omega arith))
 ]
 
-or_false : (b : Bool) → (b || false) ≡ b
-or_false true = refl
-or_false false = refl
-
 or_true : (b : Bool) → (b || true) ≡ true
 or_true true = refl
 or_true false = refl
@@ -131,7 +128,7 @@ down_more rows down n x h e d v = list_any-append (λ y. y == v) rows (x ∷ [])
   | inl a ↦ rw (a, eq-eqb n n refl, lt-ltb n (n + 1) (omega arith), d) (or_true (down_of_rows rows n))
   | inr a ↦
       let b : n ≢ v = λ f. a (sym f) in
-      rw (ne_eqb n v b, or_false (down_of_rows rows v)) (h v ∙ ap (λ t. t && down v) (below_more v n a))
+      rw (ne_eqb n v b, or-false (down_of_rows rows v)) (h v ∙ ap (λ t. t && down v) (below_more v n a))
 ])
 
 pub down_passed : (rows : List ℕ) (down : ℕ → Bool) (n : ℕ) → AreDownBelow rows down n → down n ≡ false → AreDownBelow rows down (n + 1)

@@ -1,23 +1,10 @@
--- A function changed at one place, and a list in a list written at one place.
+-- A list in a list written at one place.
 use Rattle.std.proofs.Common.{◌≡◌, ℕ, zero, suc, [], ◌∷◌, ◌++◌, ◌<◌, List, length, set, get_or, map, refl, sym, ap, ◌∙◌, inl, inr}
 use Rattle.std.proofs.Math.Path.{fun_ext}
 use Rattle.std.proofs.lemmas.Bool.{cases_eq}
 use Rattle.std.proofs.lemmas.List.{get_or-set_same, get_or-set_other, map-set, set-get_or}
 use Rattle.sm_placement.specs.Sums.{put, put2}
 use Rattle.sm_placement.proofs.Sums.{put-here, put-apart, put2-here, put2-row, put2-apart}
-
--- a function changed at a pair to what it is there is as it was
-pub put2-same : {A : Type 0} (f : ℕ → ℕ → A) (p i : ℕ) → put2 f p i (f p i) ≡ f
-put2-same {A} f p i = fun_ext (λ r. fun_ext (λ q. at r q))
-  where
-    at : (r q : ℕ) → put2 f p i (f p i) r q ≡ f r q
-    at r q = elim (cases_eq r p) [
-      | inl d ↦ elim (cases_eq q i) [
-        | inl e ↦ rw (d, e) (put2-here f p i (f p i))
-        | inr e ↦ rw d (put2-row f p i (f p i) q e)
-      ]
-      | inr d ↦ put2-apart f p i (f p i) r q d
-    ]
 
 -- the value that the item i of the row of the item p gives
 abbrev pub inner : {N A B : Type 0} → (N → List A) → (A → B) → N → A → List N → ℕ → ℕ → B

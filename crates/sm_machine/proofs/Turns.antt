@@ -34,12 +34,13 @@ use Rattle.sm_machine.specs.Trade.{IsTradedBy, IsTradedUnless}
 use Rattle.sm_machine.specs.Ready.{IsReadyToCall, IsReadyToTrade, IsReadyToPublish, IsReadyToPost, IsReadyToTake, IsReadyToEnd}
 use Rattle.sm_machine.specs.Working.{IsWorking, IsAt, IsStepped}
 use Rattle.sm_machine.proofs.Ready.{lists, ready_to_trade, ready_to_call, ready_to_publish, ready_to_unlist, ready_to_post, ready_to_take, ready_to_end, waited_signal}
-use Rattle.sm_machine.proofs.Working.{before, made_call, stepped_idle, stepped_published, stepped_unlisted, stepped_lost, stepped_through, stepped_unanswered, stepped_posted, stepped_taken, stepped_ended}
+use Rattle.sm_machine.proofs.Working.{before, stepped_idle, stepped_published, stepped_unlisted, stepped_lost, stepped_through, stepped_unanswered, stepped_posted, stepped_taken, stepped_ended}
 use Rattle.sm_machine.proofs.ties.Before.{kept, can_reach}
 use Rattle.sm_machine.proofs.ties.Carrying.{none_ahead}
 use Rattle.sm_machine.proofs.ties.Reaching.{reached_halted, reached_opened, tied_opened}
 use Rattle.sm_machine.proofs.ties.Counters.{counted_halted, counted_opened, counted_ended}
 use Rattle.sm_machine.proofs.ties.Tying.{tied_halted}
+use Rattle.sm_machine.proofs.ties.Making.{made_call}
 
 -- the stream, at the instruction i
 module _ (x : Whole) (id : StreamId) (i : Instr) (at : IsAt x id (Some i)) where

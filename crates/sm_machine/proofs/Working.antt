@@ -11,14 +11,14 @@ use Rattle.sm_reservation.specs.HoldOf.{hold_of}
 use Rattle.sm_reservation.specs.Capacity.{HoldModel}
 use Rattle.sm_reservation.specs.declared.stream_id.StreamId.{StreamId}
 use Rattle.sm_plan_code.specs.declared.instruction.Instr.{Instr}
-use Rattle.sm_plan_code.specs.declared.instruction.Instr.TheVariants.{PrepareAdd, PrepareDrop, Add, Drop, Change, Publish, Unlist, Signal, Wait}
+use Rattle.sm_plan_code.specs.declared.instruction.Instr.TheVariants.{Publish, Unlist, Signal, Wait}
 use Rattle.sm_plan_code.specs.declared.call.ServerCall.{ServerCall}
-use Rattle.sm_plan_code.specs.Instr.{is_call, IsOwn}
+use Rattle.sm_plan_code.specs.Instr.{IsOwn}
 use Rattle.sm_plan_code.specs.After.{to_list}
 use Rattle.sm_reservation.specs.Pool.{leads_of}
 use Rattle.sm_reservation.specs.Key.{IsOrdered}
 use Rattle.sm_machine.specs.Steps.{ended_whole}
-use Rattle.sm_machine.proofs.Tables.{put2-same}
+use Rattle.sm_reservation.proofs.PoolLemmas.{put2_same}
 use Rattle.sm_verifier.specs.Stream.{stream_at}
 use Rattle.sm_protocol.specs.declared.event.Passage.{Passage}
 use Rattle.sm_protocol.specs.declared.event.Passage.TheVariants.{Through, LostBefore, LostAfter}
@@ -26,20 +26,23 @@ use Rattle.sm_protocol.specs.declared.event.Played.{Played}
 use Rattle.sm_protocol.specs.declared.event.Played.TheVariants as played
 use Rattle.sm_protocol.specs.declared.event.Event.TheVariants as event
 use Rattle.sm_protocol.specs.State.{State, Mark, plan_at, progress_of, is_begun, allowance, signal_count, parcel_at}
-use Rattle.sm_protocol.specs.Steps.{Answered, step, made, call_tried, tried, call_to_make, served_try, behind_call, ahead_of_call, call_lost, entry_added, posted, ended}
+use Rattle.sm_protocol.specs.Steps.{Answered, step, made, call_tried, tried, served_try, behind_call, ahead_of_call, call_lost, entry_added, posted, ended}
 use Rattle.sm_protocol.specs.Happens.{Step, Lose}
 use Rattle.sm_protocol.specs.Laws.{IsReached}
 use Rattle.sm_protocol.proofs.Cases.{IsBefore, IsTry, answer_to, parcel_taken}
+use Rattle.sm_protocol.proofs.Reached.{reached_next}
+use Rattle.sm_protocol.proofs.Tries.{call_is_own}
 use Rattle.sm_machine.specs.Course.{hold_in, rights_in, capacity_in, IsGrantInOrder}
 use Rattle.sm_machine.specs.State.{Whole}
 use Rattle.sm_machine.specs.Tied.{IsTied, HasCounters}
 use Rattle.sm_machine.specs.Trade.{IsTradedBy, IsTradedUnless}
 use Rattle.sm_machine.specs.Working.{IsWorking, IsAt, IsStepped, HasRoomOn, IsUnsent}
-use Rattle.sm_machine.proofs.Ready.{can_trade, call_is_own, some_grant, runs}
+use Rattle.sm_machine.proofs.Ready.{can_trade, some_grant, runs}
 use Rattle.sm_machine.proofs.ties.Before.{hold_behind}
-use Rattle.sm_machine.proofs.ties.Reaching.{reached_next}
 use Rattle.sm_machine.proofs.ties.Counters.{counted_through, counted_unanswered, counted_lost, counted_published, counted_posted, counted_taken, counted_ended}
 use Rattle.sm_machine.proofs.ties.Tying.{tied_through, tied_unanswered, tied_again, tied_unanswered_again, tied_lost, tied_published, tied_unlisted, tied_posted, tied_taken, tied_ended}
+use Rattle.sm_machine.proofs.ties.Making.{made_call}
+use Rattle.sm_machine.proofs.ties.Stepping.{step_made}
 
 -- the holds of grants, one of which is another
 hold_put : (f : ℕ → ℕ → Option HoldModel) (k i : ℕ) (h : Option HoldModel) → put2 (λ a b. hold_in (f a b)) k i (hold_in h) ≡ (λ a b. hold_in (put2 f k i h a b))
@@ -54,23 +57,7 @@ hold_put f k i h = fun_ext (λ a. fun_ext (λ b. at a b))
       | inr d ↦ put2-apart (λ a b. hold_in (f a b)) k i (hold_in h) a b d ∙ ap hold_in (sym (put2-apart f k i h a b d))
     ]
 
--- the instruction that is a call is tried
-pub made_call : (w : State) (id : StreamId) (p : Passage) (i : Instr) → is_call i ≡ true → made w id p (Some i) ≡ call_tried w id p i (call_to_make w (progress_of w id) i)
-made_call w id p (PrepareAdd s v u) e = refl
-made_call w id p (PrepareDrop s u v) e = refl
-made_call w id p (Add s v role) e = refl
-made_call w id p (Drop s v) e = refl
-made_call w id p (Change s v role) e = refl
-made_call w id p (Publish s) e = cc
-made_call w id p (Unlist s) e = cc
-made_call w id p (Signal q) e = cc
-made_call w id p (Wait q) e = cc
-
--- where a stream makes this next, its step makes it
-pub step_made : (w : State) (id : StreamId) (p : Passage) (o : Option Instr) → w.halted ≡ false → IsBefore w id o → step w id p ≡ made w id p o
-step_made w id p o h b = rw (h, b.begun, b.running, b.next_is) refl
-
--- ---- a place for what is held
+-- ---- capacity for what is held
 
 same_room : (s : _) (k : HoldModel) (h : Option HoldModel) → HasRoomOn s (Some k) → capacity_in h ≡ k.capacity → HasRoomOn s h
 same_room s k None r e = tt
@@ -88,9 +75,9 @@ module _ (x : Whole) (id : StreamId) (o : Option Instr) (at : IsAt x id o) where
   before = record { begun = at.begun; running = at.running; next_is = at.next_is }
 
   reached_step : (p : Passage) → IsReached g.setup (step w id p).1
-  reached_step Through = reached_next g.setup w g.reached (Step id) tt
-  reached_step LostBefore = reached_next g.setup w g.reached (Lose id false) tt
-  reached_step LostAfter = reached_next g.setup w g.reached (Lose id true) tt
+  reached_step Through = reached_next g.setup w (Step id) g.reached tt
+  reached_step LostBefore = reached_next g.setup w (Lose id false) g.reached tt
+  reached_step LostAfter = reached_next g.setup w (Lose id true) g.reached tt
 
   -- what has to be shown of a step
   stepped : (p : Passage) (a : Played) (y : Whole) → step w id p ≡ (Answered a, y.state) → IsTied y.state y.pool (λ k i. hold_in (y.grants k i)) (λ k q. hold_in (y.parcels k q)) →
@@ -108,7 +95,7 @@ module _ (x : Whole) (id : StreamId) (o : Option Instr) (at : IsAt x id o) where
 
   -- an answer that changes nothing
   pub stepped_idle : (p : Passage) (a : Played) → made w id p o ≡ (Answered a, w) → IsStepped x id p a x
-  stepped_idle p a e = record { step = step_made w id p o at.awake before ∙ e; setup = refl; working = g }
+  stepped_idle p a e = record { step = step_made w id p at.awake o before ∙ e; setup = refl; working = g }
 
   module _ (order : IsGrantInOrder grant) (there : is_some grant ≡ not (progress_of w id).done) where
     rooms_put : (h : Option HoldModel) → HasRoomOn (stream_at w.sizes (plan_at w id.plan) id.stream) h →
@@ -153,7 +140,7 @@ module _ (x : Whole) (id : StreamId) (o : Option Instr) (at : IsAt x id o) where
           let b = subst (λ z. IsBefore w id (Some z)) e at_i in
           let tie = tied_published g.setup w g.reached x.pool (λ k i. hold_in (x.grants k i)) (λ k q. hold_in (x.parcels k q)) g.tied id s b in
           stepped p played.Moved (record x { state = (entry_added w id s server).1; grants = put2 x.grants id.plan id.stream h })
-          (step_made w id p (Some (Publish s)) at.awake b ∙ ap (entry_added w id s) (sym f))
+          (step_made w id p at.awake (Some (Publish s)) b ∙ ap (entry_added w id s) (sym f))
           (tied_put (entry_added w id s server).1 x.pool h (λ k q. hold_in (x.parcels k q)) (hold_behind w id) behind_is
           (subst (λ v. IsTied (entry_added w id s v).1 x.pool (put2 (λ k i. hold_in (x.grants k i)) id.plan id.stream (hold_behind w id)) (λ k q. hold_in (x.parcels k q))) (sym f) tie))
           (rooms_after h t.capacity) g.unsent (counted_published g.setup w g.reached x.unfinished x.running x.free g.counted id (Publish s) s server b refl) refl
@@ -164,7 +151,7 @@ module _ (x : Whole) (id : StreamId) (o : Option Instr) (at : IsAt x id o) where
       stepped_unlisted s e p =
           let b = subst (λ z. IsBefore w id (Some z)) e at_i in
           stepped p played.Moved (record x { state = (entry_added w id s None).1; grants = put2 x.grants id.plan id.stream h })
-          (step_made w id p (Some (Unlist s)) at.awake b)
+          (step_made w id p at.awake (Some (Unlist s)) b)
           (tied_put (entry_added w id s None).1 x.pool h (λ k q. hold_in (x.parcels k q)) (hold_behind w id) behind_is
           (tied_unlisted g.setup w g.reached x.pool (λ k i. hold_in (x.grants k i)) (λ k q. hold_in (x.parcels k q)) g.tied id s b))
           (rooms_after h t.capacity) g.unsent (counted_published g.setup w g.reached x.unfinished x.running x.free g.counted id (Unlist s) s None b refl) refl
@@ -174,7 +161,7 @@ module _ (x : Whole) (id : StreamId) (o : Option Instr) (at : IsAt x id o) where
     module _ (i : Instr) (c : ServerCall) (t : IsTry w id i c) where
       step_tried : (p : Passage) → step w id p ≡ tried w id i p (answer_to w id c)
       step_tried p =
-          step_made w id p (Some i) at.awake t.before ∙ made_call w id p i t.call ∙ ap (call_tried w id p i) t.call_is
+          step_made w id p at.awake (Some i) t.before ∙ made_call w id p i t.call ∙ ap (call_tried w id p i) t.call_is
           ∙ (rw t.unspent refl)
 
       -- a try that is lost before it comes to its server is a step, and the grants stay
@@ -196,7 +183,7 @@ module _ (x : Whole) (id : StreamId) (o : Option Instr) (at : IsAt x id o) where
           tied_put new x.pool h (λ k q. hold_in (x.parcels k q)) (hold_behind w id) ((can_trade x g id order there i t.before (call_is_own i t.call) e).1 h u) (first e)
       tied_unless true e new h u first again =
           tied_put new x.pool h (λ k q. hold_in (x.parcels k q)) (hold_in grant) (ap hold_in u)
-          (subst (λ f. IsTied new x.pool f (λ k q. hold_in (x.parcels k q))) (sym (put2-same (λ k i. hold_in (x.grants k i)) id.plan id.stream)) (again e))
+          (subst (λ f. IsTied new x.pool f (λ k q. hold_in (x.parcels k q))) (put2_same (λ k i. hold_in (x.grants k i)) id.plan id.stream _ refl) (again e))
 
       -- a try that is served and answered is a step: the stream has made its trade, unless the call was ahead
       pub stepped_through : (effect : CallEffect) → answer_to w id c ≡ Ok effect → (h : Option HoldModel) → IsTradedUnless (progress_of w id).ahead w.sizes i grant h →
@@ -253,7 +240,7 @@ module _ (x : Whole) (id : StreamId) (o : Option Instr) (at : IsAt x id o) where
     stepped_posted q is h n e f capacity p =
         let b = subst (IsBefore w id) is before in
         stepped p played.Moved (record x { state = (posted w id q).1; grants = put2 x.grants id.plan id.stream h; parcels = put2 x.parcels id.plan q n })
-        (step_made w id p (Some (Signal q)) at.awake b)
+        (step_made w id p at.awake (Some (Signal q)) b)
         (tied_both (posted w id q).1 q h n (hold_behind w id) (hold_of (parcel_at w id.plan q)) e f
         (tied_posted g.setup w g.reached x.pool (λ k i. hold_in (x.grants k i)) (λ k q. hold_in (x.parcels k q)) g.tied id q b))
         (rooms_after h capacity) (unsent_after q (record (w.marks id.plan q) { posted = true }) n refl)
@@ -265,7 +252,7 @@ module _ (x : Whole) (id : StreamId) (o : Option Instr) (at : IsAt x id o) where
     stepped_taken q is was h e capacity p =
         let b = subst (IsBefore w id) is before in
         stepped p played.Moved (record x { state = parcel_taken w id q; grants = put2 x.grants id.plan id.stream h; parcels = put2 x.parcels id.plan q None })
-        (step_made w id p (Some (Wait q)) at.awake b ∙ (rw was refl))
+        (step_made w id p at.awake (Some (Wait q)) b ∙ (rw was refl))
         (tied_both (parcel_taken w id q) q h None (hold_behind w id) no_hold e refl
         (tied_taken g.setup w g.reached x.pool (λ k i. hold_in (x.grants k i)) (λ k q. hold_in (x.parcels k q)) g.tied id q b was))
         (rooms_after h capacity) (unsent_after q (record (w.marks id.plan q) { awaited = true }) None was)
@@ -282,7 +269,7 @@ module _ (x : Whole) (id : StreamId) (o : Option Instr) (at : IsAt x id o) where
         let ordered : IsOrdered (rights_in grant) = subst (λ z. IsOrdered (rights_in z)) (sym s.1) (let k = subst IsGrantInOrder s.1 order in k.ordered) in
         let same : hold_of (rights_in grant) ≡ hold_in grant = ap (λ z. hold_of (rights_in z)) s.1 ∙ ap hold_in (sym s.1) in
         stepped p played.Done (ended_whole x id free)
-        (step_made w id p None at.awake b)
+        (step_made w id p at.awake None b)
         (tied_put (ended w id).1 (plus x.pool (rights_in grant)) None (λ k q. hold_in (x.parcels k q)) no_hold refl
         (tied_ended g.setup w g.reached x.pool (λ k i. hold_in (x.grants k i)) (λ k q. hold_in (x.parcels k q)) g.tied id b (rights_in grant) ordered (same ∙ g.tied.grants id run) no_hold))
         (rooms_put None tt) g.unsent

@@ -1,13 +1,18 @@
 -- Lists over the numbers from 0 on, one number further.
-use Rattle.std.proofs.Common.{◌≡◌, ◌<◌, ◌+◌, ◌∙◌, ℕ, Bool, true, false, List, [], ◌∷◌, ◌++◌, length, take, get_or, replicate, sym, ap, refl, arith, map, filter, append_assoc}
+use Rattle.std.proofs.Common.{◌≡◌, ◌<◌, ◌+◌, ◌∙◌, ℕ, suc, Bool, true, false, List, [], ◌∷◌, ◌++◌, length, take, get_or, replicate, sym, ap, refl, arith, map, filter, append_assoc}
 use Rattle.std.specs.List.{range_with_len, flat_map}
 use Rattle.std.proofs.lemmas.List.{map-id, append-nil, map-append, take_more, length-replicate, get_or-replicate}
 use Rattle.std.proofs.lemmas.List.Concat.{flat_map-append}
 use Rattle.std.proofs.lemmas.List.Elements.{filter-append}
 use Rattle.std.proofs.lemmas.List.FromFn.{map-range_with_len_more, fill_by_all}
 
+-- the numbers below n + 1 are those below n, and n
 pub range_more : (n : ℕ) → range_with_len 0 (n + 1) ≡ range_with_len 0 n ++ n ∷ []
 range_more n = sym (map-id (range_with_len 0 (n + 1))) ∙ map-range_with_len_more (λ x. x) 0 n n (omega arith) ∙ ap (λ xs. xs ++ n ∷ []) (map-id (range_with_len 0 n))
+
+-- where their count is told as the next number
+pub range_suc : (n : ℕ) → range_with_len 0 (suc n) ≡ range_with_len 0 n ++ n ∷ []
+range_suc n = let e : suc n ≡ n + 1 = omega arith in ap (range_with_len 0) e ∙ range_more n
 
 pub mapped_more : {A : Type 0} (g : ℕ → A) (n : ℕ) → map g (range_with_len 0 (n + 1)) ≡ map g (range_with_len 0 n) ++ g n ∷ []
 mapped_more g n = map-range_with_len_more g 0 n n (omega arith)

@@ -1,7 +1,6 @@
 -- The pool stays as it is while streams go on; what a stream holds at its end comes into it.
-use Rattle.std.proofs.Common.{◌≡◌, ℕ, ◌+◌, ◌-◌, true, false, refl, sym, ap, ◌∙◌, arith, subst, Option, Some, None, Result, Ok, List}
+use Rattle.std.proofs.Common.{◌≡◌, ℕ, ◌+◌, ◌-◌, true, false, refl, sym, ap, ◌∙◌, arith, subst, Option, Some, None, Ok, List}
 use Rattle.std.specs.Prelude.{◌==◌, unwrap_or, if◌then◌else◌}
-use Rattle.sm_server.specs.declared.call.Refusal.{Refusal}
 use Rattle.sm_placement.specs.declared.lead.Lead.TheVariants.{Gone}
 use Rattle.sm_placement.specs.declared.lead.Lead.{Lead}
 use Rattle.sm_reservation.specs.declared.right.PlainCell.{PlainCell}
@@ -40,7 +39,8 @@ use Rattle.sm_protocol.proofs.Steps.{lead_is, leads_are, one_on}
 use Rattle.sm_protocol.proofs.Trials.{IsBegun, call_at, running}
 use Rattle.sm_protocol.proofs.Tries.{effect_now}
 use Rattle.sm_protocol.proofs.Cases.{IsBefore, IsTry, answer_to, parcel_taken}
-use Rattle.sm_machine.proofs.ties.Counting.{same_hold}
+use Rattle.sm_protocol.proofs.LogRoom.{ok_is}
+use Rattle.sm_reservation.proofs.ParcelSums.{same_hold}
 use Rattle.sm_machine.proofs.ties.Before.{course_at, hold_here, hold_behind, known, turn, hold_known}
 use Rattle.sm_machine.proofs.ties.Exchanging.{effect_here}
 use Rattle.sm_machine.proofs.ties.Carrying.{none_ahead, parcel_ordered}
@@ -118,9 +118,6 @@ module _ (w : State) (v : IsKept w) (id : StreamId) where
       let f : is ≡ effect = ok_is is effect (sym answered ∙ e) in
       pool_stays w (served_try w id i effect y event answer) v k refl
       (subst (λ z. IsBalanced w (served_try w id i z y event answer)) f (balanced w v id i t.before a n.effect (put2 n.effect.next_place.last c.call.shard c.call.server (call_number w (progress_of w id))) y d at))
-    where
-      ok_is : (x y : CallEffect) → ◌≡◌ {A = Result CallEffect Refusal} (Ok x) (Ok y) → x ≡ y
-      ok_is x y e = cc
 
   -- where neither the placement nor what the stream holds is another, the pool stays
   pub pool_of_same : (o : Option Instr) → IsBefore w id o → (y : Progress) → y.done ≡ false → reach y.at y.ahead ≡ reach (progress_of w id).at (progress_of w id).ahead →

@@ -1,5 +1,5 @@
 -- What a numbered call asks for and what it is answered, where a stream tries the call at which it stands.
-use Rattle.std.proofs.Common.{◌≡◌, ◌≤◌, ◌<◌, ◌+◌, ℕ, Bool, true, false, refl, sym, ap, ◌∙◌, arith, inl, inr, subst, Option, Some, Result, Ok, Err}
+use Rattle.std.proofs.Common.{◌≡◌, ◌≤◌, ◌<◌, ◌+◌, ℕ, Bool, true, false, refl, sym, ap, ◌∙◌, arith, inl, inr, subst, Option, Some, Ok, Err}
 use Rattle.std.specs.Prelude.{if◌then◌else◌}
 use Rattle.std.proofs.lemmas.Bool.{cases_eq, cases_Bool, eq-eqb, ne_eqb}
 use Rattle.sm_server.specs.declared.call.Refusal.{Refusal}
@@ -20,6 +20,7 @@ use Rattle.sm_protocol.proofs.Courses.{some_same}
 use Rattle.sm_protocol.proofs.Trials.{call_at}
 use Rattle.sm_protocol.proofs.Tries.{again_at, effect_now, answer_again}
 use Rattle.sm_protocol.proofs.Cases.{IsBefore, answer_to}
+use Rattle.sm_protocol.proofs.LogRoom.{ok_is}
 use Rattle.sm_machine.proofs.ties.Before.{known, can_reach}
 
 -- ---- the call of an instruction
@@ -93,9 +94,6 @@ pub record CanCall (w : State) (id : StreamId) (x : ServerCall) : Type 0 where
   pub served : (why : Refusal) → answer_to w id x ≡ Err why → ⊥
   pub first : (progress_of w id).ahead ≡ false → (effect : CallEffect) → answer_to w id x ≡ Ok effect → effect.fresh ≡ true
   pub again : (progress_of w id).ahead ≡ true → (effect : CallEffect) → answer_to w id x ≡ Ok effect → effect ≡ record { place = w.place; fresh = false }
-
-ok_is : (x y : CallEffect) → ◌≡◌ {A = Result CallEffect Refusal} (Ok x) (Ok y) → x ≡ y
-ok_is x y e = cc
 
 module _ (w : State) (v : IsKept w) (id : StreamId) (i : Instr) (b : IsBefore w id (Some i)) (is : is_call i ≡ true) (x : ServerCall) (makes : call_to_make w (progress_of w id) i ≡ Some x) where
   abbrev now : Progress

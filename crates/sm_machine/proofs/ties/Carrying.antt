@@ -2,7 +2,6 @@
 use Rattle.std.proofs.Common.{◌≡◌, ◌≤◌, ◌<◌, ◌+◌, ℕ, true, false, refl, sym, ap, ◌∙◌, arith, subst, Some, None, length}
 use Rattle.std.proofs.lemmas.List.Elements.{All-get_or}
 use Rattle.std.proofs.lemmas.Option.{slice_get_within}
-use Rattle.sm_placement.specs.Sums.{bit}
 use Rattle.sm_placement.specs.Setup.{Setup}
 use Rattle.sm_placement.proofs.Sums.{part_of_sum}
 use Rattle.sm_reservation.specs.declared.stream_id.StreamId.{StreamId}
@@ -16,7 +15,7 @@ use Rattle.sm_reservation.specs.Capacity.{HoldModel, HasCapacity, most_keys}
 use Rattle.sm_reservation.specs.Short.{first_short}
 use Rattle.sm_reservation.specs.Pool.{IsKnownHold}
 use Rattle.sm_reservation.proofs.Joins.{joins_in_placement}
-use Rattle.sm_reservation.proofs.ParcelSums.{joined, plus_is, plus_none}
+use Rattle.sm_reservation.proofs.ParcelSums.{joined, no_cell, plus_is, plus_none}
 use Rattle.sm_reservation.proofs.FitLemmas.{none_of}
 use Rattle.sm_reservation.proofs.HoldSizes.{capacity_to_put}
 use Rattle.sm_plan_code.specs.declared.instruction.Instr.{Instr}
@@ -31,7 +30,7 @@ use Rattle.sm_protocol.specs.State.{State, plan_at, stream_count, signal_count, 
 use Rattle.sm_protocol.specs.Laws.{IsReached}
 use Rattle.sm_protocol.proofs.Invariant.{IsRunning, IsKept}
 use Rattle.sm_protocol.proofs.Holds.{part, carried, share, load, share_held}
-use Rattle.sm_protocol.proofs.Pools.{no_cell, pool_within}
+use Rattle.sm_protocol.proofs.Pools.{pool_within}
 use Rattle.sm_protocol.proofs.Courses.{not_ahead, not_posted, not_awaited}
 use Rattle.sm_protocol.proofs.Trials.{IsBegun, running, share_is}
 use Rattle.sm_protocol.proofs.Cases.{IsBefore}
@@ -42,7 +41,7 @@ use Rattle.sm_machine.proofs.ties.Exchanging.{leaves_behind}
 
 -- nothing has nothing of any right
 pub none_counted : (r : Right) → count no_hold r ≡ 0
-none_counted (OfCell s v state) = ap bit (no_cell state)
+none_counted (OfCell s v state) = no_cell state
 none_counted (OfCrown s lead listed) = refl
 none_counted (OfRoom v) = refl
 none_counted (OfSpare s) = refl

@@ -14,12 +14,12 @@ use Rattle.sm_protocol.specs.State.{State, is_running, logged, recorded, pool, f
 use Rattle.sm_protocol.specs.Steps.{Outcome, Answered, unchanged}
 use Rattle.sm_protocol.specs.Happens.{Happening, Refill, Approve, Done, refill_fault, refilled, approved, engaged, happens}
 use Rattle.sm_protocol.specs.Laws.{IsReached, FitsConfig}
+use Rattle.sm_protocol.proofs.Reached.{reached_next}
 use Rattle.sm_machine.specs.Course.{hold_in}
 use Rattle.sm_machine.specs.State.{Whole}
 use Rattle.sm_machine.specs.Tied.{pay_live, get_live}
 use Rattle.sm_machine.specs.Working.{IsWorking}
 use Rattle.sm_machine.proofs.ties.Counters.{counted_recorded, counted_refilled, counted_approved, counted_restarted}
-use Rattle.sm_machine.proofs.ties.Reaching.{reached_next}
 use Rattle.sm_machine.proofs.ties.Restarting.{tied_approved, tied_restarted}
 use Rattle.sm_machine.proofs.ties.Tying.{tied_recorded, tied_refilled}
 
@@ -40,7 +40,7 @@ module _ (x : Whole) (g : IsWorking x) where
       IsWorking (record x { state = recorded w event answer; free = x.free - 1 })
   working_recorded e fits event answer is enough = record {
     setup = g.setup;
-    reached = subst (IsReached g.setup) is (reached_next g.setup w g.reached e fits);
+    reached = subst (IsReached g.setup) is (reached_next g.setup w e g.reached fits);
     tied = tied_recorded g.setup w g.reached x.pool holds sent_holds g.tied (logged w event answer);
     rooms = g.rooms;
     unsent = g.unsent;
@@ -52,7 +52,7 @@ module _ (x : Whole) (g : IsWorking x) where
       IsWorking (record x { state = (refilled w id more None).1; free = x.free - (more + 1) })
   working_refilled id more few none runs enough = record {
     setup = g.setup;
-    reached = subst (λ o. IsReached g.setup (refilled w id more o).1) none (reached_next g.setup w g.reached (Refill id more) few);
+    reached = subst (λ o. IsReached g.setup (refilled w id more o).1) none (reached_next g.setup w (Refill id more) g.reached few);
     tied = tied_refilled g.setup w g.reached x.pool holds sent_holds g.tied id runs more (logged w (event.Refill id more) played.Refilled);
     rooms = g.rooms;
     unsent = g.unsent;
@@ -66,7 +66,7 @@ module _ (x : Whole) (g : IsWorking x) where
       IsWorking (record x { state = record w { place = set_down w.place u true; log = logged w (event.Approve u) played.Approved }; pool = pay_live x.pool (λ s. is_live_at w.place s u) w.sizes.shards; free = x.free - 2 })
   working_approved u known e = record {
     setup = g.setup;
-    reached = subst (λ o. IsReached g.setup (approved w u o).1) e (reached_next g.setup w g.reached (Approve u) known);
+    reached = subst (λ o. IsReached g.setup (approved w u o).1) e (reached_next g.setup w (Approve u) g.reached known);
     tied = tied_approved g.setup w g.reached u known e (logged w (event.Approve u) played.Approved) x.pool holds sent_holds g.tied;
     rooms = g.rooms;
     unsent = g.unsent;
@@ -79,7 +79,7 @@ module _ (x : Whole) (g : IsWorking x) where
       IsWorking (record x { state = record w { place = set_down w.place u false; log = logged w (event.Done u) played.Up }; pool = get_live x.pool (λ s. is_live_at (set_down w.place u false) s u) w.sizes.shards })
   working_restarted u known e = record {
     setup = g.setup;
-    reached = subst (λ t. IsReached g.setup (chosen t).1) e (reached_next g.setup w g.reached (Done u) known);
+    reached = subst (λ t. IsReached g.setup (chosen t).1) e (reached_next g.setup w (Done u) g.reached known);
     tied = tied_restarted g.setup w g.reached u known e (logged w (event.Done u) played.Up) x.pool holds sent_holds g.tied;
     rooms = g.rooms;
     unsent = g.unsent;

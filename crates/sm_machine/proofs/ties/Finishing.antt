@@ -1,9 +1,10 @@
 -- How many streams of a plan, and how many plans, are unfinished: what a machine counts is what the state says.
 use Rattle.std.proofs.Common.{◌≡◌, ◌≢◌, ◌<◌, ◌+◌, ◌-◌, ℕ, zero, suc, Bool, true, false, not, refl, sym, ap, ◌∙◌, arith, inl, inr, subst, length}
-use Rattle.std.specs.Prelude.{◌==◌, ◌||◌, nat_lt, if◌then◌else◌}
+use Rattle.std.specs.Prelude.{◌==◌, nat_lt, if◌then◌else◌}
 use Rattle.std.proofs.lemmas.Bool.{cases_eq, eq-eqb, ne_eqb, lt-ltb, le-ltb}
-use Rattle.sm_placement.specs.Sums.{bit, sum_below, count_below, any_below}
+use Rattle.sm_placement.specs.Sums.{bit, sum_below, count_below}
 use Rattle.sm_placement.proofs.Sums.{same_sum, sum_apart, part_of_sum}
+use Rattle.sm_placement.proofs.Searches.{any_by_count}
 use Rattle.sm_reservation.specs.declared.stream_id.StreamId.{StreamId}
 use Rattle.sm_plan_code.specs.Plan.{PlanModel}
 use Rattle.sm_protocol.specs.State.{State, Progress, fresh, stream_count, progress_of, set_progress, is_unfinished}
@@ -14,18 +15,9 @@ use Rattle.sm_protocol.proofs.LogRoom.{plan_before, plan_started, count_started}
 use Rattle.sm_machine.specs.Tied.{unfinished_count}
 use Rattle.sm_machine.proofs.ties.Tying.{put2_at, put2_others}
 
--- some number passes where more than none do
-any_counted : (n : ℕ) (t : ℕ → Bool) → any_below n t ≡ nat_lt 0 (count_below n t)
-any_counted zero t = sym (le-ltb 0 0 (omega arith))
-any_counted (suc n) t = go (t n) refl (any_counted n t)
-  where
-    go : (b : Bool) → t n ≡ b → any_below n t ≡ nat_lt 0 (count_below n t) → (t n || any_below n t) ≡ nat_lt 0 (count_below n t + bit (t n))
-    go true e was = rw e (sym (lt-ltb 0 (count_below n t + 1) (omega arith)))
-    go false e was = rw e (was ∙ ap (nat_lt 0) (omega arith))
-
 -- a plan is unfinished where some of its streams is
 pub unfinished_is : (w : State) (k : ℕ) → is_unfinished w k ≡ nat_lt 0 (unfinished_count w k)
-unfinished_is w k = any_counted (stream_count w k) (λ i. not (w.progress k i).done)
+unfinished_is w k = any_by_count (stream_count w k) (λ i. not (w.progress k i).done)
 
 -- how many plans are unfinished, by the counts of their streams
 abbrev pub running_by : ℕ → (ℕ → ℕ) → ℕ

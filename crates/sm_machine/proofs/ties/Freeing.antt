@@ -1,37 +1,32 @@
 -- How many places of the log are free after each event: what a machine counts is what the state says.
-use Rattle.std.proofs.Common.{◌≡◌, ◌≤◌, ◌<◌, ◌+◌, ◌-◌, ℕ, Bool, true, false, not, refl, sym, ap, ◌∙◌, arith, inl, inr, ◌⊎◌, Option, Some, None, Ok, List, [], ◌∷◌, length, length-append}
-use Rattle.std.specs.Prelude.{count_by, slice_index_or}
-use Rattle.std.proofs.lemmas.Bool.{and_parts, and_left, eqb-false, le-ltb}
+use Rattle.std.proofs.Common.{◌≡◌, ◌≤◌, ◌<◌, ◌+◌, ◌-◌, ℕ, true, false, not, refl, sym, ap, ◌∙◌, arith, inl, inr, ◌⊎◌, Option, Some, None, Ok, List, length}
+use Rattle.std.specs.Prelude.{count_by}
+use Rattle.std.proofs.lemmas.Bool.{and_parts, eqb-false, not-true}
 use Rattle.std.proofs.lemmas.List.{drop_all}
 use Rattle.std.proofs.lemmas.Option.{slice_get_cases}
 use Rattle.sm_placement.specs.declared.entry.Entry.{Entry}
 use Rattle.sm_placement.specs.Sums.{put, bit, sum_below, count_below}
 use Rattle.sm_placement.specs.Setup.{Setup}
 use Rattle.sm_placement.specs.Place.{Place, CallEffect, publish, set_down, down_count}
-use Rattle.sm_placement.proofs.Sums.{put-here, put-apart, same_sum, sum_apart, part_of_sum}
+use Rattle.sm_placement.proofs.Sums.{put-here, put-apart, sum_apart, part_of_sum}
 use Rattle.sm_reservation.specs.declared.stream_id.StreamId.{StreamId}
 use Rattle.sm_plan_code.specs.declared.call.ServerCall.{ServerCall}
 use Rattle.sm_plan_code.specs.declared.instruction.Instr.{Instr}
 use Rattle.sm_plan_code.specs.declared.instruction.Instr.TheVariants.{Signal, Wait}
 use Rattle.sm_plan_code.specs.Instr.{is_call}
 use Rattle.sm_plan_code.specs.Plan.{StreamModel, PlanModel}
-use Rattle.sm_verifier.specs.Stream.{no_stream}
-use Rattle.sm_verifier.proofs.SumLemmas.{sum_by-below}
 use Rattle.sm_protocol.specs.declared.event.Event.{Event}
 use Rattle.sm_protocol.specs.declared.event.Event.TheVariants as event
 use Rattle.sm_protocol.specs.declared.event.Played.{Played}
 use Rattle.sm_protocol.specs.declared.event.Played.TheVariants as played
-use Rattle.sm_protocol.specs.State.{State, Mark, Progress, fresh, plan_at, stream_count, stream_parts, progress_of, stream_id, is_begun, is_running, allowance, set_progress, logged, places_left, places_of, set_aside, free_places, is_no_call}
+use Rattle.sm_protocol.specs.State.{State, Mark, Progress, fresh, stream_count, stream_parts, progress_of, stream_id, is_begun, is_running, allowance, set_progress, logged, places_left, places_of, set_aside, free_places, is_no_call}
 use Rattle.sm_protocol.specs.Steps.{behind_call, ahead_of_call, tried_more, call_number, number_after_try, served_try, call_lost, entry_added, posted, ended}
 use Rattle.sm_protocol.specs.Happens.{started}
 use Rattle.sm_protocol.specs.Laws.{IsReached}
-use Rattle.sm_protocol.proofs.LogRoom.{HasRoom, has_room, begun_parts, of_call, plan_before, plan_started, count_started}
+use Rattle.sm_protocol.proofs.LogRoom.{HasRoom, has_room, begun_parts, left_started, length_logged, of_call}
 use Rattle.sm_protocol.proofs.Places.{streams_left, left_after, no_calls_from, tries_left, left_unless_done, past_no_call, past_call}
 use Rattle.sm_protocol.proofs.Steps.{one_on}
 use Rattle.sm_protocol.proofs.Cases.{IsBefore, IsTry, answer_to, parcel_taken}
-
-length_logged : (w : State) (x : Event) (a : Played) → length (logged w x a) ≡ length w.log + 1
-length_logged w x a = length-append w.log (record { event = x; answer = a } ∷ [])
 
 module _ (setup : Setup) (w : State) (reached : IsReached setup w) where
   h : HasRoom w
@@ -53,16 +48,12 @@ module _ (setup : Setup) (w : State) (reached : IsReached setup w) where
     room_to_step runs =
         let p = and_parts (is_begun w id) (not now.done) runs in
         let b = begun_parts w id p.0 in
-        let d : now.done ≡ false = unended now.done p.1 in
+        let d : now.done ≡ false = not-true now.done p.1 in
         let one = left_unless_done parts now d in
         let mine = part_of_sum (stream_count w id.plan) (λ i. places_left (stream_parts w (stream_id id.plan i)) (w.progress id.plan i)) id.stream b.1 in
         let plan = part_of_sum (length w.plans) (λ k. sum_below (stream_count w k) (λ i. places_left (stream_parts w (stream_id k i)) (w.progress k i))) id.plan b.0 in
         let r = h.room in
         omega arith
-      where
-        unended : (t : Bool) → not t ≡ true → t ≡ false
-        unended true e = cc
-        unended false e = refl
 
     -- a stream takes a place less, and an event is recorded
     free_same : (y : Progress) (p : Place) (entries : List (ℕ × Entry)) (numbers : ℕ → ℕ) (n : ℕ) (marks : ℕ → ℕ → Mark) (e : Event) (answer : Played) →
@@ -156,7 +147,7 @@ module _ (setup : Setup) (w : State) (reached : IsReached setup w) where
     free_refilled runs more enough e answer =
         let p = and_parts (is_begun w id) (not now.done) runs in
         let n = begun_parts w id p.0 in
-        let d : now.done ≡ false = unended now.done p.1 in
+        let d : now.done ≡ false = not-true now.done p.1 in
         let y : Progress = record now { refills = now.refills + more } in
         let a = left_unless_done parts now d in
         let b = left_unless_done parts y d in
@@ -165,10 +156,6 @@ module _ (setup : Setup) (w : State) (reached : IsReached setup w) where
         let log = length_logged w e answer in
         let r = h.room in
         omega arith
-      where
-        unended : (t : Bool) → not t ≡ true → t ≡ false
-        unended true e = cc
-        unended false e = refl
 
   -- ---- what is recorded of requests and restarts
 
@@ -202,23 +189,6 @@ module _ (setup : Setup) (w : State) (reached : IsReached setup w) where
 
   -- ---- starts
 
-  fresh_places : (stream : StreamModel) → places_left stream fresh ≡ stream.budget + stream.retries + count_by is_no_call stream.code + 1
-  fresh_places stream = omega arith
-
-  unmade : (i : ℕ) → w.progress (length w.plans) i ≡ fresh
-  unmade i = h.unbegun (length w.plans) i (and_left _ _ (le-ltb (length w.plans) (length w.plans) (omega arith)))
-
-  left_started : (plan : PlanModel) → streams_left (started w plan) w.progress ≡ streams_left w w.progress + places_of plan
-  left_started plan =
-      let of_plan : PlanModel → ℕ → ℕ = λ pl k. sum_below (length pl.streams) (λ i. places_left (slice_index_or pl.streams i no_stream) (w.progress k i)) in
-      let all : of_plan plan (length w.plans) ≡ places_of plan =
-      same_sum (length plan.streams) _ _ (λ i l. ap (places_left (slice_index_or plan.streams i no_stream)) (unmade i) ∙ fresh_places (slice_index_or plan.streams i no_stream))
-      ∙ sym (sum_by-below (λ (stream : StreamModel). stream.budget + stream.retries + count_by is_no_call stream.code + 1) plan.streams no_stream) in
-      let last : of_plan (plan_at (started w plan) (length w.plans)) (length w.plans) ≡ places_of plan = ap (λ pl. of_plan pl (length w.plans)) (plan_started w plan) ∙ all in
-      let before : sum_below (length w.plans) (λ k. of_plan (plan_at (started w plan) k) k) ≡ streams_left w w.progress = same_sum (length w.plans) _ _ (λ k l. ap (λ pl. of_plan pl k) (plan_before w plan k l)) in
-      ap (λ n. sum_below n (λ k. of_plan (plan_at (started w plan) k) k)) (count_started w plan)
-      ∙ (ap (λ a. a + of_plan (plan_at (started w plan) (length w.plans)) (length w.plans)) before ∙ ap (λ b. streams_left w w.progress + b) last)
-
   -- a start takes as many free places as its plan may take
   pub free_started : (plan : PlanModel) → places_of plan ≤ free_places w → free_places (started w plan) + places_of plan ≡ free_places w
-  free_started plan enough = let a = left_started plan in let r = h.room in omega arith
+  free_started plan enough = let a = left_started w plan h in let r = h.room in omega arith

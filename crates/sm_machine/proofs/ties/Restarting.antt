@@ -20,7 +20,7 @@ use Rattle.sm_protocol.proofs.Invariant.{IsKept}
 use Rattle.sm_protocol.proofs.Pools.{spare_conserved}
 use Rattle.sm_machine.specs.Tied.{IsTied, pay_live, get_live}
 use Rattle.sm_machine.proofs.ties.Before.{kept, is_setup, same_sizes}
-use Rattle.sm_machine.proofs.ties.Counting.{same_hold}
+use Rattle.sm_reservation.proofs.ParcelSums.{same_hold}
 
 -- ---- spare replicas of the live shards
 

@@ -1,8 +1,7 @@
 -- How a machine's pool, grants and parcels stay tied to the state, event by event.
-use Rattle.std.proofs.Common.{◌≡◌, ◌<◌, ◌+◌, ℕ, Bool, true, false, refl, sym, ap, ◌∙◌, inl, inr, ◌⊎◌, subst, Some, None, Result, Ok, List, length}
+use Rattle.std.proofs.Common.{◌≡◌, ◌<◌, ◌+◌, ℕ, Bool, true, false, refl, sym, ap, ◌∙◌, inl, inr, ◌⊎◌, subst, Some, None, Ok, List, length}
 use Rattle.std.specs.Prelude.{◌&&◌, not, if◌then◌else◌}
-use Rattle.std.proofs.lemmas.Bool.{cases_eq, and_parts}
-use Rattle.sm_server.specs.declared.call.Refusal.{Refusal}
+use Rattle.std.proofs.lemmas.Bool.{cases_eq, and_parts, not-true}
 use Rattle.sm_placement.specs.Setup.{Setup}
 use Rattle.sm_placement.specs.Sums.{put2}
 use Rattle.sm_placement.specs.Place.{CallEffect}
@@ -14,6 +13,7 @@ use Rattle.sm_reservation.specs.HoldOf.{hold_of}
 use Rattle.sm_reservation.specs.CanJoin.{CanJoin}
 use Rattle.sm_reservation.specs.Key.{IsOrdered}
 use Rattle.sm_reservation.specs.Pool.{leads_of}
+use Rattle.sm_reservation.proofs.PoolLemmas.{put2_same}
 use Rattle.sm_plan_code.specs.declared.call.ServerCall.{ServerCall}
 use Rattle.sm_plan_code.specs.declared.instruction.Instr.{Instr}
 use Rattle.sm_plan_code.specs.declared.instruction.Instr.TheVariants.{Publish, Unlist, Signal, Wait}
@@ -31,6 +31,7 @@ use Rattle.sm_protocol.proofs.Numbers.{one_stream, same_stream, goes_on}
 use Rattle.sm_protocol.proofs.Steps.{one_on}
 use Rattle.sm_protocol.proofs.Trials.{running}
 use Rattle.sm_protocol.proofs.Cases.{IsBefore, IsTry, answer_to, parcel_taken}
+use Rattle.sm_protocol.proofs.LogRoom.{ok_is}
 use Rattle.sm_machine.specs.Tied.{IsTied, carried}
 use Rattle.sm_machine.proofs.ties.Before.{course_at, hold_behind, kept, known}
 use Rattle.sm_machine.proofs.ties.Calling.{answered_again}
@@ -51,9 +52,6 @@ put2_others f s v x a b n = elim (cases_eq a s) [
 pub put2_at : {A : Type 0} (f : ℕ → ℕ → A) (s v : ℕ) (x : A) (a b : ℕ) → a ≡ s → b ≡ v → put2 f s v x a b ≡ x
 put2_at f s v x a b e d = subst (λ z. put2 f s v x z b ≡ x) (sym e) (subst (λ z. put2 f s v x s z ≡ x) (sym d) (put2-here f s v x))
 
-ok_is : (x y : CallEffect) → ◌≡◌ {A = Result CallEffect Refusal} (Ok x) (Ok y) → x ≡ y
-ok_is x y e = cc
-
 -- ---- a stream goes on
 
 -- what its streams hold, as a stream goes on: another grant stands for it, and the others stand
@@ -64,7 +62,7 @@ goes_tied w g ties id y h is a runs = elim (one_stream a id) [
   | inl e ↦
       let here : set_progress w id y a.plan a.stream ≡ y = put2_at w.progress id.plan id.stream y a.plan a.stream (ap (λ z. z.plan) e) (ap (λ z. z.stream) e) in
       let parts = and_parts (is_begun w a) (not (set_progress w id y a.plan a.stream).done) runs in
-      let unended : y.done ≡ false = not_true y.done (sym (ap (λ z. not z.done) here) ∙ parts.1) in
+      let unended : y.done ≡ false = not-true y.done (sym (ap (λ z. not z.done) here) ∙ parts.1) in
       put2_at g id.plan id.stream h a.plan a.stream (ap (λ z. z.plan) e) (ap (λ z. z.stream) e)
       ∙ is unended
       ∙ ap (λ z. hold_at_progress w z.plan z.stream y) (sym e)
@@ -74,20 +72,6 @@ goes_tied w g ties id y h is a runs = elim (one_stream a id) [
       put2_others g id.plan id.stream h a.plan a.stream (λ p q. e (same_stream a id p q))
       ∙ ties a (sym (ap (λ z. is_begun w a && not z.done) there) ∙ runs)
       ∙ ap (λ z. hold_at_progress w a.plan a.stream z) (sym there)
-]
-  where
-    not_true : (t : Bool) → not t ≡ true → t ≡ false
-    not_true true e = cc
-    not_true false e = refl
-
--- a function as it is, changed to what it is there
-pub same_put2 : {A : Type 0} (f : ℕ → ℕ → A) (s v : ℕ) (a b : ℕ) → put2 f s v (f s v) a b ≡ f a b
-same_put2 f s v a b = elim (cases_eq a s) [
-  | inr e ↦ put2-apart f s v (f s v) a b e
-  | inl e ↦ elim (cases_eq b v) [
-    | inl d ↦ put2_at f s v (f s v) a b e d ∙ ap (λ z. f z v) (sym e) ∙ ap (λ z. f a z) (sym d)
-    | inr d ↦ put2_others f s v (f s v) a b (λ p q. d q)
-  ]
 ]
 
 -- ---- signals
@@ -137,7 +121,7 @@ module _ (setup : Setup) (w : State) (reached : IsReached setup w) (p : Hold) (g
     stays_tied : (y : Progress) → (y.done ≡ false → now.done ≡ false) → reach y.at y.ahead ≡ reach now.at now.ahead → is_begun w id ≡ true →
         (a : StreamId) → is_running (record w { progress = set_progress w id y }) a ≡ true → g a.plan a.stream ≡ hold_at_progress w a.plan a.stream (set_progress w id y a.plan a.stream)
     stays_tied y d at b a runs =
-        sym (same_put2 g id.plan id.stream a.plan a.stream)
+        ap (λ f. f a.plan a.stream) (put2_same g id.plan id.stream _ refl)
         ∙ goes_tied w g t.grants id y (g id.plan id.stream)
         (λ e. t.grants id (ap (λ z. z && not now.done) b ∙ ap not (d e)) ∙ ap (λ q. hold_before (course_at w id) q) (sym at)) a runs
 

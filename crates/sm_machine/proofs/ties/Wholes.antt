@@ -1,21 +1,21 @@
 -- Of each right, what is in the pool, what is held and what nobody may use are together what there is.
-use Rattle.std.proofs.Common.{◌≡◌, ℕ, ◌+◌, ◌<◌, ◌≤◌, Option, Some, None, refl, sym, ap, ◌∙◌, arith, inl, inr, ◌⊎◌}
+use Rattle.std.proofs.Common.{◌≡◌, ℕ, ◌+◌, ◌<◌, ◌≤◌, Option, Some, None, refl, sym, ap, ◌∙◌, arith, inl, inr}
 use Rattle.std.specs.Prelude.{if◌then◌else◌}
 use Rattle.std.proofs.lemmas.Bool.{cases_Bool, cases_eq, cases_lt, eq-eqb, lt-ltb, le-ltb}
 use Rattle.sm_placement.specs.declared.lead.Lead.{Lead}
 use Rattle.sm_placement.specs.Sums.{bit}
-use Rattle.sm_placement.specs.Setup.{Sizes}
 use Rattle.sm_placement.proofs.Sums.{bit-le-one}
 use Rattle.sm_reservation.specs.declared.right.PlainCell.{PlainCell}
 use Rattle.sm_reservation.specs.Hold.{Hold}
 use Rattle.sm_reservation.specs.Amounts.{Right, OfCell, OfCrown, OfRoom, OfSpare, count, stock, bound, is_cell, is_crown, plain_of}
 use Rattle.sm_reservation.specs.Pool.{true_rights, leads_of, IsKnownHold, IsKnownRight}
+use Rattle.sm_reservation.proofs.Joins.{known_or_not, nothing_unknown}
 use Rattle.sm_reservation.proofs.Truths.{is_cell_true}
 use Rattle.sm_verifier.proofs.Judging.{crown_true, crown_self}
 use Rattle.sm_protocol.specs.State.{State, held, pool, free_cell, free_crown}
 use Rattle.sm_protocol.proofs.Invariant.{IsKept}
 use Rattle.sm_protocol.proofs.Steps.{leads_are, lead_is}
-use Rattle.sm_protocol.proofs.Pools.{no_cell, pool_within, room_conserved, spare_conserved}
+use Rattle.sm_protocol.proofs.Pools.{pool_within, room_conserved, spare_conserved}
 use Rattle.sm_machine.proofs.ties.Counting.{counts_decide}
 
 -- how much of a right there is
@@ -28,31 +28,6 @@ same_stock w leads e (OfCell s u state) = refl
 same_stock w leads e (OfCrown s lead listed) = ap (λ l. bit (is_crown lead listed (Some (l, w.place.listed s)))) (e s)
 same_stock w leads e (OfRoom u) = refl
 same_stock w leads e (OfSpare s) = refl
-
--- a hold of known shards and servers has nothing of a right of others
-pub nothing_unknown : (c : Sizes) (h : Hold) → IsKnownHold c.shards c.servers h → (r : Right) → (IsKnownRight c r → ⊥) → count h r ≡ 0
-nothing_unknown c h is (OfCell s v state) unknown = elim (cases_lt s c.shards) [
-  | inl l ↦ elim (cases_lt v c.servers) [
-    | inl m ↦ absurd (unknown (l, m))
-    | inr m ↦ ap (λ o. bit (is_cell state o)) (is.no_server s v m) ∙ ap bit (no_cell state)
-  ]
-  | inr l ↦ ap (λ o. bit (is_cell state o)) (is.no_shard s v l) ∙ ap bit (no_cell state)
-]
-nothing_unknown c h is (OfCrown s lead listed) unknown = elim (cases_lt s c.shards) [ inl l ↦ absurd (unknown l) | inr l ↦ rw (is.crowns s l) refl ]
-nothing_unknown c h is (OfRoom v) unknown = elim (cases_lt v c.servers) [ inl l ↦ absurd (unknown l) | inr l ↦ is.room v l ]
-nothing_unknown c h is (OfSpare s) unknown = elim (cases_lt s c.shards) [ inl l ↦ absurd (unknown l) | inr l ↦ is.spare s l ]
-
-pub known_or_not : (c : Sizes) (r : Right) → IsKnownRight c r ⊎ (IsKnownRight c r → ⊥)
-known_or_not c (OfCell s v state) = elim (cases_lt s c.shards) [
-  | inl l ↦ elim (cases_lt v c.servers) [
-    | inl m ↦ inl (l, m)
-    | inr m ↦ inr (λ k. let a : v < c.servers = k.1 in omega arith)
-  ]
-  | inr l ↦ inr (λ k. let a : s < c.shards = k.0 in omega arith)
-]
-known_or_not c (OfCrown s lead listed) = elim (cases_lt s c.shards) [ inl l ↦ inl l | inr l ↦ inr (λ k. let a : s < c.shards = k in omega arith) ]
-known_or_not c (OfRoom v) = elim (cases_lt v c.servers) [ inl l ↦ inl l | inr l ↦ inr (λ k. let a : v < c.servers = k in omega arith) ]
-known_or_not c (OfSpare s) = elim (cases_lt s c.shards) [ inl l ↦ inl l | inr l ↦ inr (λ k. let a : s < c.shards = k in omega arith) ]
 
 free_or_held : (n b c : ℕ) → (n ≡ 0 → c ≡ b) → c + n ≤ b → b ≤ 1 → c + n ≡ b
 free_or_held n b c free within one = elim (cases_eq n 0) [ inl z ↦ let e = free z in omega arith | inr z ↦ omega arith ]

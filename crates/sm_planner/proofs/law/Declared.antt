@@ -31,7 +31,8 @@ use Rattle.sm_planner.specs.declared.moving.Move.{Move}
 use Rattle.sm_planner.specs.Basis.{Basis, move_at, left_cell, is_replica}
 use Rattle.sm_planner.specs.Payment.{stream_of}
 use Rattle.sm_planner.specs.Plan.{cells_needed, crowns_of, room_paid, rooms_of, holds_of}
-use Rattle.sm_planner.proofs.law.Gathered.{gathered, range_more, StandsIn, stands_below, stands_in_range}
+use Rattle.sm_planner.proofs.Ranges.{range_suc}
+use Rattle.sm_planner.proofs.law.Gathered.{gathered, StandsIn, stands_below, stands_in_range}
 use Rattle.sm_planner.proofs.law.Sorting.{IsKeyedOnce, once_both, once_single, once_gathered, stands_gathered, gathered_from, stands_kept, stood, stands_mapped, row_is, row_from, in_sorted, from_sorted, sorted_row_is, sorted_row_from}
 use Rattle.sm_planner.proofs.law.Payments.{to, from}
 use Rattle.sm_planner.proofs.law.Streams.{shard, leads_shard, AreAllApart}
@@ -167,7 +168,7 @@ module _ (b : Basis) (order : List Move) (apart : AreAllApart b order) (opened :
 
     rows_once : (n : ℕ) → IsKeyedOnce key_of_room (map room_row (range_with_len 0 n))
     rows_once zero = λ q. omega arith
-    rows_once (suc n) = subst (λ xs. IsKeyedOnce key_of_room xs) (sym (ap (map room_row) (range_more n) ∙ map-append room_row (range_with_len 0 n) (n ∷ [])))
+    rows_once (suc n) = subst (λ xs. IsKeyedOnce key_of_room xs) (sym (ap (map room_row) (range_suc n) ∙ map-append room_row (range_with_len 0 n) (n ∷ [])))
         (once_both key_of_room (map room_row (range_with_len 0 n)) (room_row n ∷ []) (rows_once n) (once_single key_of_room (room_row n)) (λ x y s t.
         let from = stands_mapped room_row x (range_with_len 0 n) s in
         let low = stands_below n from.0 from.1 in

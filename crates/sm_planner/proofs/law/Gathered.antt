@@ -5,14 +5,7 @@ use Rattle.std.specs.List.{flat_map, range_with_len, AllByRecursion}
 use Rattle.std.proofs.lemmas.Bool.{cases_Bool, cases_eq, eq-eqb, ne_eqb}
 use Rattle.std.proofs.lemmas.List.Elements.{filter-append}
 use Rattle.std.proofs.lemmas.List.Concat.{flat_map-append}
-
-pub range_push : (from n : ℕ) → range_with_len from (suc n) ≡ range_with_len from n ++ (from + n) ∷ []
-range_push from zero = let e : from + 0 ≡ from = omega arith in rw e refl
-range_push from (suc n) = let e : from + 1 + n ≡ from + suc n = omega arith in ap (λ l. from ∷ l) (range_push (from + 1) n ∙ rw e refl)
-
--- the numbers below n + 1 are those below n, and n
-pub range_more : (n : ℕ) → range_with_len 0 (suc n) ≡ range_with_len 0 n ++ n ∷ []
-range_more n = rw (zero-add n) at (range_push 0 n)
+use Rattle.sm_planner.proofs.Ranges.{range_suc}
 
 module _ {X : Type 0} (class : ℕ → ℕ) (part : ℕ → List X) where
   -- the parts of a class among the first n
@@ -21,7 +14,7 @@ module _ {X : Type 0} (class : ℕ → ℕ) (part : ℕ → List X) where
 
   one_part : (n i : ℕ) → gathered (suc n) i ≡ gathered n i ++ flat_map part (filter (λ k. class k == i) (n ∷ []))
   one_part n i =
-      ap (λ ks. flat_map part (filter (λ k. class k == i) ks)) (range_more n)
+      ap (λ ks. flat_map part (filter (λ k. class k == i) ks)) (range_suc n)
       ∙ ap (flat_map part) (filter-append (λ k. class k == i) (range_with_len 0 n) (n ∷ []))
       ∙ flat_map-append part (filter (λ k. class k == i) (range_with_len 0 n)) (filter (λ k. class k == i) (n ∷ []))
 
@@ -64,7 +57,7 @@ stands_right x (y ∷ xs) ys s = inr (stands_right x xs ys s)
 -- each number below n stands among those below n
 pub stands_in_range : (n k : ℕ) → k < n → StandsIn k (range_with_len 0 n)
 stands_in_range zero k l = absurd (omega arith)
-stands_in_range (suc n) k l = subst (λ ks. StandsIn k ks) (sym (range_more n)) (elim (cases_eq n k) [
+stands_in_range (suc n) k l = subst (λ ks. StandsIn k ks) (sym (range_suc n)) (elim (cases_eq n k) [
   | inl same ↦ stands_right k (range_with_len 0 n) (n ∷ []) (inl same)
   | inr other ↦ stands_left k (range_with_len 0 n) (n ∷ []) (stands_in_range n k (omega arith))
 ])
@@ -109,7 +102,7 @@ below_range n = go n n (omega arith)
   where
     go : (m n : ℕ) → m ≤ n → AllByRecursion (λ k. k < n) (range_with_len 0 m)
     go zero n l = tt
-    go (suc m) n l = subst (λ ks. AllByRecursion (λ k. k < n) ks) (sym (range_more m)) (all_both (λ k. k < n) (range_with_len 0 m) (m ∷ []) (go m n (omega arith)) (omega arith, tt))
+    go (suc m) n l = subst (λ ks. AllByRecursion (λ k. k < n) ks) (sym (range_suc m)) (all_both (λ k. k < n) (range_with_len 0 m) (m ∷ []) (go m n (omega arith)) (omega arith, tt))
 
 -- what stands among the numbers below n is below n
 pub stands_below : (n k : ℕ) → StandsIn k (range_with_len 0 n) → k < n

@@ -19,7 +19,8 @@ use Rattle.sm_planner.specs.declared.moving.Move.{Move}
 use Rattle.sm_planner.specs.Basis.{Basis}
 use Rattle.sm_planner.specs.Payment.{Handed, handed, from_move, is_handed, stream_of, signals_of}
 use Rattle.sm_planner.specs.Plan.{signal_at, handed_parcel, planned, waits_of, posts_of}
-use Rattle.sm_planner.proofs.law.Gathered.{range_more, StandsIn, stands_below}
+use Rattle.sm_planner.proofs.Ranges.{range_suc}
+use Rattle.sm_planner.proofs.law.Gathered.{StandsIn, stands_below}
 use Rattle.sm_planner.proofs.law.Signals.{is_handed_on}
 use Rattle.sm_planner.proofs.law.Payments.{to, from, from_move_other, from_move_early}
 use Rattle.sm_planner.proofs.law.Leading.{Leads}
@@ -30,14 +31,14 @@ use Rattle.sm_planner.proofs.law.Leading.{Leads}
 pub sum_of_range : (n : ℕ) (f : ℕ → ℕ) → sum_by f (range_with_len 0 n) ≡ sum_below n f
 sum_of_range zero f = refl
 sum_of_range (suc n) f =
-    let more = ap (sum_by f) (range_more n) ∙ sum_by-append f (range_with_len 0 n) (n ∷ []) in
+    let more = ap (sum_by f) (range_suc n) ∙ sum_by-append f (range_with_len 0 n) (n ∷ []) in
     let low = sum_of_range n f in
     more ∙ (omega arith)
 
 sum_of_parts : {Y : Type 0} (g : Y → ℕ) (f : ℕ → List Y) (n : ℕ) → sum_by g (flat_map f (range_with_len 0 n)) ≡ sum_below n (λ k. sum_by g (f k))
 sum_of_parts g f zero = refl
 sum_of_parts g f (suc n) =
-    let more = ap (λ ks. sum_by g (flat_map f ks)) (range_more n) ∙ ap (sum_by g) (flat_map-append f (range_with_len 0 n) (n ∷ [])) ∙ sum_by-append g (flat_map f (range_with_len 0 n)) (flat_map f (n ∷ [])) in
+    let more = ap (λ ks. sum_by g (flat_map f ks)) (range_suc n) ∙ ap (sum_by g) (flat_map-append f (range_with_len 0 n) (n ∷ [])) ∙ sum_by-append g (flat_map f (range_with_len 0 n)) (flat_map f (n ∷ [])) in
     let one = sum_by-append g (f n) [] in
     let low = sum_of_parts g f n in
     more ∙ (omega arith)

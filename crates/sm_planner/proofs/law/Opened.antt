@@ -1,7 +1,7 @@
 -- What is known of placed moves that the rule does not refuse: their servers are up and have what they should have, the
 -- rights are in the pool, and no two moves need the same right.
-use Rattle.std.proofs.Common.{◌≡◌, ◌≢◌, ℕ, ◌<◌, ◌≤◌, Bool, true, false, cond, Option, Some, None, List, [], ◌∷◌, length, get_or, take, refl, sym, ap, ◌∙◌, arith, inl, inr, ◌⊎◌, subst}
-use Rattle.std.specs.Prelude.{◌==◌, ◌&&◌, ◌||◌, not, nat_lt, option_map, find}
+use Rattle.std.proofs.Common.{◌≡◌, ◌≢◌, ℕ, ◌<◌, ◌≤◌, Bool, true, false, cond, Some, None, List, [], ◌∷◌, length, get_or, take, refl, sym, ap, ◌∙◌, arith, inl, inr, ◌⊎◌, subst}
+use Rattle.std.specs.Prelude.{◌==◌, ◌&&◌, ◌||◌, not, nat_lt, find}
 use Rattle.std.specs.Option.{option_or}
 use Rattle.std.specs.List.{list_any}
 use Rattle.std.proofs.lemmas.Bool.{cases_Bool, cases_lt, eq-eqb, ltb-false, and_parts, and_from, or_parts, or_cases, not-true, not-false, both_ways}
@@ -11,7 +11,7 @@ use Rattle.sm_server.specs.declared.call.Cell.{Cell}
 use Rattle.sm_server.specs.declared.call.Cell.TheVariants as cell
 use Rattle.sm_server.specs.Cell.{is_absent, is_primary, is_secondary}
 use Rattle.sm_placement.specs.Place.{Place}
-use Rattle.sm_placement.proofs.Searches.{first_none}
+use Rattle.sm_placement.proofs.Searches.{first_none, none_mapped}
 use Rattle.sm_plan_code.specs.declared.limits.TheConstants.{MOST_SIGNALS}
 use Rattle.sm_planner.specs.declared.moving.TheConstants.{MOST_MOVES}
 use Rattle.sm_planner.specs.declared.moving.Move.{Move}
@@ -30,10 +30,6 @@ use Rattle.sm_planner.proofs.law.Streams.{AreAllApart}
 use Rattle.sm_reservation.proofs.ShortLemmas.{no_answer}
 
 -- ---- searches that find nothing
-
-none_mapped : {X Y : Type 0} (f : X → Y) (o : Option X) → option_map f o ≡ None → o ≡ None
-none_mapped f None e = refl
-none_mapped f (Some x) e = absurd cc
 
 not_found : {X : Type 0} (test : X → Bool) (xs : List X) (x : X) → find test xs ≡ None → StandsIn x xs → test x ≡ false
 not_found test [] x e s = absurd s

@@ -87,7 +87,8 @@ gathered_from class part i (suc n) x s = elim (cases_eq (class n) i) [
 
 -- ---- keys that stand once
 
-abbrev hit : Bool → ℕ
+-- what `count_by` adds for an element that passes, or does not
+abbrev pub hit : Bool → ℕ
 hit b = cond b 1 0
 
 -- no key stands twice

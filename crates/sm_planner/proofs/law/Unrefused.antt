@@ -17,6 +17,7 @@ use Rattle.sm_placement.proofs.Sums.{sum_apart}
 use Rattle.sm_verifier.proofs.SumLemmas.{sum_once, sum_by-below}
 use Rattle.sm_reservation.specs.declared.right.PlainCell.TheVariants.{Absent, Secondary}
 use Rattle.sm_reservation.specs.Amounts.{is_cell}
+use Rattle.sm_reservation.proofs.Below.{neither_of}
 use Rattle.sm_planner.specs.declared.moving.Move.{Move}
 use Rattle.sm_planner.specs.declared.moving.NoPlan.TheVariants.{Held, ServerDown, NotThere, NoRoom, Spread}
 use Rattle.sm_planner.specs.Basis.{Basis, move_at, move_load, no_move, left_cell, is_replica}
@@ -133,9 +134,6 @@ any_nothing : {X : Type 0} (test : X → Bool) (xs : List X) → All (λ x. test
 any_nothing test [] a = refl
 any_nothing test (x ∷ xs) a = rw (All-head (λ x. test x ≡ false) x xs a) (any_nothing test xs (All-tail (λ x. test x ≡ false) x xs a))
 
-nothing_of_two : {X : Type 0} (o p : Option X) → o ≡ None → p ≡ None → option_or o p ≡ None
-nothing_of_two o p e f = ap (λ x. option_or x p) e ∙ f
-
 module _ (b : Basis) (v : ℕ) (n : ℕ) (moves : List Move) (bound : n ≤ (sizes_of b.setup).shards) (leave : AreLeaving b v n moves) (free : drain_refusal b v ≡ None) where
   both : (first_stuck b v ≡ None) × (b.place.down v ≡ false)
   both = go (first_stuck b v) (b.place.down v) refl refl free
@@ -203,9 +201,9 @@ module _ (b : Basis) (v : ℕ) (n : ℕ) (moves : List Move) (bound : n ≤ (siz
       (not_from_false (is_forestalled b.place (take i moves) m) never))
 
   pub not_one_refused : first_refused b moves ≡ None
-  not_one_refused = nothing_of_two (first_not_there b.place moves) (option_or (first_held b moves) (first_down b.place moves))
+  not_one_refused = neither_of (first_not_there b.place moves) (option_or (first_held b moves) (first_down b.place moves))
       (ap (option_map (λ m. NotThere m.shard m.from)) (find_nothing (λ m. not (is_replica (left_cell b.place m))) moves (All-from_get_or (λ m. not (is_replica (left_cell b.place m)) ≡ false) moves no_move (λ i l. not_from_true (is_replica (left_cell b.place (move_at moves i))) (replica_there i l)))))
-      (nothing_of_two (first_held b moves) (first_down b.place moves)
+      (neither_of (first_held b moves) (first_down b.place moves)
       (ap (option_map (λ i. Held (move_at moves i).shard (move_at moves i).to)) (first_none_from (length moves) (is_closed b moves) open_there))
       (ap (option_map (λ m. ServerDown (end_down b.place m))) (find_nothing (λ m. b.place.down m.from || b.place.down m.to) moves (All-from_get_or (λ m. (b.place.down m.from || b.place.down m.to) ≡ false) moves no_move (λ i l.
       or_from (b.place.down (move_at moves i).from) (b.place.down (move_at moves i).to) (ap b.place.down (picked i l).from ∙ both.1) (taken_so b v (take i moves) (move_at moves i).shard (move_at moves i).to (picked i l).takes).up)))))
@@ -378,11 +376,11 @@ module _ (b : Basis) (v : ℕ) (moves : List Move) (setup : IsSetup b.setup) (le
 
   pub not_refused : refusal b moves placed ≡ None
   not_refused =
-      nothing_of_two (first_refused b moves) (option_or (no_room moves placed) (option_or (no_spread b moves) (too_many b moves placed)))
+      neither_of (first_refused b moves) (option_or (no_room moves placed) (option_or (no_spread b moves) (too_many b moves placed)))
       (not_one_refused b v (sizes_of b.setup).shards moves (omega arith) leave free)
-      (nothing_of_two (no_room moves placed) (option_or (no_spread b moves) (too_many b moves placed))
+      (neither_of (no_room moves placed) (option_or (no_spread b moves) (too_many b moves placed))
       (ap (option_map (λ i. NoRoom (move_at moves i).to)) (none_left_over b v (sizes_of b.setup).shards moves leave placed is))
-      (nothing_of_two (no_spread b moves) (too_many b moves placed)
+      (neither_of (no_spread b moves) (too_many b moves placed)
       (ap (option_map (λ s. Spread s)) (none_close b v (sizes_of b.setup).shards moves leave))
       (let few = few_leaving b v (sizes_of b.setup).shards moves leave in
       let most = setup.shards in

@@ -1,5 +1,5 @@
 -- Each signal of a plan is posted once and awaited once.
-use Rattle.std.proofs.Common.{◌≡◌, ◌≢◌, ℕ, zero, suc, ◌+◌, ◌<◌, ◌≤◌, Bool, true, false, cond, Option, Some, None, List, [], ◌∷◌, ◌++◌, length, get_or, refl, sym, ap, ◌∙◌, arith, inl, inr}
+use Rattle.std.proofs.Common.{◌≡◌, ◌≢◌, ℕ, zero, suc, ◌+◌, ◌<◌, ◌≤◌, Bool, true, false, Option, Some, None, List, [], ◌∷◌, ◌++◌, length, get_or, refl, sym, ap, ◌∙◌, arith, inl, inr}
 use Rattle.std.specs.Prelude.{◌==◌, All, filter, map, count_by, sum_by}
 use Rattle.std.specs.List.{range_with_len, AllByRecursion}
 use Rattle.std.proofs.lemmas.Bool.{cases_Bool, cases_eq, eq-eqb, ne_eqb}
@@ -22,12 +22,11 @@ use Rattle.sm_planner.specs.declared.moving.Move.{Move}
 use Rattle.sm_planner.specs.Basis.{Basis, move_at, left_cell}
 use Rattle.sm_planner.specs.Payment.{Handed, stream_of, signals_of}
 use Rattle.sm_planner.specs.Plan.{signal_at, handed_parcel, publication, instructions, waits_of, posts_of, move_code, moves_of, stream, planned}
-use Rattle.sm_planner.proofs.law.Gathered.{gathered, gathered_own, gathered_other, range_more, stands_below, all_both, all_picked, all_of_parts}
+use Rattle.sm_planner.proofs.Ranges.{range_suc}
+use Rattle.sm_planner.proofs.law.Gathered.{gathered, gathered_own, gathered_other, stands_below, all_both, all_picked, all_of_parts}
+use Rattle.sm_planner.proofs.law.Sorting.{hit}
 use Rattle.sm_planner.proofs.law.Codes.{width, code_is, stream_count, stream_known}
 use Rattle.sm_planner.proofs.law.Signals.{is_handed_on}
-
-abbrev hit : Bool → ℕ
-hit b = cond b 1 0
 
 count-append : (t : Instr → Bool) (xs ys : List Instr) → count_by t (xs ++ ys) ≡ count_by t xs + count_by t ys
 count-append t xs ys = sum_by-append (λ x. hit (t x)) xs ys
@@ -94,7 +93,7 @@ once_in_range : (q n : ℕ) → (q < n → count_by (λ x. x == q) (range_with_l
 once_in_range q zero = (λ l. absurd (omega arith), λ l. refl)
 once_in_range q (suc n) =
     let low = once_in_range q n in
-    let more = ap (count_by (λ x. x == q)) (range_more n) ∙ sum_by-append (λ x. hit (x == q)) (range_with_len 0 n) (n ∷ []) in (
+    let more = ap (count_by (λ x. x == q)) (range_suc n) ∙ sum_by-append (λ x. hit (x == q)) (range_with_len 0 n) (n ∷ []) in (
       λ l. elim (cases_eq n q) [
         | inl here ↦ (let e : hit (n == q) ≡ 1 = ap hit (eq-eqb n q here) in let z = low.1 (omega arith) in more ∙ (omega arith))
         | inr apart ↦ (let e : hit (n == q) ≡ 0 = ap hit (ne_eqb n q apart) in let z = low.0 (omega arith) in more ∙ (omega arith))

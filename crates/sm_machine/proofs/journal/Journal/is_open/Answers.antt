@@ -1,7 +1,8 @@
 use Rattle.std.proofs.Common.{◌∙◌, length, sym, ap, arith}
 use Rattle.sm_protocol.specs.Ticket.{Ticket}
 use Rattle.sm_machine.specs.Journal.{JournalModel}
-use Rattle.sm_machine.proofs.Records.{pass_below, open_by_flag}
+use Rattle.sm_protocol.proofs.Scripts.{pass_below}
+use Rattle.sm_machine.proofs.Records.{open_by_flag}
 use Rattle.sm_machine.proofs.journal.Journal.is_open.Goals as goal
 
 pub index-requires : goal.index-requires
