@@ -121,34 +121,34 @@ two_keys m n d e s t u v is_s is_t is_u is_v h k =
 
 -- ---- a key that stands once in the text stands once among the rights
 
-module _ {T : Type 0} (place : T → ℕ × ℕ) (make : Data → T) (key : List Member) (P : Data → Type 0) (apart : (d e : Data) → P d → P e → place (make d) ≡ place (make e) → is_same_key (texts_found key d) (texts_found key e) ≡ true) where
+module _ {T : Type 0} (key_of : T → ℕ × ℕ) (make : Data → T) (key : List Member) (P : Data → Type 0) (apart : (d e : Data) → P d → P e → key_of (make d) ≡ key_of (make e) → is_same_key (texts_found key d) (texts_found key e) ≡ true) where
   or_none : (a b : Bool) → (a || b) ≡ false → (a ≡ false) × (b ≡ false)
   or_none true b h = absurd (true≢false h)
   or_none false b h = (refl, h)
 
-  none_at : (k : ℕ × ℕ) (d : Data) → P d → same (place (make d)) k ≡ true → (ds : List Data) → All P ds → list_any (is_same_key (texts_found key d)) (map (texts_found key) ds) ≡ false → count_by (λ x. same (place x) k) (map make ds) ≡ 0
+  none_at : (k : ℕ × ℕ) (d : Data) → P d → same (key_of (make d)) k ≡ true → (ds : List Data) → All P ds → list_any (is_same_key (texts_found key d)) (map (texts_found key) ds) ≡ false → count_by (λ x. same (key_of x) k) (map make ds) ≡ 0
   none_at k d p at [] all h = refl
   none_at k d p at (e ∷ es) all h =
       let parts = or_none (is_same_key (texts_found key d) (texts_found key e)) (list_any (is_same_key (texts_found key d)) (map (texts_found key) es)) h in
-      with_test (same (place (make e)) k) refl parts.0 (none_at k d p at es (All-tail P e es all) parts.1)
+      with_test (same (key_of (make e)) k) refl parts.0 (none_at k d p at es (All-tail P e es all) parts.1)
     where
-      with_test : (b : Bool) → same (place (make e)) k ≡ b → is_same_key (texts_found key d) (texts_found key e) ≡ false → count_by (λ x. same (place x) k) (map make es) ≡ 0 → count_by (λ x. same (place x) k) (map make (e ∷ es)) ≡ 0
+      with_test : (b : Bool) → same (key_of (make e)) k ≡ b → is_same_key (texts_found key d) (texts_found key e) ≡ false → count_by (λ x. same (key_of x) k) (map make es) ≡ 0 → count_by (λ x. same (key_of x) k) (map make (e ∷ es)) ≡ 0
       with_test true is other rest =
-          absurd (true≢false (sym (apart d e p (All-head P e es all) (same_is (place (make d)) (place (make e)) (same_trans (place (make d)) (place (make e)) k at is))) ∙ other))
-      with_test false is other rest = count_no (λ x. same (place x) k) (make e) (map make es) is ∙ rest
+          absurd (true≢false (sym (apart d e p (All-head P e es all) (same_is (key_of (make d)) (key_of (make e)) (same_trans (key_of (make d)) (key_of (make e)) k at is))) ∙ other))
+      with_test false is other rest = count_no (λ x. same (key_of x) k) (make e) (map make es) is ∙ rest
 
-  once_at : (k : ℕ × ℕ) (ds : List Data) → All P ds → has_double_key (map (texts_found key) ds) ≡ false → count_by (λ x. same (place x) k) (map make ds) ≤ 1
+  once_at : (k : ℕ × ℕ) (ds : List Data) → All P ds → has_double_key (map (texts_found key) ds) ≡ false → count_by (λ x. same (key_of x) k) (map make ds) ≤ 1
   once_at k [] all h = omega arith
   once_at k (d ∷ ds) all h =
       let parts = or_none (list_any (is_same_key (texts_found key d)) (map (texts_found key) ds)) (has_double_key (map (texts_found key) ds)) h in
-      with_test (same (place (make d)) k) refl parts.0 (once_at k ds (All-tail P d ds all) parts.1)
+      with_test (same (key_of (make d)) k) refl parts.0 (once_at k ds (All-tail P d ds all) parts.1)
     where
-      with_test : (b : Bool) → same (place (make d)) k ≡ b → list_any (is_same_key (texts_found key d)) (map (texts_found key) ds) ≡ false → count_by (λ x. same (place x) k) (map make ds) ≤ 1 → count_by (λ x. same (place x) k) (map make (d ∷ ds)) ≤ 1
+      with_test : (b : Bool) → same (key_of (make d)) k ≡ b → list_any (is_same_key (texts_found key d)) (map (texts_found key) ds) ≡ false → count_by (λ x. same (key_of x) k) (map make ds) ≤ 1 → count_by (λ x. same (key_of x) k) (map make (d ∷ ds)) ≤ 1
       with_test true is none rest =
-          let here = count_yes (λ x. same (place x) k) (make d) (map make ds) is in
+          let here = count_yes (λ x. same (key_of x) k) (make d) (map make ds) is in
           let there = none_at k d (All-head P d ds all) is ds (All-tail P d ds all) none in
           omega (arith, here, there)
-      with_test false is none rest = subst (λ n. n ≤ 1) (sym (count_no (λ x. same (place x) k) (make d) (map make ds) is)) rest
+      with_test false is none rest = subst (λ n. n ≤ 1) (sym (count_no (λ x. same (key_of x) k) (make d) (map make ds) is)) rest
 
 -- ---- lists with keys
 
@@ -199,7 +199,7 @@ lead_fits servers d word.Handed h = ends_fit servers d h
 
 record IsCrown (shards servers : List (List ℕ)) (d : Data) (crown : Crown) : Type 0 where
   shard : row_faults d (one members.Shard (known shards)) ≡ []
-  place : crown.shard ≡ id_in shards members.Shard d
+  shard_is : crown.shard ≡ id_in shards members.Shard d
   fits : IsKnownCrown (length shards) (length servers) crown
 
 crown_by_word : (shards servers : List (List ℕ)) (d : Data) (o : Option LeadWord) → by_word members.Crowns members.Lead (crown_table shards servers) d o ≡ [] → IsCrown shards servers d (crown_by shards servers d o)
@@ -213,7 +213,7 @@ crown_by_word shards servers d (Some w) h =
     let after_listed = nil_right (row_faults d (maybe members.Listed (known_or_null servers))) _ after_shard in
     record {
       shard = shard;
-      place = refl;
+      shard_is = refl;
       fits = (id_known members.Shard shards d shard, lead_fits servers d w after_listed, id_within servers members.Listed d);
     }
 
@@ -240,9 +240,9 @@ record IsFaultless (shards servers : List (List ℕ)) (d : Data) : Type 0 where
   room : All (λ e. row_faults e (one members.Server (known servers)) ≡ []) (entries_in members.Room d)
   spare : All (λ e. row_faults e (one members.Shard (known shards)) ≡ []) (entries_in members.Spare d)
 
-faultless : (place : Member) (shards servers : List (List ℕ)) (d : Data) → parcel_faults place shards servers [] d ≡ [] → IsFaultless shards servers d
-faultless place shards servers d h =
-    let own : List TextFault = own_faults place parcel_table d in
+faultless : (parent : Member) (shards servers : List (List ℕ)) (d : Data) → parcel_faults parent shards servers [] d ≡ [] → IsFaultless shards servers d
+faultless parent shards servers d h =
+    let own : List TextFault = own_faults parent parcel_table d in
     let cells : List TextFault = walked (right_faults shards servers) [] (entries_in members.Cells d) in
     let crowns : List TextFault = walked (crown_faults shards servers) [] (entries_in members.Crowns d) in
     let room : List TextFault = walked (room_faults servers) [] (entries_in members.Room d) in
@@ -250,7 +250,7 @@ faultless place shards servers d h =
     let to_room = nil_left (((own ++ cells) ++ crowns) ++ room) spare h in
     let to_crowns = nil_left ((own ++ cells) ++ crowns) room to_room in
     let to_cells = nil_left (own ++ cells) crowns to_crowns in
-    let rows = nil_right (object_faults place (map (λ row. text_of row.member) parcel_table) d) _ (nil_left own cells to_cells) in
+    let rows = nil_right (object_faults parent (map (λ row. text_of row.member) parcel_table) d) _ (nil_left own cells to_cells) in
     let after_cells = nil_right (row_faults d (maybe members.Cells (keyed 4096 (members.Shard ∷ members.Server ∷ [])))) _ rows in
     let after_crowns = nil_right (row_faults d (maybe members.Crowns (keyed 4096 (members.Shard ∷ [])))) _ after_cells in
     let after_room = nil_right (row_faults d (maybe members.Room (keyed 4096 (members.Server ∷ [])))) _ after_crowns in
@@ -284,11 +284,11 @@ same_right shards servers d e few_shards few_servers a b h =
     (same_text servers members.Server d e few_servers u v (ap (λ p. p.1) h))
 
 -- no key stands twice in a parcel without faults
-pub parcel_is_once : (place : Member) (shards servers : List (List ℕ)) (d : Data) → HaveIds shards servers → parcel_faults place shards servers [] d ≡ [] → IsOnce (parcel_lists_in shards servers d)
-parcel_is_once place shards servers d few h = each
+pub parcel_is_once : (parent : Member) (shards servers : List (List ℕ)) (d : Data) → HaveIds shards servers → parcel_faults parent shards servers [] d ≡ [] → IsOnce (parcel_lists_in shards servers d)
+parcel_is_once parent shards servers d few h = each
   where
     is : IsFaultless shards servers d
-    is = faultless place shards servers d h
+    is = faultless parent shards servers d h
 
     each : (k : Key) → key_count (parcel_lists_in shards servers d) k ≤ 1
     each (key.CellRight s v) =
@@ -297,7 +297,7 @@ parcel_is_once place shards servers d few h = each
         (s, v) (entries_in members.Cells d) is.cells is.cell_list.single
     each (key.Crown s) =
         once_at key_of_crown (crown_in shards servers) (members.Shard ∷ []) (λ e. IsCrown shards servers e (crown_in shards servers e))
-        (λ e f a b at. same_reference shards members.Shard e f few.shards a.shard b.shard (sym a.place ∙ ap (λ p. p.0) at ∙ b.place))
+        (λ e f a b at. same_reference shards members.Shard e f few.shards a.shard b.shard (sym a.shard_is ∙ ap (λ p. p.0) at ∙ b.shard_is))
         (s, 0) (entries_in members.Crowns d) is.crowns is.crown_list.single
     each (key.Room v) =
         once_at key_of_room (room_in servers) (members.Server ∷ []) (λ e. row_faults e (one members.Server (known servers)) ≡ [])
@@ -310,12 +310,12 @@ parcel_is_once place shards servers d few h = each
 
 -- ---- rights in order
 
-all_sorted : {T : Type 0} (place : T → ℕ × ℕ) (P : T → Type 0) (make : Data → T) (ds : List Data) → All (λ d. P (make d)) ds → All P (sorted place (map make ds))
-all_sorted place P make ds h = All-permutation P (map make ds) (sorted place (map make ds)) (sorted_permutes place (map make ds)) (All-map P make ds h)
+all_sorted : {T : Type 0} (key_of : T → ℕ × ℕ) (P : T → Type 0) (make : Data → T) (ds : List Data) → All (λ d. P (make d)) ds → All P (sorted key_of (map make ds))
+all_sorted key_of P make ds h = All-permutation P (map make ds) (sorted key_of (map make ds)) (sorted_permutes key_of (map make ds)) (All-map P make ds h)
 
-sorted_length : {T : Type 0} (place : T → ℕ × ℕ) (make : Data → T) (ds : List Data) → length ds ≤ 4096 → length (sorted place (map make ds)) ≤ 4096
-sorted_length place make ds h =
-    subst (λ n. n ≤ 4096) (sym (length_permutation (map make ds) (sorted place (map make ds)) (sorted_permutes place (map make ds)) ∙ length-map ds make)) h
+sorted_length : {T : Type 0} (key_of : T → ℕ × ℕ) (make : Data → T) (ds : List Data) → length ds ≤ 4096 → length (sorted key_of (map make ds)) ≤ 4096
+sorted_length key_of make ds h =
+    subst (λ n. n ≤ 4096) (sym (length_permutation (map make ds) (sorted key_of (map make ds)) (sorted_permutes key_of (map make ds)) ∙ length-map ds make)) h
 
 kept_length : {T : Type 0} (p : T → Bool) (xs : List T) → length xs ≤ 4096 → length (filter p xs) ≤ 4096
 kept_length p xs h =
@@ -328,9 +328,9 @@ each_entry P h [] = All-nil P
 each_entry P h (d ∷ ds) = All-cons P d ds (h d) (each_entry P h ds)
 
 -- each id in a parcel without faults is below its count
-pub parcel_fits : (place : Member) (shards servers : List (List ℕ)) (d : Data) → parcel_faults place shards servers [] d ≡ [] → IsKnownParcel (length shards) (length servers) (parcel_in shards servers d)
-parcel_fits place shards servers d h =
-    let is = faultless place shards servers d h in
+pub parcel_fits : (parent : Member) (shards servers : List (List ℕ)) (d : Data) → parcel_faults parent shards servers [] d ≡ [] → IsKnownParcel (length shards) (length servers) (parcel_in shards servers d)
+parcel_fits parent shards servers d h =
+    let is = faultless parent shards servers d h in
     record {
       cells = all_sorted key_of_cell (IsKnownCellRight (length shards) (length servers)) (right_in shards servers) (entries_in members.Cells d)
           (All-weaker (IsRight shards servers) (λ e. IsKnownCellRight (length shards) (length servers) (right_in shards servers e)) (λ e a. (id_known members.Shard shards e a.shard, id_known members.Server servers e a.server)) (entries_in members.Cells d) is.cells);
@@ -345,9 +345,9 @@ parcel_fits place shards servers d h =
     }
 
 -- each list and each amount of a parcel without faults is within its limit
-pub parcel_is_small : (place : Member) (shards servers : List (List ℕ)) (d : Data) → parcel_faults place shards servers [] d ≡ [] → IsSmallParcel (parcel_in shards servers d)
-parcel_is_small place shards servers d h =
-    let is = faultless place shards servers d h in
+pub parcel_is_small : (parent : Member) (shards servers : List (List ℕ)) (d : Data) → parcel_faults parent shards servers [] d ≡ [] → IsSmallParcel (parcel_in shards servers d)
+parcel_is_small parent shards servers d h =
+    let is = faultless parent shards servers d h in
     let room : List Room = sorted key_of_room (map (room_in servers) (entries_in members.Room d)) in
     let spare : List Spare = sorted key_of_spare (map (spare_in shards) (entries_in members.Spare d)) in
     record {

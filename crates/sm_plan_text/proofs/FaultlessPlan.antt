@@ -33,12 +33,12 @@ record IsGoodParcel (shards servers : ℕ) (r : Rights) : Type 0 where
   small : IsSmallParcel r
   ordered : IsOrderedParcel r
 
-parcel_good : (place : Member) (shards servers : List (List ℕ)) (d : Data) → HaveIds shards servers → parcel_faults place shards servers [] d ≡ [] → IsGoodParcel (length shards) (length servers) (parcel_in shards servers d)
-parcel_good place shards servers d few h = record {
-  fits = parcel_fits place shards servers d h;
-  small = parcel_is_small place shards servers d h;
+parcel_good : (parent : Member) (shards servers : List (List ℕ)) (d : Data) → HaveIds shards servers → parcel_faults parent shards servers [] d ≡ [] → IsGoodParcel (length shards) (length servers) (parcel_in shards servers d)
+parcel_good parent shards servers d few h = record {
+  fits = parcel_fits parent shards servers d h;
+  small = parcel_is_small parent shards servers d h;
   ordered = record {
-    ordered = in_order_is_ordered (parcel_lists_in shards servers d) (parcel_is_once place shards servers d few h);
+    ordered = in_order_is_ordered (parcel_lists_in shards servers d) (parcel_is_once parent shards servers d few h);
     positive = in_order_is_positive (parcel_lists_in shards servers d);
   };
 }
@@ -164,16 +164,16 @@ pub record IsGoodPlan (shards servers : ℕ) (p : PlanModel) : Type 0 where
   pub fits : IsKnownPlan shards servers p
 
 -- a plan without faults is one, and each id in it is below its count
-pub plan_good : (place : Member) (shards servers : List (List ℕ)) (d : Data) → HaveIds shards servers → plan_faults place shards servers [] d ≡ [] → IsGoodPlan (length shards) (length servers) (plan_in shards servers d)
-plan_good place shards servers d few h =
-    let own : List TextFault = own_faults place plan_table d in
+pub plan_good : (parent : Member) (shards servers : List (List ℕ)) (d : Data) → HaveIds shards servers → plan_faults parent shards servers [] d ≡ [] → IsGoodPlan (length shards) (length servers) (plan_in shards servers d)
+plan_good parent shards servers d few h =
+    let own : List TextFault = own_faults parent plan_table d in
     let signal_items : List Data = entries_in members.Signals d in
     let stream_items : List Data = entries_in members.Streams d in
     let read : Data → StreamModel = stream_in shards servers (signal_count_in d) (knows_retries d) in
     let of_signals : List TextFault = walked (parcel_faults members.Signals shards servers) [] signal_items in
     let of_streams : List TextFault = walked (stream_faults shards servers (signal_count_in d) (knows_retries d)) [] stream_items in
     let to_signals : own ++ of_signals ≡ [] = nil_left (own ++ of_signals) of_streams h in
-    let rows = nil_right (object_faults place (map (λ row. text_of row.member) plan_table) d) (flat_map (row_faults d) plan_table) (nil_left own of_signals to_signals) in
+    let rows = nil_right (object_faults parent (map (λ row. text_of row.member) plan_table) d) (flat_map (row_faults d) plan_table) (nil_left own of_signals to_signals) in
     let after_format = nil_right (row_faults d (maybe members.Format format)) _ rows in
     let after_budget = nil_right (row_faults d (one members.Budget (whole 262144))) _ after_format in
     let after_signals = nil_right (row_faults d (maybe members.Signals (list 256))) _ after_budget in

@@ -59,19 +59,19 @@ either_false : (a b : Bool) → a ≡ false → b ≡ false → (a || b) ≡ fal
 either_false true b h k = h
 either_false false b h k = k
 
-other_keys : {T : Type 0} (key : List Member) (place : T → ℕ × ℕ) (f : T → Data) (P : T → Type 0) → ((x y : T) → P x → P y → before (place x) (place y) ≡ true → is_same_key (texts_found key (f x)) (texts_found key (f y)) ≡ false)
-    → (x : T) → P x → (ys : List T) → AllByRecursion P ys → AllAfter place (place x) ys → list_any (is_same_key (texts_found key (f x))) (map (texts_found key) (map f ys)) ≡ false
-other_keys key place f P differ x p [] h after = refl
-other_keys key place f P differ x p (y ∷ ys) h after = either_false _ _ (differ x y p h.0 after.0) (other_keys key place f P differ x p ys h.1 after.1)
+other_keys : {T : Type 0} (key : List Member) (key_of : T → ℕ × ℕ) (f : T → Data) (P : T → Type 0) → ((x y : T) → P x → P y → before (key_of x) (key_of y) ≡ true → is_same_key (texts_found key (f x)) (texts_found key (f y)) ≡ false)
+    → (x : T) → P x → (ys : List T) → AllByRecursion P ys → AllAfter key_of (key_of x) ys → list_any (is_same_key (texts_found key (f x))) (map (texts_found key) (map f ys)) ≡ false
+other_keys key key_of f P differ x p [] h after = refl
+other_keys key key_of f P differ x p (y ∷ ys) h after = either_false _ _ (differ x y p h.0 after.0) (other_keys key key_of f P differ x p ys h.1 after.1)
 
-single_keys : {T : Type 0} (key : List Member) (place : T → ℕ × ℕ) (f : T → Data) (P : T → Type 0) → ((x y : T) → P x → P y → before (place x) (place y) ≡ true → is_same_key (texts_found key (f x)) (texts_found key (f y)) ≡ false)
-    → (xs : List T) → AllByRecursion P xs → Rises place xs → has_double_key (map (texts_found key) (map f xs)) ≡ false
-single_keys key place f P differ [] h rises = refl
-single_keys key place f P differ (x ∷ xs) h rises = either_false _ _ (other_keys key place f P differ x h.0 xs h.1 rises.0) (single_keys key place f P differ xs h.1 rises.1)
+single_keys : {T : Type 0} (key : List Member) (key_of : T → ℕ × ℕ) (f : T → Data) (P : T → Type 0) → ((x y : T) → P x → P y → before (key_of x) (key_of y) ≡ true → is_same_key (texts_found key (f x)) (texts_found key (f y)) ≡ false)
+    → (xs : List T) → AllByRecursion P xs → Rises key_of xs → has_double_key (map (texts_found key) (map f xs)) ≡ false
+single_keys key key_of f P differ [] h rises = refl
+single_keys key key_of f P differ (x ∷ xs) h rises = either_false _ _ (other_keys key key_of f P differ x h.0 xs h.1 rises.0) (single_keys key key_of f P differ xs h.1 rises.1)
 
--- where entries rise by their places no key stands twice
-pub keys_no_fault : {T : Type 0} (m : Member) (key : List Member) (place : T → ℕ × ℕ) (f : T → Data) (P : T → Type 0) → ((x y : T) → P x → P y → before (place x) (place y) ≡ true → is_same_key (texts_found key (f x)) (texts_found key (f y)) ≡ false)
-    → (xs : List T) → All P xs → Rises place xs → double_faults m key (entries (items_of (map f xs))) ≡ []
-keys_no_fault m key place f P differ xs h rises =
+-- where entries rise by their keys no key stands twice
+pub keys_no_fault : {T : Type 0} (m : Member) (key : List Member) (key_of : T → ℕ × ℕ) (f : T → Data) (P : T → Type 0) → ((x y : T) → P x → P y → before (key_of x) (key_of y) ≡ true → is_same_key (texts_found key (f x)) (texts_found key (f y)) ≡ false)
+    → (xs : List T) → All P xs → Rises key_of xs → double_faults m key (entries (items_of (map f xs))) ≡ []
+keys_no_fault m key key_of f P differ xs h rises =
     ap (double_faults m key) (entries_back (map f xs))
-    ∙ ap (λ b. cond b (Shape m ∷ []) []) (single_keys key place f P differ xs (recursion_from_All P xs h) rises)
+    ∙ ap (λ b. cond b (Shape m ∷ []) []) (single_keys key key_of f P differ xs (recursion_from_All P xs h) rises)

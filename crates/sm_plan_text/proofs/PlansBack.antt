@@ -45,9 +45,9 @@ pub record IsPlaced (r : Rights) : Type 0 where
   pub ordered : IsOrdered r
   pub same : in_order r ≡ r
 
-keyed_no_fault : {T : Type 0} (m : Member) (key : List Member) (place : T → ℕ × ℕ) (f : T → Data) (P : T → Type 0) → ((x y : T) → P x → P y → before (place x) (place y) ≡ true → is_same_key (texts_found key (f x)) (texts_found key (f y)) ≡ false)
-    → (xs : List T) → length xs ≤ 4096 → All P xs → Rises place xs → value_faults m (keyed 4096 key) (list_data (map f xs)) ≡ []
-keyed_no_fault m key place f P differ xs few h rises = no_faults _ _ (list_no_fault m 4096 (map f xs) (mapped_within f xs 4096 few)) (keys_no_fault m key place f P differ xs h rises)
+keyed_no_fault : {T : Type 0} (m : Member) (key : List Member) (key_of : T → ℕ × ℕ) (f : T → Data) (P : T → Type 0) → ((x y : T) → P x → P y → before (key_of x) (key_of y) ≡ true → is_same_key (texts_found key (f x)) (texts_found key (f y)) ≡ false)
+    → (xs : List T) → length xs ≤ 4096 → All P xs → Rises key_of xs → value_faults m (keyed 4096 key) (list_data (map f xs)) ≡ []
+keyed_no_fault m key key_of f P differ xs few h rises = no_faults _ _ (list_no_fault m 4096 (map f xs) (mapped_within f xs 4096 few)) (keys_no_fault m key key_of f P differ xs h rises)
 
 -- the room, and the spare replicas, of a parcel that fits and is small
 abbrev IsPeak : ℕ → Room → Type 0
@@ -56,8 +56,8 @@ IsPeak servers x = (x.server < servers) × (x.amount ≤ 4294967295)
 abbrev IsSpare : ℕ → Spare → Type 0
 IsSpare shards x = (x.shard < shards) × (x.amount ≤ 4294967295)
 
-pub parcel_no_fault : (place : Member) (shards servers : List (List ℕ)) → LeadBack shards → LeadBack servers → (earlier : List Data) (r : Rights) → IsKnownParcel (length shards) (length servers) r → IsSmallParcel r → IsPlaced r → parcel_faults place shards servers earlier (parcel_data shards servers r) ≡ []
-parcel_no_fault place shards servers a b earlier r fits small placed =
+pub parcel_no_fault : (parent : Member) (shards servers : List (List ℕ)) → LeadBack shards → LeadBack servers → (earlier : List Data) (r : Rights) → IsKnownParcel (length shards) (length servers) r → IsSmallParcel r → IsPlaced r → parcel_faults parent shards servers earlier (parcel_data shards servers r) ≡ []
+parcel_no_fault parent shards servers a b earlier r fits small placed =
     let room : All (IsPeak (length servers)) r.room = All-both (λ x. x.server < length servers) (λ x. x.amount ≤ 4294967295) r.room fits.room small.room_amounts in
     let spare : All (IsSpare (length shards)) r.spare = All-both (λ x. x.shard < length shards) (λ x. x.amount ≤ 4294967295) r.spare fits.spare small.spare_amounts in
     no_faults _ _ (no_faults _ _ (no_faults _ _ (no_faults _ _
@@ -159,15 +159,15 @@ signals_read shards servers p = length (entries (items_of (map (parcel_data shar
 signals_counted : (shards servers : List (List ℕ)) (p : PlanModel) → signals_read shards servers p ≡ length p.signals
 signals_counted shards servers p = ap length (entries_back (map (parcel_data shards servers) p.signals)) ∙ length-map p.signals (parcel_data shards servers)
 
-plan_clean : (place : Member) (shards servers : List (List ℕ)) → LeadBack shards → LeadBack servers → (retries : Bool) (p : PlanModel) → IsSmallPlan p → All (IsWritableParcel (length shards) (length servers)) p.signals → All (IsWritable (length shards) (length servers) (signals_read shards servers p) retries) p.streams → plan_faults place shards servers [] (plan_as shards servers retries p) ≡ []
-plan_clean place shards servers a b true p small parcels streams =
+plan_clean : (parent : Member) (shards servers : List (List ℕ)) → LeadBack shards → LeadBack servers → (retries : Bool) (p : PlanModel) → IsSmallPlan p → All (IsWritableParcel (length shards) (length servers)) p.signals → All (IsWritable (length shards) (length servers) (signals_read shards servers p) retries) p.streams → plan_faults parent shards servers [] (plan_as shards servers retries p) ≡ []
+plan_clean parent shards servers a b true p small parcels streams =
     no_faults _ _ (no_faults _ _
     (no_faults _ _ (number_no_fault members.Budget 262144 p.budget small.budget)
     (no_faults _ _ (list_no_fault members.Signals 256 (map (parcel_data shards servers) p.signals) (mapped_within (parcel_data shards servers) p.signals 256 small.signal_count))
     (no_faults _ _ (list_no_fault members.Streams 64 (map (stream_data shards servers true) p.streams) (mapped_within (stream_data shards servers true) p.streams 64 small.stream_count)) refl)))
     (walk_no_fault (parcel_data shards servers) (parcel_faults members.Signals shards servers) (IsWritableParcel (length shards) (length servers)) (λ earlier r h. parcel_no_fault members.Signals shards servers a b earlier r h.fits h.small h.placed) p.signals parcels))
     (walk_no_fault (stream_data shards servers true) (stream_faults shards servers (signals_read shards servers p) true) (IsWritable (length shards) (length servers) (signals_read shards servers p) true) (stream_no_fault shards servers a b (signals_read shards servers p) true) p.streams streams)
-plan_clean place shards servers a b false p small parcels streams =
+plan_clean parent shards servers a b false p small parcels streams =
     no_faults _ _ (no_faults _ _
     (no_faults _ _ (number_no_fault members.Budget 262144 p.budget small.budget)
     (no_faults _ _ (list_no_fault members.Signals 256 (map (parcel_data shards servers) p.signals) (mapped_within (parcel_data shards servers) p.signals 256 small.signal_count))
@@ -219,9 +219,9 @@ parcels_writable : (shards servers : List (List ℕ)) (p : PlanModel) → IsPlan
 parcels_writable shards servers p is fits placed = λ i d h. record { fits = fits.signals i d h; small = is.small.signals i d h; placed = placed i d h }
 
 -- what is written for a plan has no fault
-pub plan_no_fault : (place : Member) (shards servers : List (List ℕ)) (p : PlanModel) → LeadBack shards → LeadBack servers → IsPlan p → IsKnownPlan (length shards) (length servers) p → All (λ s. IsPlaced s.holds) p.streams → All IsPlaced p.signals → plan_faults place shards servers [] (plan_data shards servers p) ≡ []
-plan_no_fault place shards servers p a b is fits held carried =
-    plan_clean place shards servers a b (has_retries p) p is.small (parcels_writable shards servers p is fits carried) (streams_writable shards servers p is fits held)
+pub plan_no_fault : (parent : Member) (shards servers : List (List ℕ)) (p : PlanModel) → LeadBack shards → LeadBack servers → IsPlan p → IsKnownPlan (length shards) (length servers) p → All (λ s. IsPlaced s.holds) p.streams → All IsPlaced p.signals → plan_faults parent shards servers [] (plan_data shards servers p) ≡ []
+plan_no_fault parent shards servers p a b is fits held carried =
+    plan_clean parent shards servers a b (has_retries p) p is.small (parcels_writable shards servers p is fits carried) (streams_writable shards servers p is fits held)
 
 -- what is written for a plan is read as that plan
 pub plan_back : (shards servers : List (List ℕ)) (p : PlanModel) → LeadBack shards → LeadBack servers → IsPlan p → IsKnownPlan (length shards) (length servers) p → All (λ s. IsPlaced s.holds) p.streams → All IsPlaced p.signals → plan_in shards servers (plan_data shards servers p) ≡ p

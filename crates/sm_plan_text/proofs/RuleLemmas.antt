@@ -8,7 +8,7 @@ use Rattle.serde_json.specs.Find.{as_object}
 use Rattle.sm_plan_text.specs.declared.fault.TextFault.{TextFault}
 use Rattle.sm_plan_text.specs.declared.fault.TextFault.TheVariants.{Shape}
 use Rattle.sm_plan_text.specs.declared.member.Member.{Member}
-use Rattle.sm_plan_text.specs.declared.place.Scope.{Scope}
+use Rattle.sm_plan_text.specs.declared.cursor.Scope.{Scope}
 use Rattle.sm_plan_text.specs.declared.rule.Rule.{Rule}
 use Rattle.sm_plan_text.specs.declared.rule.Rule.TheVariants as rule
 use Rattle.sm_plan_text.specs.Members.{text_of}

@@ -40,8 +40,8 @@ placed : (r : Rights) → IsOrderedParcel r → IsPlaced r
 placed r h = record { ordered = h.ordered; same = in_order_of_ordered r h.ordered h.positive }
 
 -- what is written for a plan of a configuration has no fault, and is read as that plan
-pub written_is_read : (place : Member) (setup : Setup) (p : PlanModel) → IsSetup setup → IsPlan p → IsKnownPlan (length setup.shards) (length setup.servers) p → IsReadBack place (names_of_shards setup) (names_of_servers setup) p
-written_is_read place setup p setup_is plan_is fits =
+pub written_is_read : (parent : Member) (setup : Setup) (p : PlanModel) → IsSetup setup → IsPlan p → IsKnownPlan (length setup.shards) (length setup.servers) p → IsReadBack parent (names_of_shards setup) (names_of_servers setup) p
+written_is_read parent setup p setup_is plan_is fits =
     let shards = names_of_shards setup in
     let servers = names_of_servers setup in
     let a : LeadBack shards = shard_names_lead setup setup_is in
@@ -52,7 +52,7 @@ written_is_read place setup p setup_is plan_is fits =
     let held : All (λ s. IsPlaced s.holds) p.streams = λ i d h. placed _ (plan_is.parcels.streams i d h) in
     let carried : All IsPlaced p.signals = λ i d h. placed _ (plan_is.parcels.signals i d h) in
     record {
-      faultless = ap answered (plan_no_fault place shards servers p a b plan_is within held carried);
+      faultless = ap answered (plan_no_fault parent shards servers p a b plan_is within held carried);
       same = plan_back shards servers p a b plan_is within held carried;
     }
 

@@ -17,3 +17,4 @@ pub mod Work
 pub mod Opened
 pub mod Outlines
 pub mod Reading
+pub mod Words

@@ -6,7 +6,7 @@ use Rattle.sm_plan_text.specs.declared.fault.TextFault.{TextFault}
 use Rattle.sm_plan_text.specs.declared.fault.TextFault.TheVariants.{Shape, Number}
 use Rattle.sm_plan_text.specs.declared.member.Member.{Member}
 use Rattle.sm_plan_text.specs.declared.member.Member.TheVariants as members
-use Rattle.sm_plan_text.specs.declared.place.Scope.{Scope}
+use Rattle.sm_plan_text.specs.declared.cursor.Scope.{Scope}
 use Rattle.sm_plan_text.specs.declared.rule.Form.{Form}
 use Rattle.sm_plan_text.specs.declared.rule.Form.TheVariants as form
 use Rattle.sm_plan_text.specs.declared.rule.Rule.{Rule}

@@ -4,7 +4,7 @@ use Rattle.serde_json.specs.Data.{Data}
 use Rattle.sm_plan_text.specs.declared.fault.TextFault.{TextFault}
 use Rattle.sm_plan_text.specs.declared.document.Work.{Work}
 use Rattle.sm_plan_text.specs.declared.member.Member.TheVariants as members
-use Rattle.sm_plan_text.specs.declared.place.Scope.{Scope}
+use Rattle.sm_plan_text.specs.declared.cursor.Scope.{Scope}
 use Rattle.sm_plan_text.specs.declared.outline.Early.{Early}
 use Rattle.sm_plan_text.specs.Faults.{noted}
 use Rattle.sm_plan_text.specs.Rules.{HasIds}

@@ -1,14 +1,12 @@
 //! The calls of a document.
 ghost use Rattle.std.specs.Prelude.{◌≡◌, map, option_map, IfSome};
-ghost use Rattle.json_tree.specs.View.{view};
-ghost use Rattle.sm_plan_text.specs.declared.place.Scope.{Scope};
-ghost use Rattle.sm_plan_text.specs.Rules.{row_of};
+ghost use Rattle.sm_plan_text.specs.Words.{view, Scope, row_of};
 ghost use Rattle.sm_plan_text.specs.Calls.{call_word, call_table, call_worded};
 
+use crate::cursor::Cursor;
 use crate::entry::Entry;
 use crate::fault::Faults;
 use crate::member::Member;
-use crate::place::Place;
 use crate::rule::{Form, OTHER, ROLE, Rule, SERVER, SHARD};
 use sm_plan_code::MOST_NUMBER;
 use sm_server::{Call, ServerId, ShardId};
@@ -34,16 +32,16 @@ fn rules_of(word: &str) -> Option<&'static [Rule]>
 }
 
 /// What a call with this word is, which is listed.
-fn call_of(word: &str, place: &Place<'_, '_>) -> Call
-    ensures { IfSome (call_word word.now) (λ w. result ≡ call_worded place.now.scope.servers.now (view place.now.tree.now) w) }
+fn call_of(word: &str, cursor: &Cursor<'_, '_>) -> Call
+    ensures { IfSome (call_word word.now) (λ w. result ≡ call_worded cursor.now.scope.servers.now (view cursor.now.tree.now) w) }
 {
-    let other = place.server(Member::Other);
-    let number = u64::from(place.number(Member::Number, MOST_NUMBER));
+    let other = cursor.server(Member::Other);
+    let number = u64::from(cursor.number(Member::Number, MOST_NUMBER));
     match word {
-        "add" => Call::Add(place.role(Member::Role)),
+        "add" => Call::Add(cursor.role(Member::Role)),
         "change" => Call::Change {
-            from: place.role(Member::From),
-            to: place.role(Member::To),
+            from: cursor.role(Member::From),
+            to: cursor.role(Member::To),
         },
         "prepare_add" => Call::PrepareAdd {
             owner: other,
@@ -67,10 +65,10 @@ impl Entry for (ShardId, ServerId, Call) {
 
     ghost faults_of = { λ scope parent entry. worded_faults parent members.Call call_word (call_table scope.shards.now scope.servers.now) entry };
 
-    fn read(place: &Place<'_, '_>, faults: &mut Faults) -> Result<Self, AllocError> {
-        let word = place.text(Member::Call);
-        place.note_worded(Member::Call, rules_of(word), faults)?;
-        let (shard, server) = (place.shard(Member::Shard), place.server(Member::Server));
-        Ok((shard, server, call_of(word, place)))
+    fn read(cursor: &Cursor<'_, '_>, faults: &mut Faults) -> Result<Self, AllocError> {
+        let word = cursor.text(Member::Call);
+        cursor.note_worded(Member::Call, rules_of(word), faults)?;
+        let (shard, server) = (cursor.shard(Member::Shard), cursor.server(Member::Server));
+        Ok((shard, server, call_of(word, cursor)))
     }
 }

@@ -1,15 +1,13 @@
 //! A document, from its text.
 ghost use Rattle.std.specs.Prelude.{◌≡◌, ◌≢◌, ℕ, List, Option, Some, None, Ok, Err, IfOk, IfErr, OnOk, [], option_map, option_and_then, unwrap_or, map};
-ghost use Rattle.serde_json.specs.Data.{Data};
-ghost use Rattle.json_tree.specs.View.{view};
+ghost use Rattle.sm_plan_text.specs.Words.{Data, view, noted, Scope, HasIds, row_of};
 ghost use Rattle.sm_placement.specs.Config.{setup_of, config_fault};
-ghost use Rattle.sm_plan_text.specs.Faults.{noted};
 ghost use Rattle.sm_plan_text.specs.Documents.{document_table, document_faults, rows_in, IsDocument};
-ghost use Rattle.sm_plan_text.specs.Rules.{HasIds};
 ghost use Rattle.sm_plan_text.specs.Work.{AreKept, IsWork, work_noted};
 ghost use Rattle.sm_plan_text.specs.Outlines.{IsOutlined, IsOutline};
 ghost use Rattle.sm_plan_text.specs.Reading.{data_of, read_data, read, rows_of, rows_of_parts};
 
+use crate::cursor::{Cursor, id_named};
 use crate::entry::Entry;
 use crate::event::EventText;
 use crate::fault::{Faults, TextFault};
@@ -18,7 +16,6 @@ use crate::member::Member;
 use crate::moves::MoveText;
 use crate::names::Names;
 use crate::outline::{Early, Outline, lists_of};
-use crate::place::{Place, id_named};
 use crate::rule::{Form, Rule};
 use crate::server::{Servers, read_servers};
 use crate::shard::{Shards, read_shards};
@@ -145,19 +142,24 @@ fn outline_of<'a>(
     Ok(Outline { tree, early: None })
 }
 
-const DOCUMENT: &[Rule] = &[
-    Rule::One(Member::Limit, Form::Whole(DOWN_LIMIT)),
-    Rule::One(Member::Servers, Form::List(MOST_SERVERS)),
-    Rule::One(Member::Shards, Form::List(MOST_SHARDS)),
-    Rule::Maybe(Member::Log, Form::Whole(MOST_PLACES)),
-    Rule::Maybe(Member::Calls, Form::List(MOST_EVENTS)),
-    Rule::Maybe(Member::Plan, Form::Object),
-    Rule::Maybe(Member::Plans, Form::List(MOST_PLANS)),
-    Rule::Maybe(Member::Events, Form::List(MOST_EVENTS)),
-    Rule::Maybe(Member::Moves, Form::List(MOST_MOVES)),
-    Rule::Maybe(Member::Drain, Form::Server),
-    Rule::Maybe(Member::Asks, Form::Asks),
-];
+/// The members of a document.
+fn document_rules() -> &'static [Rule]
+    ensures { (scope : Scope) → map (row_of scope) result.now ≡ document_table scope.shards.now scope.servers.now }
+{
+    &[
+        Rule::One(Member::Limit, Form::Whole(DOWN_LIMIT)),
+        Rule::One(Member::Servers, Form::List(MOST_SERVERS)),
+        Rule::One(Member::Shards, Form::List(MOST_SHARDS)),
+        Rule::Maybe(Member::Log, Form::Whole(MOST_PLACES)),
+        Rule::Maybe(Member::Calls, Form::List(MOST_EVENTS)),
+        Rule::Maybe(Member::Plan, Form::Object),
+        Rule::Maybe(Member::Plans, Form::List(MOST_PLANS)),
+        Rule::Maybe(Member::Events, Form::List(MOST_EVENTS)),
+        Rule::Maybe(Member::Moves, Form::List(MOST_MOVES)),
+        Rule::Maybe(Member::Drain, Form::Server),
+        Rule::Maybe(Member::Asks, Form::Asks),
+    ]
+}
 
 /// A shard that is asked for. What is wrong with it is a fault of the document itself.
 impl Entry for ShardId {
@@ -168,34 +170,34 @@ impl Entry for ShardId {
 
     ghost faults_of = { λ scope parent entry. [] };
 
-    fn read(place: &Place<'_, '_>, _faults: &mut Faults) -> Result<Self, AllocError> {
-        let shard = id_named(place.tree, place.scope.shards).unwrap_or(0);
+    fn read(cursor: &Cursor<'_, '_>, _faults: &mut Faults) -> Result<Self, AllocError> {
+        let shard = id_named(cursor.tree, cursor.scope.shards).unwrap_or(0);
         Ok(ShardId::new(shard))
     }
 }
 
 /// What a document says beside its servers and shards, whose names the scope has.
 fn read_work(
-    place: &Place<'_, '_>,
+    cursor: &Cursor<'_, '_>,
     early: Option<Early>,
     faults: &mut Faults,
 ) -> Result<Work, AllocError>
-    ensures work { (calls events : Option Data) → AreKept place.now.scope early (view place.now.tree.now) calls events
-        → IfOk result (λ work. HasIds place.now.scope → faults.new.lowest ≡ None → IsWork place.now.scope (view place.now.tree.now) calls events work) }
-    ensures faults { (calls events : Option Data) → AreKept place.now.scope early (view place.now.tree.now) calls events
-        → OnOk result (faults.new.lowest ≡ work_noted place.now.scope (view place.now.tree.now) calls events faults.old.lowest) }
+    ensures work { (calls events : Option Data) → AreKept cursor.now.scope early (view cursor.now.tree.now) calls events
+        → IfOk result (λ work. HasIds cursor.now.scope → faults.new.lowest ≡ None → IsWork cursor.now.scope (view cursor.now.tree.now) calls events work) }
+    ensures faults { (calls events : Option Data) → AreKept cursor.now.scope early (view cursor.now.tree.now) calls events
+        → OnOk result (faults.new.lowest ≡ work_noted cursor.now.scope (view cursor.now.tree.now) calls events faults.old.lowest) }
 {
     let (calls, events) = lists_of(early);
     Ok(Work {
-        limit: place.number(Member::Limit, DOWN_LIMIT),
-        log: place.number_or(Member::Log, MOST_PLACES, LOG_PLACES),
-        calls: place.list_or_early(Member::Calls, calls, faults)?,
-        plan: place.inner(Member::Plan, faults)?,
-        plans: place.list_or_none(Member::Plans, faults)?,
-        events: place.list_or_early(Member::Events, events, faults)?,
-        moves: place.list_or_none(Member::Moves, faults)?,
-        drain: place.server_found(Member::Drain),
-        asks: place.list(Member::Asks, faults)?,
+        limit: cursor.number(Member::Limit, DOWN_LIMIT),
+        log: cursor.number_or(Member::Log, MOST_PLACES, LOG_PLACES),
+        calls: cursor.list_or_early(Member::Calls, calls, faults)?,
+        plan: cursor.inner(Member::Plan, faults)?,
+        plans: cursor.list_or_none(Member::Plans, faults)?,
+        events: cursor.list_or_early(Member::Events, events, faults)?,
+        moves: cursor.list_or_none(Member::Moves, faults)?,
+        drain: cursor.server_found(Member::Drain),
+        asks: cursor.list(Member::Asks, faults)?,
     })
 }
 
@@ -212,20 +214,20 @@ fn read_parts(
     // Some members of the document name what stands in its lists, and their faults come before those of the lists.
     let mut listed = Faults { lowest: None };
     let names = Names::new(alloc);
-    let lists = Place::new(alloc, &*tree, Member::Document, &names, &names);
+    let lists = Cursor::new(alloc, &*tree, Member::Document, &names, &names);
     let servers = read_servers(alloc, lists.entries(Member::Servers), &mut listed)?;
     let shard_items = lists.entries(Member::Shards);
     let shards = read_shards(alloc, shard_items, &servers.names, &mut listed)?;
-    let place = Place::new(
+    let cursor = Cursor::new(
         alloc,
         &*tree,
         Member::Document,
         &shards.names,
         &servers.names,
     );
-    place.note_own(DOCUMENT, faults)?;
+    cursor.note_own(document_rules(), faults)?;
     faults.append(listed);
-    let work = read_work(&place, early, faults)?;
+    let work = read_work(&cursor, early, faults)?;
     Ok((servers, shards, work))
 }
 

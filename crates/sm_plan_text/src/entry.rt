@@ -1,29 +1,17 @@
 //! What stands in a list, or in a member, and is read as one value.
 ghost use Rattle.std.specs.Prelude.{◌≡◌, [], Option, None, map, option_map, IfOk, OnOk};
-ghost use Rattle.serde_json.specs.Data.{Data};
-ghost use Rattle.json_tree.specs.View.{view};
-ghost use Rattle.sm_plan_text.specs.Faults.{noted};
-ghost use Rattle.sm_plan_text.specs.Values.{found, list_in, items_of, entries_in, entries_found};
-ghost use Rattle.sm_plan_text.specs.Tables.{walked};
-ghost use Rattle.sm_plan_text.specs.Plans.{faults_within};
-ghost use Rattle.sm_plan_text.specs.Rules.{HasIds};
+ghost use Rattle.sm_plan_text.specs.Words.{Data, view, noted, found, list_in, items_of, entries_in, entries_found, walked, faults_within, HasIds};
 ghost use Rattle.sm_plan_text.specs.Outlines.{IsKept};
 
+use crate::cursor::Cursor;
 use crate::fault::Faults;
 use crate::member::Member;
 use crate::outline::EarlyList;
-use crate::place::Place;
 use std::alloc::AllocError;
 
 pub trait Entry: Drop {
     ghost use Rattle.std.specs.Prelude.{◌≡◌, List, None, IfOk, OnOk};
-    ghost use Rattle.serde_json.specs.Data.{Data};
-    ghost use Rattle.json_tree.specs.View.{view};
-    ghost use Rattle.sm_plan_text.specs.declared.fault.TextFault.{TextFault};
-    ghost use Rattle.sm_plan_text.specs.declared.member.Member.{Member};
-    ghost use Rattle.sm_plan_text.specs.declared.place.Scope.{Scope};
-    ghost use Rattle.sm_plan_text.specs.Faults.{noted};
-    ghost use Rattle.sm_plan_text.specs.Rules.{HasIds};
+    ghost use Rattle.sm_plan_text.specs.Words.{Data, view, TextFault, Member, Scope, noted, HasIds};
 
     /// What it is, where nothing is wrong.
     ghost value: { Scope → Data → Self };
@@ -31,12 +19,12 @@ pub trait Entry: Drop {
     /// What is wrong with it where it stands in this member, or in a list there.
     ghost faults_of: { Scope → Member → Data → List TextFault };
 
-    fn read(place: &Place<'_, '_>, faults: &mut Faults) -> Result<Self, AllocError>
-        ensures value { IfOk result (λ read. HasIds place.now.scope → faults.new.lowest ≡ None → read ≡ value place.now.scope (view place.now.tree.now)) }
-        ensures faults { OnOk result (faults.new.lowest ≡ noted faults.old.lowest (faults_of place.now.scope place.now.member (view place.now.tree.now))) };
+    fn read(cursor: &Cursor<'_, '_>, faults: &mut Faults) -> Result<Self, AllocError>
+        ensures value { IfOk result (λ read. HasIds cursor.now.scope → faults.new.lowest ≡ None → read ≡ value cursor.now.scope (view cursor.now.tree.now)) }
+        ensures faults { OnOk result (faults.new.lowest ≡ noted faults.old.lowest (faults_of cursor.now.scope cursor.now.member (view cursor.now.tree.now))) };
 }
 
-impl<'p, 't> Place<'p, 't> {
+impl<'p, 't> Cursor<'p, 't> {
     /// What a member is, where it stands.
     pub fn inner<T: Entry>(
         &self,
@@ -51,12 +39,12 @@ impl<'p, 't> Place<'p, 't> {
         let Some(tree) = self.find(member) else {
             return Ok(None);
         };
-        let place = Place {
+        let cursor = Cursor {
             tree,
             member,
             ..*self
         };
-        Ok(Some(T::read(&place, faults)?))
+        Ok(Some(T::read(&cursor, faults)?))
     }
 
     /// What the entries of a list are, front to back.
@@ -69,12 +57,12 @@ impl<'p, 't> Place<'p, 't> {
         let items = self.entries(member);
         let mut list = Vec::with_capacity(self.alloc, items.len())?;
         for item in items {
-            let place = Place {
+            let cursor = Cursor {
                 tree: item,
                 member,
                 ..*self
             };
-            list.push(T::read(&place, faults)?)?;
+            list.push(T::read(&cursor, faults)?)?;
         }
         Ok(list)
     }

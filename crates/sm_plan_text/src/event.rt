@@ -1,20 +1,18 @@
 //! The events of a document.
 ghost use Rattle.std.specs.Prelude.{◌≡◌, map, option_map, IfSome};
-ghost use Rattle.json_tree.specs.View.{view};
-ghost use Rattle.sm_plan_text.specs.declared.place.Scope.{Scope};
-ghost use Rattle.sm_plan_text.specs.Rules.{row_of};
+ghost use Rattle.sm_plan_text.specs.Words.{view, Scope, row_of};
 ghost use Rattle.sm_plan_text.specs.Events.{event_word, event_table, event_of};
 
+use crate::cursor::{Cursor, after_of};
 use crate::entry::Entry;
 use crate::fault::Faults;
 use crate::member::Member;
-use crate::place::{Place, after_of};
 use crate::rule::{Form, Rule, SERVER, SHARD};
 use sm_plan_code::{MOST_CALLS, MOST_NUMBER};
 use sm_server::{ServerId, ShardId};
 use std::alloc::AllocError;
 
-/// What happens next. A plan is its place among the plans of the document, a stream its place in the plan.
+/// What happens next. A plan is its cursor among the plans of the document, a stream its cursor in the plan.
 #[derive(Clone, Copy, Debug, PartialEq, Eq)]
 pub enum EventText {
     /// A stream makes one step.
@@ -60,30 +58,30 @@ fn rules_of(word: &str) -> Option<&'static [Rule]>
 }
 
 /// What an event with this word is, which is listed.
-fn event_of(word: &str, place: &Place<'_, '_>) -> EventText
-    ensures { IfSome (event_word word.now) (λ w. result ≡ event_of place.now.scope.shards.now place.now.scope.servers.now (view place.now.tree.now) w) }
+fn event_of(word: &str, cursor: &Cursor<'_, '_>) -> EventText
+    ensures { IfSome (event_word word.now) (λ w. result ≡ event_of cursor.now.scope.shards.now cursor.now.scope.servers.now (view cursor.now.tree.now) w) }
 {
-    let plan = place.number_or(Member::Plan, MOST_NUMBER, 0);
-    let stream = place.number(Member::Stream, MOST_NUMBER);
-    let shard = place.shard(Member::Shard);
-    let server = place.server(Member::Server);
+    let plan = cursor.number_or(Member::Plan, MOST_NUMBER, 0);
+    let stream = cursor.number(Member::Stream, MOST_NUMBER);
+    let shard = cursor.shard(Member::Shard);
+    let server = cursor.server(Member::Server);
     match word {
         "step" => EventText::Step { plan, stream },
         "request" => EventText::Request { shard, server },
         "pass_on" => EventText::PassOn {
-            ticket: place.number(Member::Ticket, MOST_NUMBER),
+            ticket: cursor.number(Member::Ticket, MOST_NUMBER),
         },
         "approve" => EventText::Approve { server },
         "done" => EventText::Done { server },
         "lose" => EventText::Lose {
             plan,
             stream,
-            after: after_of(place.text(Member::When)).unwrap_or(false),
+            after: after_of(cursor.text(Member::When)).unwrap_or(false),
         },
         "refill" => EventText::Refill {
             plan,
             stream,
-            more: place.number(Member::More, MOST_CALLS),
+            more: cursor.number(Member::More, MOST_CALLS),
         },
         _ => EventText::Begin { plan },
     }
@@ -98,9 +96,9 @@ impl Entry for EventText {
 
     ghost faults_of = { λ scope parent entry. worded_faults parent members.Event event_word (event_table scope.shards.now scope.servers.now) entry };
 
-    fn read(place: &Place<'_, '_>, faults: &mut Faults) -> Result<Self, AllocError> {
-        let word = place.text(Member::Event);
-        place.note_worded(Member::Event, rules_of(word), faults)?;
-        Ok(event_of(word, place))
+    fn read(cursor: &Cursor<'_, '_>, faults: &mut Faults) -> Result<Self, AllocError> {
+        let word = cursor.text(Member::Event);
+        cursor.note_worded(Member::Event, rules_of(word), faults)?;
+        Ok(event_of(word, cursor))
     }
 }

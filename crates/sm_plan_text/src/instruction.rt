@@ -1,14 +1,12 @@
 //! The instructions of a plan.
 ghost use Rattle.std.specs.Prelude.{◌≡◌, map, option_map, IfSome};
-ghost use Rattle.json_tree.specs.View.{view};
-ghost use Rattle.sm_plan_text.specs.declared.place.Scope.{Scope};
-ghost use Rattle.sm_plan_text.specs.Rules.{row_of};
+ghost use Rattle.sm_plan_text.specs.Words.{view, Scope, row_of};
 ghost use Rattle.sm_plan_text.specs.Instructions.{instr_word, instr_table, instr_of};
 
+use crate::cursor::Cursor;
 use crate::entry::Entry;
 use crate::fault::Faults;
 use crate::member::Member;
-use crate::place::Place;
 use crate::rule::{Form, OTHER, ROLE, Rule, SERVER, SHARD};
 use sm_plan_code::Instr;
 use std::alloc::AllocError;
@@ -33,13 +31,13 @@ fn rules_of(word: &str) -> Option<&'static [Rule]>
 }
 
 /// What an instruction with this word is, which is listed.
-fn instr_of(word: &str, place: &Place<'_, '_>) -> Instr
-    ensures { IfSome (instr_word word.now) (λ w. result ≡ instr_of place.now.scope.shards.now place.now.scope.servers.now place.now.scope.signals (view place.now.tree.now) w) }
+fn instr_of(word: &str, cursor: &Cursor<'_, '_>) -> Instr
+    ensures { IfSome (instr_word word.now) (λ w. result ≡ instr_of cursor.now.scope.shards.now cursor.now.scope.servers.now cursor.now.scope.signals (view cursor.now.tree.now) w) }
 {
-    let shard = place.shard(Member::Shard);
-    let server = place.server(Member::Server);
-    let other = place.server(Member::Other);
-    let signal = place.signal(Member::Signal);
+    let shard = cursor.shard(Member::Shard);
+    let server = cursor.server(Member::Server);
+    let other = cursor.server(Member::Other);
+    let signal = cursor.signal(Member::Signal);
     match word {
         "prepare_add" => Instr::PrepareAdd {
             shard,
@@ -54,13 +52,13 @@ fn instr_of(word: &str, place: &Place<'_, '_>) -> Instr
         "add" => Instr::Add {
             shard,
             server,
-            role: place.role(Member::Role),
+            role: cursor.role(Member::Role),
         },
         "drop" => Instr::Drop { shard, server },
         "change" => Instr::Change {
             shard,
             server,
-            to: place.role(Member::To),
+            to: cursor.role(Member::To),
         },
         "publish" => Instr::Publish { shard },
         "unlist" => Instr::Unlist { shard },
@@ -78,9 +76,9 @@ impl Entry for Instr {
 
     ghost faults_of = { λ scope parent entry. worded_faults parent members.Do instr_word (instr_table scope.shards.now scope.servers.now scope.signals) entry };
 
-    fn read(place: &Place<'_, '_>, faults: &mut Faults) -> Result<Self, AllocError> {
-        let word = place.text(Member::Do);
-        place.note_worded(Member::Do, rules_of(word), faults)?;
-        Ok(instr_of(word, place))
+    fn read(cursor: &Cursor<'_, '_>, faults: &mut Faults) -> Result<Self, AllocError> {
+        let word = cursor.text(Member::Do);
+        cursor.note_worded(Member::Do, rules_of(word), faults)?;
+        Ok(instr_of(word, cursor))
     }
 }

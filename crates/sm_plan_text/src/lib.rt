@@ -2,6 +2,7 @@
 #![tactic(auto)]
 
 mod call;
+mod cursor;
 mod document;
 mod entry;
 mod event;
@@ -13,7 +14,6 @@ mod moves;
 mod names;
 mod outline;
 mod parcel;
-mod place;
 mod plan;
 mod plan_text;
 mod rule;

@@ -1,8 +1,8 @@
 //! The moves of a document.
+use crate::cursor::Cursor;
 use crate::entry::Entry;
 use crate::fault::Faults;
 use crate::member::Member;
-use crate::place::Place;
 use crate::rule::{FROM, Rule, SHARD, TO};
 use sm_server::{ServerId, ShardId};
 use std::alloc::AllocError;
@@ -25,12 +25,12 @@ impl Entry for MoveText {
 
     ghost faults_of = { λ scope parent entry. own_faults parent (move_table scope.shards.now scope.servers.now) entry };
 
-    fn read(place: &Place<'_, '_>, faults: &mut Faults) -> Result<Self, AllocError> {
-        place.note_own(MOVE, faults)?;
+    fn read(cursor: &Cursor<'_, '_>, faults: &mut Faults) -> Result<Self, AllocError> {
+        cursor.note_own(MOVE, faults)?;
         Ok(MoveText {
-            shard: place.shard(Member::Shard),
-            from: place.server(Member::From),
-            to: place.server(Member::To),
+            shard: cursor.shard(Member::Shard),
+            from: cursor.server(Member::From),
+            to: cursor.server(Member::To),
         })
     }
 }

@@ -1,23 +1,19 @@
 //! A document's text, read so that its longest lists are never kept as trees: each of their entries is read as it comes.
 ghost use Rattle.std.specs.Prelude.{◌≡◌, ◌<◌, ◌≤◌, ◌++◌, ◌∷◌, [], None, Some, false, map, length, IsTrue, IfOk, IfSome, OnOk};
+ghost use Rattle.sm_plan_text.specs.Words.{view, members_view, noted, answered, entries, names_in, walked, HasIds};
 ghost use Rattle.json.specs.Json.{value, items, members};
 ghost use Rattle.serde_json.specs.Data.{Data, Items, Members, array, no_items, put};
 ghost use Rattle.serde_json.specs.Read.{of_json, of_items, of_members, converted, read as read_text};
-ghost use Rattle.json_tree.specs.View.{view, members_view};
-ghost use Rattle.sm_plan_text.specs.Faults.{noted, answered};
-ghost use Rattle.sm_plan_text.specs.Values.{entries, names_in};
-ghost use Rattle.sm_plan_text.specs.Tables.{walked};
-ghost use Rattle.sm_plan_text.specs.Rules.{HasIds};
 ghost use Rattle.sm_plan_text.specs.Outlines.{IsEarly, IsPartialOutline, IsOutline, calls_of, events_of};
 ghost use Rattle.sm_plan_text.specs.declared.limits.TheConstants.{MOST_EVENTS};
 
+use crate::cursor::{Cursor, Scope, items_of};
 use crate::entry::Entry;
 use crate::event::EventText;
 use crate::fault::Faults;
 use crate::limits::MOST_EVENTS;
 use crate::member::Member;
 use crate::names::Names;
-use crate::place::{Place, Scope, items_of};
 use json_tree::{MAX_DEPTH, ReadFault, Reader, Scratch, Token, Tree, find_member, read_value};
 use sm_server::{Call, ServerId, ShardId};
 use std::alloc::{AllocError, Global};
@@ -75,13 +71,13 @@ fn read_entry<'a, T: Entry>(
     ensures shorter { OnOk result (length reader.new < length reader.old) }
 {
     let tree = read_value(alloc, reader, depth)?;
-    let place = Place {
+    let cursor = Cursor {
         alloc,
         tree: &tree,
         member,
         scope,
     };
-    Ok(T::read(&place, faults)?)
+    Ok(T::read(&cursor, faults)?)
 }
 
 /// The entries of a list, to its end.
@@ -137,8 +133,8 @@ fn names_of(alloc: Global, items: &[Tree<'_>]) -> Result<Names, AllocError>
     let none = Names::new(alloc);
     let mut names = Names::new(alloc);
     for item in items {
-        let place = Place::new(alloc, item, Member::Document, &none, &none);
-        names.insert(place.name(Member::Name)?)?;
+        let cursor = Cursor::new(alloc, item, Member::Document, &none, &none);
+        names.insert(cursor.name(Member::Name)?)?;
     }
     Ok(names)
 }

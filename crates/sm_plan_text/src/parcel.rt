@@ -1,19 +1,17 @@
 //! The parcels of a plan.
 ghost use Rattle.std.specs.Prelude.{◌≡◌, map, option_map, IfOk, IfSome};
-ghost use Rattle.json_tree.specs.View.{view};
+ghost use Rattle.sm_plan_text.specs.Words.{view, Scope, row_of};
 ghost use Rattle.sm_reservation.specs.Rights.{no_rights};
 ghost use Rattle.sm_reservation.specs.Key.{IsOnce};
 ghost use Rattle.sm_reservation.specs.InOrder.{in_order};
 ghost use Rattle.sm_reservation.specs.Lists.{rights_of};
-ghost use Rattle.sm_plan_text.specs.declared.place.Scope.{Scope};
-ghost use Rattle.sm_plan_text.specs.Rules.{row_of};
 ghost use Rattle.sm_plan_text.specs.Parcels.{lead_word, crown_table, lead_worded};
 
+use crate::cursor::{Cursor, state_of};
 use crate::entry::Entry;
 use crate::fault::Faults;
 use crate::limits::AMOUNT_LIMIT;
 use crate::member::Member;
-use crate::place::{Place, state_of};
 use crate::rule::{FROM, Form, LISTED, Rule, SERVER, SHARD, TO};
 use sm_placement::Lead;
 use sm_reservation::{CellRight, Crown, Lists, Parcel, ParcelFault, PlainCell, Room, Spare};
@@ -45,12 +43,12 @@ impl Entry for CellRight {
 
     ghost faults_of = { λ scope parent entry. own_faults parent (right_table scope.shards.now scope.servers.now) entry };
 
-    fn read(place: &Place<'_, '_>, faults: &mut Faults) -> Result<Self, AllocError> {
-        place.note_own(RIGHT, faults)?;
+    fn read(cursor: &Cursor<'_, '_>, faults: &mut Faults) -> Result<Self, AllocError> {
+        cursor.note_own(RIGHT, faults)?;
         Ok(CellRight {
-            shard: place.shard(Member::Shard),
-            server: place.server(Member::Server),
-            state: state_of(place.text(Member::State)).unwrap_or(PlainCell::Absent),
+            shard: cursor.shard(Member::Shard),
+            server: cursor.server(Member::Server),
+            state: state_of(cursor.text(Member::State)).unwrap_or(PlainCell::Absent),
         })
     }
 }
@@ -68,13 +66,13 @@ fn rules_of(word: &str) -> Option<&'static [Rule]>
 }
 
 /// Where the primary stands, by the word of a crown, which is listed.
-fn lead_of(word: &str, place: &Place<'_, '_>) -> Lead
-    ensures { IfSome (lead_word word.now) (λ w. result ≡ lead_worded place.now.scope.servers.now (view place.now.tree.now) w) }
+fn lead_of(word: &str, cursor: &Cursor<'_, '_>) -> Lead
+    ensures { IfSome (lead_word word.now) (λ w. result ≡ lead_worded cursor.now.scope.servers.now (view cursor.now.tree.now) w) }
 {
-    let from = place.server(Member::From);
-    let to = place.server(Member::To);
+    let from = cursor.server(Member::From);
+    let to = cursor.server(Member::To);
     match word {
-        "at" => Lead::At(place.server(Member::Server)),
+        "at" => Lead::At(cursor.server(Member::Server)),
         "ready" => Lead::Ready(from, to),
         "handing" => Lead::Handing(from, to),
         "handed" => Lead::Handed(from, to),
@@ -91,13 +89,13 @@ impl Entry for Crown {
 
     ghost faults_of = { λ scope parent entry. worded_faults parent members.Lead lead_word (crown_table scope.shards.now scope.servers.now) entry };
 
-    fn read(place: &Place<'_, '_>, faults: &mut Faults) -> Result<Self, AllocError> {
-        let word = place.text(Member::Lead);
-        place.note_worded(Member::Lead, rules_of(word), faults)?;
+    fn read(cursor: &Cursor<'_, '_>, faults: &mut Faults) -> Result<Self, AllocError> {
+        let word = cursor.text(Member::Lead);
+        cursor.note_worded(Member::Lead, rules_of(word), faults)?;
         Ok(Crown {
-            shard: place.shard(Member::Shard),
-            lead: lead_of(word, place),
-            listed: place.server_found(Member::Listed),
+            shard: cursor.shard(Member::Shard),
+            lead: lead_of(word, cursor),
+            listed: cursor.server_found(Member::Listed),
         })
     }
 }
@@ -110,11 +108,11 @@ impl Entry for Room {
 
     ghost faults_of = { λ scope parent entry. own_faults parent (room_table scope.servers.now) entry };
 
-    fn read(place: &Place<'_, '_>, faults: &mut Faults) -> Result<Self, AllocError> {
-        place.note_own(ROOM, faults)?;
+    fn read(cursor: &Cursor<'_, '_>, faults: &mut Faults) -> Result<Self, AllocError> {
+        cursor.note_own(ROOM, faults)?;
         Ok(Room {
-            server: place.server(Member::Server),
-            amount: u64::from(place.number(Member::Amount, AMOUNT_LIMIT)),
+            server: cursor.server(Member::Server),
+            amount: u64::from(cursor.number(Member::Amount, AMOUNT_LIMIT)),
         })
     }
 }
@@ -127,11 +125,11 @@ impl Entry for Spare {
 
     ghost faults_of = { λ scope parent entry. own_faults parent (spare_table scope.shards.now) entry };
 
-    fn read(place: &Place<'_, '_>, faults: &mut Faults) -> Result<Self, AllocError> {
-        place.note_own(SPARE, faults)?;
+    fn read(cursor: &Cursor<'_, '_>, faults: &mut Faults) -> Result<Self, AllocError> {
+        cursor.note_own(SPARE, faults)?;
         Ok(Spare {
-            shard: place.shard(Member::Shard),
-            amount: u64::from(place.number(Member::Amount, AMOUNT_LIMIT)),
+            shard: cursor.shard(Member::Shard),
+            amount: u64::from(cursor.number(Member::Amount, AMOUNT_LIMIT)),
         })
     }
 }
@@ -173,15 +171,15 @@ impl Entry for Parcel {
 
     ghost faults_of = { λ scope parent entry. parcel_faults parent scope.shards.now scope.servers.now [] entry };
 
-    fn read(place: &Place<'_, '_>, faults: &mut Faults) -> Result<Self, AllocError> {
-        place.note_own(PARCEL, faults)?;
+    fn read(cursor: &Cursor<'_, '_>, faults: &mut Faults) -> Result<Self, AllocError> {
+        cursor.note_own(PARCEL, faults)?;
         let lists = Lists {
-            cells: place.list(Member::Cells, faults)?,
-            crowns: place.list(Member::Crowns, faults)?,
-            room: place.list(Member::Room, faults)?,
-            spare: place.list(Member::Spare, faults)?,
+            cells: cursor.list(Member::Cells, faults)?,
+            crowns: cursor.list(Member::Crowns, faults)?,
+            room: cursor.list(Member::Room, faults)?,
+            spare: cursor.list(Member::Spare, faults)?,
         };
-        let parcel = parcel_of(place.alloc, lists)?;
+        let parcel = parcel_of(cursor.alloc, lists)?;
         Ok(parcel)
     }
 }

@@ -1,17 +1,15 @@
 //! Plans, of a document or of a text of their own.
 ghost use Rattle.std.specs.Prelude.{◌≡◌, ℕ, List, map};
-ghost use Rattle.json_tree.specs.View.{view};
+ghost use Rattle.sm_plan_text.specs.Words.{view, Scope, row_of};
 ghost use Rattle.sm_plan_code.specs.Parts.{parts_of};
 ghost use Rattle.sm_plan_code.specs.Plan.{IsPlan};
-ghost use Rattle.sm_plan_text.specs.declared.place.Scope.{Scope};
-ghost use Rattle.sm_plan_text.specs.Rules.{row_of};
 ghost use Rattle.sm_plan_text.specs.Plans.{knows_retries, stream_table};
 
+use crate::cursor::{Cursor, Scope};
 use crate::entry::Entry;
 use crate::fault::Faults;
 use crate::member::Member;
 use crate::parcel::empty_parcel;
-use crate::place::{Place, Scope};
 use crate::rule::{Form, Rule};
 use sm_plan_code::{
     MOST_CALLS, MOST_INSTRUCTIONS, MOST_SIGNALS, MOST_STREAMS, Parts, Plan, Stream,
@@ -34,7 +32,7 @@ const PLAN: &[Rule] = &[
 ];
 
 /// The streams of a plan say how many retries they have: in each format but 1, which a plan is of that says nothing.
-fn knows_retries(plan: &Place<'_, '_>) -> bool
+fn knows_retries(plan: &Cursor<'_, '_>) -> bool
     ensures { result ≡ knows_retries (view plan.now.tree.now) }
 {
     match plan.find(Member::Format) {
@@ -55,9 +53,8 @@ fn stream_rules(retries: bool) -> &'static [Rule]
 
 impl Entry for Stream {
     ghost use Rattle.std.specs.Prelude.{◌++◌, []};
+    ghost use Rattle.sm_plan_text.specs.Words.{found, entries_in, own_faults, walked};
     ghost use Rattle.sm_plan_text.specs.declared.member.Member.TheVariants as members;
-    ghost use Rattle.sm_plan_text.specs.Values.{found, entries_in};
-    ghost use Rattle.sm_plan_text.specs.Tables.{own_faults, walked};
     ghost use Rattle.sm_plan_text.specs.Parcels.{parcel_faults};
     ghost use Rattle.sm_plan_text.specs.Instructions.{instr_faults};
     ghost use Rattle.sm_plan_text.specs.Plans.{faults_within, stream_table, stream_in};
@@ -68,15 +65,15 @@ impl Entry for Stream {
         ++ faults_within (parcel_faults members.Holds scope.shards.now scope.servers.now []) (found members.Holds entry)
         ++ walked (instr_faults scope.shards.now scope.servers.now scope.signals) [] (entries_in members.Code entry) };
 
-    fn read(place: &Place<'_, '_>, faults: &mut Faults) -> Result<Self, AllocError> {
-        place.note_own(stream_rules(place.scope.retries), faults)?;
-        let held = place.inner(Member::Holds, faults)?;
-        let empty = empty_parcel(place.alloc)?;
+    fn read(cursor: &Cursor<'_, '_>, faults: &mut Faults) -> Result<Self, AllocError> {
+        cursor.note_own(stream_rules(cursor.scope.retries), faults)?;
+        let held = cursor.inner(Member::Holds, faults)?;
+        let empty = empty_parcel(cursor.alloc)?;
         let holds = held.unwrap_or(empty);
-        let code = place.list(Member::Code, faults)?;
-        let budget = place.number(Member::Budget, MOST_CALLS);
-        let retries = if place.scope.retries {
-            place.number(Member::Retries, MOST_CALLS)
+        let code = cursor.list(Member::Code, faults)?;
+        let budget = cursor.number(Member::Budget, MOST_CALLS);
+        let retries = if cursor.scope.retries {
+            cursor.number(Member::Retries, MOST_CALLS)
         } else {
             0
         };
@@ -122,21 +119,21 @@ impl Entry for Plan {
 
     ghost faults_of = { λ scope parent entry. plan_faults parent scope.shards.now scope.servers.now [] entry };
 
-    fn read(place: &Place<'_, '_>, faults: &mut Faults) -> Result<Self, AllocError> {
-        place.note_own(PLAN, faults)?;
+    fn read(cursor: &Cursor<'_, '_>, faults: &mut Faults) -> Result<Self, AllocError> {
+        cursor.note_own(PLAN, faults)?;
         let scope = Scope {
-            signals: place.entries(Member::Signals).len(),
-            retries: knows_retries(place),
-            ..place.scope
+            signals: cursor.entries(Member::Signals).len(),
+            retries: knows_retries(cursor),
+            ..cursor.scope
         };
-        let within = Place { scope, ..*place };
+        let within = Cursor { scope, ..*cursor };
         let signals = within.list(Member::Signals, faults)?;
         let streams = within.list(Member::Streams, faults)?;
         let parts = Parts {
-            budget: place.number(Member::Budget, MOST_CALLS),
+            budget: cursor.number(Member::Budget, MOST_CALLS),
             streams,
             signals,
         };
-        Ok(plan_of(place.alloc, parts))
+        Ok(plan_of(cursor.alloc, parts))
     }
 }

@@ -1,18 +1,17 @@
 //! A plan, from a text of its own.
 ghost use Rattle.std.specs.Prelude.{◌≡◌, ◌≢◌, Some, Ok, Err, IfOk, IfErr, OnOk, string_bytes, length};
 ghost use Rattle.std.specs.Str.{bytes_eq};
-ghost use Rattle.indexmap.specs.IndexSet.{insert_key};
-ghost use Rattle.json_tree.specs.View.{view};
+ghost use Rattle.sm_plan_text.specs.Words.{insert_key, view};
 ghost use Rattle.sm_placement.specs.Setup.{IsSetup, names_of_servers, names_of_shards};
 ghost use Rattle.sm_plan_code.specs.Plan.{IsKnownPlan};
 ghost use Rattle.sm_plan_text.specs.Reading.{read_plan, read_plan_data};
 
+use crate::cursor::Cursor;
 use crate::document::parse;
 use crate::entry::Entry;
 use crate::fault::{Faults, TextFault};
 use crate::member::Member;
 use crate::names::Names;
-use crate::place::Place;
 use json_tree::{Scratch, Tree};
 use sm_placement::Config;
 use sm_plan_code::Plan;
@@ -54,9 +53,9 @@ fn from_value(alloc: Global, config: &Config, value: &Tree<'_>) -> Result<Plan, 
 {
     let shards = shard_names(alloc, config)?;
     let servers = server_names(alloc, config)?;
-    let place = Place::new(alloc, value, Member::Document, &shards, &servers);
+    let cursor = Cursor::new(alloc, value, Member::Document, &shards, &servers);
     let mut faults = Faults { lowest: None };
-    let plan = Plan::read(&place, &mut faults)?;
+    let plan = Plan::read(&cursor, &mut faults)?;
     match faults.lowest {
         Some(fault) => Err(fault),
         None => Ok(plan),

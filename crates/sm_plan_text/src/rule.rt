@@ -1,19 +1,17 @@
 //! What the members of an object are to be, and the faults of one that is not so.
 ghost use Rattle.std.specs.Prelude.{◌≡◌, ◌∷◌, [], map, option_map, IfOk, OnOk, if◌then◌else◌};
+ghost use Rattle.sm_plan_text.specs.Words.{view, members_view, text_of, noted};
 ghost use Rattle.std.specs.List.{list_all, flat_map, cons_option};
 ghost use Rattle.serde_json.specs.Find.{as_number};
-ghost use Rattle.json_tree.specs.View.{view, members_view};
 ghost use Rattle.sm_placement.specs.Names.{is_name_byte, is_name};
-ghost use Rattle.sm_plan_text.specs.Members.{text_of};
-ghost use Rattle.sm_plan_text.specs.Faults.{noted};
 ghost use Rattle.sm_plan_text.specs.Tables.{texts_found, has_double_key, is_among, has_unknown_member, object_faults, own_faults, row_faults, value_faults, entry_faults, by_word, text, list, keyed};
 ghost use Rattle.sm_plan_text.specs.Rules.{has_form, number_faults, want_of, member_of, row_of};
 
+use crate::cursor::{Cursor, Scope, after_of, items_of, role_of, state_of};
 use crate::fault::{Faults, TextFault};
 use crate::limits::MOST_ASKS;
 use crate::member::Member;
 use crate::names::Names;
-use crate::place::{Place, Scope, after_of, items_of, role_of, state_of};
 use indexmap::IndexSet;
 use json_tree::Tree;
 use sm_plan_code::MOST_RIGHTS;
@@ -197,8 +195,8 @@ fn has_double_key(
     Ok(false)
 }
 
-/// Each call notes the faults of the value at a place, as it is to be so.
-impl<'p, 't> Place<'p, 't> {
+/// Each call notes the faults of the value at a cursor, as it is to be so.
+impl<'p, 't> Cursor<'p, 't> {
     fn note_number(&self, form: Form, faults: &mut Faults)
         ensures { faults.new.lowest ≡ noted faults.old.lowest (number_faults self.now.scope form self.now.member (as_number (view self.now.tree.now))) }
     {
@@ -283,12 +281,12 @@ impl<'p, 't> Place<'p, 't> {
     {
         let (Rule::One(member, form) | Rule::Maybe(member, form)) = *rule;
         if let Some(tree) = self.find(member) {
-            let place = Place {
+            let cursor = Cursor {
                 tree,
                 member,
                 ..*self
             };
-            return place.note_value(form, faults);
+            return cursor.note_value(form, faults);
         }
         if let Rule::One(..) = *rule {
             faults.note(TextFault::Shape { member });

@@ -1,20 +1,16 @@
 //! The servers of a document.
 ghost use Rattle.std.specs.Prelude.{◌≡◌, ◌++◌, ◌∷◌, [], map, length, IfOk, OnOk, if◌then◌else◌};
 ghost use Rattle.std.specs.Str.{bytes_eq};
-ghost use Rattle.indexmap.specs.IndexSet.{insert_key};
-ghost use Rattle.json_tree.specs.View.{view};
+ghost use Rattle.sm_plan_text.specs.Words.{insert_key, view, noted, text_in, flag_in, names_in, id_of, own_faults, walked};
 ghost use Rattle.sm_placement.specs.Config.{server_row};
 ghost use Rattle.sm_plan_text.specs.declared.member.Member.TheVariants as members;
-ghost use Rattle.sm_plan_text.specs.Faults.{noted};
-ghost use Rattle.sm_plan_text.specs.Values.{text_in, flag_in, names_in, id_of};
-ghost use Rattle.sm_plan_text.specs.Tables.{own_faults, walked};
 ghost use Rattle.sm_plan_text.specs.Servers.{server_table, server_faults, server_in, down_in};
 
+use crate::cursor::{Cursor, id};
 use crate::fault::Faults;
 use crate::limits::LOAD_LIMIT;
 use crate::member::Member;
 use crate::names::Names;
-use crate::place::{Place, id};
 use crate::rule::{Form, Rule};
 use json_tree::Tree;
 use sm_placement::Server;
@@ -52,15 +48,15 @@ fn add_server(
         ≡ noted faults.old.lowest (own_faults members.Servers (server_table servers.old.names) (view object.now))) }
 {
     let names = &servers.names;
-    let place = Place::new(alloc, object, Member::Servers, names, names);
-    place.note_own(SERVER, faults)?;
+    let cursor = Cursor::new(alloc, object, Member::Servers, names, names);
+    cursor.note_own(SERVER, faults)?;
     let row = Server {
-        name: place.name(Member::Name)?,
-        region: place.name(Member::Region)?,
-        room: u64::from(place.number(Member::Room, LOAD_LIMIT)),
+        name: cursor.name(Member::Name)?,
+        region: cursor.name(Member::Region)?,
+        room: u64::from(cursor.number(Member::Room, LOAD_LIMIT)),
     };
-    let name = place.name(Member::Name)?;
-    let is_down = place.flag(Member::Down);
+    let name = cursor.name(Member::Name)?;
+    let is_down = cursor.flag(Member::Down);
     let server = ServerId::new(id(servers.rows.len()));
     servers.names.insert(name)?;
     servers.rows.push(row)?;

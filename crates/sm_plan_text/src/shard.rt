@@ -1,21 +1,17 @@
 //! The shards of a document, with their cells.
 ghost use Rattle.std.specs.Prelude.{◌≡◌, ◌++◌, ◌∷◌, [], map, length, IfOk, OnOk};
 ghost use Rattle.std.specs.Str.{bytes_eq};
-ghost use Rattle.indexmap.specs.IndexSet.{insert_key};
-ghost use Rattle.json_tree.specs.View.{view};
+ghost use Rattle.sm_plan_text.specs.Words.{insert_key, view, noted, text_in, names_in, entries_in, own_faults, walked};
 ghost use Rattle.sm_server.specs.Cell.{cell_in};
 ghost use Rattle.sm_placement.specs.Config.{shard_row};
 ghost use Rattle.sm_plan_text.specs.declared.member.Member.TheVariants as members;
-ghost use Rattle.sm_plan_text.specs.Faults.{noted};
-ghost use Rattle.sm_plan_text.specs.Values.{text_in, names_in, entries_in};
-ghost use Rattle.sm_plan_text.specs.Tables.{own_faults, walked};
 ghost use Rattle.sm_plan_text.specs.Shards.{cap_limit, shard_table, faults_of_shard, shard_faults, shard_in, listed_in, cell_table, cell_faults, named_cell, cells_of_shard, cells_in};
 
+use crate::cursor::{Cursor, id};
 use crate::fault::Faults;
 use crate::limits::{LOAD_LIMIT, WANT_LIMIT};
 use crate::member::Member;
 use crate::names::Names;
-use crate::place::{Place, id};
 use crate::rule::{Form, LISTED, Rule, SERVER};
 use json_tree::Tree;
 use sm_placement::{MOST_CELLS, MOST_REPLICAS, Shard};
@@ -35,7 +31,7 @@ pub struct Shards {
 }
 
 /// How many of a shard's replicas may be away at once at most.
-fn cap_limit(shard: &Place<'_, '_>) -> u32
+fn cap_limit(shard: &Cursor<'_, '_>) -> u32
     ensures { result ≡ cap_limit (view shard.now.tree.now) }
 {
     match shard.whole_number(Member::Want) {
@@ -58,20 +54,20 @@ const CELL: &[Rule] = &[SERVER, Rule::One(Member::State, Form::Role)];
 
 /// Reads the cells of a shard.
 fn add_cells(
-    place: &Place<'_, '_>,
+    cursor: &Cursor<'_, '_>,
     shard: ShardId,
     cells: &mut Vec<NamedCell>,
     faults: &mut Faults,
 ) -> Result<(), AllocError>
-    ensures cells { OnOk result (cells.new.items ≡ cells.old.items ++ map (named_cell place.now.scope.servers.now shard) (entries_in members.Cells (view place.now.tree.now))) }
-    ensures faults { OnOk result (faults.new.lowest ≡ noted faults.old.lowest (walked (cell_faults place.now.scope.servers.now) [] (entries_in members.Cells (view place.now.tree.now)))) }
+    ensures cells { OnOk result (cells.new.items ≡ cells.old.items ++ map (named_cell cursor.now.scope.servers.now shard) (entries_in members.Cells (view cursor.now.tree.now))) }
+    ensures faults { OnOk result (faults.new.lowest ≡ noted faults.old.lowest (walked (cell_faults cursor.now.scope.servers.now) [] (entries_in members.Cells (view cursor.now.tree.now)))) }
 {
-    let items = place.entries(Member::Cells);
+    let items = cursor.entries(Member::Cells);
     for tree in items {
-        let cell = Place {
+        let cell = Cursor {
             tree,
             member: Member::Cells,
-            ..*place
+            ..*cursor
         };
         cell.note_own(CELL, faults)?;
         let state = cell_of(cell.role(Member::State));
@@ -82,23 +78,23 @@ fn add_cells(
 
 /// Notes the faults of a shard itself.
 fn note_shard(
-    place: &Place<'_, '_>,
+    cursor: &Cursor<'_, '_>,
     most_cells: usize,
     faults: &mut Faults,
 ) -> Result<(), AllocError>
     ensures { OnOk result (faults.new.lowest ≡ noted faults.old.lowest
-        (own_faults place.now.member (shard_table place.now.scope.servers.now place.now.scope.shards.now most_cells (view place.now.tree.now)) (view place.now.tree.now))) }
+        (own_faults cursor.now.member (shard_table cursor.now.scope.servers.now cursor.now.scope.shards.now most_cells (view cursor.now.tree.now)) (view cursor.now.tree.now))) }
 {
     let rules = [
         Rule::One(Member::Name, Form::NewShard),
         Rule::One(Member::Load, Form::Whole(LOAD_LIMIT)),
         Rule::One(Member::Want, Form::Whole(MOST_REPLICAS)),
-        Rule::One(Member::Cap, Form::Whole(cap_limit(place))),
+        Rule::One(Member::Cap, Form::Whole(cap_limit(cursor))),
         Rule::One(Member::Spread, Form::Whole(MOST_REPLICAS)),
         LISTED,
         Rule::One(Member::Cells, Form::List(most_cells)),
     ];
-    place.note_own(&rules, faults)
+    cursor.note_own(&rules, faults)
 }
 
 /// Reads one shard more.
@@ -118,19 +114,19 @@ fn add_shard(
         ≡ noted faults.old.lowest (faults_of_shard servers.now shards.old.names (length shards.old.cells.items) (view object.now))) }
 {
     let most_cells = MOST_CELLS.saturating_sub(shards.cells.len());
-    let place = Place::new(alloc, object, Member::Shards, &shards.names, servers);
-    note_shard(&place, most_cells, faults)?;
+    let cursor = Cursor::new(alloc, object, Member::Shards, &shards.names, servers);
+    note_shard(&cursor, most_cells, faults)?;
     let shard = ShardId::new(id(shards.rows.len()));
-    add_cells(&place, shard, &mut shards.cells, faults)?;
+    add_cells(&cursor, shard, &mut shards.cells, faults)?;
     let row = Shard {
-        name: place.name(Member::Name)?,
-        load: u64::from(place.number(Member::Load, LOAD_LIMIT)),
-        want: place.number(Member::Want, MOST_REPLICAS),
-        cap: place.number(Member::Cap, cap_limit(&place)),
-        spread: place.number(Member::Spread, MOST_REPLICAS),
+        name: cursor.name(Member::Name)?,
+        load: u64::from(cursor.number(Member::Load, LOAD_LIMIT)),
+        want: cursor.number(Member::Want, MOST_REPLICAS),
+        cap: cursor.number(Member::Cap, cap_limit(&cursor)),
+        spread: cursor.number(Member::Spread, MOST_REPLICAS),
     };
-    let name = place.name(Member::Name)?;
-    shards.listed.push(place.server_found(Member::Listed))?;
+    let name = cursor.name(Member::Name)?;
+    shards.listed.push(cursor.server_found(Member::Listed))?;
     shards.names.insert(name)?;
     shards.rows.push(row)?;
     Ok(())

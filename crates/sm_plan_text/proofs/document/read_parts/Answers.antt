@@ -5,11 +5,11 @@ use Rattle.json_tree.specs.View.{view}
 use Rattle.sm_plan_text.specs.declared.fault.TextFault.{TextFault}
 use Rattle.sm_plan_text.specs.declared.member.Member.{Member}
 use Rattle.sm_plan_text.specs.declared.member.Member.TheVariants as members
-use Rattle.sm_plan_text.specs.declared.place.Place.{Place}
+use Rattle.sm_plan_text.specs.declared.cursor.Cursor.{Cursor}
 use Rattle.sm_plan_text.specs.Members.{text_of}
 use Rattle.sm_plan_text.specs.Faults.{noted}
 use Rattle.sm_plan_text.specs.Values.{found, limited, list_in, items_of, entries_in, entries_found, names_in, id_named}
-use Rattle.sm_plan_text.specs.Tables.{own_faults, walked}
+use Rattle.sm_plan_text.specs.Tables.{Row, own_faults, walked}
 use Rattle.sm_plan_text.specs.Servers.{server_faults, server_in, down_in}
 use Rattle.sm_plan_text.specs.Shards.{shard_faults, shard_in, listed_in, cells_in}
 use Rattle.sm_plan_text.specs.Calls.{call_faults, call_in}
@@ -32,23 +32,23 @@ pub returns-clause-faults : goal.returns-clause-faults
 returns-clause-faults c = λ d is.
     let kept : Data = view c.args.tree.now in
     let others = outlined_others c.args.early kept d is in
-    let apart_data : view c.new-lists.result.tree.now ≡ kept = ap (λ (p : Place). view p.tree.now) c.new-lists.ensures in
+    let apart_data : view c.new-lists.result.tree.now ≡ kept = ap (λ (p : Cursor). view p.tree.now) c.new-lists.ensures in
     let server_items : map view c.entries.result.now ≡ servers_in d = c.entries.ensures ∙ ap (entries_in members.Servers) apart_data ∙ sym (ap entries_found (others members.Servers (differs _ _ refl) (differs _ _ refl))) in
     let shard_items : map view c.entries-shard_items.result.now ≡ shards_in d = c.entries-shard_items.ensures ∙ ap (entries_in members.Shards) apart_data ∙ sym (ap entries_found (others members.Shards (differs _ _ refl) (differs _ _ refl))) in
     let S : List (List ℕ) = server_names_in d in
     let N : List (List ℕ) = shard_names_in d in
     let servers_read : c.in_ok-servers.servers.names ≡ S = c.in_ok-servers.ensures.names ∙ ap names_in server_items in
     let shards_read : c.in_ok-shards.shards.names ≡ N = c.in_ok-shards.ensures.names ∙ ap names_in shard_items in
-    let doc : view c.new-place.result.tree.now ≡ kept = ap (λ (p : Place). view p.tree.now) c.new-place.ensures in
-    let parent : c.new-place.result.member ≡ members.Document = ap (λ (p : Place). p.member) c.new-place.ensures in
-    let servers : c.new-place.result.scope.servers.now ≡ S = ap (λ (p : Place). p.scope.servers.now) c.new-place.ensures ∙ servers_read in
-    let shards : c.new-place.result.scope.shards.now ≡ N = ap (λ (p : Place). p.scope.shards.now) c.new-place.ensures ∙ shards_read in
-    let at : (m : Member) → bytes_eq (text_of m) (text_of members.Calls) ≡ false → bytes_eq (text_of m) (text_of members.Events) ≡ false → found m (view c.new-place.result.tree.now) ≡ found m d =
+    let doc : view c.new-cursor.result.tree.now ≡ kept = ap (λ (p : Cursor). view p.tree.now) c.new-cursor.ensures in
+    let parent : c.new-cursor.result.member ≡ members.Document = ap (λ (p : Cursor). p.member) c.new-cursor.ensures in
+    let servers : c.new-cursor.result.scope.servers.now ≡ S = ap (λ (p : Cursor). p.scope.servers.now) c.new-cursor.ensures ∙ servers_read in
+    let shards : c.new-cursor.result.scope.shards.now ≡ N = ap (λ (p : Cursor). p.scope.shards.now) c.new-cursor.ensures ∙ shards_read in
+    let at : (m : Member) → bytes_eq (text_of m) (text_of members.Calls) ≡ false → bytes_eq (text_of m) (text_of members.Events) ≡ false → found m (view c.new-cursor.result.tree.now) ≡ found m d =
     λ m calls events. ap (found m) doc ∙ sym (others m (differs _ _ calls) (differs _ _ events)) in
-    let lists : AreKept c.new-place.result.scope c.args.early (view c.new-place.result.tree.now) (found members.Calls d) (found members.Events d) =
-    subst (λ (o : Data). AreKept c.new-place.result.scope c.args.early o (found members.Calls d) (found members.Events d)) (sym doc)
-    (outlined_lists c.args.early kept d is _ _ (ap (λ (p : Place). p.scope.shards.now) c.new-place.ensures ∙ c.in_ok-shards.ensures.names ∙ ap names_in (c.entries-shard_items.ensures ∙ ap (entries_in members.Shards) apart_data))
-    (ap (λ (p : Place). p.scope.servers.now) c.new-place.ensures ∙ c.in_ok-servers.ensures.names ∙ ap names_in (c.entries.ensures ∙ ap (entries_in members.Servers) apart_data))) in
+    let lists : AreKept c.new-cursor.result.scope c.args.early (view c.new-cursor.result.tree.now) (found members.Calls d) (found members.Events d) =
+    subst (λ (o : Data). AreKept c.new-cursor.result.scope c.args.early o (found members.Calls d) (found members.Events d)) (sym doc)
+    (outlined_lists c.args.early kept d is _ _ (ap (λ (p : Cursor). p.scope.shards.now) c.new-cursor.ensures ∙ c.in_ok-shards.ensures.names ∙ ap names_in (c.entries-shard_items.ensures ∙ ap (entries_in members.Shards) apart_data))
+    (ap (λ (p : Cursor). p.scope.servers.now) c.new-cursor.ensures ∙ c.in_ok-servers.ensures.names ∙ ap names_in (c.entries.ensures ∙ ap (entries_in members.Servers) apart_data))) in
     let own : List TextFault = own_faults members.Document (document_table N S) d in
     let of_servers : List TextFault = walked server_faults [] (servers_in d) in
     let of_shards : List TextFault = walked (shard_faults S) [] (shards_in d) in
@@ -60,7 +60,7 @@ returns-clause-faults c = λ d is.
     let apart = two_noted _ _ _ of_servers of_shards
     (c.in_ok-servers.ensures.faults ∙ (λ j. noted None (walked server_faults [] (server_items j))))
     (c.in_ok-shards.ensures.faults ∙ (λ j. noted c.read_servers.new.faults.lowest (walked (shard_faults (servers_read j)) [] (shard_items j)))) in
-    let at_own = c.in_ok-note_own.ensures ∙ (λ j. noted c.args.faults.now.lowest (own_faults (parent j) (document_table (shards j) (servers j)) (doc j))) ∙ sym (ap (noted c.args.faults.now.lowest) (outlined_own c.args.early kept d is N S)) in
+    let at_own = c.in_ok-note_own.ensures ∙ ap (λ (rows : List Row). noted c.args.faults.now.lowest (own_faults c.new-cursor.result.member rows (view c.new-cursor.result.tree.now))) (c.document_rules.ensures c.new-cursor.result.scope) ∙ (λ j. noted c.args.faults.now.lowest (own_faults (parent j) (document_table (shards j) (servers j)) (doc j))) ∙ sym (ap (noted c.args.faults.now.lowest) (outlined_own c.args.early kept d is N S)) in
     let to_shards = two_noted _ _ _ own (of_servers ++ of_shards) at_own (c.append.ensures (of_servers ++ of_shards) apart) in
     let at_work = c.in_ok-work.ensures.faults (found members.Calls d) (found members.Events d) lists ∙ (λ j. noted (noted (noted (noted (noted c.append.new.self.lowest
     (walked (call_faults (shards j) (servers j)) [] (entries_in members.Calls d)))
@@ -75,25 +75,25 @@ pub returns-clause-rows : goal.returns-clause-rows
 returns-clause-rows c = λ d is none.
     let kept : Data = view c.args.tree.now in
     let others = outlined_others c.args.early kept d is in
-    let apart_data : view c.new-lists.result.tree.now ≡ kept = ap (λ (p : Place). view p.tree.now) c.new-lists.ensures in
+    let apart_data : view c.new-lists.result.tree.now ≡ kept = ap (λ (p : Cursor). view p.tree.now) c.new-lists.ensures in
     let server_items : map view c.entries.result.now ≡ servers_in d = c.entries.ensures ∙ ap (entries_in members.Servers) apart_data ∙ sym (ap entries_found (others members.Servers (differs _ _ refl) (differs _ _ refl))) in
     let shard_items : map view c.entries-shard_items.result.now ≡ shards_in d = c.entries-shard_items.ensures ∙ ap (entries_in members.Shards) apart_data ∙ sym (ap entries_found (others members.Shards (differs _ _ refl) (differs _ _ refl))) in
     let servers_read : c.in_ok-servers.servers.names ≡ server_names_in d = c.in_ok-servers.ensures.names ∙ ap names_in server_items in
     let shards_read : c.in_ok-shards.shards.names ≡ shard_names_in d = c.in_ok-shards.ensures.names ∙ ap names_in shard_items in
-    let N : List (List ℕ) = c.new-place.result.scope.shards.now in
-    let S : List (List ℕ) = c.new-place.result.scope.servers.now in
-    let doc : view c.new-place.result.tree.now ≡ kept = ap (λ (p : Place). view p.tree.now) c.new-place.ensures in
-    let servers : S ≡ server_names_in d = ap (λ (p : Place). p.scope.servers.now) c.new-place.ensures ∙ servers_read in
-    let shards : N ≡ shard_names_in d = ap (λ (p : Place). p.scope.shards.now) c.new-place.ensures ∙ shards_read in
-    let at : (m : Member) → bytes_eq (text_of m) (text_of members.Calls) ≡ false → bytes_eq (text_of m) (text_of members.Events) ≡ false → found m (view c.new-place.result.tree.now) ≡ found m d =
+    let N : List (List ℕ) = c.new-cursor.result.scope.shards.now in
+    let S : List (List ℕ) = c.new-cursor.result.scope.servers.now in
+    let doc : view c.new-cursor.result.tree.now ≡ kept = ap (λ (p : Cursor). view p.tree.now) c.new-cursor.ensures in
+    let servers : S ≡ server_names_in d = ap (λ (p : Cursor). p.scope.servers.now) c.new-cursor.ensures ∙ servers_read in
+    let shards : N ≡ shard_names_in d = ap (λ (p : Cursor). p.scope.shards.now) c.new-cursor.ensures ∙ shards_read in
+    let at : (m : Member) → bytes_eq (text_of m) (text_of members.Calls) ≡ false → bytes_eq (text_of m) (text_of members.Events) ≡ false → found m (view c.new-cursor.result.tree.now) ≡ found m d =
     λ m calls events. ap (found m) doc ∙ sym (others m (differs _ _ calls) (differs _ _ events)) in
-    let lists : AreKept c.new-place.result.scope c.args.early (view c.new-place.result.tree.now) (found members.Calls d) (found members.Events d) =
-    subst (λ (o : Data). AreKept c.new-place.result.scope c.args.early o (found members.Calls d) (found members.Events d)) (sym doc)
-    (outlined_lists c.args.early kept d is _ _ (ap (λ (p : Place). p.scope.shards.now) c.new-place.ensures ∙ c.in_ok-shards.ensures.names ∙ ap names_in (c.entries-shard_items.ensures ∙ ap (entries_in members.Shards) apart_data))
-    (ap (λ (p : Place). p.scope.servers.now) c.new-place.ensures ∙ c.in_ok-servers.ensures.names ∙ ap names_in (c.entries.ensures ∙ ap (entries_in members.Servers) apart_data))) in
+    let lists : AreKept c.new-cursor.result.scope c.args.early (view c.new-cursor.result.tree.now) (found members.Calls d) (found members.Events d) =
+    subst (λ (o : Data). AreKept c.new-cursor.result.scope c.args.early o (found members.Calls d) (found members.Events d)) (sym doc)
+    (outlined_lists c.args.early kept d is _ _ (ap (λ (p : Cursor). p.scope.shards.now) c.new-cursor.ensures ∙ c.in_ok-shards.ensures.names ∙ ap names_in (c.entries-shard_items.ensures ∙ ap (entries_in members.Shards) apart_data))
+    (ap (λ (p : Cursor). p.scope.servers.now) c.new-cursor.ensures ∙ c.in_ok-servers.ensures.names ∙ ap names_in (c.entries.ensures ∙ ap (entries_in members.Servers) apart_data))) in
     let known_few = names_are_few d (none_at_all _ _ (document_faults d) (returns-clause-faults c d is) none) in
     let few : HaveIds N S = subst (λ names. HaveIds names S) (sym shards) (subst (HaveIds (shard_names_in d)) (sym servers) known_few) in
-    let work : IsWork c.new-place.result.scope (view c.new-place.result.tree.now) (found members.Calls d) (found members.Events d) c.in_ok-work.work = c.in_ok-work.ensures.work (found members.Calls d) (found members.Events d) lists few none in
+    let work : IsWork c.new-cursor.result.scope (view c.new-cursor.result.tree.now) (found members.Calls d) (found members.Events d) c.in_ok-work.work = c.in_ok-work.ensures.work (found members.Calls d) (found members.Events d) lists few none in
     λ k. record {
       setup = record {
         servers = (c.in_ok-servers.ensures.rows ∙ ap (map server_in) server_items) k;

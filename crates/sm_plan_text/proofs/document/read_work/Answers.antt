@@ -18,9 +18,9 @@ use Rattle.sm_plan_text.proofs.document.read_work.Goals as goal
 
 pub returns-clause-faults : goal.returns-clause-faults
 returns-clause-faults c = λ calls events kept.
-    let d : Data = view c.args.place.now.tree.now in
-    let N : List (List ℕ) = c.args.place.now.scope.shards.now in
-    let S : List (List ℕ) = c.args.place.now.scope.servers.now in
+    let d : Data = view c.args.cursor.now.tree.now in
+    let N : List (List ℕ) = c.args.cursor.now.scope.shards.now in
+    let S : List (List ℕ) = c.args.cursor.now.scope.servers.now in
     let of_plan : List TextFault = faults_within (plan_faults members.Plan N S []) (found members.Plan d) in
     let of_plans : List TextFault = walked (plan_faults members.Plans N S) [] (entries_in members.Plans d) in
     let of_events : List TextFault = walked (event_faults N S) [] (entries_found events) in
@@ -35,9 +35,9 @@ returns-clause-faults c = λ calls events kept.
 
 pub returns-clause-work : goal.returns-clause-work
 returns-clause-work c = λ calls events kept few none.
-    let d : Data = view c.args.place.now.tree.now in
-    let N : List (List ℕ) = c.args.place.now.scope.shards.now in
-    let S : List (List ℕ) = c.args.place.now.scope.servers.now in
+    let d : Data = view c.args.cursor.now.tree.now in
+    let N : List (List ℕ) = c.args.cursor.now.scope.shards.now in
+    let S : List (List ℕ) = c.args.cursor.now.scope.servers.now in
     let calls_kept = subst (λ early. IsKept (call_faults N S) (call_in N S) (HaveIds N S) early (found members.Calls d) calls) (sym (ap (λ p. p.0) c.lists_of-calls.ensures)) kept.0 in
     let events_kept = subst (λ early. IsKept (event_faults N S) (event_in N S) (HaveIds N S) early (found members.Events d) events) (sym (ap (λ p. p.1) c.lists_of-calls.ensures)) kept.1 in
     let to_moves = none_before _ _ (walked (λ _ _. []) [] (entries_in members.Asks d)) c.in_ok-list.ensures.faults none in

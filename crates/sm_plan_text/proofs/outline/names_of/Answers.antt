@@ -4,7 +4,7 @@ use Rattle.indexmap.specs.IndexSet.{insert_key}
 use Rattle.serde_json.specs.Data.{Data}
 use Rattle.json_tree.specs.View.{view}
 use Rattle.sm_plan_text.specs.declared.member.Member.TheVariants as members
-use Rattle.sm_plan_text.specs.declared.place.Place.{Place}
+use Rattle.sm_plan_text.specs.declared.cursor.Cursor.{Cursor}
 use Rattle.sm_plan_text.specs.Values.{text_in, names_in}
 use Rattle.sm_plan_text.proofs.WalkLemmas.{step_on}
 use Rattle.sm_plan_text.proofs.ServerLemmas.{names_in_push}
@@ -17,5 +17,5 @@ loop-item-preserved c =
     let item = c.item-item.result in
     let front : List Data = take i (map view items) in
     step_on names_in items i item _ c.loop-item-test.true c.item-item.is
-    (c.in_ok-insert.ensures ∙ ap (insert_key bytes_eq c.loop-item.names) (c.in_ok-name.ensures ∙ ap (λ (p : Place). text_in members.Name (view p.tree.now)) c.new-place.ensures)
+    (c.in_ok-insert.ensures ∙ ap (insert_key bytes_eq c.loop-item.names) (c.in_ok-name.ensures ∙ ap (λ (p : Cursor). text_in members.Name (view p.tree.now)) c.new-cursor.ensures)
     ∙ ap (λ names. insert_key bytes_eq names (text_in members.Name (view item))) c.loop-item.invariant ∙ sym (names_in_push front (view item)))

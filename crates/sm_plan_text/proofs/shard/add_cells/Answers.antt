@@ -6,7 +6,7 @@ use Rattle.sm_plan_text.proofs.shard.add_cells.Goals as goal
 
 pub loop-tree-preserved : goal.loop-tree-preserved
 loop-tree-preserved c =
-    let servers = c.args.place.now.scope.servers.now in
+    let servers = c.args.cursor.now.scope.servers.now in
     let items = c.entries-items.result.now in
     let i = c.loop-tree.tree-index in
     let tree = c.tree-item.result in

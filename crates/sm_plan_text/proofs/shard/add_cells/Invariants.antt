@@ -7,7 +7,7 @@ use Rattle.sm_plan_text.proofs.shard.add_cells.Given as goal
 
 abbrev pub invariant-loop-tree : goal.invariant-loop-tree
 invariant-loop-tree l =
-    let servers = l.place.scope.servers.now in
+    let servers = l.cursor.scope.servers.now in
     record {
       cells : l.cells.items ≡ l.fn.cells.items ++ map (named_cell servers l.shard) (take l.tree-index (map view l.items));
       faults : noted l.faults.lowest (walked (cell_faults servers) (take l.tree-index (map view l.items)) (drop l.tree-index (map view l.items))) ≡ noted l.fn.faults.lowest (walked (cell_faults servers) [] (map view l.items));

@@ -8,13 +8,13 @@ use Rattle.sm_plan_text.proofs.instruction.InstrEntry.read.Goals as goal
 
 pub returns-clause-faults : goal.returns-clause-faults
 returns-clause-faults c =
-    let scope = c.args.place.now.scope in
-    worded_faults_noted c.args.place.now.member members.Do instr_word (instr_table scope.shards.now scope.servers.now scope.signals) scope (view c.args.place.now.tree.now) c.text-word.result.now c.rules_of.result c.args.faults.now.lowest _
+    let scope = c.args.cursor.now.scope in
+    worded_faults_noted c.args.cursor.now.member members.Do instr_word (instr_table scope.shards.now scope.servers.now scope.signals) scope (view c.args.cursor.now.tree.now) c.text-word.result.now c.rules_of.result c.args.faults.now.lowest _
     refl c.text-word.ensures (c.rules_of.ensures scope) c.in_ok-note_worded.ensures
 
 pub returns-clause-value : goal.returns-clause-value
 returns-clause-value c = λ few none.
-    let scope = c.args.place.now.scope in
-    let d : Data = view c.args.place.now.tree.now in
-    worded_value (λ o. c.instr_of.result ≡ instr_by scope.shards.now scope.servers.now scope.signals d o) (λ w. c.instr_of.result ≡ instr_of scope.shards.now scope.servers.now scope.signals d w) c.args.place.now.member members.Do instr_word (instr_table scope.shards.now scope.servers.now scope.signals) d c.text-word.result.now _ _
+    let scope = c.args.cursor.now.scope in
+    let d : Data = view c.args.cursor.now.tree.now in
+    worded_value (λ o. c.instr_of.result ≡ instr_by scope.shards.now scope.servers.now scope.signals d o) (λ w. c.instr_of.result ≡ instr_of scope.shards.now scope.servers.now scope.signals d w) c.args.cursor.now.member members.Do instr_word (instr_table scope.shards.now scope.servers.now scope.signals) d c.text-word.result.now _ _
     refl c.text-word.ensures (λ w h. h) c.instr_of.ensures (returns-clause-faults c) none

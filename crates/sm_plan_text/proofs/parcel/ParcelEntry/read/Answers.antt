@@ -16,10 +16,10 @@ use Rattle.sm_plan_text.proofs.parcel.ParcelEntry.read.Goals as goal
 
 pub returns-clause-faults : goal.returns-clause-faults
 returns-clause-faults c =
-    let d : Data = view c.args.place.now.tree.now in
-    let N : List (List ℕ) = c.args.place.now.scope.shards.now in
-    let S : List (List ℕ) = c.args.place.now.scope.servers.now in
-    let own : List TextFault = own_faults c.args.place.now.member parcel_table d in
+    let d : Data = view c.args.cursor.now.tree.now in
+    let N : List (List ℕ) = c.args.cursor.now.scope.shards.now in
+    let S : List (List ℕ) = c.args.cursor.now.scope.servers.now in
+    let own : List TextFault = own_faults c.args.cursor.now.member parcel_table d in
     let cells : List TextFault = walked (right_faults N S) [] (entries_in members.Cells d) in
     let crowns : List TextFault = walked (crown_faults N S) [] (entries_in members.Crowns d) in
     let room : List TextFault = walked (room_faults S) [] (entries_in members.Room d) in
@@ -31,10 +31,10 @@ returns-clause-faults c =
 
 pub returns-clause-value : goal.returns-clause-value
 returns-clause-value c = λ few none.
-    let d : Data = view c.args.place.now.tree.now in
-    let N : List (List ℕ) = c.args.place.now.scope.shards.now in
-    let S : List (List ℕ) = c.args.place.now.scope.servers.now in
-    let faults : List TextFault = parcel_faults c.args.place.now.member N S [] d in
+    let d : Data = view c.args.cursor.now.tree.now in
+    let N : List (List ℕ) = c.args.cursor.now.scope.shards.now in
+    let S : List (List ℕ) = c.args.cursor.now.scope.servers.now in
+    let faults : List TextFault = parcel_faults c.args.cursor.now.member N S [] d in
     let faultless : faults ≡ [] = none_at_all _ _ faults (returns-clause-faults c) none in
     let to_room = none_before _ _ (walked (spare_faults N) [] (entries_in members.Spare d)) c.in_ok-list-4.ensures.faults none in
     let to_crowns = none_before _ _ (walked (room_faults S) [] (entries_in members.Room d)) c.in_ok-list-3.ensures.faults to_room in
@@ -45,4 +45,4 @@ returns-clause-value c = λ few none.
       room = c.in_ok-list-3.ensures.list few to_room k;
       spare = c.in_ok-list-4.ensures.list few none k;
     } in
-    c.in_ok-parcel.ensures (subst IsOnce (sym rights) (parcel_is_once c.args.place.now.member N S d few faultless)) ∙ ap in_order rights
+    c.in_ok-parcel.ensures (subst IsOnce (sym rights) (parcel_is_once c.args.cursor.now.member N S d few faultless)) ∙ ap in_order rights

@@ -4,7 +4,7 @@ use Rattle.sm_plan_text.specs.Faults.{noted}
 use Rattle.sm_plan_text.specs.Values.{entries_in}
 use Rattle.sm_plan_text.specs.Tables.{walked}
 use Rattle.sm_plan_text.specs.Rules.{HasIds}
-use Rattle.sm_plan_text.proofs.place.Place.list.Given as goal
+use Rattle.sm_plan_text.proofs.cursor.Cursor.list.Given as goal
 
 abbrev pub invariant-loop-item : goal.invariant-loop-item
 invariant-loop-item g l = record {

@@ -1,7 +1,7 @@
 //! Where a text is read: a JSON value, the member that it stands in, and what it may name. A member of the value that is missing
 //! or not in its form stands for 0, false, or what is empty.
 ghost use Rattle.std.specs.Prelude.{◌≡◌, [], option_map, option_and_then, unwrap_or, map, false, IfOk, string_bytes};
-ghost use Rattle.json_tree.specs.View.{view};
+ghost use Rattle.sm_plan_text.specs.Words.{view};
 ghost use Rattle.sm_plan_text.specs.Values.{found, whole_number_of, text_in, role_named, role_in, after_named, flag_in, number_in, number_or, number_below, items_of, entries_in, id_of, id_named, id_in};
 ghost use Rattle.sm_plan_text.specs.Parcels.{plain_named};
 
@@ -22,14 +22,14 @@ pub struct Scope<'p> {
 }
 
 #[derive(Clone, Copy)]
-pub struct Place<'p, 't> {
+pub struct Cursor<'p, 't> {
     pub alloc: Global,
     pub tree: &'p Tree<'t>,
     pub member: Member,
     pub scope: Scope<'p>,
 }
 
-impl<'p, 't> Place<'p, 't> {
+impl<'p, 't> Cursor<'p, 't> {
     pub fn new(
         alloc: Global,
         tree: &'p Tree<'t>,
@@ -50,7 +50,7 @@ impl<'p, 't> Place<'p, 't> {
             signals: 0,
             retries: false,
         };
-        Place {
+        Cursor {
             alloc,
             tree,
             member,

@@ -2,7 +2,7 @@ use Rattle.std.proofs.Common.{◌++◌, ◌∷◌, [], ◌∙◌, ap}
 use Rattle.json_tree.specs.View.{view}
 use Rattle.sm_plan_text.proofs.WalkLemmas.{mapped_step, walked_step}
 use Rattle.sm_plan_text.proofs.PlanLemmas.{none_before}
-use Rattle.sm_plan_text.proofs.place.Place.list.Goals as goal
+use Rattle.sm_plan_text.proofs.cursor.Cursor.list.Goals as goal
 
 pub loop-item-preserved : goal.loop-item-preserved
 loop-item-preserved g c =

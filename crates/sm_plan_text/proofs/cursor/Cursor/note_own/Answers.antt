@@ -1,7 +1,7 @@
 use Rattle.std.proofs.lemmas.Result.{on_ok_weaker}
 use Rattle.json_tree.specs.View.{view}
 use Rattle.sm_plan_text.proofs.RuleLemmas.{own_noted}
-use Rattle.sm_plan_text.proofs.place.Place.note_own.Goals as goal
+use Rattle.sm_plan_text.proofs.cursor.Cursor.note_own.Goals as goal
 
 pub returns : goal.returns
 returns c =

@@ -6,7 +6,7 @@ use Rattle.sm_plan_text.specs.Tables.{walked}
 use Rattle.sm_plan_text.specs.Rules.{HasIds}
 use Rattle.sm_plan_text.specs.Outlines.{IsKept}
 use Rattle.sm_plan_text.proofs.PlanLemmas.{none_at_all}
-use Rattle.sm_plan_text.proofs.place.Place.list_or_early.Goals as goal
+use Rattle.sm_plan_text.proofs.cursor.Cursor.list_or_early.Goals as goal
 
 pub returns-in_default-clause-faults : goal.returns-in_default-clause-faults
 returns-in_default-clause-faults g c = λ whole is.

@@ -1,7 +1,7 @@
 use Rattle.std.proofs.Common.{◌∙◌}
 use Rattle.json_tree.specs.View.{view}
 use Rattle.sm_plan_text.proofs.RuleLemmas.{rows_step}
-use Rattle.sm_plan_text.proofs.place.Place.note_rows.Goals as goal
+use Rattle.sm_plan_text.proofs.cursor.Cursor.note_rows.Goals as goal
 
 pub loop-rule-preserved : goal.loop-rule-preserved
 loop-rule-preserved c =

@@ -7,7 +7,7 @@ use Rattle.sm_plan_text.specs.Faults.{noted}
 use Rattle.sm_plan_text.specs.Tables.{by_word}
 use Rattle.sm_plan_text.specs.Rules.{row_of}
 use Rattle.sm_plan_text.proofs.RuleLemmas.{worded_noted}
-use Rattle.sm_plan_text.proofs.place.Place.note_worded.Goals as goal
+use Rattle.sm_plan_text.proofs.cursor.Cursor.note_worded.Goals as goal
 
 pub returns : goal.returns
 returns c =
