@@ -23,24 +23,24 @@ use Rattle.sm_machine.proofs.Tables.{inner, inner-more}
 use Rattle.sm_machine.proofs.ties.Carrying.{no_rights_hold}
 
 module _ (p : CheckedModel) (courses : List CourseModel) (f : AreFilled p.plan.streams (length p.plan.streams) (ready_courses p) courses) where
-  abbrev rooms : ℕ → ℕ
-  rooms i = slice_index p.peaks i
+  abbrev peaks : ℕ → ℕ
+  peaks i = slice_index p.peaks i
 
   abbrev streams : ℕ
   streams = length p.plan.streams
 
-  ready_at : (i : ℕ) → i < streams → get_or (ready_courses p) i no_course ≡ ready_course (rooms i)
-  ready_at i l = first_at rooms streams i no_course l
+  ready_at : (i : ℕ) → i < streams → get_or (ready_courses p) i no_course ≡ ready_course (peaks i)
+  ready_at i l = first_at peaks streams i no_course l
 
   -- no stream has made anything
   pub courses_fresh : (i : ℕ) → (get_or courses i no_course).progress ≡ fresh
   courses_fresh i = elim (cases_lt i streams) [
     | inl l ↦ (f.filled i l).progress ∙ ap (λ (x : CourseModel). x.progress) (ready_at i l)
-    | inr l ↦ ap (λ (x : CourseModel). x.progress) (f.left i l ∙ get_or_past (ready_courses p) i no_course (subst (λ k. k ≤ i) (sym (first_count rooms streams)) l))
+    | inr l ↦ ap (λ (x : CourseModel). x.progress) (f.left i l ∙ get_or_past (ready_courses p) i no_course (subst (λ k. k ≤ i) (sym (first_count peaks streams)) l))
   ]
 
   -- each stream has what it declares
-  pub courses_granted : (i : ℕ) → i < streams → IsGranted (declares p.plan.streams i) (rooms i) (get_or courses i no_course).grant
+  pub courses_granted : (i : ℕ) → i < streams → IsGranted (declares p.plan.streams i) (peaks i) (get_or courses i no_course).grant
   courses_granted i l = record {
     hold = (f.filled i l).hold ∙ ap (λ (x : CourseModel). plus (hold_in x.grant) (declares p.plan.streams i)) (ready_at i l) ∙ ap (λ h. plus h (declares p.plan.streams i)) (no_rights_hold);
     capacity = (f.filled i l).capacity ∙ ap (λ (x : CourseModel). capacity_in x.grant) (ready_at i l);

@@ -32,9 +32,9 @@ use Rattle.sm_machine.specs.Course.{hold_in, capacity_in}
 use Rattle.sm_machine.specs.Begun.{course_at}
 use Rattle.sm_machine.specs.State.{Whole}
 use Rattle.sm_machine.specs.Tied.{IsTied, HasCounters, declares, pool_left}
-use Rattle.sm_machine.specs.Working.{IsWorking, HasRoomOn, IsUnsent}
+use Rattle.sm_machine.specs.Working.{IsWorking, HasCapacityOn, IsUnsent}
 use Rattle.sm_machine.specs.Starts.{empty_kept, ready_course, begun_of, CanFillAt, CanFillAll, IsBegunIn, fault_after, begin_fault}
-use Rattle.sm_machine.specs.Started.{AreRoomsOf, IsStarted, IsNotStarted}
+use Rattle.sm_machine.specs.Started.{ArePeaksOf, IsStarted, IsNotStarted}
 use Rattle.sm_machine.proofs.Readied.{first_at}
 use Rattle.sm_machine.proofs.ties.Starting.{can_fill, tied_started}
 use Rattle.sm_machine.proofs.ties.Counters.{counted_started}
@@ -124,11 +124,11 @@ module _ (x : Whole) (g : IsWorking x) (p : CheckedModel) (checked : IsCheckedPl
     pub happens_so : happens w (Begin p.plan) ≡ (Answered (played.Begun (length w.plans)), started w p.plan)
     happens_so = ap (begun w p.plan) unheld ∙ (rw (roomy, not_all) refl)
 
-    module _ (rooms : AreRoomsOf w.sizes p (length p.plan.streams)) where
+    module _ (peaks : ArePeaksOf w.sizes p (length p.plan.streams)) where
       -- each stream can take what it declares
       pub can_fill_all : CanFillAll (begun_of p 0) x.pool
       can_fill_all i l =
-          let a = can_fill g.setup w g.reached p.plan checked admitted i l (empty_kept (slice_index p.peaks i)) refl (slice_index p.peaks i) (rooms i l) (omega arith) in
+          let a = can_fill g.setup w g.reached p.plan checked admitted i l (empty_kept (slice_index p.peaks i)) refl (slice_index p.peaks i) (peaks i l) (omega arith) in
           let at : course_at (begun_of p 0) i ≡ ready_course (slice_index p.peaks i) = first_at (λ j. slice_index p.peaks j) (length p.plan.streams) i _ l in
           subst (λ h. CanFillAt (pool_left h p.plan.streams i) (course_at (begun_of p 0) i) (declares p.plan.streams i)) (sym g.tied.pool)
           (subst (λ c. CanFillAt (pool_left (pool w) p.plan.streams i) c (declares p.plan.streams i)) (sym at) (record {
@@ -162,24 +162,24 @@ module _ (x : Whole) (g : IsWorking x) (p : CheckedModel) (checked : IsCheckedPl
             (λ k q l. ap hold_in (b.parcels k q l))
             (λ q l. ap hold_in (b.parceled q l) ∙ no_rights_hold))
 
-        granted_room : (s : Course) (n : ℕ) → IsPeak s n → (o : Option HoldModel) → capacity_in o ≡ n → HasRoomOn s o
-        granted_room s n r None e = tt
-        granted_room s n r (Some k) e = (n, r, omega arith)
+        granted_capacity : (s : Course) (n : ℕ) → IsPeak s n → (o : Option HoldModel) → capacity_in o ≡ n → HasCapacityOn s o
+        granted_capacity s n r None e = tt
+        granted_capacity s n r (Some k) e = (n, r, omega arith)
 
-        rooms_here : (id : StreamId) → is_begun next id ≡ true → HasRoomOn (stream_at w.sizes (plan_at next id.plan) id.stream) (y.grants id.plan id.stream)
-        rooms_here id e =
+        capacities_here : (id : StreamId) → is_begun next id ≡ true → HasCapacityOn (stream_at w.sizes (plan_at next id.plan) id.stream) (y.grants id.plan id.stream)
+        capacities_here id e =
             let is = known_begun next id e in
             elim (cases_lt id.plan place) [
               | inl old ↦
                   let was : is_begun w id ≡ true = is_begun_true w id (record { plan = old; stream = subst (λ z. id.stream < length z.streams) (old_plan id.plan old) is.stream }) in
-                  subst (λ o. HasRoomOn (stream_at w.sizes (plan_at next id.plan) id.stream) o) (sym (b.grants id.plan id.stream old))
-                  (subst (λ z. HasRoomOn (stream_at w.sizes z id.stream) (x.grants id.plan id.stream)) (sym (old_plan id.plan old)) (g.rooms id was))
+                  subst (λ o. HasCapacityOn (stream_at w.sizes (plan_at next id.plan) id.stream) o) (sym (b.grants id.plan id.stream old))
+                  (subst (λ z. HasCapacityOn (stream_at w.sizes z id.stream) (x.grants id.plan id.stream)) (sym (old_plan id.plan old)) (g.capacities id was))
               | inr new ↦
                   let at : id.plan ≡ place = (let n = longer in let l = is.plan in omega arith) in
                   let here : id.stream < length p.plan.streams = subst (λ z. id.stream < length z.streams) (ap (plan_at next) at ∙ new_plan) is.stream in
-                  subst (λ k. HasRoomOn (stream_at w.sizes (plan_at next k) id.stream) (y.grants k id.stream)) (sym at)
-                  (subst (λ z. HasRoomOn (stream_at w.sizes z id.stream) (y.grants place id.stream)) (sym new_plan)
-                  (granted_room (stream_at w.sizes p.plan id.stream) (slice_index p.peaks id.stream) (rooms id.stream here) (y.grants place id.stream) (b.granted id.stream here).capacity))
+                  subst (λ k. HasCapacityOn (stream_at w.sizes (plan_at next k) id.stream) (y.grants k id.stream)) (sym at)
+                  (subst (λ z. HasCapacityOn (stream_at w.sizes z id.stream) (y.grants place id.stream)) (sym new_plan)
+                  (granted_capacity (stream_at w.sizes p.plan id.stream) (slice_index p.peaks id.stream) (peaks id.stream here) (y.grants place id.stream) (b.granted id.stream here).capacity))
             ]
 
         unsent_here : (k q : ℕ) → k < length next.plans → q < signal_count next k → (next.marks k q).posted ≡ false → IsUnsent (y.parcels k q) (parcel_at next k q)
@@ -215,7 +215,7 @@ module _ (x : Whole) (g : IsWorking x) (p : CheckedModel) (checked : IsCheckedPl
             setup = g.setup;
             reached = subst (λ z. IsReached g.setup z) (sym b.state) reached_here;
             tied = subst (λ z. IsTied z y.pool (λ k i. hold_in (y.grants k i)) (λ k q. hold_in (y.parcels k q))) (sym b.state) tied_here;
-            rooms = subst (λ (z : State). (id : StreamId) → is_begun z id ≡ true → HasRoomOn (stream_at z.sizes (plan_at z id.plan) id.stream) (y.grants id.plan id.stream)) (sym b.state) rooms_here;
+            capacities = subst (λ (z : State). (id : StreamId) → is_begun z id ≡ true → HasCapacityOn (stream_at z.sizes (plan_at z id.plan) id.stream) (y.grants id.plan id.stream)) (sym b.state) capacities_here;
             unsent = subst (λ (z : State). (k q : ℕ) → k < length z.plans → q < signal_count z k → (z.marks k q).posted ≡ false → IsUnsent (y.parcels k q) (parcel_at z k q)) (sym b.state) unsent_here;
             counted = subst (λ z. HasCounters z y.unfinished running free) (sym b.state) (counted_here free running f r);
           };

@@ -33,7 +33,7 @@ use Rattle.sm_machine.specs.Course.{hold_in, rights_in, HasCapacityIn, IsGrantIn
 use Rattle.sm_machine.specs.State.{Whole}
 use Rattle.sm_machine.specs.Trade.{CanTrade, CanTradeUnless, IsTradedBy}
 use Rattle.sm_machine.specs.Ready.{IsReadyToGo, IsReadyToCall, IsReadyToTrade, IsReadyToPublish, IsReadyToPost, IsReadyToTake, IsReadyToEnd}
-use Rattle.sm_machine.specs.Working.{IsWorking, HasRoomOn, IsUnsent}
+use Rattle.sm_machine.specs.Working.{IsWorking, HasCapacityOn, IsUnsent}
 use Rattle.sm_machine.proofs.ties.Before.{kept, hold_behind, can_reach}
 use Rattle.sm_machine.proofs.ties.Exchanging.{can_exchange}
 use Rattle.sm_machine.proofs.ties.Calling.{can_call}
@@ -104,9 +104,9 @@ module _ (x : Whole) (g : IsWorking x) (id : StreamId) where
       can_trade =
           let s = some_grant b.running in
           subst (λ o. CanTrade w.sizes i o × ((h : Option HoldModel) → IsTradedBy w.sizes i o h → hold_in h ≡ hold_behind w id)) (sym s.1)
-          (go s.0 (subst IsGrantInOrder s.1 order) (subst (λ o. hold_in o ≡ hold_of_stream w id.plan id.stream) s.1 (g.tied.grants id (runs b.begun b.running))) (subst (HasRoomOn (stream_at w.sizes (plan_at w id.plan) id.stream)) s.1 (g.rooms id b.begun)))
+          (go s.0 (subst IsGrantInOrder s.1 order) (subst (λ o. hold_in o ≡ hold_of_stream w id.plan id.stream) s.1 (g.tied.grants id (runs b.begun b.running))) (subst (HasCapacityOn (stream_at w.sizes (plan_at w id.plan) id.stream)) s.1 (g.capacities id b.begun)))
         where
-          go : (k : HoldModel) → IsGrantInOrder (Some k) → hold_of k.rights ≡ hold_of_stream w id.plan id.stream → HasRoomOn (stream_at w.sizes (plan_at w id.plan) id.stream) (Some k) →
+          go : (k : HoldModel) → IsGrantInOrder (Some k) → hold_of k.rights ≡ hold_of_stream w id.plan id.stream → HasCapacityOn (stream_at w.sizes (plan_at w id.plan) id.stream) (Some k) →
               CanTrade w.sizes i (Some k) × ((h : Option HoldModel) → IsTradedBy w.sizes i (Some k) h → hold_in h ≡ hold_behind w id)
           go k o e r =
               let c = can_exchange g.setup w g.reached id i b own here k e o.ordered o.positive r.0 r.1 r.2 in (
@@ -212,7 +212,7 @@ module _ (x : Whole) (g : IsWorking x) (id : StreamId) where
         go k e None f = absurd (let a = parcel_there ∙ ap not once.1 in let c = ap is_some f in cc)
         go k e (Some from) f =
             let n = begun w id b.begun in
-            let room = subst (HasRoomOn (stream_at w.sizes (plan_at w id.plan) id.stream)) e (g.rooms id b.begun) in
+            let room = subst (HasCapacityOn (stream_at w.sizes (plan_at w id.plan) id.stream)) e (g.capacities id b.begun) in
             let ordered = subst IsGrantInOrder e order in
             let sent_ordered = subst IsGrantInOrder f parcel_order in
             let tied = ap hold_in (sym e) ∙ g.tied.grants id (runs b.begun b.running) in

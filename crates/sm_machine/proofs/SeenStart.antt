@@ -13,7 +13,7 @@ use Rattle.sm_verifier.specs.Checked.{CheckedModel}
 use Rattle.sm_protocol.specs.Laws.{IsCheckedPlan}
 use Rattle.sm_machine.specs.Machine.{MachineModel}
 use Rattle.sm_machine.specs.State.{Whole, whole_of}
-use Rattle.sm_machine.specs.Started.{AreRoomsOf, IsStarted}
+use Rattle.sm_machine.specs.Started.{ArePeaksOf, IsStarted}
 use Rattle.sm_machine.specs.Unfinished.{unfinished_below}
 use Rattle.sm_machine.proofs.Unfinished.{place_left}
 use Rattle.sm_machine.proofs.Begins.{started_here, can_fill_all, few_by, runs_by}
@@ -26,12 +26,12 @@ pub checked_here : (m : MachineModel) (p : CheckedModel) → p.setup ≡ m.place
     IsCheckedPlan (whole_of m).state.sizes p.plan
 checked_here m p e parts fits sound = subst (λ c. IsCheckedPlan c p.plan) (same_sizes m p e) (record { parts = parts; fits = fits; sound = sound })
 
-pub rooms_of : (m : MachineModel) (p : CheckedModel) → p.setup ≡ m.placement.setup → AreRoomsOf (sizes_of p.setup) p (length p.plan.streams) → AreRoomsOf (whole_of m).state.sizes p (length p.plan.streams)
-rooms_of m p e r = subst (λ c. AreRoomsOf c p (length p.plan.streams)) (same_sizes m p e) r
+pub peaks_of : (m : MachineModel) (p : CheckedModel) → p.setup ≡ m.placement.setup → ArePeaksOf (sizes_of p.setup) p (length p.plan.streams) → ArePeaksOf (whole_of m).state.sizes p (length p.plan.streams)
+peaks_of m p e r = subst (λ c. ArePeaksOf c p (length p.plan.streams)) (same_sizes m p e) r
 
 module _ (m : MachineModel) (p q : CheckedModel) (same : q ≡ p) (setup : p.setup ≡ m.placement.setup) (g : IsWorking (whole_of m))
     (plan : PlanModel) (is : plan ≡ q.plan) (parts : IsPlan plan) (fits : IsKnownPlan (length q.setup.shards) (length q.setup.servers) q.plan) (sound : IsSound (sizes_of q.setup) q.plan)
-    (rooms : AreRoomsOf (sizes_of p.setup) p (length p.plan.streams)) (why : Option BeginFault) (f : why ≡ begin_fault (whole_of m) q.plan) (none : why ≡ None) where
+    (peaks : ArePeaksOf (sizes_of p.setup) p (length p.plan.streams)) (why : Option BeginFault) (f : why ≡ begin_fault (whole_of m) q.plan) (none : why ≡ None) where
   checked : IsCheckedPlan (whole_of m).state.sizes p.plan
   checked = checked_here m p setup (subst IsPlan (is ∙ ap (λ (r : CheckedModel). r.plan) same) parts)
       (subst (λ (r : CheckedModel). IsKnownPlan (length r.setup.shards) (length r.setup.servers) r.plan) same fits) (subst (λ (r : CheckedModel). IsSound (sizes_of r.setup) r.plan) same sound)
@@ -49,7 +49,7 @@ module _ (m : MachineModel) (p q : CheckedModel) (same : q ≡ p) (setup : p.set
 
   -- and each stream in its turn can take what it declares out of the pool
   pub can_fill_here : CanFillAll (begun_of p 0) (whole_of m).pool
-  can_fill_here = can_fill_all (whole_of m) g p checked no_fault (rooms_of m p setup rooms)
+  can_fill_here = can_fill_all (whole_of m) g p checked no_fault (peaks_of m p setup peaks)
 
   -- once the plan is begun, its places of the log set aside and it counted as unfinished, it has started
   pub started_so : (y z : Whole) → IsBegunIn (whole_of m) p y → (number free places streams : ℕ) → number ≡ length (whole_of m).state.plans → free ≡ (whole_of m).free → places ≡ places_of q.plan → streams ≡ length q.plan.streams →
@@ -60,7 +60,7 @@ module _ (m : MachineModel) (p q : CheckedModel) (same : q ≡ p) (setup : p.set
       ap (λ k. k + bit (nat_lt 0 streams)) b.running ∙ ap (λ k. (whole_of m).running + bit (nat_lt 0 k)) (st ∙ ap (λ (r : CheckedModel). length r.plan.streams) same) in
       subst (λ k. IsStarted (whole_of m) p k z) (sym n)
       (subst (IsStarted (whole_of m) p (length (whole_of m).state.plans)) (sym e)
-      (started_here (whole_of m) g p checked no_fault (rooms_of m p setup rooms) y b (free - places) (y.running + bit (nat_lt 0 streams)) a c))
+      (started_here (whole_of m) g p checked no_fault (peaks_of m p setup peaks) y b (free - places) (y.running + bit (nat_lt 0 streams)) a c))
 
 -- what every machine keeps is kept, whether the plan starts or not
 pub kept_by : {A E : Type 0} (m n : MachineModel) (p : CheckedModel) (number : A → ℕ) (r : Result A E) → IsWorking (whole_of m) → IfOk r (λ a. IsStarted (whole_of m) p (number a) (whole_of n)) → OnErr r (n ≡ m) → IsWorking (whole_of n)

@@ -219,7 +219,7 @@ flag_kept x g flag y e = subst IsWorking (sym e) (record {
   setup = g.setup;
   reached = reached_halted g.setup x.state g.reached flag;
   tied = tied_halted g.setup x.state g.reached x.pool (λ k i. hold_in (x.grants k i)) (λ k q. hold_in (x.parcels k q)) g.tied flag;
-  rooms = g.rooms;
+  capacities = g.capacities;
   unsent = g.unsent;
   counted = counted_halted g.setup x.state g.reached x.unfinished x.running x.free g.counted flag;
 })
@@ -232,7 +232,7 @@ opened_working x setup p room o e = subst IsWorking (sym e) (record {
   setup = setup;
   reached = reached_opened setup p room o;
   tied = tied_opened (sizes_of setup) p room (λ k i. no_hold) (λ k q. no_hold);
-  rooms = λ id b. tt;
+  capacities = λ id b. tt;
   unsent = λ k q l s f. absurd (omega (arith, l));
   counted = counted_opened (sizes_of setup) p room (λ k. 0);
 })

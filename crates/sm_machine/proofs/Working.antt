@@ -36,7 +36,7 @@ use Rattle.sm_machine.specs.Course.{hold_in, rights_in, capacity_in, IsGrantInOr
 use Rattle.sm_machine.specs.State.{Whole}
 use Rattle.sm_machine.specs.Tied.{IsTied, HasCounters}
 use Rattle.sm_machine.specs.Trade.{IsTradedBy, IsTradedUnless}
-use Rattle.sm_machine.specs.Working.{IsWorking, IsAt, IsStepped, HasRoomOn, IsUnsent}
+use Rattle.sm_machine.specs.Working.{IsWorking, IsAt, IsStepped, HasCapacityOn, IsUnsent}
 use Rattle.sm_machine.proofs.Ready.{can_trade, some_grant, runs}
 use Rattle.sm_machine.proofs.ties.Before.{hold_behind}
 use Rattle.sm_machine.proofs.ties.Counters.{counted_through, counted_unanswered, counted_lost, counted_published, counted_posted, counted_taken, counted_ended}
@@ -59,9 +59,9 @@ hold_put f k i h = fun_ext (λ a. fun_ext (λ b. at a b))
 
 -- ---- capacity for what is held
 
-same_room : (s : _) (k : HoldModel) (h : Option HoldModel) → HasRoomOn s (Some k) → capacity_in h ≡ k.capacity → HasRoomOn s h
-same_room s k None r e = tt
-same_room s k (Some m) r e = (r.0, r.1, subst (λ n. r.0 ≤ n) (sym e) r.2)
+same_capacity : (s : _) (k : HoldModel) (h : Option HoldModel) → HasCapacityOn s (Some k) → capacity_in h ≡ k.capacity → HasCapacityOn s h
+same_capacity s k None r e = tt
+same_capacity s k (Some m) r e = (r.0, r.1, subst (λ n. r.0 ≤ n) (sym e) r.2)
 
 module _ (x : Whole) (id : StreamId) (o : Option Instr) (at : IsAt x id o) where
   abbrev w : State
@@ -81,13 +81,13 @@ module _ (x : Whole) (id : StreamId) (o : Option Instr) (at : IsAt x id o) where
 
   -- what has to be shown of a step
   stepped : (p : Passage) (a : Played) (y : Whole) → step w id p ≡ (Answered a, y.state) → IsTied y.state y.pool (λ k i. hold_in (y.grants k i)) (λ k q. hold_in (y.parcels k q)) →
-      ((j : StreamId) → is_begun y.state j ≡ true → HasRoomOn (stream_at y.state.sizes (plan_at y.state j.plan) j.stream) (y.grants j.plan j.stream)) →
+      ((j : StreamId) → is_begun y.state j ≡ true → HasCapacityOn (stream_at y.state.sizes (plan_at y.state j.plan) j.stream) (y.grants j.plan j.stream)) →
       ((k q : ℕ) → k < length y.state.plans → q < signal_count y.state k → (y.state.marks k q).posted ≡ false → IsUnsent (y.parcels k q) (parcel_at y.state k q)) →
       HasCounters y.state y.unfinished y.running y.free → y.setup ≡ x.setup → IsStepped x id p a y
-  stepped p a y e tied rooms unsent counted setup = record {
+  stepped p a y e tied capacities unsent counted setup = record {
     step = e;
     setup = setup;
-    working = record { setup = g.setup; reached = subst (IsReached g.setup) (ap (λ z. z.1) e) (reached_step p); tied = tied; rooms = rooms; unsent = unsent; counted = counted };
+    working = record { setup = g.setup; reached = subst (IsReached g.setup) (ap (λ z. z.1) e) (reached_step p); tied = tied; capacities = capacities; unsent = unsent; counted = counted };
   }
 
   abbrev grant : Option HoldModel
@@ -98,24 +98,24 @@ module _ (x : Whole) (id : StreamId) (o : Option Instr) (at : IsAt x id o) where
   stepped_idle p a e = record { step = step_made w id p at.awake o before ∙ e; setup = refl; working = g }
 
   module _ (order : IsGrantInOrder grant) (there : is_some grant ≡ not (progress_of w id).done) where
-    rooms_put : (h : Option HoldModel) → HasRoomOn (stream_at w.sizes (plan_at w id.plan) id.stream) h →
-        (j : StreamId) → is_begun w j ≡ true → HasRoomOn (stream_at w.sizes (plan_at w j.plan) j.stream) (put2 x.grants id.plan id.stream h j.plan j.stream)
-    rooms_put h after j b =
+    capacities_put : (h : Option HoldModel) → HasCapacityOn (stream_at w.sizes (plan_at w id.plan) id.stream) h →
+        (j : StreamId) → is_begun w j ≡ true → HasCapacityOn (stream_at w.sizes (plan_at w j.plan) j.stream) (put2 x.grants id.plan id.stream h j.plan j.stream)
+    capacities_put h after j b =
         elim (cases_eq j.plan id.plan) [
           | inl d ↦ elim (cases_eq j.stream id.stream) [
-            | inl f ↦ subst (HasRoomOn (stream_at w.sizes (plan_at w j.plan) j.stream)) (sym (ap (λ k. put2 x.grants id.plan id.stream h k j.stream) d ∙ ap (λ i. put2 x.grants id.plan id.stream h id.plan i) f ∙ put2-here x.grants id.plan id.stream h))
-                (subst (λ k. HasRoomOn (stream_at w.sizes (plan_at w k) j.stream) h) (sym d) (subst (λ i. HasRoomOn (stream_at w.sizes (plan_at w id.plan) i) h) (sym f) after))
-            | inr f ↦ subst (HasRoomOn (stream_at w.sizes (plan_at w j.plan) j.stream)) (sym (ap (λ k. put2 x.grants id.plan id.stream h k j.stream) d ∙ put2-row x.grants id.plan id.stream h j.stream f ∙ ap (λ k. x.grants k j.stream) (sym d))) (g.rooms j b)
+            | inl f ↦ subst (HasCapacityOn (stream_at w.sizes (plan_at w j.plan) j.stream)) (sym (ap (λ k. put2 x.grants id.plan id.stream h k j.stream) d ∙ ap (λ i. put2 x.grants id.plan id.stream h id.plan i) f ∙ put2-here x.grants id.plan id.stream h))
+                (subst (λ k. HasCapacityOn (stream_at w.sizes (plan_at w k) j.stream) h) (sym d) (subst (λ i. HasCapacityOn (stream_at w.sizes (plan_at w id.plan) i) h) (sym f) after))
+            | inr f ↦ subst (HasCapacityOn (stream_at w.sizes (plan_at w j.plan) j.stream)) (sym (ap (λ k. put2 x.grants id.plan id.stream h k j.stream) d ∙ put2-row x.grants id.plan id.stream h j.stream f ∙ ap (λ k. x.grants k j.stream) (sym d))) (g.capacities j b)
           ]
-          | inr d ↦ subst (HasRoomOn (stream_at w.sizes (plan_at w j.plan) j.stream)) (sym (put2-apart x.grants id.plan id.stream h j.plan j.stream d)) (g.rooms j b)
+          | inr d ↦ subst (HasCapacityOn (stream_at w.sizes (plan_at w j.plan) j.stream)) (sym (put2-apart x.grants id.plan id.stream h j.plan j.stream d)) (g.capacities j b)
         ]
 
     rooms_after : (h : Option HoldModel) → capacity_in h ≡ capacity_in grant →
-        (j : StreamId) → is_begun w j ≡ true → HasRoomOn (stream_at w.sizes (plan_at w j.plan) j.stream) (put2 x.grants id.plan id.stream h j.plan j.stream)
+        (j : StreamId) → is_begun w j ≡ true → HasCapacityOn (stream_at w.sizes (plan_at w j.plan) j.stream) (put2 x.grants id.plan id.stream h j.plan j.stream)
     rooms_after h e =
         let s = some_grant x g id order there at.running in
-        let here = subst (HasRoomOn (stream_at w.sizes (plan_at w id.plan) id.stream)) s.1 (g.rooms id at.begun) in
-        rooms_put h (same_room (stream_at w.sizes (plan_at w id.plan) id.stream) s.0 h here (e ∙ ap capacity_in s.1))
+        let here = subst (HasCapacityOn (stream_at w.sizes (plan_at w id.plan) id.stream)) s.1 (g.capacities id at.begun) in
+        capacities_put h (same_capacity (stream_at w.sizes (plan_at w id.plan) id.stream) s.0 h here (e ∙ ap capacity_in s.1))
 
     -- the tie of grants, one of which is another
     tied_put : (new : State) (p : Hold) (h : Option HoldModel) (c : ℕ → ℕ → Hold) (m : Hold) → hold_in h ≡ m →
@@ -168,7 +168,7 @@ module _ (x : Whole) (id : StreamId) (o : Option Instr) (at : IsAt x id o) where
       pub stepped_lost : IsStepped x id LostBefore played.Lost (record x { state = call_lost w id })
       stepped_lost =
           stepped LostBefore played.Lost (record x { state = call_lost w id }) (step_tried LostBefore)
-          (tied_lost g.setup w g.reached x.pool (λ k i. hold_in (x.grants k i)) (λ k q. hold_in (x.parcels k q)) g.tied id i c t) g.rooms g.unsent
+          (tied_lost g.setup w g.reached x.pool (λ k i. hold_in (x.grants k i)) (λ k q. hold_in (x.parcels k q)) g.tied id i c t) g.capacities g.unsent
           (counted_lost g.setup w g.reached x.unfinished x.running x.free g.counted id i c t) refl
 
       places_unless : (b : Bool) (h : Option HoldModel) → IsTradedUnless b w.sizes i grant h → capacity_in h ≡ capacity_in grant
@@ -272,5 +272,5 @@ module _ (x : Whole) (id : StreamId) (o : Option Instr) (at : IsAt x id o) where
         (step_made w id p at.awake None b)
         (tied_put (ended w id).1 (plus x.pool (rights_in grant)) None (λ k q. hold_in (x.parcels k q)) no_hold refl
         (tied_ended g.setup w g.reached x.pool (λ k i. hold_in (x.grants k i)) (λ k q. hold_in (x.parcels k q)) g.tied id b (rights_in grant) ordered (same ∙ g.tied.grants id run) no_hold))
-        (rooms_put None tt) g.unsent
+        (capacities_put None tt) g.unsent
         (subst (HasCounters (ended w id).1 (put x.unfinished id.plan (x.unfinished id.plan - 1)) (if x.unfinished id.plan == 1 then x.running - 1 else x.running)) (sym count) (counted_ended g.setup w g.reached x.unfinished x.running x.free g.counted id b).2) refl

@@ -13,9 +13,9 @@ use Rattle.sm_protocol.specs.Happens.{happens, Begin}
 use Rattle.sm_machine.specs.State.{Whole}
 use Rattle.sm_machine.specs.Working.{IsWorking}
 
--- the first n streams of the plan take the room that was found for them
-abbrev pub AreRoomsOf : Sizes → CheckedModel → ℕ → Type 0
-AreRoomsOf c p n = (i : ℕ) → i < n → IsPeak (stream_at c p.plan i) (slice_index p.peaks i)
+-- the peaks of the first n streams of the plan are those that were found for them
+abbrev pub ArePeaksOf : Sizes → CheckedModel → ℕ → Type 0
+ArePeaksOf c p n = (i : ℕ) → i < n → IsPeak (stream_at c p.plan i) (slice_index p.peaks i)
 
 -- The plan has started with this number, as the protocol says, and all that every machine keeps is kept.
 pub record IsStarted (x : Whole) (p : CheckedModel) (number : ℕ) (y : Whole) : Type 0 where

@@ -44,8 +44,8 @@ IsEmptyCarried x = rights_in x.grant ≡ no_rights
 
 -- the streams and the signals of a checked plan before its start: the first n streams, by the room that each takes
 abbrev pub first_courses : (ℕ → ℕ) → ℕ → List CourseModel
-first_courses rooms zero = []
-first_courses rooms (suc n) = first_courses rooms n ++ ready_course (rooms n) ∷ []
+first_courses peaks zero = []
+first_courses peaks (suc n) = first_courses peaks n ++ ready_course (peaks n) ∷ []
 
 abbrev pub ready_courses : CheckedModel → List CourseModel
 ready_courses p = first_courses (λ i. slice_index p.peaks i) (length p.plan.streams)

@@ -17,9 +17,9 @@ use Rattle.sm_machine.specs.State.{Whole}
 use Rattle.sm_machine.specs.Tied.{IsTied, HasCounters}
 
 -- a stream's grant has capacity for what the stream holds on its way
-abbrev pub HasRoomOn : Course → Option HoldModel → Type 0
-HasRoomOn s None = Unit {0}
-HasRoomOn s (Some kept) = (n : ℕ) × IsPeak s n × (n ≤ kept.capacity)
+abbrev pub HasCapacityOn : Course → Option HoldModel → Type 0
+HasCapacityOn s None = Unit {0}
+HasCapacityOn s (Some kept) = (n : ℕ) × IsPeak s n × (n ≤ kept.capacity)
 
 -- the grant of a signal that was not posted is empty, and has capacity for the parcel
 abbrev pub IsUnsent : Option HoldModel → Rights → Type 0
@@ -32,7 +32,7 @@ pub record IsWorking (x : Whole) : Type 0 where
   pub setup : Setup
   pub reached : IsReached setup x.state
   pub tied : IsTied x.state x.pool (λ k i. hold_in (x.grants k i)) (λ k q. hold_in (x.parcels k q))
-  pub rooms : (id : StreamId) → is_begun x.state id ≡ true → HasRoomOn (stream_at x.state.sizes (plan_at x.state id.plan) id.stream) (x.grants id.plan id.stream)
+  pub capacities : (id : StreamId) → is_begun x.state id ≡ true → HasCapacityOn (stream_at x.state.sizes (plan_at x.state id.plan) id.stream) (x.grants id.plan id.stream)
   pub unsent : (k q : ℕ) → k < length x.state.plans → q < signal_count x.state k → (x.state.marks k q).posted ≡ false → IsUnsent (x.parcels k q) (parcel_at x.state k q)
   pub counted : HasCounters x.state x.unfinished x.running x.free
 

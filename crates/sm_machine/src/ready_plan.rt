@@ -4,7 +4,7 @@ ghost use Rattle.sm_reservation.specs.Capacity.{most_keys};
 ghost use Rattle.sm_plan_code.specs.Plan.{IsSmallParcel};
 ghost use Rattle.sm_placement.specs.Setup.{sizes_of};
 ghost use Rattle.sm_machine.specs.Servers.{AreMentionedBy};
-ghost use Rattle.sm_machine.specs.Started.{AreRoomsOf};
+ghost use Rattle.sm_machine.specs.Started.{ArePeaksOf};
 ghost use Rattle.sm_machine.specs.Starts.{IsEmptyCourse, IsEmptyCarried, ready_course, ready_signal, ready_courses, ready_signals, begun_of};
 
 use crate::begun::{Begun, Carried};
@@ -33,14 +33,14 @@ impl Model for ReadyPlan {
     ghost use Rattle.sm_verifier.specs.Checked.{CheckedModel};
     ghost use Rattle.sm_placement.specs.Setup.{sizes_of};
     ghost use Rattle.sm_machine.specs.Starts.{ready_courses, ready_signals};
-    ghost use Rattle.sm_machine.specs.Started.{AreRoomsOf};
+    ghost use Rattle.sm_machine.specs.Started.{ArePeaksOf};
     ghost use Rattle.sm_machine.specs.Servers.{AreMentionedBy};
 
     ghost Value = { CheckedModel };
 
     ghost view = { λ r. r.checked };
 
-    ghost invariant = { λ r. (r.courses.items ≡ ready_courses r.checked) × (r.signals.items ≡ ready_signals r.checked) × AreMentionedBy r.checked.plan.streams r.mentioned.items × (r.tokens.items ≡ []) × (length r.checked.plan.streams ≤ vec_capacity r.tokens) × AreRoomsOf (sizes_of r.checked.setup) r.checked (length r.checked.plan.streams) };
+    ghost invariant = { λ r. (r.courses.items ≡ ready_courses r.checked) × (r.signals.items ≡ ready_signals r.checked) × AreMentionedBy r.checked.plan.streams r.mentioned.items × (r.tokens.items ≡ []) × (length r.checked.plan.streams ≤ vec_capacity r.tokens) × ArePeaksOf (sizes_of r.checked.setup) r.checked (length r.checked.plan.streams) };
 }
 
 /// Ends streams that hold nothing. Takes no memory.
@@ -117,7 +117,7 @@ fn add_signal(alloc: Global, signals: &mut Vec<Carried>, parcel: &Parcel) -> Res
 /// The streams of a checked plan, each with an empty grant that has room for all that it holds on its way.
 fn make_courses(alloc: Global, checked: &Checked) -> Result<Vec<Course>, AllocError>
     ensures courses { IfOk result (λ courses. courses.items ≡ ready_courses checked.now) }
-    ensures rooms { OnOk result (AreRoomsOf (sizes_of checked.now.setup) checked.now (length checked.now.plan.streams)) }
+    ensures peaks { OnOk result (ArePeaksOf (sizes_of checked.now.setup) checked.now (length checked.now.plan.streams)) }
 {
     let count = checked.plan().streams().len();
     let mut courses = Vec::new(alloc);
@@ -159,7 +159,7 @@ fn make_parts(
     ensures courses { IfOk result (λ r. r.0.items ≡ ready_courses checked.now) }
     ensures signals { IfOk result (λ r. r.1.items ≡ ready_signals checked.now) }
     ensures mentioned { IfOk result (λ r. AreMentionedBy checked.now.plan.streams r.2.items) }
-    ensures rooms { OnOk result (AreRoomsOf (sizes_of checked.now.setup) checked.now (length checked.now.plan.streams)) }
+    ensures peaks { OnOk result (ArePeaksOf (sizes_of checked.now.setup) checked.now (length checked.now.plan.streams)) }
 {
     let mentioned = MentionedServers::of_each(alloc, checked.plan().streams())?;
     let courses = make_courses(alloc, checked)?;
@@ -218,7 +218,7 @@ impl ReadyPlan {
     /// The checked plan.
     pub fn checked(&self) -> &Checked
         ensures value { result.now ≡ self.now }
-        ensures rooms { AreRoomsOf (sizes_of self.now.setup) self.now (length self.now.plan.streams) }
+        ensures peaks { ArePeaksOf (sizes_of self.now.setup) self.now (length self.now.plan.streams) }
     {
         &self.checked
     }

@@ -42,7 +42,7 @@ module _ (x : Whole) (g : IsWorking x) where
     setup = g.setup;
     reached = subst (IsReached g.setup) is (reached_next g.setup w e g.reached fits);
     tied = tied_recorded g.setup w g.reached x.pool holds sent_holds g.tied (logged w event answer);
-    rooms = g.rooms;
+    capacities = g.capacities;
     unsent = g.unsent;
     counted = counted_recorded g.setup w g.reached x.unfinished x.running x.free g.counted enough event answer;
   }
@@ -54,7 +54,7 @@ module _ (x : Whole) (g : IsWorking x) where
     setup = g.setup;
     reached = subst (λ o. IsReached g.setup (refilled w id more o).1) none (reached_next g.setup w (Refill id more) g.reached few);
     tied = tied_refilled g.setup w g.reached x.pool holds sent_holds g.tied id runs more (logged w (event.Refill id more) played.Refilled);
-    rooms = g.rooms;
+    capacities = g.capacities;
     unsent = g.unsent;
     counted = counted_refilled g.setup w g.reached x.unfinished x.running x.free g.counted id runs more enough (event.Refill id more) played.Refilled;
   }
@@ -68,7 +68,7 @@ module _ (x : Whole) (g : IsWorking x) where
     setup = g.setup;
     reached = subst (λ o. IsReached g.setup (approved w u o).1) e (reached_next g.setup w (Approve u) g.reached known);
     tied = tied_approved g.setup w g.reached u known e (logged w (event.Approve u) played.Approved) x.pool holds sent_holds g.tied;
-    rooms = g.rooms;
+    capacities = g.capacities;
     unsent = g.unsent;
     counted = let is = g.counted.places in let t = granted w.sizes w.place (pool w) (engaged w u) (free_places w) u e in let most = t.places in
         counted_approved g.setup w g.reached x.unfinished x.running x.free g.counted u known t.up (omega arith) (event.Approve u) played.Approved;
@@ -81,7 +81,7 @@ module _ (x : Whole) (g : IsWorking x) where
     setup = g.setup;
     reached = subst (λ t. IsReached g.setup (chosen t).1) e (reached_next g.setup w (Done u) g.reached known);
     tied = tied_restarted g.setup w g.reached u known e (logged w (event.Done u) played.Up) x.pool holds sent_holds g.tied;
-    rooms = g.rooms;
+    capacities = g.capacities;
     unsent = g.unsent;
     counted = counted_restarted g.setup w g.reached x.unfinished x.running x.free g.counted u known e (event.Done u) played.Up;
   }
