@@ -13,7 +13,7 @@ use crate::fault::Fault;
 use crate::scope::run_all;
 use crate::streams::Streams;
 use crate::worker::Worker;
-use sm_executor::{Board, Gate, Ground, Naming, Side};
+use sm_executor::{Board, Gate, Ground, Naming, NotClosed, Side};
 use sm_machine::{Machine, Permit, StreamToken};
 use sm_placement::Placement;
 use sm_verifier::Checked;
@@ -30,43 +30,43 @@ fn is_for(placement: &Placement, checked: &Checked) -> bool
     checked.config() == placement.config()
 }
 
-/// Closes a board with all that it and its machine have given out. An end of the run only where each worker has started.
+/// The placement of a board that is not closed, which is given up with all that it and its machine have given out.
+fn given_up<A: Side, B: Side, C: Side, N: Naming>(
+    alloc: Global,
+    refused: NotClosed<A, B, C, N>,
+    tokens: Vec<StreamToken>,
+    permits: Vec<Permit>,
+) -> Placement
+    ensures { result.setup ≡ N.setup }
+{
+    let (board, ended, callers) = refused.back();
+    let machine = board.give_up(ended, callers);
+    machine.give_up(tokens, permits, Vec::new(alloc))
+}
+
+/// Closes a board with all that it and its machine have given out.
 fn close<A: Side, B: Side, C: Side, N: Naming>(
     alloc: Global,
     board: Board<A, B, C, N>,
     streams: Streams<A>,
     crew: Crew<B, C, N>,
-    started: bool,
 ) -> Result<Placement, Fault>
     requires { (A.all ≡ A.parts) × (B.all ≡ B.parts) × (C.all ≡ C.parts) }
     ensures setup { IfOk result (λ placement. placement.setup ≡ N.setup) }
     ensures closed { IfOk result (λ placement. IsClosedAt N.opened (place_of placement)) }
 {
-    let ran = if started {
-        streams.ran()
-    } else {
-        Err(Fault::NoThread)
-    };
     let (ended, tokens) = streams.into_parts();
     let (callers, permits) = crew.into_parts();
     match board.close(ended, callers) {
-        Ok(machine) => {
-            let placement = machine.give_up(tokens, permits, Vec::new(alloc));
-            match ran {
-                Ok(()) => Ok(placement),
-                Err(fault) => Err(fault),
-            }
-        }
+        Ok(machine) => Ok(machine.give_up(tokens, permits, Vec::new(alloc))),
         Err(refused) => {
-            let (board, ended, callers) = refused.back();
-            let machine = board.give_up(ended, callers);
-            machine.give_up(tokens, permits, Vec::new(alloc));
-            Err(ran.err().unwrap_or(Fault::NotClosed))
+            given_up(alloc, refused, tokens, permits);
+            Err(Fault::NotClosed)
         }
     }
 }
 
-/// Runs streams on a board beside workers, and closes it.
+/// Runs streams on a board beside workers, and closes it. An end of the run only where each worker has started.
 fn run_on_board<
     A: Side + Send + Sync,
     B: Side + Send + Sync,
@@ -90,7 +90,50 @@ fn run_on_board<
 {
     let seats = crew.seats.as_mut_slice();
     let started = run_all(rt, alloc, &board, workers, gate, seats, &mut streams);
-    close(alloc, board, streams, crew, started)
+    let ran = if started {
+        streams.ran()
+    } else {
+        Err(Fault::NoThread)
+    };
+    let closed = close(alloc, board, streams, crew);
+    ran?;
+    closed
+}
+
+/// Runs streams on a board beside workers, where there is memory for their seats, and closes it.
+fn run_with_crew<
+    A: Side + Send + Sync,
+    B: Side + Send + Sync,
+    C: Side + Send + Sync,
+    N: Naming + Send + Sync,
+    W: Worker + Sync,
+    R: Threads + Wait + Clock + Sync,
+    G: Gate + Sync,
+>(
+    rt: &R,
+    alloc: Global,
+    board: Board<A, B, C, N>,
+    permits: Vec<Permit>,
+    streams: Streams<A>,
+    workers: &[W],
+    gate: &G,
+) -> Result<Placement, Fault>
+    requires all { (A.all ≡ A.parts) × (B.all ≡ B.parts) × (C.all ≡ C.parts) }
+    requires shards { length N.words.opening ≡ length N.setup.shards }
+    requires servers { N.words.servers ≡ length N.setup.servers }
+    requires permits { vec_len permits + length workers.now ≤ vec_capacity permits }
+    ensures setup { IfOk result (λ placement. placement.setup ≡ N.setup) }
+    ensures closed { IfOk result (λ placement. IsClosedAt N.opened (place_of placement)) }
+{
+    match Crew::new(rt, alloc, &board, permits, workers.len()) {
+        Ok(crew) => run_on_board(rt, alloc, board, crew, streams, workers, gate),
+        Err(permits) => {
+            let (ended, tokens) = streams.into_parts();
+            let machine = board.give_up(ended, Vec::new(alloc));
+            machine.give_up(tokens, permits, Vec::new(alloc));
+            Err(Fault::NoMemory)
+        }
+    }
 }
 
 /// Runs the streams that have begun on a machine beside workers, on this ground of the machine. There are their tokens, and an empty list
@@ -129,20 +172,13 @@ fn run_on_ground<
     ensures setup { IfOk result (λ placement. placement.setup ≡ N.setup) }
     ensures closed { IfOk result (λ placement. IsClosedAt N.opened (place_of placement)) }
 {
-    let (board, runners) = match Board::<A, B, C, N>::open_begun(alloc, machine, ground, tokens) {
-        Ok(opened) => opened,
+    match Board::<A, B, C, N>::open_begun(alloc, machine, ground, tokens) {
+        Ok((board, runners)) => {
+            let streams = Streams::new(alloc, runners, room);
+            run_with_crew(rt, alloc, board, permits, streams, workers, gate)
+        }
         Err((machine, _ground, tokens, _error)) => {
             room.destroy_empty();
-            machine.give_up(tokens, permits, Vec::new(alloc));
-            return Err(Fault::NoMemory);
-        }
-    };
-    let streams = Streams::new(alloc, runners, room);
-    match Crew::new(rt, alloc, &board, permits, workers.len()) {
-        Ok(crew) => run_on_board(rt, alloc, board, crew, streams, workers, gate),
-        Err(permits) => {
-            let (ended, tokens) = streams.into_parts();
-            let machine = board.give_up(ended, Vec::new(alloc));
             machine.give_up(tokens, permits, Vec::new(alloc));
             Err(Fault::NoMemory)
         }
