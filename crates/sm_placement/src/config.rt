@@ -1,12 +1,12 @@
 //! The servers and shards that placements are of.
-ghost use Rattle.std.specs.Prelude.{◌≡◌, ◌≢◌, ◌≤◌, ◌<◌, ◌^◌, ◌-◌, ◌++◌, ◌∷◌, ◌&&◌, [], not, map, Some, None, length, position, string_bytes, is_none, IsTrue, IfOk, OnOk, IfErr, IfSome};
+ghost use Rattle.std.specs.Prelude.{◌≡◌, ◌≢◌, ◌≤◌, ◌<◌, ◌^◌, ◌-◌, ◌++◌, ◌∷◌, ◌&&◌, [], not, map, Some, None, length, position, string_bytes, true, false, IsTrue, IfOk, OnOk, OnErr, IfErr, IfSome};
 ghost use Rattle.std.specs.List.{list_any, list_all};
 ghost use Rattle.std.specs.Cmp.Lexicographic.{pointwise};
 ghost use Rattle.std.specs.Str.{bytes_eq};
 ghost use Rattle.sm_placement.specs.declared.config.ConfigFault.TheVariants.{NoMemory};
 ghost use Rattle.sm_placement.specs.Names.{is_name_byte, is_name, has_double};
-ghost use Rattle.sm_placement.specs.Setup.{is_too_large, is_well_named_server, is_well_named_shard, has_good_names, is_good_server, is_good_shard, has_good_numbers, same_server, same_shard};
-ghost use Rattle.sm_placement.specs.Config.{server_row, shard_row, setup_of, server_names, shard_names};
+ghost use Rattle.sm_placement.specs.Setup.{is_too_large, is_well_named_server, is_well_named_shard, has_good_names, has_doubled_name, is_good_server, is_good_shard, has_good_numbers, same_server, same_shard};
+ghost use Rattle.sm_placement.specs.Config.{server_row, shard_row, setup_of, server_names, shard_names, config_fault};
 
 use crate::limits::{MOST_LOAD, MOST_NAME_BYTES, MOST_REPLICAS, MOST_SERVERS, MOST_SHARDS};
 use indexmap::IndexSet;
@@ -201,34 +201,90 @@ fn insert_name(alloc: Global, names: &mut IndexSet<String>, name: &str) -> Resul
     Ok(names.insert(String::from_str(alloc, name)?)?)
 }
 
-/// The table of the servers' names, or nothing where two have one name.
+/// Puts a name last in a table, and refuses one that stands there already.
+fn add_name(alloc: Global, names: &mut IndexSet<String>, name: &str) -> Result<(), ConfigFault>
+    ensures single { OnOk result (list_any (bytes_eq name.now) (map string_bytes names.old.keys) ≡ false) }
+    ensures names { OnOk result (map string_bytes names.new.keys ≡ map string_bytes names.old.keys ++ name.now ∷ []) }
+    ensures why { IfErr result (λ why. why ≢ NoMemory → why ≡ ConfigFault.DoubleName) }
+    ensures double { IfErr result (λ why. why ≢ NoMemory → list_any (bytes_eq name.now) (map string_bytes names.old.keys) ≡ true) }
+{
+    if !insert_name(alloc, names, name)? {
+        return Err(ConfigFault::DoubleName);
+    }
+    Ok(())
+}
+
+/// The table of the servers' names, of which no two have one name.
 #[tactic(auto, using(crate::proofs::DoubleLemmas::server_names_more, crate::proofs::DoubleLemmas::server_single_more, crate::proofs::DoubleLemmas::server_double_here))]
-fn server_table(alloc: Global, servers: &[Server]) -> Result<Option<IndexSet<String>>, AllocError>
-    ensures double { IfOk result (λ table. is_none table ≡ has_double (server_names servers.now)) }
-    ensures names { IfOk result (λ table. IfSome table (λ names. map string_bytes names.keys ≡ server_names servers.now)) }
+fn server_table(alloc: Global, servers: &[Server]) -> Result<IndexSet<String>, ConfigFault>
+    ensures names { IfOk result (λ names. map string_bytes names.keys ≡ server_names servers.now) }
+    ensures single { OnOk result (has_double (server_names servers.now) ≡ false) }
+    ensures why { IfErr result (λ why. why ≢ NoMemory → why ≡ ConfigFault.DoubleName) }
+    ensures double { IfErr result (λ why. why ≢ NoMemory → has_double (server_names servers.now) ≡ true) }
 {
     let mut names = IndexSet::new(alloc);
     for server in servers {
-        if !insert_name(alloc, &mut names, &server.name)? {
-            return Ok(None);
-        }
+        add_name(alloc, &mut names, &server.name)?;
     }
-    Ok(Some(names))
+    Ok(names)
 }
 
-/// The table of the shards' names, or nothing where two have one name.
+/// The table of the shards' names, of which no two have one name.
 #[tactic(auto, using(crate::proofs::DoubleLemmas::shard_names_more, crate::proofs::DoubleLemmas::shard_single_more, crate::proofs::DoubleLemmas::shard_double_here))]
-fn shard_table(alloc: Global, shards: &[Shard]) -> Result<Option<IndexSet<String>>, AllocError>
-    ensures double { IfOk result (λ table. is_none table ≡ has_double (shard_names shards.now)) }
-    ensures names { IfOk result (λ table. IfSome table (λ names. map string_bytes names.keys ≡ shard_names shards.now)) }
+fn shard_table(alloc: Global, shards: &[Shard]) -> Result<IndexSet<String>, ConfigFault>
+    ensures names { IfOk result (λ names. map string_bytes names.keys ≡ shard_names shards.now) }
+    ensures single { OnOk result (has_double (shard_names shards.now) ≡ false) }
+    ensures why { IfErr result (λ why. why ≢ NoMemory → why ≡ ConfigFault.DoubleName) }
+    ensures double { IfErr result (λ why. why ≢ NoMemory → has_double (shard_names shards.now) ≡ true) }
 {
     let mut names = IndexSet::new(alloc);
     for shard in shards {
-        if !insert_name(alloc, &mut names, &shard.name)? {
-            return Ok(None);
-        }
+        add_name(alloc, &mut names, &shard.name)?;
     }
-    Ok(Some(names))
+    Ok(names)
+}
+
+/// The tables of the servers' and of the shards' names.
+fn name_tables(
+    alloc: Global,
+    servers: &[Server],
+    shards: &[Shard],
+) -> Result<(IndexSet<String>, IndexSet<String>), ConfigFault>
+    ensures servers { IfOk result (λ tables. map string_bytes tables.0.keys ≡ server_names servers.now) }
+    ensures shards { IfOk result (λ tables. map string_bytes tables.1.keys ≡ shard_names shards.now) }
+    ensures single { OnOk result (has_doubled_name (setup_of servers.now shards.now) ≡ false) }
+    ensures why { IfErr result (λ why. why ≢ NoMemory → why ≡ ConfigFault.DoubleName) }
+    ensures double { IfErr result (λ why. why ≢ NoMemory → has_doubled_name (setup_of servers.now shards.now) ≡ true) }
+{
+    let server_names = server_table(alloc, servers)?;
+    Ok((server_names, shard_table(alloc, shards)?))
+}
+
+/// There are not too many servers and shards, and each is well named.
+fn check_names(servers: &[Server], shards: &[Shard]) -> Result<(), ConfigFault>
+    ensures sizes { OnOk result (is_too_large (setup_of servers.now shards.now) ≡ false) }
+    ensures names { OnOk result (has_good_names (setup_of servers.now shards.now) ≡ true) }
+    ensures refused { IfErr result (λ why. config_fault (setup_of servers.now shards.now) ≡ Some why) }
+{
+    if is_too_large(servers, shards) {
+        return Err(ConfigFault::TooMany);
+    }
+    if !has_good_names(servers, shards) {
+        return Err(ConfigFault::BadName);
+    }
+    Ok(())
+}
+
+/// All numbers are within their limits.
+fn check_numbers(servers: &[Server], shards: &[Shard]) -> Result<(), ConfigFault>
+    ensures ok { OnOk result (has_good_numbers (setup_of servers.now shards.now) ≡ true) }
+    ensures why { IfErr result (λ why. why ≡ ConfigFault.BadNumber) }
+    ensures refused { OnErr result (has_good_numbers (setup_of servers.now shards.now) ≡ false) }
+{
+    if !has_good_numbers(servers, shards) {
+        return Err(ConfigFault::BadNumber);
+    }
+    Ok(())
 }
 
 /// Whether two lists of servers agree.
@@ -263,6 +319,19 @@ fn copied_shards(alloc: Global, shards: &[Shard]) -> Result<Vec<Shard>, AllocErr
     Vec::from_clones(alloc, shards)
 }
 
+/// A copy of servers and shards.
+fn copied_rows(
+    alloc: Global,
+    servers: &[Server],
+    shards: &[Shard],
+) -> Result<(Vec<Server>, Vec<Shard>), AllocError>
+    ensures servers { IfOk result (λ rows. map server_row rows.0.items ≡ map server_row servers.now) }
+    ensures shards { IfOk result (λ rows. map shard_row rows.1.items ≡ map shard_row shards.now) }
+{
+    let servers = copied_servers(alloc, servers)?;
+    Ok((servers, copied_shards(alloc, shards)?))
+}
+
 /// A copy of a table of names.
 #[tactic(auto, using(crate::proofs::CopyLemmas::name_copies))]
 fn copied_names(names: &IndexSet<String>) -> Result<IndexSet<String>, AllocError>
@@ -295,24 +364,13 @@ impl Config {
         ensures valid { OnOk result (config_fault (setup_of servers.now shards.now) ≡ None) }
         ensures refused { IfErr result (λ why. why ≢ ConfigFault.NoMemory → config_fault (setup_of servers.now shards.now) ≡ Some why) }
     {
-        if is_too_large(servers, shards) {
-            return Err(ConfigFault::TooMany);
-        }
-        if !has_good_names(servers, shards) {
-            return Err(ConfigFault::BadName);
-        }
-        let Some(server_names) = server_table(alloc, servers)? else {
-            return Err(ConfigFault::DoubleName);
-        };
-        let Some(shard_names) = shard_table(alloc, shards)? else {
-            return Err(ConfigFault::DoubleName);
-        };
-        if !has_good_numbers(servers, shards) {
-            return Err(ConfigFault::BadNumber);
-        }
+        check_names(servers, shards)?;
+        let (server_rows, shard_rows) = copied_rows(alloc, servers, shards)?;
+        let (server_names, shard_names) = name_tables(alloc, servers, shards)?;
+        check_numbers(servers, shards)?;
         Ok(Config {
-            servers: copied_servers(alloc, servers)?,
-            shards: copied_shards(alloc, shards)?,
+            servers: server_rows,
+            shards: shard_rows,
             server_names,
             shard_names,
         })
@@ -322,10 +380,12 @@ impl Config {
     pub fn copy(&self, alloc: Global) -> Result<Config, AllocError>
         ensures { IfOk result (λ config. config ≡ self.now) }
     {
+        let (servers, shards) = copied_rows(alloc, self.servers(), self.shards())?;
+        let server_names = copied_names(&self.server_names)?;
         Ok(Config {
-            servers: copied_servers(alloc, self.servers())?,
-            shards: copied_shards(alloc, self.shards())?,
-            server_names: copied_names(&self.server_names)?,
+            servers,
+            shards,
+            server_names,
             shard_names: copied_names(&self.shard_names)?,
         })
     }

@@ -1,5 +1,5 @@
 //! Opening a placement.
-ghost use Rattle.std.specs.Prelude.{◌≡◌, ◌≢◌, false, All, Some, None, OnOk, IfErr, ◌≤◌, ◌<◌, ◌+◌, ◌*◌, ◌||◌, ◌==◌, not, nat_lt, length, IfOk, count_by};
+ghost use Rattle.std.specs.Prelude.{◌≡◌, ◌≢◌, false, All, Some, None, OnOk, IfErr, ◌≤◌, ◌<◌, ◌+◌, ◌*◌, ◌||◌, ◌==◌, not, nat_lt, length, replicate, IfOk, count_by};
 ghost use Rattle.std.specs.List.{list_any};
 ghost use Rattle.sm_server.specs.Cell.{is_primary};
 ghost use Rattle.sm_placement.specs.Setup.{sizes_of};
@@ -153,7 +153,7 @@ fn first_double(
 }
 
 /// How many of a shard's cells are primaries, and how many have a part in a handover.
-#[derive(Clone, Copy, Debug, PartialEq, Eq)]
+#[derive(Clone, Copy)]
 struct LeadCells {
     primaries: u32,
     handing: u32,
@@ -326,26 +326,37 @@ fn standing_fault(table: &Table, listed: &[Option<ServerId>], limit: u32) -> Opt
     None
 }
 
+/// A map's entries of which none has changed: the listed servers, and how often each has.
+fn first_entries(
+    alloc: Global,
+    listed: &[Option<ServerId>],
+) -> Result<(Vec<Option<ServerId>>, Vec<u64>), AllocError>
+    ensures listed { IfOk result (λ entries. entries.0.items ≡ listed.now) }
+    ensures versions { IfOk result (λ entries. entries.1.items ≡ replicate (length listed.now) 0) }
+{
+    let versions = vec![in alloc; 0; listed.len()]?;
+    Ok((Vec::from_slice(alloc, listed)?, versions))
+}
+
 /// The placement of a table's cells, of which nothing has been published.
 fn stand(
-    alloc: Global,
     table: Table,
-    listed: &[Option<ServerId>],
+    listed: Vec<Option<ServerId>>,
+    versions: Vec<u64>,
     limit: u32,
 ) -> Result<Placement, OpenFault>
-    requires len { length listed.now ≡ length table.setup.shards }
-    requires known { list_any (is_unknown (length table.setup.servers)) listed.now ≡ false }
-    ensures ok { IfOk result (λ p. place_of p ≡ unpublished table listed.now limit) }
+    requires len { length listed.items ≡ length table.setup.shards }
+    requires known { list_any (is_unknown (length table.setup.servers)) listed.items ≡ false }
+    requires unchanged { versions.items ≡ replicate (length listed.items) 0 }
+    ensures ok { IfOk result (λ p. place_of p ≡ unpublished table listed.items limit) }
     ensures setup { IfOk result (λ p. p.setup ≡ table.setup) }
-    ensures valid { OnOk result (first_fault (standing_faults (sizes_of table.setup) (unpublished table listed.now limit)) ≡ None) }
-    ensures refused { IfErr result (λ why. why ≢ OpenFault.NoMemory → first_fault (standing_faults (sizes_of table.setup) (unpublished table listed.now limit)) ≡ Some why) }
+    ensures valid { OnOk result (first_fault (standing_faults (sizes_of table.setup) (unpublished table listed.items limit)) ≡ None) }
+    ensures refused { IfErr result (λ why. first_fault (standing_faults (sizes_of table.setup) (unpublished table listed.items limit)) ≡ Some why) }
 {
-    if let Some(fault) = standing_fault(&table, listed, limit) {
-        return Err(fault);
+    match standing_fault(&table, &listed, limit) {
+        Some(fault) => Err(fault),
+        None => Ok(Placement::from_parts(table, listed, versions, limit)),
     }
-    let versions = vec![in alloc; 0; listed.len()]?;
-    let listed = Vec::from_slice(alloc, listed)?;
-    Ok(Placement::from_parts(table, listed, versions, limit))
 }
 
 impl Placement {
@@ -369,7 +380,8 @@ impl Placement {
         ensures refused { IfErr result (λ why. why ≢ OpenFault.NoMemory → open_fault (sizes_of config.now) (record { cells = cells.now; listed = listed.now; down = down.now; limit = limit }) ≡ Some why) }
     {
         check_lists(alloc, config, cells, listed, down, limit)?;
+        let (listed, versions) = first_entries(alloc, listed)?;
         let table = placed(alloc, config, cells, down)?;
-        stand(alloc, table, listed, limit)
+        stand(table, listed, versions, limit)
     }
 }

@@ -417,10 +417,12 @@ impl Placement {
     pub fn copy(&self, alloc: Global) -> Result<Placement, AllocError>
         ensures { IfOk result (λ placement. placement ≡ self.now) }
     {
+        let listed = Vec::from_slice(alloc, &self.listed)?;
+        let versions = Vec::from_slice(alloc, &self.versions)?;
         Ok(Placement {
             table: self.table.copy(alloc)?,
-            listed: Vec::from_slice(alloc, &self.listed)?,
-            versions: Vec::from_slice(alloc, &self.versions)?,
+            listed,
+            versions,
             limit: self.limit,
         })
     }

@@ -80,6 +80,16 @@ fn blank_by_shard(alloc: Global, shards: usize) -> Result<(Vec<u32>, Vec<u32>), 
     Ok((lives, vec![in alloc; 0; shards]?))
 }
 
+/// The lists with an entry for each pair, with nothing in each cell and no number.
+fn blank_by_pair(alloc: Global, pairs: usize) -> Result<(Cells, Lasts), AllocError>
+    requires { pairs < 2 ^ 32 }
+    ensures cells { IfOk result (λ lists. lists.0 ≡ replicate pairs Cell.Absent) }
+    ensures lasts { IfOk result (λ lists. lists.1 ≡ replicate pairs 0) }
+{
+    let cells = Cells::new(alloc, pairs)?;
+    Ok((cells, Lasts::new(alloc, pairs)?))
+}
+
 /// The lists with an entry for each server, once more.
 fn copied_by_server(
     alloc: Global,
@@ -106,6 +116,15 @@ fn copied_by_shard(
     Ok((lives, Vec::from_slice(alloc, servings)?))
 }
 
+/// The lists with an entry for each pair, once more.
+fn copied_by_pair(alloc: Global, cells: &Cells, lasts: &Lasts) -> Result<(Cells, Lasts), AllocError>
+    ensures cells { IfOk result (λ lists. lists.0 ≡ cells.now) }
+    ensures lasts { IfOk result (λ lists. lists.1 ≡ lasts.now) }
+{
+    let cells = cells.copy(alloc)?;
+    Ok((cells, lasts.copy(alloc)?))
+}
+
 impl Table {
     ghost use Rattle.std.specs.Prelude.{◌≡◌, ◌<◌, ◌≤◌, ◌+◌, ◌*◌, ◌^◌, ◌&&◌, false, length, IfOk};
     ghost use Rattle.sm_placement.specs.Setup.{sizes_of};
@@ -125,11 +144,10 @@ impl Table {
     {
         let servers = config.server_count() as usize;
         let shards = config.shard_count() as usize;
-        let config = config.copy(alloc)?;
-        let cells = Cells::new(alloc, shards * servers)?;
-        let lasts = Lasts::new(alloc, shards * servers)?;
         let (down, loads) = blank_by_server(alloc, servers)?;
         let (lives, servings) = blank_by_shard(alloc, shards)?;
+        let (cells, lasts) = blank_by_pair(alloc, shards * servers)?;
+        let config = config.copy(alloc)?;
         Ok(Table {
             config,
             cells,
@@ -146,11 +164,10 @@ impl Table {
     pub fn copy(&self, alloc: Global) -> Result<Table, AllocError>
         ensures { IfOk result (λ t. t ≡ self.now) }
     {
-        let config = self.config.copy(alloc)?;
-        let cells = self.cells.copy(alloc)?;
-        let lasts = self.lasts.copy(alloc)?;
         let (down, loads) = copied_by_server(alloc, &self.down, &self.loads)?;
         let (lives, servings) = copied_by_shard(alloc, &self.lives, &self.servings)?;
+        let (cells, lasts) = copied_by_pair(alloc, &self.cells, &self.lasts)?;
+        let config = self.config.copy(alloc)?;
         Ok(Table {
             config,
             cells,

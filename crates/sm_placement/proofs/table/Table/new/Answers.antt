@@ -5,19 +5,19 @@ use Rattle.sm_placement.specs.Setup.{Setup, IsSetup}
 use Rattle.sm_placement.proofs.TableLemmas.{cells_of-empty, lasts_of-empty, down_of-empty, IsCounted-empty}
 use Rattle.sm_placement.proofs.table.Table.new.Goals as goal
 
-servers_of : (c : goal.In_ok-lives) → c.server_count-servers.result ≡ length c.in_ok-config.config.servers
+servers_of : (c : goal.In_ok-config) → c.server_count-servers.result ≡ length c.in_ok-config.config.servers
 servers_of c = c.server_count-servers.ensures.count ∙ ap (λ (s : Setup). length s.servers) (sym c.in_ok-config.ensures)
 
-shards_of : (c : goal.In_ok-lives) → c.shard_count-shards.result ≡ length c.in_ok-config.config.shards
+shards_of : (c : goal.In_ok-config) → c.shard_count-shards.result ≡ length c.in_ok-config.config.shards
 shards_of c = c.shard_count-shards.ensures.count ∙ ap (λ (s : Setup). length s.shards) (sym c.in_ok-config.ensures)
 
-cells_are : (c : goal.In_ok-lives) → c.in_ok-cells.cells ≡ replicate (length c.in_ok-config.config.shards * length c.in_ok-config.config.servers) Absent
-cells_are c = rw (← servers_of c, ← shards_of c) c.in_ok-cells.ensures
+cells_are : (c : goal.In_ok-config) → c.in_ok-cells.cells ≡ replicate (length c.in_ok-config.config.shards * length c.in_ok-config.config.servers) Absent
+cells_are c = rw (← servers_of c, ← shards_of c) c.in_ok-cells.ensures.cells
 
-lasts_are : (c : goal.In_ok-lives) → c.in_ok-lasts.lasts ≡ replicate (length c.in_ok-config.config.shards * length c.in_ok-config.config.servers) 0
-lasts_are c = rw (← servers_of c, ← shards_of c) c.in_ok-lasts.ensures
+lasts_are : (c : goal.In_ok-config) → c.in_ok-cells.lasts ≡ replicate (length c.in_ok-config.config.shards * length c.in_ok-config.config.servers) 0
+lasts_are c = rw (← servers_of c, ← shards_of c) c.in_ok-cells.ensures.lasts
 
-down_is : (c : goal.In_ok-lives) → c.in_ok-down.down.items ≡ replicate (length c.in_ok-config.config.servers) false
+down_is : (c : goal.In_ok-config) → c.in_ok-down.down.items ≡ replicate (length c.in_ok-config.config.servers) false
 down_is c = rw (← servers_of c) c.in_ok-down.ensures.down
 
 pub invariant_of-result : goal.invariant_of-result
