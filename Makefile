@@ -37,6 +37,7 @@ check-program:
 	scripts/check-documents
 	scripts/check-reports
 	scripts/check-faults
+	scripts/check-early
 	scripts/check-command-line
 	scripts/check-memory
 	scripts/check-threads

@@ -1,39 +1,15 @@
 """Documents with faults, and what the built program answers: see scripts/check-faults."""
 import json
 import os
-import pathlib
 import subprocess
 import sys
 from concurrent.futures import ThreadPoolExecutor
 
-root, program = pathlib.Path(sys.argv[1]), sys.argv[2]
-documents = root / "tests/documents"
+from fault_cases import DOCUMENTS, FILES, cases_of
+
+program = sys.argv[2]
 # What each command answers to a document that is read, but has nothing for the command.
 LACKS = {"calls": "bad input: 3 Shape calls\n", "check": "bad input: 3 Shape plan\n"}
-
-
-def edited(case, base):
-    """The text of a case of a file."""
-    if set(case) == {"what", "text", "answer"}:
-        return case["text"]
-    if set(case) != {"what", "old", "new", "answer"}:
-        sys.exit(f"no case: {case}")
-    if case["old"] not in base:
-        sys.exit(f"{case['old']} is not in the base: {case['what']}")
-    return base.replace(case["old"], case["new"], 1)
-
-
-def cases_of(path):
-    """The cases of a file: where it stands, its bytes, its answer."""
-    whole = json.loads(path.read_bytes())
-    if not whole["groups"]:
-        sys.exit(f"{path.name} has no groups")
-    for group in whole["groups"]:
-        base = (documents / "bases" / group.get("base", whole["base"])).read_bytes().decode()
-        if not group["cases"]:
-            sys.exit(f"{path.name} has a group without cases: {group['title']}")
-        for case in group["cases"]:
-            yield f"{path.name}, {group['title']} {case['what']}", edited(case, base).encode(), case["answer"]
 
 
 def members_of(text):
@@ -90,7 +66,7 @@ def behind_many():
 
 def cut_and_nested():
     """A document cut at each byte, or with a byte that no text has at each place, and lists in lists."""
-    whole = (documents / "bases/placement.json").read_bytes()
+    whole = (DOCUMENTS / "bases/placement.json").read_bytes()
     for at in range(len(whole)):
         yield f"cut to {at} bytes", whole[:at], "2 NotJson"
         yield f"no text at byte {at}", whole[:at] + b"\xff" + whole[at + 1:], "2 NotJson"
@@ -199,8 +175,7 @@ def told(case):
     return None
 
 
-files = sorted((documents / "faults").glob("*.json"))
-written = [case for path in files for case in cases_of(path)]
+written = [case for path in FILES for case in cases_of(path)]
 made = [*cut_and_nested(), *behind_many()]
 turned = [other for case in [*written, *behind_many()] for other in in_other_orders(case)]
 if not written or not made or not turned or not SIZES:
@@ -213,5 +188,5 @@ with ThreadPoolExecutor(2) as workers:
 failed = [answer for answer in answers if answer is not None]
 for line in failed[:20]:
     print(line)
-print(f"faults: {len(written)} of {len(files)} files, {len(made)} cut, nested or doubled, {len(turned)} in another order, {len(SIZES)} large, {len(failed)} failed")
+print(f"faults: {len(written)} of {len(FILES)} files, {len(made)} cut, nested or doubled, {len(turned)} in another order, {len(SIZES)} large, {len(failed)} failed")
 sys.exit(1 if failed else 0)
