@@ -1,5 +1,5 @@
 //! The number that a text of JSON writes.
-ghost use Rattle.std.specs.Prelude.{◌≡◌, ◌==◌, ◌<◌, true, false, option_map, length, slice_index, IsTrue};
+ghost use Rattle.std.specs.Prelude.{◌≡◌, true, false, option_map};
 ghost use Rattle.serde_json.specs.Read.{number_of, number_from, float_of};
 ghost use Rattle.serde_json.specs.View.{number_view};
 
@@ -11,18 +11,10 @@ pub(crate) fn number_of(text: &str) -> Option<Number>
     ensures { option_map number_view result ≡ number_of text.now }
 {
     let bytes = text.as_bytes();
-    if has_minus(bytes) {
-        negative(&Numeral::scan(&bytes[1..]))
-    } else {
-        unsigned(&Numeral::scan(bytes))
+    match bytes.strip_prefix(b"-") {
+        Some(digits) => negative(&Numeral::scan(digits)),
+        None => unsigned(&Numeral::scan(bytes)),
     }
-}
-
-fn has_minus(bytes: &[u8]) -> bool
-    ensures value { result ≡ (slice_index bytes.now 0 == 45) }
-    ensures some { IsTrue result → 0 < length bytes.now }
-{
-    !bytes.is_empty() && bytes[0] == b'-'
 }
 
 fn unsigned(numeral: &Numeral<'_>) -> Option<Number>
@@ -37,12 +29,10 @@ fn unsigned(numeral: &Numeral<'_>) -> Option<Number>
 fn negative(numeral: &Numeral<'_>) -> Option<Number>
     ensures { option_map number_view result ≡ number_from true numeral.now }
 {
-    if let Some(n) = numeral.to_i64(true) {
-        if n < 0 {
-            return Some(Number::from(n));
-        }
+    match numeral.to_i64(true) {
+        Some(n) if n < 0 => Some(Number::from(n)),
+        _ => nearest(true, numeral),
     }
-    nearest(true, numeral)
 }
 
 fn nearest(negative: bool, numeral: &Numeral<'_>) -> Option<Number>

@@ -4,6 +4,7 @@ ghost use Rattle.json.specs.Json.{value, items, members};
 ghost use Rattle.serde_json.specs.Data.{no_members};
 ghost use Rattle.serde_json.specs.Read.{of_json, of_items, of_members, converted, read as read_text};
 ghost use Rattle.json_tree.specs.View.{view, items_view, members_view};
+ghost use Rattle.json_tree.specs.declared.read.ReadFault.TheVariants.{NoMemory, NotJson};
 
 use crate::number::number_of;
 use crate::tree::Tree;
@@ -25,9 +26,6 @@ pub enum ReadFault {
 }
 
 impl From<AllocError> for ReadFault {
-    ghost use Rattle.std.specs.Prelude.{◌≡◌};
-    ghost use Rattle.json_tree.specs.declared.read.ReadFault.TheVariants.{NoMemory};
-
     ghost from_gives = { λ _ why. why ≡ NoMemory };
 
     fn from(_refused: AllocError) -> ReadFault {
@@ -36,9 +34,6 @@ impl From<AllocError> for ReadFault {
 }
 
 impl From<Invalid> for ReadFault {
-    ghost use Rattle.std.specs.Prelude.{◌≡◌};
-    ghost use Rattle.json_tree.specs.declared.read.ReadFault.TheVariants.{NotJson};
-
     ghost from_gives = { λ _ why. why ≡ NotJson };
 
     fn from(_invalid: Invalid) -> ReadFault {
@@ -82,25 +77,14 @@ pub fn read_value<'a>(
     let token = reader.next().ok_or(ReadFault::NotJson)?;
     match token {
         Token::String(text) => Ok(Tree::String(text)),
-        Token::Number(text) => match number_of(text) {
-            Some(number) => Ok(Tree::Number(number)),
-            None => Err(ReadFault::NotJson),
-        },
+        Token::Number(text) => Ok(Tree::Number(number_of(text).ok_or(ReadFault::NotJson)?)),
         Token::Bool(b) => Ok(Tree::Bool(b)),
         Token::Null => Ok(Tree::Null),
-        Token::EndObject | Token::EndArray | Token::Key(_) | Token::Bad => Err(ReadFault::NotJson),
-        Token::BeginArray => {
-            if depth == 0 {
-                return Err(ReadFault::NotJson);
-            }
-            Ok(Tree::Array(read_items(alloc, reader, depth - 1)?))
-        }
-        Token::BeginObject => {
-            if depth == 0 {
-                return Err(ReadFault::NotJson);
-            }
+        Token::BeginArray if depth > 0 => Ok(Tree::Array(read_items(alloc, reader, depth - 1)?)),
+        Token::BeginObject if depth > 0 => {
             Ok(Tree::Object(read_members(alloc, reader, depth - 1)?))
         }
+        _ => Err(ReadFault::NotJson),
     }
 }
 
@@ -121,7 +105,7 @@ fn read_items<'a>(
     let mut found = Vec::new(alloc);
     'items: while !reader.take_end_array() {
         let item = read_value(alloc, reader, depth)?;
-        push(&mut found, item)?;
+        found.push(item).or(Err(ReadFault::NoMemory))?;
     }
     found.shrink_to_fit();
     Ok(found)
@@ -144,18 +128,8 @@ fn read_members<'a>(
     let mut found = Vec::new(alloc);
     'members: while let Some(name) = reader.next_key()? {
         let member = read_value(alloc, reader, depth)?;
-        push(&mut found, (name, member))?;
+        found.push((name, member)).or(Err(ReadFault::NoMemory))?;
     }
     found.shrink_to_fit();
     Ok(found)
-}
-
-fn push<T: Drop>(found: &mut Vec<T>, item: T) -> Result<(), ReadFault>
-    ensures ok { OnOk result (found.new.items ≡ found.old.items ++ item ∷ []) }
-    ensures refused { result ≢ Err ReadFault.NotJson }
-{
-    match found.push(item) {
-        Ok(()) => Ok(()),
-        Err(_) => Err(ReadFault::NoMemory),
-    }
 }

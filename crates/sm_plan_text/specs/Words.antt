@@ -11,3 +11,4 @@ pub use Rattle.sm_plan_text.specs.Values.{found, list_in, items_of, entries_in, 
 pub use Rattle.sm_plan_text.specs.Tables.{walked, own_faults}
 pub use Rattle.sm_plan_text.specs.Plans.{faults_within}
 pub use Rattle.sm_plan_text.specs.Rules.{row_of, HasIds}
+pub use Rattle.sm_plan_text.specs.Moves.{move_table, move_in}

@@ -1,4 +1,6 @@
 //! The moves of a document.
+ghost use Rattle.sm_plan_text.specs.Words.{own_faults, move_table, move_in};
+
 use crate::cursor::Cursor;
 use crate::entry::Entry;
 use crate::fault::Faults;
@@ -18,9 +20,6 @@ pub struct MoveText {
 const MOVE: &[Rule] = &[SHARD, FROM, TO];
 
 impl Entry for MoveText {
-    ghost use Rattle.sm_plan_text.specs.Tables.{own_faults};
-    ghost use Rattle.sm_plan_text.specs.Moves.{move_table, move_in};
-
     ghost value = { λ scope entry. move_in scope.shards.now scope.servers.now entry };
 
     ghost faults_of = { λ scope parent entry. own_faults parent (move_table scope.shards.now scope.servers.now) entry };

@@ -1,9 +1,9 @@
-use Rattle.std.proofs.Common.{◌≡◌, ◌-◌, ◌<◌, [], ◌∷◌, length, Some, None, sym, ap, ap₂, ◌∙◌, arith, rules}
+use Rattle.std.proofs.Common.{◌≡◌, ◌-◌, ◌<◌, [], ◌∷◌, ◌++◌, length, Some, None, sym, ap, ap₂, ◌∙◌, arith, rules}
 use Rattle.json.specs.Token.{Token}
 use Rattle.json.specs.Json.{parse_map, after_end_array, read_key, items, members, value}
 use Rattle.json.specs.Reads.{token_of}
 use Rattle.json.proofs.Grammar.{value_is, value-begin_array, value-begin_object, read_key-shorter}
-use Rattle.serde_json.specs.Data.{null, boolean, number, string, array, object, put}
+use Rattle.serde_json.specs.Data.{null, boolean, number, string, array, object}
 use Rattle.serde_json.specs.Read.{of_json, of_items, of_members, converted}
 use Rattle.serde_json.specs.View.{number_view}
 use Rattle.json_tree.specs.View.{view, items_view, members_view}
@@ -11,25 +11,12 @@ use Rattle.json_tree.specs.declared.tree.Tree.{String, Number, Bool, Null, the_l
 use Rattle.json_tree.proofs.Trees.{view-Array, view-Object, items_before, items_before-no_items, one_more_item, one_more_member}
 use Rattle.json_tree.proofs.Turns.{converted-array, converted-object, item_read, item_refused, items_over, member_read, member_refused, key_refused, members_over}
 use Rattle.json_tree.proofs.read.+read.Goals as goal
+use Rattle.json_tree.proofs.read.+read.Goals.{read_value-in_default-via-in-BeginArray+else-depth-gt0, read_value-in_default-via-in-BeginObject+else-depth-gt0-2, read_value-in_default-via-in_default}
 
 pub read_value-returns-in_err-token-clause-not_json : goal.read_value-returns-in_err-token-clause-not_json
 read_value-returns-in_err-token-clause-not_json t c refused =
     let empty : c.args.reader.now ≡ [] = grind arith in
     ap (converted of_json) (ap (value c.args.depth) empty ∙ value_is c.args.depth [])
-
-pub read_value-returns-then-depth-eq0-clause-not_json : goal.read_value-returns-then-depth-eq0-clause-not_json
-unfolding value
-read_value-returns-then-depth-eq0-clause-not_json t c never =
-    let first : c.args.reader.now ≡ token_of c.in_ok-token.token ∷ c.next.new.self = grind arith in
-    let none : c.args.depth ≡ 0 = omega arith in
-    ap (converted of_json) (ap₂ value none (first ∙ ap (λ k. token_of k ∷ c.next.new.self) c.in-BeginArray.is))
-
-pub read_value-returns-then-depth-eq0-2-clause-not_json : goal.read_value-returns-then-depth-eq0-2-clause-not_json
-unfolding value
-read_value-returns-then-depth-eq0-2-clause-not_json t c never =
-    let first : c.args.reader.now ≡ token_of c.in_ok-token.token ∷ c.next.new.self = grind arith in
-    let none : c.args.depth ≡ 0 = omega arith in
-    ap (converted of_json) (ap₂ value none (first ∙ ap (λ k. token_of k ∷ c.next.new.self) c.in-BeginObject.is))
 
 pub read_value-returns-in_err-read_items-in-BeginArray-clause-not_json : goal.read_value-returns-in_err-read_items-in-BeginArray-clause-not_json
 read_value-returns-in_err-read_items-in-BeginArray-clause-not_json t c refused =
@@ -64,25 +51,6 @@ read_value-returns-in-Null-clause-ok t c =
     let seen : view (Null) ≡ null = search (rules, the_lemmas) in
     ap (converted of_json) (ap (value c.args.depth) is ∙ value_is c.args.depth _) ∙ ap (λ d. Some (d, c.next.new.self)) (sym seen)
 
-pub read_value-returns-in-Some-clause-ok : goal.read_value-returns-in-Some-clause-ok
-read_value-returns-in-Some-clause-ok t c =
-    let first : c.args.reader.now ≡ token_of c.in_ok-token.token ∷ c.next.new.self = grind arith in
-    let is : c.args.reader.now ≡ Token.number c.in-Number.text.now ∷ c.next.new.self = grind (arith, first) in
-    let seen : view (Number c.in-Some.number) ≡ number (number_view c.in-Some.number) = search (rules, the_lemmas) in
-    ap (converted of_json) (ap (value c.args.depth) is ∙ value_is c.args.depth _) ∙ rw (← c.in-Some.ensures, seen)
-
-pub read_value-returns-in-None-clause-not_json : goal.read_value-returns-in-None-clause-not_json
-read_value-returns-in-None-clause-not_json t c refused =
-    let first : c.args.reader.now ≡ token_of c.in_ok-token.token ∷ c.next.new.self = grind arith in
-    let is : c.args.reader.now ≡ Token.number c.in-Number.text.now ∷ c.next.new.self = grind (arith, first) in
-    ap (converted of_json) (ap (value c.args.depth) is ∙ value_is c.args.depth _) ∙ rw (← c.in-None.ensures)
-
-pub read_value-returns-in-EndObject-clause-not_json : goal.read_value-returns-in-EndObject-clause-not_json
-read_value-returns-in-EndObject-clause-not_json t c refused =
-    let first : c.args.reader.now ≡ token_of c.in_ok-token.token ∷ c.next.new.self = grind arith in
-    let none : value c.args.depth c.args.reader.now ≡ None = rw (value_is c.args.depth c.args.reader.now, first) (grind arith) in
-    ap (converted of_json) none
-
 pub read_value-returns-in_ok-read_items-in-BeginArray-clause-ok : goal.read_value-returns-in_ok-read_items-in-BeginArray-clause-ok
 read_value-returns-in_ok-read_items-in-BeginArray-clause-ok t c =
     let first : c.args.reader.now ≡ token_of c.in_ok-token.token ∷ c.next.new.self = grind arith in
@@ -115,11 +83,12 @@ read_items-items-preserved t c =
     let v = c.in_ok-item.item in
     let r = c.read_value.new.reader in
     let less : length r < length l.reader = rw (← going.1) done.shorter in
+    let pushed : c.push.new.self.items ≡ l.found.items ++ v ∷ [] = grind arith in
     let turn = item_read p n l.reader r (view v) (omega (arith, l.invariant.1)) going.0 (rw (← going.1) done.ok) in (
       n - 1,
       omega (arith, l.invariant.1),
       l.invariant.2 ∙ ap (parse_map (items_before l.found.items)) turn ∙ one_more_item l.found.items v _
-          ∙ ap (λ vs. parse_map (items_before vs) (converted of_items (items p (n - 1) r))) (sym c.in_ok-push.ensures.ok),
+          ∙ ap (λ vs. parse_map (items_before vs) (converted of_items (items p (n - 1) r))) (sym pushed),
       omega (arith, l.invariant.3),
     )
 
@@ -165,8 +134,8 @@ read_members-members-preserved t c =
     let r = c.read_value.new.reader in
     let less = read_key-shorter l.reader (Some k) s named in
     let lesser = done.shorter in
-    let pushed : members_view c.push.new.found.items ≡ put k (view v) old =
-    ap members_view c.in_ok-push.ensures.ok ∙ one_more_member l.found.items (c.in-Some.name, v) in (
+    let one_more : c.push.new.self.items ≡ l.found.items ++ (c.in-Some.name, v) ∷ [] = grind arith in
+    let pushed = ap members_view one_more ∙ one_more_member l.found.items (c.in-Some.name, v) in (
       n - 1,
       omega (arith, l.invariant.1),
       l.invariant.2 ∙ member_read p old n k l.reader s r (view v) (omega (arith, l.invariant.1)) named done.ok
@@ -181,3 +150,31 @@ read_members-returns-clause-ok t c =
     let n = l.invariant.0 in
     let old = members_view l.found.items in
     l.invariant.2 ∙ members_over p old n l.reader c.next_key.new.self l.invariant.1 (grind arith) ∙ ap (λ ms. Some (members_view ms, c.next_key.new.self)) (sym c.shrink_to_fit.ensures.items)
+
+pub read_value-returns-in_ok-ok_or-in-Number-clause-ok : goal.read_value-returns-in_ok-ok_or-in-Number-clause-ok
+read_value-returns-in_ok-ok_or-in-Number-clause-ok t c =
+    let first : c.args.reader.now ≡ token_of c.in_ok-token.token ∷ c.next.new.self = grind arith in
+    let is : c.args.reader.now ≡ Token.number c.in-Number.text.now ∷ c.next.new.self = grind (arith, first) in
+    let n = c.in_ok-ok_or-in-Number.field-0 in
+    let some : c.number_of.result ≡ Some n = grind arith in
+    let seen : view (Number n) ≡ number (number_view n) = search (rules, the_lemmas) in
+    ap (converted of_json) (ap (value c.args.depth) is ∙ value_is c.args.depth _) ∙ rw (← c.number_of.ensures, some, seen)
+
+pub read_value-returns-in_err-ok_or-in-Number-clause-not_json : goal.read_value-returns-in_err-ok_or-in-Number-clause-not_json
+read_value-returns-in_err-ok_or-in-Number-clause-not_json t c refused =
+    let first : c.args.reader.now ≡ token_of c.in_ok-token.token ∷ c.next.new.self = grind arith in
+    let is : c.args.reader.now ≡ Token.number c.in-Number.text.now ∷ c.next.new.self = grind (arith, first) in
+    let none : c.number_of.result ≡ None = grind arith in
+    ap (converted of_json) (ap (value c.args.depth) is ∙ value_is c.args.depth _) ∙ rw (← c.number_of.ensures, none)
+
+pub read_value-returns-in_default-clause-not_json : goal.read_value-returns-in_default-clause-not_json
+unfolding value
+read_value-returns-in_default-clause-not_json t c refused =
+    let first : c.args.reader.now ≡ token_of c.in_ok-token.token ∷ c.next.new.self = grind arith in
+    let none : value c.args.depth c.args.reader.now ≡ None =
+    elim c.in_default.branch [
+      | read_value-in_default-via-in-BeginArray+else-depth-gt0 w ↦ (let level : c.args.depth ≡ 0 = omega arith in ap₂ value level (first ∙ ap (λ k. token_of k ∷ c.next.new.self) w.in-BeginArray.is))
+      | read_value-in_default-via-in-BeginObject+else-depth-gt0-2 w ↦ (let level : c.args.depth ≡ 0 = omega arith in ap₂ value level (first ∙ ap (λ k. token_of k ∷ c.next.new.self) w.in-BeginObject.is))
+      | read_value-in_default-via-in_default w ↦ rw (value_is c.args.depth c.args.reader.now, first) (grind arith)
+    ] in
+    ap (converted of_json) none
