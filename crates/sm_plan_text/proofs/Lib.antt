@@ -10,6 +10,7 @@ pub mod PlanLemmas
 pub mod DistinctNames
 pub mod DocumentLemmas
 pub mod OutlineLemmas
+pub mod EntriesRead
 pub mod Texts
 pub mod Faultless
 pub mod FaultlessParcel

@@ -1,5 +1,5 @@
 -- Lists that are read entry by entry, and members that are put to what is kept of an object.
-use Rattle.std.proofs.Common.{◌≡◌, ◌∙◌, ◌+◌, ℕ, List, [], ◌∷◌, ◌++◌, length, map, Option, Some, None, Ordering, Less, Equal, Greater, nat_cmp, refl, ap, ap₂, sym, append_assoc, append-nil, bytes_eq, true≢false, Bool, true, false, subst, unwrap_or, option_map, Vec, Global, cond, not, ◌≤◌, nat_le, le-leb}
+use Rattle.std.proofs.Common.{◌≡◌, ◌∙◌, ℕ, List, [], ◌∷◌, ◌++◌, length, map, Option, Some, None, Ordering, Less, Equal, Greater, nat_cmp, refl, ap, sym, append_assoc, append-nil, bytes_eq, true≢false, Bool, true, false, subst, unwrap_or, option_map, Vec, Global, cond, not, ◌≤◌, le-leb}
 use Rattle.std.specs.List.{list_any}
 use Rattle.std.specs.Ordering.{match_ordering}
 use Rattle.std.specs.Cmp.Lexicographic.{slice_cmp}
@@ -14,7 +14,6 @@ use Rattle.json_tree.specs.declared.tree.Tree.{Object}
 use Rattle.json_tree.proofs.Trees.{view-Object}
 use Rattle.json_tree.proofs.Trees.{Member as Kept}
 use Rattle.sm_plan_text.specs.declared.fault.TextFault.{TextFault}
-use Rattle.sm_plan_text.specs.Faults.{noted}
 use Rattle.sm_plan_text.specs.declared.event.EventText.{EventText}
 use Rattle.sm_plan_text.specs.declared.member.Member.TheVariants as members
 use Rattle.sm_plan_text.specs.declared.outline.EarlyList.{EarlyList}
@@ -36,7 +35,6 @@ use Rattle.sm_plan_text.specs.Tables.{whole as whole_number}
 use Rattle.sm_plan_text.specs.Tables.{known as known_name}
 use Rattle.sm_plan_text.specs.Tables.{object as an_object}
 use Rattle.sm_plan_text.specs.Tables.{list as a_list}
-use Rattle.sm_plan_text.proofs.WalkLemmas.{noted_append}
 
 -- these entries, and then the rest of the list
 abbrev pub before : List Data → Items → Items

@@ -4,7 +4,6 @@ use Rattle.serde_json.specs.Data.{Data, array, object, Items, no_items, Members}
 use Rattle.serde_json.specs.Find.{get_member}
 use Rattle.json_tree.specs.View.{view, members_view}
 use Rattle.sm_plan_text.specs.declared.fault.TextFault.{TextFault}
-use Rattle.sm_plan_text.specs.declared.member.Member.{Member}
 use Rattle.sm_plan_text.specs.declared.member.Member.TheVariants as members
 use Rattle.sm_plan_text.specs.declared.outline.EarlyList.{EarlyList}
 use Rattle.sm_plan_text.specs.declared.outline.Early.{Early}

@@ -61,6 +61,14 @@ abbrev pub plain_text : PlainCell → List ℕ
 plain_text plain.Absent = codes "absent"
 plain_text plain.Secondary = codes "secondary"
 
+-- the word of a crown's lead
+abbrev pub lead_text : Lead → List ℕ
+lead_text lead.Gone = codes "gone"
+lead_text (lead.At u) = codes "at"
+lead_text (lead.Ready u v) = codes "ready"
+lead_text (lead.Handing u v) = codes "handing"
+lead_text (lead.Handed u v) = codes "handed"
+
 -- ---- rights
 
 abbrev pub right_data : List (List ℕ) → List (List ℕ) → CellRight → Data

@@ -10,8 +10,8 @@ use Rattle.sm_plan_text.specs.declared.fault.TextFault.TheVariants.{NotJson}
 use Rattle.sm_plan_text.specs.declared.member.Member.TheVariants as members
 use Rattle.sm_plan_text.specs.declared.document.Document.{Document}
 use Rattle.sm_plan_text.specs.declared.document.Work.{Work}
-use Rattle.sm_plan_text.specs.declared.server.Servers.{Servers}
-use Rattle.sm_plan_text.specs.declared.shard.Shards.{Shards}
+use Rattle.sm_plan_text.specs.declared.rows.Servers.{Servers}
+use Rattle.sm_plan_text.specs.declared.rows.Shards.{Shards}
 use Rattle.sm_plan_text.specs.Faults.{answered}
 use Rattle.sm_plan_text.specs.Plans.{plan_faults, plan_in}
 use Rattle.sm_plan_text.specs.Documents.{DocumentModel, document_faults, rows_in}

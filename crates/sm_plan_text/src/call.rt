@@ -1,7 +1,7 @@
 //! The calls of a document.
 ghost use Rattle.std.specs.Prelude.{◌≡◌, map, option_map, IfSome};
-ghost use Rattle.sm_plan_text.specs.Words.{view, Scope, row_of};
-ghost use Rattle.sm_plan_text.specs.Calls.{call_word, call_table, call_worded};
+ghost use Rattle.sm_plan_text.specs.Words.{view, Scope, row_of, worded_faults, call_word, call_table, call_worded, call_in};
+ghost use Rattle.sm_plan_text.specs.declared.member.Member.TheVariants as members;
 
 use crate::cursor::Cursor;
 use crate::entry::Entry;
@@ -57,10 +57,6 @@ fn call_of(word: &str, cursor: &Cursor<'_, '_>) -> Call
 
 /// A call with the shard that it is for and the server that it is made at.
 impl Entry for (ShardId, ServerId, Call) {
-    ghost use Rattle.sm_plan_text.specs.declared.member.Member.TheVariants as members;
-    ghost use Rattle.sm_plan_text.specs.Tables.{worded_faults};
-    ghost use Rattle.sm_plan_text.specs.Calls.{call_word, call_table, call_in};
-
     ghost value = { λ scope entry. call_in scope.shards.now scope.servers.now entry };
 
     ghost faults_of = { λ scope parent entry. worded_faults parent members.Call call_word (call_table scope.shards.now scope.servers.now) entry };

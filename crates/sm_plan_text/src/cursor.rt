@@ -1,9 +1,7 @@
 //! Where a text is read: a JSON value, the member that it stands in, and what it may name. A member of the value that is missing
 //! or not in its form stands for 0, false, or what is empty.
-ghost use Rattle.std.specs.Prelude.{◌≡◌, [], option_map, option_and_then, unwrap_or, map, false, IfOk, string_bytes};
-ghost use Rattle.sm_plan_text.specs.Words.{view};
-ghost use Rattle.sm_plan_text.specs.Values.{found, whole_number_of, text_in, role_named, role_in, after_named, flag_in, number_in, number_or, number_below, items_of, entries_in, id_of, id_named, id_in};
-ghost use Rattle.sm_plan_text.specs.Parcels.{plain_named};
+ghost use Rattle.std.specs.Prelude.{◌≡◌, [], option_map, option_and_then, map, false, IfOk, string_bytes};
+ghost use Rattle.sm_plan_text.specs.Words.{view, found, whole_number_of, text_in, role_named, role_in, after_named, flag_in, number_in, number_or, number_below, items_of, entries_in, id_of, id_named, id_in, plain_named};
 
 use crate::member::Member;
 use crate::names::Names;
@@ -69,10 +67,7 @@ impl<'p, 't> Cursor<'p, 't> {
     pub fn text(&self, member: Member) -> &'t str
         ensures { result.now ≡ text_in member (view self.now.tree.now) }
     {
-        match self.find(member) {
-            Some(value) => value.as_str().unwrap_or(""),
-            None => "",
-        }
+        self.find(member).and_then(Tree::as_str).unwrap_or("")
     }
 
     /// A copy of the text of a member.
@@ -93,10 +88,7 @@ impl<'p, 't> Cursor<'p, 't> {
     pub fn flag(&self, member: Member) -> bool
         ensures { result ≡ flag_in member (view self.now.tree.now) }
     {
-        match self.find(member) {
-            Some(value) => value.as_bool().unwrap_or(false),
-            None => false,
-        }
+        self.find(member).and_then(Tree::as_bool).unwrap_or(false)
     }
 
     /// The whole number that a member is.
@@ -140,8 +132,7 @@ impl<'p, 't> Cursor<'p, 't> {
     pub fn server_found(&self, member: Member) -> Option<ServerId>
         ensures { result ≡ option_and_then (id_named self.now.scope.servers.now) (found member (view self.now.tree.now)) }
     {
-        let value = self.find(member)?;
-        let server = id_named(value, self.scope.servers)?;
+        let server = id_named(self.find(member)?, self.scope.servers)?;
         Some(ServerId::new(server))
     }
 

@@ -1,11 +1,6 @@
 //! A document, from its text.
-ghost use Rattle.std.specs.Prelude.{◌≡◌, ◌≢◌, ℕ, List, Option, Some, None, Ok, Err, IfOk, IfErr, OnOk, [], option_map, option_and_then, unwrap_or, map};
-ghost use Rattle.sm_plan_text.specs.Words.{Data, view, noted, Scope, HasIds, row_of};
-ghost use Rattle.sm_placement.specs.Config.{setup_of, config_fault};
-ghost use Rattle.sm_plan_text.specs.Documents.{document_table, document_faults, rows_in, IsDocument};
-ghost use Rattle.sm_plan_text.specs.Work.{AreKept, IsWork, work_noted};
-ghost use Rattle.sm_plan_text.specs.Outlines.{IsOutlined, IsOutline};
-ghost use Rattle.sm_plan_text.specs.Reading.{data_of, read_data, read, rows_of, rows_of_parts};
+ghost use Rattle.std.specs.Prelude.{◌≡◌, ◌≢◌, [], Option, Some, None, Ok, Err, IfOk, IfErr, OnOk, unwrap_or, map};
+ghost use Rattle.sm_plan_text.specs.Words.{Data, view, noted, Scope, HasIds, row_of, id_named, setup_of, config_fault, sizes_of, place_of, IsSettled, opened_place, open_fault, opening_of, document_table, document_faults, rows_in, IsDocument, AreKept, IsWork, work_noted, IsOutlined, IsOutline, data_of, read_data, read, rows_of, rows_of_parts};
 
 use crate::cursor::{Cursor, id_named};
 use crate::entry::Entry;
@@ -15,10 +10,9 @@ use crate::limits::{DOWN_LIMIT, LOG_PLACES, MOST_EVENTS, MOST_MOVES};
 use crate::member::Member;
 use crate::moves::MoveText;
 use crate::names::Names;
-use crate::outline::{Early, Outline, lists_of};
+use crate::outline::{Early, Outline};
+use crate::rows::{Servers, Shards, read_servers, read_shards};
 use crate::rule::{Form, Rule};
-use crate::server::{Servers, read_servers};
-use crate::shard::{Shards, read_shards};
 use json_tree::{ReadFault, Scratch, Tree};
 use sm_placement::{
     Config, ConfigFault, MOST_SERVERS, MOST_SHARDS, OpenFault, Placement, Server, Shard,
@@ -58,12 +52,6 @@ pub struct Document {
 }
 
 impl Document {
-    ghost use Rattle.sm_placement.specs.Setup.{sizes_of};
-    ghost use Rattle.sm_placement.specs.Lead.{IsSettled};
-    ghost use Rattle.sm_placement.specs.Opening.{opened_place, open_fault};
-    ghost use Rattle.sm_placement.specs.Layout.{place_of};
-    ghost use Rattle.sm_plan_text.specs.Opened.{opening_of};
-
     /// The placement that the document names, or the first reason why it is not opened; want of memory may stand before
     /// any other.
     pub fn open(&self, alloc: Global) -> Result<Placement, OpenFault>
@@ -163,9 +151,6 @@ fn document_rules() -> &'static [Rule]
 
 /// A shard that is asked for. What is wrong with it is a fault of the document itself.
 impl Entry for ShardId {
-    ghost use Rattle.std.specs.Prelude.{[], unwrap_or};
-    ghost use Rattle.sm_plan_text.specs.Values.{id_named};
-
     ghost value = { λ scope entry. unwrap_or (id_named scope.shards.now entry) 0 };
 
     ghost faults_of = { λ scope parent entry. [] };
@@ -187,7 +172,10 @@ fn read_work(
     ensures faults { (calls events : Option Data) → AreKept cursor.now.scope early (view cursor.now.tree.now) calls events
         → OnOk result (faults.new.lowest ≡ work_noted cursor.now.scope (view cursor.now.tree.now) calls events faults.old.lowest) }
 {
-    let (calls, events) = lists_of(early);
+    let (calls, events) = match early {
+        Some(early) => (early.calls, early.events),
+        None => (None, None),
+    };
     Ok(Work {
         limit: cursor.number(Member::Limit, DOWN_LIMIT),
         log: cursor.number_or(Member::Log, MOST_PLACES, LOG_PLACES),

@@ -1,7 +1,6 @@
 //! What stands in a list, or in a member, and is read as one value.
-ghost use Rattle.std.specs.Prelude.{◌≡◌, [], Option, None, map, option_map, IfOk, OnOk};
-ghost use Rattle.sm_plan_text.specs.Words.{Data, view, noted, found, list_in, items_of, entries_in, entries_found, walked, faults_within, HasIds};
-ghost use Rattle.sm_plan_text.specs.Outlines.{IsKept};
+ghost use Rattle.std.specs.Prelude.{◌≡◌, [], List, Option, None, map, option_map, IfOk, OnOk};
+ghost use Rattle.sm_plan_text.specs.Words.{Data, view, TextFault, Member, Scope, noted, found, list_in, items_of, entries_in, entries_found, walked, faults_within, HasIds, IsKept};
 
 use crate::cursor::Cursor;
 use crate::fault::Faults;
@@ -10,9 +9,6 @@ use crate::outline::EarlyList;
 use std::alloc::AllocError;
 
 pub trait Entry: Drop {
-    ghost use Rattle.std.specs.Prelude.{◌≡◌, List, None, IfOk, OnOk};
-    ghost use Rattle.sm_plan_text.specs.Words.{Data, view, TextFault, Member, Scope, noted, HasIds};
-
     /// What it is, where nothing is wrong.
     ghost value: { Scope → Data → Self };
 

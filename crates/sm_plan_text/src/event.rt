@@ -1,7 +1,7 @@
 //! The events of a document.
 ghost use Rattle.std.specs.Prelude.{◌≡◌, map, option_map, IfSome};
-ghost use Rattle.sm_plan_text.specs.Words.{view, Scope, row_of};
-ghost use Rattle.sm_plan_text.specs.Events.{event_word, event_table, event_of};
+ghost use Rattle.sm_plan_text.specs.Words.{view, Scope, row_of, worded_faults, event_word, event_table, event_of, event_in};
+ghost use Rattle.sm_plan_text.specs.declared.member.Member.TheVariants as members;
 
 use crate::cursor::{Cursor, after_of};
 use crate::entry::Entry;
@@ -37,8 +37,6 @@ const PLAN: Rule = Rule::Maybe(Member::Plan, Form::Whole(MOST_NUMBER));
 
 const STREAM: Rule = Rule::One(Member::Stream, Form::Whole(MOST_NUMBER));
 
-const WHEN: Rule = Rule::One(Member::When, Form::When);
-
 const MORE: Rule = Rule::One(Member::More, Form::Whole(MOST_CALLS));
 
 /// The members of an event with this word.
@@ -50,7 +48,7 @@ fn rules_of(word: &str) -> Option<&'static [Rule]>
         "request" => Some(&[SHARD, SERVER]),
         "pass_on" => Some(&[Rule::One(Member::Ticket, Form::Whole(MOST_NUMBER))]),
         "approve" | "done" => Some(&[SERVER]),
-        "lose" => Some(&[PLAN, STREAM, WHEN]),
+        "lose" => Some(&[PLAN, STREAM, Rule::One(Member::When, Form::When)]),
         "refill" => Some(&[PLAN, STREAM, MORE]),
         "begin" => Some(&[Rule::One(Member::Plan, Form::Whole(MOST_NUMBER))]),
         _ => None,
@@ -88,10 +86,6 @@ fn event_of(word: &str, cursor: &Cursor<'_, '_>) -> EventText
 }
 
 impl Entry for EventText {
-    ghost use Rattle.sm_plan_text.specs.declared.member.Member.TheVariants as members;
-    ghost use Rattle.sm_plan_text.specs.Tables.{worded_faults};
-    ghost use Rattle.sm_plan_text.specs.Events.{event_word, event_table, event_in};
-
     ghost value = { λ scope entry. event_in scope.shards.now scope.servers.now entry };
 
     ghost faults_of = { λ scope parent entry. worded_faults parent members.Event event_word (event_table scope.shards.now scope.servers.now) entry };

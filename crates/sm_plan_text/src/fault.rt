@@ -1,7 +1,7 @@
 //! What is wrong with a text.
 ghost use Rattle.std.specs.Prelude.{◌≡◌, List, [], ◌∷◌, MatchOption, if◌then◌else◌};
-ghost use Rattle.sm_plan_text.specs.declared.fault.TextFault.{TextFault};
-ghost use Rattle.sm_plan_text.specs.Faults.{number_of, noted, answered, IsFirstOfLowest};
+ghost use Rattle.sm_plan_text.specs.Words.{TextFault, number_of, noted, answered, IsFirstOfLowest};
+ghost use Rattle.sm_plan_text.specs.declared.fault.TextFault.TheVariants.{NoMemory};
 
 use crate::member::Member;
 use std::alloc::AllocError;
@@ -44,9 +44,6 @@ impl TextFault {
 }
 
 impl From<AllocError> for TextFault {
-    ghost use Rattle.sm_plan_text.specs.declared.fault.TextFault.TheVariants.{NoMemory};
-    ghost use Rattle.std.specs.Prelude.{◌≡◌};
-
     ghost from_gives = { λ _ fault. fault ≡ NoMemory };
 
     fn from(_e: AllocError) -> TextFault {
@@ -65,14 +62,12 @@ impl Faults {
     pub fn note(&mut self, fault: TextFault)
         ensures { self.new.lowest ≡ noted self.old.lowest (fault ∷ []) }
     {
-        match self.lowest {
-            None => self.lowest = Some(fault),
-            Some(best) => {
-                if fault.number() < best.number() {
-                    self.lowest = Some(fault);
-                }
-            }
+        if let Some(best) = self.lowest
+            && best.number() <= fault.number()
+        {
+            return;
         }
+        self.lowest = Some(fault);
     }
 
     /// Takes the next fault, unless the test holds.

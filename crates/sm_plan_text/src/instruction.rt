@@ -1,7 +1,7 @@
 //! The instructions of a plan.
 ghost use Rattle.std.specs.Prelude.{◌≡◌, map, option_map, IfSome};
-ghost use Rattle.sm_plan_text.specs.Words.{view, Scope, row_of};
-ghost use Rattle.sm_plan_text.specs.Instructions.{instr_word, instr_table, instr_of};
+ghost use Rattle.sm_plan_text.specs.Words.{view, Scope, row_of, worded_faults, instr_word, instr_table, instr_of, instr_in};
+ghost use Rattle.sm_plan_text.specs.declared.member.Member.TheVariants as members;
 
 use crate::cursor::Cursor;
 use crate::entry::Entry;
@@ -11,10 +11,6 @@ use crate::rule::{Form, OTHER, ROLE, Rule, SERVER, SHARD};
 use sm_plan_code::Instr;
 use std::alloc::AllocError;
 
-const TO: Rule = Rule::One(Member::To, Form::Role);
-
-const SIGNAL: Rule = Rule::One(Member::Signal, Form::Signal);
-
 /// The members of an instruction with this word.
 fn rules_of(word: &str) -> Option<&'static [Rule]>
     ensures { (scope : Scope) → option_map (λ rules. map (row_of scope) rules.now) result ≡ option_map (instr_table scope.shards.now scope.servers.now scope.signals) (instr_word word.now) }
@@ -23,9 +19,9 @@ fn rules_of(word: &str) -> Option<&'static [Rule]>
         "prepare_add" | "prepare_drop" => Some(&[SHARD, SERVER, OTHER]),
         "add" => Some(&[SHARD, SERVER, ROLE]),
         "drop" => Some(&[SHARD, SERVER]),
-        "change" => Some(&[SHARD, SERVER, TO]),
+        "change" => Some(&[SHARD, SERVER, Rule::One(Member::To, Form::Role)]),
         "publish" | "unlist" => Some(&[SHARD]),
-        "signal" | "wait" => Some(&[SIGNAL]),
+        "signal" | "wait" => Some(&[Rule::One(Member::Signal, Form::Signal)]),
         _ => None,
     }
 }
@@ -68,10 +64,6 @@ fn instr_of(word: &str, cursor: &Cursor<'_, '_>) -> Instr
 }
 
 impl Entry for Instr {
-    ghost use Rattle.sm_plan_text.specs.declared.member.Member.TheVariants as members;
-    ghost use Rattle.sm_plan_text.specs.Tables.{worded_faults};
-    ghost use Rattle.sm_plan_text.specs.Instructions.{instr_word, instr_table, instr_in};
-
     ghost value = { λ scope entry. instr_in scope.shards.now scope.servers.now scope.signals entry };
 
     ghost faults_of = { λ scope parent entry. worded_faults parent members.Do instr_word (instr_table scope.shards.now scope.servers.now scope.signals) entry };

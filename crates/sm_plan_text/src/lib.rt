@@ -16,9 +16,8 @@ mod outline;
 mod parcel;
 mod plan;
 mod plan_text;
+mod rows;
 mod rule;
-mod server;
-mod shard;
 mod writing;
 
 pub use document::{Document, read_document};

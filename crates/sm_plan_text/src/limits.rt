@@ -1,5 +1,5 @@
 //! The limits of a document's own lists and numbers. Those of configurations, placements and plans stand in their crates.
-use sm_placement::{MOST_LOAD, MOST_REPLICAS, MOST_SERVERS};
+use sm_placement::{MOST_LOAD, MOST_SERVERS};
 use sm_plan_code::MOST_AMOUNT;
 
 /// How many calls, and how many events, a document has at most.
@@ -22,6 +22,3 @@ pub const AMOUNT_LIMIT: u32 = MOST_AMOUNT as u32;
 
 /// The greatest limit of servers down, as it is read.
 pub const DOWN_LIMIT: u32 = MOST_SERVERS as u32;
-
-/// The greatest want of a shard, as a number of a document is.
-pub const WANT_LIMIT: u64 = MOST_REPLICAS as u64;

@@ -77,9 +77,6 @@ impl Member {
 }
 
 impl fmt::Display for Member {
-    ghost use Rattle.std.specs.Prelude.{Some};
-    ghost use Rattle.sm_plan_text.specs.Members.{text_of};
-
     ghost output = { λ member. Some (text_of member) };
 
     fn fmt<W: fmt::Write>(&self, f: &mut fmt::Formatter<W>) -> fmt::Result {

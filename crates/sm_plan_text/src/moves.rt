@@ -5,7 +5,7 @@ use crate::cursor::Cursor;
 use crate::entry::Entry;
 use crate::fault::Faults;
 use crate::member::Member;
-use crate::rule::{FROM, Rule, SHARD, TO};
+use crate::rule::{FROM, SHARD, TO};
 use sm_server::{ServerId, ShardId};
 use std::alloc::AllocError;
 
@@ -17,15 +17,13 @@ pub struct MoveText {
     pub to: ServerId,
 }
 
-const MOVE: &[Rule] = &[SHARD, FROM, TO];
-
 impl Entry for MoveText {
     ghost value = { λ scope entry. move_in scope.shards.now scope.servers.now entry };
 
     ghost faults_of = { λ scope parent entry. own_faults parent (move_table scope.shards.now scope.servers.now) entry };
 
     fn read(cursor: &Cursor<'_, '_>, faults: &mut Faults) -> Result<Self, AllocError> {
-        cursor.note_own(MOVE, faults)?;
+        cursor.note_own(&[SHARD, FROM, TO], faults)?;
         Ok(MoveText {
             shard: cursor.shard(Member::Shard),
             from: cursor.server(Member::From),

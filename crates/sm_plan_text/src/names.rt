@@ -1,8 +1,6 @@
 //! Names with their numbers.
 ghost use Rattle.std.specs.Prelude.{◌≡◌, [], OnOk, string_bytes};
-ghost use Rattle.std.specs.Str.{bytes_eq};
-ghost use Rattle.indexmap.specs.IndexSet.{insert_key};
-ghost use Rattle.sm_plan_text.specs.Values.{number_named};
+ghost use Rattle.sm_plan_text.specs.Words.{bytes_eq, insert_key, number_named};
 
 use indexmap::IndexSet;
 use std::alloc::{AllocError, Global};

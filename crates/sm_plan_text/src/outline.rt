@@ -1,11 +1,9 @@
 //! A document's text, read so that its longest lists are never kept as trees: each of their entries is read as it comes.
-ghost use Rattle.std.specs.Prelude.{◌≡◌, ◌<◌, ◌≤◌, ◌++◌, ◌∷◌, [], None, Some, false, map, length, IsTrue, IfOk, IfSome, OnOk};
-ghost use Rattle.sm_plan_text.specs.Words.{view, members_view, noted, answered, entries, names_in, walked, HasIds};
+ghost use Rattle.std.specs.Prelude.{◌≡◌, ◌<◌, ◌≤◌, [], None, Some, map, length, IfOk, IfSome, OnOk};
+ghost use Rattle.sm_plan_text.specs.Words.{view, members_view, answered, entries, names_in, walked, HasIds, IsEarly, IsPartialOutline, IsOutline};
 ghost use Rattle.json.specs.Json.{value, items, members};
-ghost use Rattle.serde_json.specs.Data.{Data, Items, Members, array, no_items, put};
-ghost use Rattle.serde_json.specs.Read.{of_json, of_items, of_members, converted, read as read_text};
-ghost use Rattle.sm_plan_text.specs.Outlines.{IsEarly, IsPartialOutline, IsOutline, calls_of, events_of};
-ghost use Rattle.sm_plan_text.specs.declared.limits.TheConstants.{MOST_EVENTS};
+ghost use Rattle.serde_json.specs.Data.{Data, Items, Members, array, put};
+ghost use Rattle.serde_json.specs.Read.{of_json, of_members, converted, read as read_text};
 
 use crate::cursor::{Cursor, Scope, items_of};
 use crate::entry::Entry;
@@ -48,65 +46,10 @@ struct PartialOutline<'a> {
     early: Option<Early>,
 }
 
-/// Adds an entry at the end.
-fn push<T: Drop>(list: &mut Vec<T>, entry: T) -> Result<(), AllocError>
-    ensures { OnOk result (list.new.items ≡ list.old.items ++ entry ∷ []) }
-{
-    list.push(entry)?;
-    Ok(())
-}
-
-/// The next entry of a list.
-fn read_entry<'a, T: Entry>(
-    alloc: Global,
-    reader: &mut Reader<'a>,
-    depth: usize,
-    member: Member,
-    scope: Scope<'_>,
-    faults: &mut Faults,
-) -> Result<T, ReadFault>
-    ensures ok { IfOk result (λ read. (d : Data) × (converted of_json (value depth reader.old) ≡ Some (d, reader.new))
-        × (faults.new.lowest ≡ noted faults.old.lowest (T.faults_of scope.entry member d))
-        × (HasIds scope.entry → faults.new.lowest ≡ None → read ≡ T.value scope.entry d)) }
-    ensures shorter { OnOk result (length reader.new < length reader.old) }
-{
-    let tree = read_value(alloc, reader, depth)?;
-    let cursor = Cursor {
-        alloc,
-        tree: &tree,
-        member,
-        scope,
-    };
-    Ok(T::read(&cursor, faults)?)
-}
-
-/// The entries of a list, to its end.
-fn read_entries<'a, T: Entry>(
-    alloc: Global,
-    reader: &mut Reader<'a>,
-    depth: usize,
-    member: Member,
-    scope: Scope<'_>,
-) -> Result<EarlyList<T>, ReadFault>
-    ensures ok { IfOk result (λ list. (ds : Items) × (converted of_items (items (value depth) (length reader.old) reader.old) ≡ Some (ds, reader.new))
-        × (list.faults.lowest ≡ answered (walked (λ _ entry. T.faults_of scope.entry member entry) [] (entries ds)))
-        × (length list.values.items ≡ length (entries ds))
-        × (HasIds scope.entry → list.faults.lowest ≡ None → list.values.items ≡ map (T.value scope.entry) (entries ds))) }
-    ensures shorter { OnOk result (length reader.new < length reader.old) }
-{
-    let mut values = Vec::new(alloc);
-    let mut faults = Faults { lowest: None };
-    'entries: while !reader.take_end_array() {
-        let entry = read_entry(alloc, reader, depth, member, scope, &mut faults)?;
-        push(&mut values, entry)?;
-    }
-    Ok(EarlyList { values, faults })
-}
-
 /// The list that stands in this member, if it is one that has no more entries than it may.
-fn read_list<'a, T: Entry>(
+fn read_list<T: Entry>(
     alloc: Global,
-    reader: &mut Reader<'a>,
+    reader: &mut Reader<'_>,
     member: Member,
     scope: Scope<'_>,
 ) -> Result<EarlyList<T>, ReadFault>
@@ -119,11 +62,23 @@ fn read_list<'a, T: Entry>(
     let Some(Token::BeginArray) = reader.next() else {
         return Err(ReadFault::NotJson);
     };
-    let list = read_entries(alloc, reader, MAX_DEPTH - 2, member, scope)?;
-    if list.values.len() > MOST_EVENTS {
+    let mut values = Vec::new(alloc);
+    let mut faults = Faults { lowest: None };
+    'entries: while !reader.take_end_array() {
+        let tree = read_value(alloc, reader, MAX_DEPTH - 2)?;
+        let cursor = Cursor {
+            alloc,
+            tree: &tree,
+            member,
+            scope,
+        };
+        let entry = T::read(&cursor, &mut faults)?;
+        values.push(entry).or(Err(ReadFault::NoMemory))?;
+    }
+    if values.len() > MOST_EVENTS {
         return Err(ReadFault::NotJson);
     }
-    Ok(list)
+    Ok(EarlyList { values, faults })
 }
 
 /// The names of the objects of a list.
@@ -141,10 +96,7 @@ fn names_of(alloc: Global, items: &[Tree<'_>]) -> Result<Names, AllocError>
 
 impl Early {
     /// The names of the shards and servers among these members, where both stand there.
-    fn begin<'a>(
-        alloc: Global,
-        members: &[(&'a str, Tree<'a>)],
-    ) -> Result<Option<Early>, AllocError>
+    fn begin<'a>(alloc: Global, members: &[(&'a str, Tree<'a>)]) -> Result<Option<Self>, AllocError>
         ensures { IfOk result (λ found. IfSome found (λ early. IsEarly early (members_view members.now) (members_view members.now))) }
     {
         let Some(shards) = find_member(members, "shards") else {
@@ -161,19 +113,17 @@ impl Early {
         }))
     }
 
-    /// Reads the member of this name, if it is a list that is read early. Where what the names are of comes once more, nothing
-    /// can be read early.
-    fn take(
+    /// Reads the member of this name, and gives what is kept of it: of a list that is read early an empty one. Where what the
+    /// names are of comes once more, nothing can be read early.
+    fn read_member<'a>(
         &mut self,
         alloc: Global,
-        reader: &mut Reader<'_>,
+        reader: &mut Reader<'a>,
         name: &str,
-    ) -> Result<bool, ReadFault>
-        ensures taken { IfOk result (λ taken. IsTrue taken → (ds : Items) × (converted of_json (value 126 reader.old) ≡ Some (array ds, reader.new))
-            × ((kept whole : Members) → IsEarly self.old kept whole → IsEarly self.new (put name.now (array no_items) kept) (put name.now (array ds) whole))) }
-        ensures left { IfOk result (λ taken. taken ≡ false → (reader.new ≡ reader.old)
-            × ((d : Data) (kept whole : Members) → IsEarly self.old kept whole → IsEarly self.new (put name.now d kept) (put name.now d whole))) }
-        ensures shorter { IfOk result (λ taken. IsTrue taken → length reader.new < length reader.old) }
+    ) -> Result<Tree<'a>, ReadFault>
+        ensures ok { IfOk result (λ tree. (d : Data) × (converted of_json (value 126 reader.old) ≡ Some (d, reader.new))
+            × ((kept whole : Members) → IsEarly self.old kept whole → IsEarly self.new (put name.now (view tree) kept) (put name.now d whole))) }
+        ensures shorter { OnOk result (length reader.new < length reader.old) }
     {
         let scope = Scope {
             shards: &self.shards,
@@ -182,32 +132,12 @@ impl Early {
             retries: false,
         };
         match name {
-            "calls" => {
-                self.calls = Some(read_list(alloc, reader, Member::Calls, scope)?);
-                Ok(true)
-            }
-            "events" => {
-                self.events = Some(read_list(alloc, reader, Member::Events, scope)?);
-                Ok(true)
-            }
-            "servers" | "shards" => Err(ReadFault::NotJson),
-            _ => Ok(false),
+            "calls" => self.calls = Some(read_list(alloc, reader, Member::Calls, scope)?),
+            "events" => self.events = Some(read_list(alloc, reader, Member::Events, scope)?),
+            "servers" | "shards" => return Err(ReadFault::NotJson),
+            _ => return read_value(alloc, reader, MAX_DEPTH - 1),
         }
-    }
-}
-
-/// The calls and the events that were read early.
-pub fn lists_of(
-    early: Option<Early>,
-) -> (
-    Option<EarlyList<(ShardId, ServerId, Call)>>,
-    Option<EarlyList<EventText>>,
-)
-    ensures { result ≡ (calls_of early, events_of early) }
-{
-    match early {
-        Some(early) => (early.calls, early.events),
-        None => (None, None),
+        Ok(Tree::Array(Vec::new(alloc)))
     }
 }
 
@@ -223,15 +153,6 @@ impl<'a> PartialOutline<'a> {
         Ok(())
     }
 
-    /// Keeps a member.
-    fn keep(&mut self, name: &'a str, tree: Tree<'a>) -> Result<(), AllocError>
-        ensures members { OnOk result (members_view self.new.members.items ≡ put name.now (view tree.entry) (members_view self.old.members.items)) }
-        ensures early { self.new.early ≡ self.old.early }
-    {
-        self.members.push((name, tree))?;
-        Ok(())
-    }
-
     /// Reads the member of this name.
     fn read_member(
         &mut self,
@@ -244,15 +165,14 @@ impl<'a> PartialOutline<'a> {
         ensures shorter { OnOk result (length reader.new < length reader.old) }
     {
         self.find_names(alloc, name)?;
-        if let Some(early) = &mut self.early {
-            if early.take(alloc, reader, name)? {
-                return Ok(self.keep(name, Tree::Array(Vec::new(alloc)))?);
-            }
-            let tree = read_value(alloc, reader, MAX_DEPTH - 1)?;
-            return Ok(self.keep(name, tree)?);
-        }
-        let tree = read_value(alloc, reader, MAX_DEPTH - 1)?;
-        Ok(self.keep(name, tree)?)
+        let tree = match &mut self.early {
+            Some(early) => early.read_member(alloc, reader, name)?,
+            None => read_value(alloc, reader, MAX_DEPTH - 1)?,
+        };
+        self.members
+            .push((name, tree))
+            .or(Err(ReadFault::NoMemory))?;
+        Ok(())
     }
 
     /// Reads all members, to the end of the object.

@@ -1,11 +1,7 @@
 //! The parcels of a plan.
-ghost use Rattle.std.specs.Prelude.{◌≡◌, map, option_map, IfOk, IfSome};
-ghost use Rattle.sm_plan_text.specs.Words.{view, Scope, row_of};
-ghost use Rattle.sm_reservation.specs.Rights.{no_rights};
-ghost use Rattle.sm_reservation.specs.Key.{IsOnce};
-ghost use Rattle.sm_reservation.specs.InOrder.{in_order};
-ghost use Rattle.sm_reservation.specs.Lists.{rights_of};
-ghost use Rattle.sm_plan_text.specs.Parcels.{lead_word, crown_table, lead_worded};
+ghost use Rattle.std.specs.Prelude.{◌≡◌, [], map, option_map, IfOk, IfSome};
+ghost use Rattle.sm_plan_text.specs.Words.{view, Scope, row_of, own_faults, worded_faults, no_rights, IsOnce, rights_of, in_order, right_table, right_in, lead_word, crown_table, lead_worded, crown_in, room_table, room_in, spare_table, spare_in, parcel_faults, parcel_in};
+ghost use Rattle.sm_plan_text.specs.declared.member.Member.TheVariants as members;
 
 use crate::cursor::{Cursor, state_of};
 use crate::entry::Entry;
@@ -14,18 +10,12 @@ use crate::limits::AMOUNT_LIMIT;
 use crate::member::Member;
 use crate::rule::{FROM, Form, LISTED, Rule, SERVER, SHARD, TO};
 use sm_placement::Lead;
-use sm_reservation::{CellRight, Crown, Lists, Parcel, ParcelFault, PlainCell, Room, Spare};
+use sm_reservation::{CellRight, Crown, Hold, Lists, Parcel, ParcelFault, PlainCell, Room, Spare};
 use std::alloc::{AllocError, Global};
 
 const AMOUNT: Rule = Rule::One(Member::Amount, Form::Whole(AMOUNT_LIMIT));
 
 const STATE: Rule = Rule::One(Member::State, Form::State);
-
-const RIGHT: &[Rule] = &[SHARD, SERVER, STATE];
-
-const ROOM: &[Rule] = &[SERVER, AMOUNT];
-
-const SPARE: &[Rule] = &[SHARD, AMOUNT];
 
 /// Each list of a parcel has a key of its own.
 const PARCEL: &[Rule] = &[
@@ -36,15 +26,12 @@ const PARCEL: &[Rule] = &[
 ];
 
 impl Entry for CellRight {
-    ghost use Rattle.sm_plan_text.specs.Tables.{own_faults};
-    ghost use Rattle.sm_plan_text.specs.Parcels.{right_table, right_in};
-
     ghost value = { λ scope entry. right_in scope.shards.now scope.servers.now entry };
 
     ghost faults_of = { λ scope parent entry. own_faults parent (right_table scope.shards.now scope.servers.now) entry };
 
     fn read(cursor: &Cursor<'_, '_>, faults: &mut Faults) -> Result<Self, AllocError> {
-        cursor.note_own(RIGHT, faults)?;
+        cursor.note_own(&[SHARD, SERVER, STATE], faults)?;
         Ok(CellRight {
             shard: cursor.shard(Member::Shard),
             server: cursor.server(Member::Server),
@@ -81,10 +68,6 @@ fn lead_of(word: &str, cursor: &Cursor<'_, '_>) -> Lead
 }
 
 impl Entry for Crown {
-    ghost use Rattle.sm_plan_text.specs.declared.member.Member.TheVariants as members;
-    ghost use Rattle.sm_plan_text.specs.Tables.{worded_faults};
-    ghost use Rattle.sm_plan_text.specs.Parcels.{lead_word, crown_table, crown_in};
-
     ghost value = { λ scope entry. crown_in scope.shards.now scope.servers.now entry };
 
     ghost faults_of = { λ scope parent entry. worded_faults parent members.Lead lead_word (crown_table scope.shards.now scope.servers.now) entry };
@@ -101,15 +84,12 @@ impl Entry for Crown {
 }
 
 impl Entry for Room {
-    ghost use Rattle.sm_plan_text.specs.Tables.{own_faults};
-    ghost use Rattle.sm_plan_text.specs.Parcels.{room_table, room_in};
-
     ghost value = { λ scope entry. room_in scope.servers.now entry };
 
     ghost faults_of = { λ scope parent entry. own_faults parent (room_table scope.servers.now) entry };
 
     fn read(cursor: &Cursor<'_, '_>, faults: &mut Faults) -> Result<Self, AllocError> {
-        cursor.note_own(ROOM, faults)?;
+        cursor.note_own(&[SERVER, AMOUNT], faults)?;
         Ok(Room {
             server: cursor.server(Member::Server),
             amount: u64::from(cursor.number(Member::Amount, AMOUNT_LIMIT)),
@@ -118,15 +98,12 @@ impl Entry for Room {
 }
 
 impl Entry for Spare {
-    ghost use Rattle.sm_plan_text.specs.Tables.{own_faults};
-    ghost use Rattle.sm_plan_text.specs.Parcels.{spare_table, spare_in};
-
     ghost value = { λ scope entry. spare_in scope.shards.now entry };
 
     ghost faults_of = { λ scope parent entry. own_faults parent (spare_table scope.shards.now) entry };
 
     fn read(cursor: &Cursor<'_, '_>, faults: &mut Faults) -> Result<Self, AllocError> {
-        cursor.note_own(SPARE, faults)?;
+        cursor.note_own(&[SHARD, AMOUNT], faults)?;
         Ok(Spare {
             shard: cursor.shard(Member::Shard),
             amount: u64::from(cursor.number(Member::Amount, AMOUNT_LIMIT)),
@@ -138,17 +115,7 @@ impl Entry for Spare {
 pub fn empty_parcel(alloc: Global) -> Result<Parcel, AllocError>
     ensures { IfOk result (λ parcel. parcel ≡ no_rights) }
 {
-    let lists = Lists {
-        cells: Vec::new(alloc),
-        crowns: Vec::new(alloc),
-        room: Vec::new(alloc),
-        spare: Vec::new(alloc),
-    };
-    match Parcel::new(alloc, lists) {
-        Ok(parcel) => Ok(parcel),
-        Err((_, ParcelFault::NoMemory)) => Err(AllocError),
-        Err((_, ParcelFault::Double { .. })) => unreachable!(),
-    }
+    Ok(Hold::empty(alloc, 0)?.into_parcel())
 }
 
 /// The parcel of rights no two of which have the same key, and an empty one of others.
@@ -164,9 +131,6 @@ fn parcel_of(alloc: Global, lists: Lists) -> Result<Parcel, AllocError>
 
 /// Where keys stand twice, which is noted, the parcel is empty.
 impl Entry for Parcel {
-    ghost use Rattle.std.specs.Prelude.{[]};
-    ghost use Rattle.sm_plan_text.specs.Parcels.{parcel_faults, parcel_in};
-
     ghost value = { λ scope entry. parcel_in scope.shards.now scope.servers.now entry };
 
     ghost faults_of = { λ scope parent entry. parcel_faults parent scope.shards.now scope.servers.now [] entry };

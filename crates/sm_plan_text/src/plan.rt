@@ -1,9 +1,7 @@
 //! Plans, of a document or of a text of their own.
-ghost use Rattle.std.specs.Prelude.{◌≡◌, ℕ, List, map};
-ghost use Rattle.sm_plan_text.specs.Words.{view, Scope, row_of};
-ghost use Rattle.sm_plan_code.specs.Parts.{parts_of};
-ghost use Rattle.sm_plan_code.specs.Plan.{IsPlan};
-ghost use Rattle.sm_plan_text.specs.Plans.{knows_retries, stream_table};
+ghost use Rattle.std.specs.Prelude.{◌≡◌, ◌++◌, [], map};
+ghost use Rattle.sm_plan_text.specs.Words.{view, found, entries_in, Scope, row_of, own_faults, walked, parts_of, IsPlan, parcel_faults, instr_faults, faults_within, knows_retries, stream_table, stream_in, plan_faults, plan_in};
+ghost use Rattle.sm_plan_text.specs.declared.member.Member.TheVariants as members;
 
 use crate::cursor::{Cursor, Scope};
 use crate::entry::Entry;
@@ -35,10 +33,8 @@ const PLAN: &[Rule] = &[
 fn knows_retries(plan: &Cursor<'_, '_>) -> bool
     ensures { result ≡ knows_retries (view plan.now.tree.now) }
 {
-    match plan.find(Member::Format) {
-        Some(format) => format.as_u64() != Some(1),
-        None => false,
-    }
+    plan.find(Member::Format)
+        .is_some_and(|format| format.as_u64() != Some(1))
 }
 
 fn stream_rules(retries: bool) -> &'static [Rule]
@@ -52,13 +48,6 @@ fn stream_rules(retries: bool) -> &'static [Rule]
 }
 
 impl Entry for Stream {
-    ghost use Rattle.std.specs.Prelude.{◌++◌, []};
-    ghost use Rattle.sm_plan_text.specs.Words.{found, entries_in, own_faults, walked};
-    ghost use Rattle.sm_plan_text.specs.declared.member.Member.TheVariants as members;
-    ghost use Rattle.sm_plan_text.specs.Parcels.{parcel_faults};
-    ghost use Rattle.sm_plan_text.specs.Instructions.{instr_faults};
-    ghost use Rattle.sm_plan_text.specs.Plans.{faults_within, stream_table, stream_in};
-
     ghost value = { λ scope entry. stream_in scope.shards.now scope.servers.now scope.signals scope.retries entry };
 
     ghost faults_of = { λ scope parent entry. own_faults parent (stream_table scope.retries) entry
@@ -86,35 +75,24 @@ impl Entry for Stream {
     }
 }
 
-/// A plan of no streams.
+/// The plan of parts that are one, and an empty one of others.
 #[tactic(auto, using(crate::proofs::PlanLemmas::empty_is_plan))]
-fn empty_plan(alloc: Global) -> Plan {
-    let parts = Parts {
+fn plan_of(alloc: Global, parts: Parts) -> Plan
+    ensures { IsPlan (parts_of parts) → result ≡ parts_of parts }
+{
+    let empty = Parts {
         budget: 0,
         streams: Vec::new(alloc),
         signals: Vec::new(alloc),
     };
-    match Plan::new(parts) {
+    match Plan::new(parts).or(Plan::new(empty)) {
         Ok(plan) => plan,
         Err(_) => unreachable!(),
     }
 }
 
-/// The plan of parts that are one, and an empty one of others.
-fn plan_of(alloc: Global, parts: Parts) -> Plan
-    ensures { IsPlan (parts_of parts) → result ≡ parts_of parts }
-{
-    match Plan::new(parts) {
-        Ok(plan) => plan,
-        Err(_) => empty_plan(alloc),
-    }
-}
-
 /// Where something is wrong with it, which is noted, the plan may be empty.
 impl Entry for Plan {
-    ghost use Rattle.std.specs.Prelude.{[]};
-    ghost use Rattle.sm_plan_text.specs.Plans.{plan_faults, plan_in};
-
     ghost value = { λ scope entry. plan_in scope.shards.now scope.servers.now entry };
 
     ghost faults_of = { λ scope parent entry. plan_faults parent scope.shards.now scope.servers.now [] entry };

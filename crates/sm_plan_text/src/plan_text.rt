@@ -1,10 +1,6 @@
 //! A plan, from a text of its own.
-ghost use Rattle.std.specs.Prelude.{◌≡◌, ◌≢◌, Some, Ok, Err, IfOk, IfErr, OnOk, string_bytes, length};
-ghost use Rattle.std.specs.Str.{bytes_eq};
-ghost use Rattle.sm_plan_text.specs.Words.{insert_key, view};
-ghost use Rattle.sm_placement.specs.Setup.{IsSetup, names_of_servers, names_of_shards};
-ghost use Rattle.sm_plan_code.specs.Plan.{IsKnownPlan};
-ghost use Rattle.sm_plan_text.specs.Reading.{read_plan, read_plan_data};
+ghost use Rattle.std.specs.Prelude.{◌≡◌, ◌≢◌, Ok, Err, IfOk, IfErr, length};
+ghost use Rattle.sm_plan_text.specs.Words.{IsSetup, names_of_servers, names_of_shards, IsKnownPlan, read_plan};
 
 use crate::cursor::Cursor;
 use crate::document::parse;
@@ -12,7 +8,7 @@ use crate::entry::Entry;
 use crate::fault::{Faults, TextFault};
 use crate::member::Member;
 use crate::names::Names;
-use json_tree::{Scratch, Tree};
+use json_tree::Scratch;
 use sm_placement::Config;
 use sm_plan_code::Plan;
 use sm_server::{ServerId, ShardId};
@@ -44,24 +40,6 @@ fn shard_names(alloc: Global, config: &Config) -> Result<Names, AllocError>
     Ok(names)
 }
 
-/// The plan that a JSON value is.
-fn from_value(alloc: Global, config: &Config, value: &Tree<'_>) -> Result<Plan, TextFault>
-    ensures ok { IfOk result (λ plan. read_plan_data (names_of_shards config.now) (names_of_servers config.now) (Some (view value.now)) ≡ Ok plan) }
-    ensures refused { IfErr result (λ why. why ≢ TextFault.NoMemory
-        → read_plan_data (names_of_shards config.now) (names_of_servers config.now) (Some (view value.now)) ≡ Err why) }
-    ensures fits { IfOk result (λ plan. IsKnownPlan (length config.now.shards) (length config.now.servers) plan) }
-{
-    let shards = shard_names(alloc, config)?;
-    let servers = server_names(alloc, config)?;
-    let cursor = Cursor::new(alloc, value, Member::Document, &shards, &servers);
-    let mut faults = Faults { lowest: None };
-    let plan = Plan::read(&cursor, &mut faults)?;
-    match faults.lowest {
-        Some(fault) => Err(fault),
-        None => Ok(plan),
-    }
-}
-
 /// Reads a plan for a configuration from the bytes of its text.
 pub fn read_plan(alloc: Global, config: &Config, bytes: &[u8]) -> Result<Plan, TextFault>
     ensures ok { IfOk result (λ plan. read_plan (names_of_shards config.now) (names_of_servers config.now) bytes.now ≡ Ok plan) }
@@ -71,5 +49,13 @@ pub fn read_plan(alloc: Global, config: &Config, bytes: &[u8]) -> Result<Plan, T
 {
     let mut scratch = Scratch::new(alloc);
     let value = parse(alloc, bytes, &mut scratch)?;
-    from_value(alloc, config, &value)
+    let shards = shard_names(alloc, config)?;
+    let servers = server_names(alloc, config)?;
+    let cursor = Cursor::new(alloc, &value, Member::Document, &shards, &servers);
+    let mut faults = Faults { lowest: None };
+    let plan = Plan::read(&cursor, &mut faults)?;
+    match faults.lowest {
+        Some(fault) => Err(fault),
+        None => Ok(plan),
+    }
 }

@@ -1,11 +1,9 @@
 //! What the members of an object are to be, and the faults of one that is not so.
-ghost use Rattle.std.specs.Prelude.{◌≡◌, ◌∷◌, [], map, option_map, IfOk, OnOk, if◌then◌else◌};
-ghost use Rattle.sm_plan_text.specs.Words.{view, members_view, text_of, noted};
-ghost use Rattle.std.specs.List.{list_all, flat_map, cons_option};
-ghost use Rattle.serde_json.specs.Find.{as_number};
-ghost use Rattle.sm_placement.specs.Names.{is_name_byte, is_name};
-ghost use Rattle.sm_plan_text.specs.Tables.{texts_found, has_double_key, is_among, has_unknown_member, object_faults, own_faults, row_faults, value_faults, entry_faults, by_word, text, list, keyed};
-ghost use Rattle.sm_plan_text.specs.Rules.{has_form, number_faults, want_of, member_of, row_of};
+ghost use Rattle.std.specs.Prelude.{◌≡◌, map, option_map, IfOk, OnOk};
+ghost use Rattle.std.specs.List.{flat_map, cons_option};
+ghost use Rattle.sm_plan_text.specs.Words.{view, members_view, as_number, text_of, noted, is_name, own_faults, row_of};
+ghost use Rattle.sm_plan_text.specs.Tables.{texts_found, has_double_key, is_among, has_unknown_member, object_faults, row_faults, value_faults, entry_faults, by_word, text, list, keyed};
+ghost use Rattle.sm_plan_text.specs.Rules.{has_form, number_faults, want_of, member_of};
 
 use crate::cursor::{Cursor, Scope, after_of, items_of, role_of, state_of};
 use crate::fault::{Faults, TextFault};
@@ -82,23 +80,14 @@ impl Rule {
     }
 }
 
-fn is_name_byte(b: u8) -> bool
-    ensures { result ≡ is_name_byte b }
-{
-    b.is_ascii_alphanumeric() || b == b'-' || b == b'.' || b == b'_'
-}
-
-fn has_name_bytes(bytes: &[u8]) -> bool
-    ensures { result ≡ list_all is_name_byte bytes.now }
-{
-    bytes.iter().all(|b| is_name_byte(*b))
-}
-
 /// 1 to 32 letters, digits, `-`, `.` or `_`.
 fn is_name(text: &str) -> bool
     ensures { result ≡ is_name text.now }
 {
-    1 <= text.len() && text.len() <= 32 && has_name_bytes(text.as_bytes())
+    1 <= text.len()
+        && text.len() <= 32
+        && text.as_bytes().iter().all(|b| b.is_ascii_alphanumeric()
+            || matches!(*b, b'-' | b'.' | b'_'))
 }
 
 /// The text is of the form, which is one of texts.
@@ -146,10 +135,7 @@ fn has_rule(key: &str, rules: &[Rule]) -> bool
 fn is_known(key: &str, word: Option<Member>, rules: &[Rule]) -> bool
     ensures { result ≡ is_among (cons_option (option_map text_of word) (map (λ rule. text_of (member_of rule)) rules.now)) key.now }
 {
-    match word {
-        Some(word) => key == word.text() || has_rule(key, rules),
-        None => has_rule(key, rules),
-    }
+    word.is_some_and(|word| key == word.text()) || has_rule(key, rules)
 }
 
 fn has_unknown(members: &[(&str, Tree<'_>)], word: Option<Member>, rules: &[Rule]) -> bool

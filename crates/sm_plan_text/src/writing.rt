@@ -1,12 +1,9 @@
 //! Plans as JSON texts.
-ghost use Rattle.std.specs.Prelude.{◌≡◌, ◌<◌, length, map, All, IfOk, IfSome, Some, Ok};
+ghost use Rattle.std.specs.Prelude.{◌≡◌, ◌<◌, ℕ, Bool, List, length, map, All, IfOk, IfSome, Ok};
 ghost use Rattle.serde_json.specs.View.{view};
-ghost use Rattle.sm_placement.specs.Setup.{Setup, IsSetup, names_of_servers, names_of_shards};
-ghost use Rattle.sm_plan_code.specs.Plan.{PlanModel, IsPlan, IsKnownPlan};
-ghost use Rattle.sm_plan_text.specs.declared.member.Member.{Member};
+ghost use Rattle.sm_plan_text.specs.Words.{Data, Member, Setup, IsSetup, names_of_servers, names_of_shards, PlanModel, IsPlan, IsKnownPlan, IsKnownStream, IsKnownInstr, IsKnownParcel, IsKnownCrown, IsKnownCellRight, read_plan};
 ghost use Rattle.sm_plan_text.specs.declared.member.Member.TheVariants as members;
-ghost use Rattle.sm_plan_text.specs.Reading.{read_plan};
-ghost use Rattle.sm_plan_text.specs.PlanTexts.{name_at, list_data, listed_data, role_text, plain_text, handover_data, step_data, has_retries, plan_data, plan_text, IsReadBack};
+ghost use Rattle.sm_plan_text.specs.PlanTexts.{name_at, list_data, listed_data, role_text, plain_text, lead_text, right_data, crown_data, room_data, spare_data, parcel_data, step_data, instr_data, stream_data, has_retries, plan_data, plan_text, IsReadBack};
 
 use serde_json::{Value, json};
 use sm_placement::{Config, Lead};
@@ -49,30 +46,6 @@ impl<'c> Writer<'c> {
             Some(server) => Value::try_from_str(self.alloc, self.server(server)),
             None => Ok(Value::Null),
         }
-    }
-
-    /// A crown whose shard is being handed over.
-    fn handover(
-        &self,
-        word: &str,
-        from: ServerId,
-        to: ServerId,
-        crown: &Crown,
-    ) -> Result<Value, AllocError>
-        requires from { from < length self.now.config.now.servers }
-        requires to { to < length self.now.config.now.servers }
-        requires shard { crown.now.shard < length self.now.config.now.shards }
-        requires listed { IfSome crown.now.listed (λ server. server < length self.now.config.now.servers) }
-        ensures { IfOk result (λ value. view value ≡ handover_data (names_of_shards self.now.config.now) (names_of_servers self.now.config.now) word.now from to crown.now) }
-    {
-        let listed = self.listed(crown.listed)?;
-        json!(in self.alloc; {
-            "from": self.server(from),
-            "lead": word,
-            "listed": listed,
-            "shard": self.shard(crown.shard),
-            "to": self.server(to),
-        })
     }
 
     /// An instruction for a shard at a server, with one member more.
@@ -128,13 +101,20 @@ fn state_word(state: PlainCell) -> &'static str
     }
 }
 
+fn lead_word(lead: Lead) -> &'static str
+    ensures { result.now ≡ lead_text lead }
+{
+    match lead {
+        Lead::Gone => "gone",
+        Lead::At(_) => "at",
+        Lead::Ready(..) => "ready",
+        Lead::Handing(..) => "handing",
+        Lead::Handed(..) => "handed",
+    }
+}
+
 /// What is written over the names of a configuration.
 trait PlanPart {
-    ghost use Rattle.std.specs.Prelude.{◌≡◌, ℕ, Bool, List, length, IfOk};
-    ghost use Rattle.serde_json.specs.Data.{Data};
-    ghost use Rattle.serde_json.specs.View.{view};
-    ghost use Rattle.sm_placement.specs.Setup.{Setup, IsSetup, names_of_servers, names_of_shards};
-
     /// Its ids are of so many shards and servers.
     ghost fits: { ℕ → ℕ → Self → Type 0 };
 
@@ -148,9 +128,6 @@ trait PlanPart {
 }
 
 impl PlanPart for CellRight {
-    ghost use Rattle.sm_plan_code.specs.Plan.{IsKnownCellRight};
-    ghost use Rattle.sm_plan_text.specs.PlanTexts.{right_data};
-
     ghost fits = { IsKnownCellRight };
 
     ghost written_as = { λ shards servers retries right. right_data shards servers right };
@@ -165,40 +142,36 @@ impl PlanPart for CellRight {
 }
 
 impl PlanPart for Crown {
-    ghost use Rattle.sm_plan_code.specs.Plan.{IsKnownCrown};
-    ghost use Rattle.sm_plan_text.specs.PlanTexts.{crown_data};
-
     ghost fits = { IsKnownCrown };
 
     ghost written_as = { λ shards servers retries crown. crown_data shards servers crown };
 
     fn value(&self, writer: &Writer<'_>) -> Result<Value, AllocError> {
+        let alloc = writer.alloc;
+        let lead = lead_word(self.lead);
+        let listed = writer.listed(self.listed)?;
+        let shard = writer.shard(self.shard);
         match self.lead {
-            Lead::Gone => {
-                let listed = writer.listed(self.listed)?;
-                let shard = writer.shard(self.shard);
-                json!(in writer.alloc; {"lead": "gone", "listed": listed, "shard": shard})
-            }
+            Lead::Gone => json!(in alloc; {"lead": lead, "listed": listed, "shard": shard}),
             Lead::At(server) => {
-                let listed = writer.listed(self.listed)?;
-                json!(in writer.alloc; {
-                    "lead": "at",
+                let server = writer.server(server);
+                json!(in alloc; {"lead": lead, "listed": listed, "server": server, "shard": shard})
+            }
+            Lead::Ready(from, to) | Lead::Handing(from, to) | Lead::Handed(from, to) => {
+                let (from, to) = (writer.server(from), writer.server(to));
+                json!(in alloc; {
+                    "from": from,
+                    "lead": lead,
                     "listed": listed,
-                    "server": writer.server(server),
-                    "shard": writer.shard(self.shard),
+                    "shard": shard,
+                    "to": to,
                 })
             }
-            Lead::Ready(from, to) => writer.handover("ready", from, to, self),
-            Lead::Handing(from, to) => writer.handover("handing", from, to, self),
-            Lead::Handed(from, to) => writer.handover("handed", from, to, self),
         }
     }
 }
 
 impl PlanPart for Room {
-    ghost use Rattle.std.specs.Prelude.{◌<◌};
-    ghost use Rattle.sm_plan_text.specs.PlanTexts.{room_data};
-
     ghost fits = { λ shards servers room. room.server < servers };
 
     ghost written_as = { λ shards servers retries room. room_data servers room };
@@ -209,9 +182,6 @@ impl PlanPart for Room {
 }
 
 impl PlanPart for Spare {
-    ghost use Rattle.std.specs.Prelude.{◌<◌};
-    ghost use Rattle.sm_plan_text.specs.PlanTexts.{spare_data};
-
     ghost fits = { λ shards servers spare. spare.shard < shards };
 
     ghost written_as = { λ shards servers retries spare. spare_data shards spare };
@@ -222,9 +192,6 @@ impl PlanPart for Spare {
 }
 
 impl PlanPart for Parcel {
-    ghost use Rattle.sm_plan_code.specs.Plan.{IsKnownParcel};
-    ghost use Rattle.sm_plan_text.specs.PlanTexts.{parcel_data};
-
     ghost fits = { IsKnownParcel };
 
     ghost written_as = { λ shards servers retries parcel. parcel_data shards servers parcel };
@@ -239,9 +206,6 @@ impl PlanPart for Parcel {
 }
 
 impl PlanPart for Instr {
-    ghost use Rattle.sm_plan_code.specs.Plan.{IsKnownInstr};
-    ghost use Rattle.sm_plan_text.specs.PlanTexts.{instr_data};
-
     ghost fits = { IsKnownInstr };
 
     ghost written_as = { λ shards servers retries instr. instr_data shards servers instr };
@@ -287,9 +251,6 @@ impl PlanPart for Instr {
 }
 
 impl PlanPart for Stream {
-    ghost use Rattle.sm_plan_code.specs.Plan.{IsKnownStream};
-    ghost use Rattle.sm_plan_text.specs.PlanTexts.{stream_data};
-
     ghost fits = { IsKnownStream };
 
     ghost written_as = { stream_data };

@@ -1,4 +1,4 @@
-use Rattle.std.proofs.Common.{◌≡◌, [], take, map}
+use Rattle.std.proofs.Common.{◌≡◌, take, map}
 use Rattle.json_tree.specs.View.{view}
 use Rattle.sm_plan_text.specs.Values.{names_in}
 use Rattle.sm_plan_text.proofs.outline.names_of.Given as goal

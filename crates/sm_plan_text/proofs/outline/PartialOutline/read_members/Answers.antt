@@ -1,5 +1,5 @@
-use Rattle.std.proofs.Common.{◌≡◌, ◌∙◌, ◌-◌, ◌<◌, length, Some, None, refl, arith}
-use Rattle.json.specs.Json.{members, value, read_key}
+use Rattle.std.proofs.Common.{◌≡◌, ◌∙◌, ◌-◌, length, Some, refl, arith}
+use Rattle.json.specs.Json.{value, read_key}
 use Rattle.json.proofs.Grammar.{read_key-shorter}
 use Rattle.serde_json.specs.Data.{put}
 use Rattle.json_tree.proofs.Turns.{member_read, members_over}

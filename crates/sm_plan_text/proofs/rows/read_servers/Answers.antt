@@ -12,7 +12,7 @@ use Rattle.sm_plan_text.specs.Values.{text_in, flag_in, id_of, names_in}
 use Rattle.sm_plan_text.specs.Servers.{server_table, server_faults, server_in, down_in}
 use Rattle.sm_plan_text.proofs.WalkLemmas.{step_on, mapped_step, walked_step}
 use Rattle.sm_plan_text.proofs.ServerLemmas.{names_in_push, down_in_push}
-use Rattle.sm_plan_text.proofs.server.read_servers.Goals as goal
+use Rattle.sm_plan_text.proofs.rows.read_servers.Goals as goal
 
 pub loop-item-preserved : goal.loop-item-preserved
 loop-item-preserved c =

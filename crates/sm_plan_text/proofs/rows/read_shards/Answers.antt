@@ -12,7 +12,7 @@ use Rattle.sm_plan_text.specs.Shards.{faults_of_shard, shard_faults, shard_in, l
 use Rattle.sm_plan_text.proofs.WalkLemmas.{step_on, mapped_step, walked_step}
 use Rattle.sm_plan_text.proofs.ServerLemmas.{names_in_push}
 use Rattle.sm_plan_text.proofs.ShardLemmas.{cells_in_push, cell_count_is}
-use Rattle.sm_plan_text.proofs.shard.read_shards.Goals as goal
+use Rattle.sm_plan_text.proofs.rows.read_shards.Goals as goal
 
 pub loop-item-preserved : goal.loop-item-preserved
 loop-item-preserved c =

@@ -5,7 +5,7 @@ use Rattle.sm_plan_text.specs.Faults.{noted}
 use Rattle.sm_plan_text.specs.Values.{names_in}
 use Rattle.sm_plan_text.specs.Tables.{walked}
 use Rattle.sm_plan_text.specs.Servers.{server_faults, server_in, down_in}
-use Rattle.sm_plan_text.proofs.server.read_servers.Given as goal
+use Rattle.sm_plan_text.proofs.rows.read_servers.Given as goal
 
 abbrev pub invariant-loop-item : goal.invariant-loop-item
 invariant-loop-item l = record {

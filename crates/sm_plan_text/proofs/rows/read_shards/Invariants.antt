@@ -5,7 +5,7 @@ use Rattle.sm_plan_text.specs.Faults.{noted}
 use Rattle.sm_plan_text.specs.Values.{names_in}
 use Rattle.sm_plan_text.specs.Tables.{walked}
 use Rattle.sm_plan_text.specs.Shards.{shard_faults, shard_in, listed_in, cells_in}
-use Rattle.sm_plan_text.proofs.shard.read_shards.Given as goal
+use Rattle.sm_plan_text.proofs.rows.read_shards.Given as goal
 
 abbrev pub invariant-loop-item : goal.invariant-loop-item
 invariant-loop-item l = record {

@@ -2,7 +2,7 @@ use Rattle.std.proofs.Common.{◌++◌, ◌∷◌, [], ◌∙◌, ap}
 use Rattle.sm_server.specs.Cell.{cell_in}
 use Rattle.sm_plan_text.specs.Shards.{cell_faults, named_cell}
 use Rattle.sm_plan_text.proofs.WalkLemmas.{mapped_step, walked_step}
-use Rattle.sm_plan_text.proofs.shard.add_cells.Goals as goal
+use Rattle.sm_plan_text.proofs.rows.add_cells.Goals as goal
 
 pub loop-tree-preserved : goal.loop-tree-preserved
 loop-tree-preserved c =

@@ -3,7 +3,7 @@ use Rattle.json_tree.specs.View.{view}
 use Rattle.sm_plan_text.specs.Faults.{noted}
 use Rattle.sm_plan_text.specs.Tables.{walked}
 use Rattle.sm_plan_text.specs.Shards.{cell_faults, named_cell}
-use Rattle.sm_plan_text.proofs.shard.add_cells.Given as goal
+use Rattle.sm_plan_text.proofs.rows.add_cells.Given as goal
 
 abbrev pub invariant-loop-tree : goal.invariant-loop-tree
 invariant-loop-tree l =
