@@ -1,7 +1,7 @@
 //! The calls and readers of a placement.
 use super::fixture::*;
 use super::steps::Step::*;
-use super::steps::{Step, follow, follow_opened, follow_small};
+use super::steps::{Step, follow, follow_small};
 use sm_placement::{OpenFault, Placement, Serving};
 use sm_server::{Call, Cell, Refusal, Role, ServerId};
 use std::alloc::Global;
@@ -403,7 +403,9 @@ fn settled_placements_have_few_servers_down(rt: HostRuntime) -> Result<(), Fail>
 /// Whether a copy of a placement has its configuration, and a limit of 1.
 fn has_same_setup(alloc: Global, placement: &Placement) -> Result<bool, OpenFault> {
     let copy = copied(alloc, placement)?;
-    Ok(has_setup(&copy, placement.config()))
+    let is_same = has_setup(&copy, placement.config());
+    drop(copy);
+    Ok(is_same)
 }
 
 /// Copies a placement, and follows the steps from the placement and from the copy.
@@ -413,10 +415,12 @@ fn follow_copied(
     placement: &mut Placement,
     steps: &[Step],
 ) -> Result<(), OpenFault> {
-    assert_eq!(rt; has_same_setup(alloc, placement), Ok(true));
-    let copy = copied(alloc, placement);
+    assert!(rt; has_same_setup(alloc, placement)?);
+    let mut copy = copied(alloc, placement)?;
     follow(rt, placement, steps);
-    follow_opened(rt, copy, steps)
+    follow(rt, &mut copy, steps);
+    drop(copy);
+    Ok(())
 }
 
 /// Opens the small placement, and follows the first steps from there, and the others from there and from a copy.
@@ -425,12 +429,12 @@ fn follow_then_copied(
     alloc: Global,
     first: &[Step],
     then: &[Step],
-) -> Result<(), Fail> {
-    let config = small_config(alloc)?;
-    let mut placement = small_placement(alloc, &config)?;
+) -> Result<(), OpenFault> {
+    let mut placement = small(alloc)?;
     follow(rt, &mut placement, first);
-    follow_copied(rt, alloc, &mut placement, then)?;
-    Ok(())
+    let outcome = follow_copied(rt, alloc, &mut placement, then);
+    drop(placement);
+    outcome
 }
 
 /// A copy answers every reader as its source does, and remembers the numbers of calls. The source has a handover under
@@ -464,5 +468,6 @@ fn copies_are_equal(rt: HostRuntime) -> Result<(), Fail> {
             HasServing(0, Serving::One(from)),
             Numbered(1, 0, Call::Drop, 8, Ok(false)),
         ],
-    )
+    )?;
+    Ok(())
 }

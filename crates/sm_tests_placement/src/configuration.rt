@@ -1,5 +1,5 @@
 //! What a configuration accepts, and what it tells of its servers and shards.
-use super::fixture::{is_server, many_servers, many_shards, server};
+use super::fixture::{config_by, config_of, is_server, many_shards, server};
 use sm_placement::{Config, ConfigFault, Server, Shard};
 use sm_server::{ServerId, ShardId};
 use std::alloc::{AllocError, Global};
@@ -7,7 +7,7 @@ use std::process::Abort;
 use std::test::Fail;
 
 /// A server as data.
-#[derive(Clone, Copy, Debug)]
+#[derive(Clone, Copy)]
 struct ServerRow {
     name: &'static str,
     region: &'static str,
@@ -15,7 +15,7 @@ struct ServerRow {
 }
 
 /// A shard as data.
-#[derive(Clone, Copy, Debug)]
+#[derive(Clone, Copy)]
 struct ShardRow {
     name: &'static str,
     load: u64,
@@ -59,21 +59,18 @@ fn config(
     server_rows: &[ServerRow],
     shard_rows: &[ShardRow],
 ) -> Result<Config, ConfigFault> {
-    let servers = servers(alloc, server_rows)?;
     let shards = shards(alloc, shard_rows)?;
-    Config::new(alloc, &servers, &shards)
+    let made = match servers(alloc, server_rows) {
+        Ok(servers) => config_of(alloc, servers, &shards),
+        Err(_) => Err(ConfigFault::NoMemory),
+    };
+    drop(shards);
+    made
 }
 
-/// Asserts why these rows are refused, if they are.
-fn assert_fault(
-    rt: &impl Abort,
-    alloc: Global,
-    servers: &[ServerRow],
-    shards: &[ShardRow],
-    fault: Option<ConfigFault>,
-) {
-    let told = config(alloc, servers, shards).err();
-    assert_eq!(rt; told, fault, "{servers:?} {shards:?}");
+/// Why these rows are refused, if they are.
+fn fault_of(alloc: Global, servers: &[ServerRow], shards: &[ShardRow]) -> Option<ConfigFault> {
+    config(alloc, servers, shards).err()
 }
 
 /// A server with this name.
@@ -109,9 +106,15 @@ fn assert_names(
             region: text,
             room: 10,
         };
-        assert_fault(rt, alloc, &[named_server(text)], &[], fault);
-        assert_fault(rt, alloc, &[region], &[], fault);
-        assert_fault(rt, alloc, &[], &[named_shard(text)], fault);
+        assert!(rt;
+            fault_of(alloc, &[named_server(text)], &[]) == fault,
+            "server {text}"
+        );
+        assert!(rt; fault_of(alloc, &[region], &[]) == fault, "region {text}");
+        assert!(rt;
+            fault_of(alloc, &[], &[named_shard(text)]) == fault,
+            "shard {text}"
+        );
     }
 }
 
@@ -154,9 +157,9 @@ fn names_are_single(rt: HostRuntime) {
     let shards = [named_shard("a"), named_shard("b"), named_shard("A")];
     let double_shard = [named_shard("a"), named_shard("b"), named_shard("a")];
     let double = Some(ConfigFault::DoubleName);
-    assert_fault(&rt, alloc, &servers, &shards, None);
-    assert_fault(&rt, alloc, &double_server, &shards, double);
-    assert_fault(&rt, alloc, &servers, &double_shard, double);
+    assert!(rt; fault_of(alloc, &servers, &shards).is_none());
+    assert!(rt; fault_of(alloc, &double_server, &shards) == double);
+    assert!(rt; fault_of(alloc, &servers, &double_shard) == double);
 }
 
 /// A shard with these numbers.
@@ -177,8 +180,11 @@ fn assert_each_shard(
     shards: &[ShardRow],
     fault: Option<ConfigFault>,
 ) {
-    for shard in shards {
-        assert_fault(rt, alloc, &[], &[*shard], fault);
+    for at in 0..shards.len() {
+        assert!(rt;
+            fault_of(alloc, &[], &shards[at..=at]) == fault,
+            "shard {at}"
+        );
     }
 }
 
@@ -216,41 +222,43 @@ fn rooms_are_within_their_limit(rt: HostRuntime) {
         region: "r1",
         room: 4_294_967_296,
     }];
-    assert_fault(&rt, alloc, &most, &[], None);
-    assert_fault(&rt, alloc, &more, &[], Some(ConfigFault::BadNumber));
+    assert!(rt; fault_of(alloc, &most, &[]).is_none());
+    assert!(rt; fault_of(alloc, &more, &[]) == Some(ConfigFault::BadNumber));
+}
+
+/// A configuration of as many servers and shards.
+fn counted(alloc: Global, servers: u32, shards: u32) -> Result<Config, ConfigFault> {
+    config_by(alloc, servers, 10, many_shards(alloc, shards, 4, 2, 1)?)
 }
 
 #[test]
 fn the_most_servers_and_shards_are_accepted(rt: HostRuntime) -> Result<(), Fail> {
-    let alloc = rt.alloc();
-    let servers = many_servers(alloc, 1_024, 10)?;
-    let shards = many_shards(alloc, 4_096, 4, 2, 1)?;
-    let config = Config::new(alloc, &servers, &shards)?;
-    assert_eq!(rt; config.server_count(), 1_024);
-    assert_eq!(rt; config.shard_count(), 4_096);
+    let config = counted(rt.alloc(), 1_024, 4_096)?;
+    let counts = (config.server_count(), config.shard_count());
+    drop(config);
+    assert_eq!(rt; counts, (1_024, 4_096));
     Ok(())
 }
 
-#[test]
-fn more_servers_are_refused(rt: HostRuntime) -> Result<(), Fail> {
-    let alloc = rt.alloc();
-    let servers = many_servers(alloc, 1_025, 10)?;
-    let fault = Config::new(alloc, &servers, &[]).err();
-    assert_eq!(rt; fault, Some(ConfigFault::TooMany));
-    Ok(())
+/// A configuration of a server whose name is bad, and of as many shards.
+fn badly_named(alloc: Global, count: u32) -> Result<Config, ConfigFault> {
+    let shards = many_shards(alloc, count, 4, 2, 1)?;
+    let made = match servers(alloc, &[named_server("a b")]) {
+        Ok(servers) => config_of(alloc, servers, &shards),
+        Err(_) => Err(ConfigFault::NoMemory),
+    };
+    drop(shards);
+    made
 }
 
 /// Too many shards are told before a bad name.
 #[test]
-fn more_shards_are_refused(rt: HostRuntime) -> Result<(), Fail> {
+fn more_servers_and_shards_are_refused(rt: HostRuntime) {
     let alloc = rt.alloc();
-    let shards = many_shards(alloc, 4_097, 4, 2, 1)?;
-    let bad_name = servers(alloc, &[named_server("a b")])?;
-    for servers in [&[], bad_name.as_slice()] {
-        let fault = Config::new(alloc, servers, &shards).err();
-        assert_eq!(rt; fault, Some(ConfigFault::TooMany));
-    }
-    Ok(())
+    let too_many = Some(ConfigFault::TooMany);
+    assert!(rt; counted(alloc, 1_025, 0).err() == too_many);
+    assert!(rt; counted(alloc, 0, 4_097).err() == too_many);
+    assert!(rt; badly_named(alloc, 4_097).err() == too_many);
 }
 
 /// Bad names are told before double names, and these before bad numbers.
@@ -273,11 +281,11 @@ fn the_first_fault_is_told(rt: HostRuntime) {
     let bad_shard = [named_shard("s"), named_shard("t"), named_shard("t/")];
     let bad_name = Some(ConfigFault::BadName);
     let double_name = Some(ConfigFault::DoubleName);
-    assert_fault(&rt, alloc, &double_with_bad_region, &[], bad_name);
-    assert_fault(&rt, alloc, &double, &bad_shard, bad_name);
-    assert_fault(&rt, alloc, &double, &[], double_name);
-    assert_fault(&rt, alloc, &[bad_number], &shards, double_name);
-    assert_fault(&rt, alloc, &[bad_number], &[], Some(ConfigFault::BadNumber));
+    assert!(rt; fault_of(alloc, &double_with_bad_region, &[]) == bad_name);
+    assert!(rt; fault_of(alloc, &double, &bad_shard) == bad_name);
+    assert!(rt; fault_of(alloc, &double, &[]) == double_name);
+    assert!(rt; fault_of(alloc, &[bad_number], &shards) == double_name);
+    assert!(rt; fault_of(alloc, &[bad_number], &[]) == Some(ConfigFault::BadNumber));
 }
 
 const SERVERS: [ServerRow; 2] = [
@@ -315,34 +323,36 @@ fn small_config(alloc: Global) -> Result<Config, ConfigFault> {
     config(alloc, &SERVERS, &SHARDS)
 }
 
-/// Asserts the numbers of the server and of the shard with this name.
-fn assert_named(
-    rt: &impl Abort,
-    config: &Config,
-    name: &str,
-    server: Option<u32>,
-    shard: Option<u32>,
-) {
-    let server_told = config.server_named(name).map(|id| id.number());
-    let shard_told = config.shard_named(name).map(|id| id.number());
-    assert_eq!(rt; server_told, server, "server {name}");
-    assert_eq!(rt; shard_told, shard, "shard {name}");
+/// The numbers of the server and of the shard with a name, where there are such.
+type Numbers = (Option<ServerId>, Option<ShardId>);
+
+/// The numbers of every name of the small configuration, and of texts that are none.
+const fn numbers() -> [(&'static str, Numbers); 6] {
+    let (first_server, second_server) = (Some(ServerId::new(0)), Some(ServerId::new(1)));
+    let (first_shard, second_shard) = (Some(ShardId::new(0)), Some(ShardId::new(1)));
+    [
+        ("a", (first_server, None)),
+        ("b", (second_server, second_shard)),
+        ("s", (None, first_shard)),
+        ("", (None, None)),
+        ("B", (None, None)),
+        ("bb", (None, None)),
+    ]
 }
 
 /// Asserts the numbers of every name of the small configuration, and of texts that are none.
 fn assert_all_named(rt: &impl Abort, config: &Config) {
-    assert_named(rt, config, "a", Some(0), None);
-    assert_named(rt, config, "b", Some(1), Some(1));
-    assert_named(rt, config, "s", None, Some(0));
-    assert_named(rt, config, "", None, None);
-    assert_named(rt, config, "B", None, None);
-    assert_named(rt, config, "bb", None, None);
+    for (name, (server, shard)) in &numbers() {
+        assert!(rt; config.server_named(name) == *server, "server {name}");
+        assert!(rt; config.shard_named(name) == *shard, "shard {name}");
+    }
 }
 
 #[test]
 fn names_lead_to_numbers(rt: HostRuntime) -> Result<(), Fail> {
     let config = small_config(rt.alloc())?;
     assert_all_named(&rt, &config);
+    drop(config);
     Ok(())
 }
 
@@ -384,15 +394,12 @@ fn assert_floors(rt: &impl Abort, config: &Config) {
     assert_eq!(rt; config.floor(ShardId::new(1)), 3);
 }
 
-/// A copy of a configuration.
-fn copied(alloc: Global, config: &Config) -> Result<Config, ConfigFault> {
-    Ok(config.copy(alloc)?)
-}
-
 /// A copy of the small configuration.
 fn small_copy(alloc: Global) -> Result<Config, ConfigFault> {
     let config = small_config(alloc)?;
-    copied(alloc, &config)
+    let copied = config.copy(alloc);
+    drop(config);
+    Ok(copied?)
 }
 
 #[test]
@@ -401,61 +408,64 @@ fn numbers_lead_to_rows(rt: HostRuntime) -> Result<(), Fail> {
     assert_servers(&rt, &config);
     assert_shards(&rt, &config);
     assert_floors(&rt, &config);
+    drop(config);
     Ok(())
 }
+
+/// What `==` and `!=` say of a configuration, where it was made, and of the small one.
+fn compared(alloc: Global, made: Result<Config, ConfigFault>) -> Result<(bool, bool), ConfigFault> {
+    let other = made?;
+    let told = compared_with_small(alloc, &other);
+    drop(other);
+    told
+}
+
+/// What `==` and `!=` say of a configuration and the small one.
+fn compared_with_small(alloc: Global, other: &Config) -> Result<(bool, bool), ConfigFault> {
+    let small = small_config(alloc)?;
+    let told = (small == *other, small != *other);
+    drop(small);
+    Ok(told)
+}
+
+/// The answers about the same configuration.
+const SAME: Result<(bool, bool), ConfigFault> = Ok((true, false));
+
+/// The answers about another one.
+const OTHER: Result<(bool, bool), ConfigFault> = Ok((false, true));
 
 #[test]
-fn a_copy_is_equal(rt: HostRuntime) -> Result<(), Fail> {
-    let config = small_config(rt.alloc())?;
-    let is_equal = copied(rt.alloc(), &config).map(|copy| copy == config);
-    assert_eq!(rt; is_equal, Ok(true));
-    Ok(())
-}
-
-/// What `==` and `!=` say of the small configuration and the one of these rows.
-fn compared(
-    alloc: Global,
-    servers: &[ServerRow],
-    shards: &[ShardRow],
-) -> Result<[bool; 2], ConfigFault> {
-    let small = small_config(alloc)?;
-    config(alloc, servers, shards).map(|other| [small == other, small != other])
-}
-
-/// Asserts whether the small configuration is the one of these rows.
-fn assert_equal(
-    rt: &impl Abort,
-    alloc: Global,
-    servers: &[ServerRow],
-    shards: &[ShardRow],
-    is_equal: bool,
-) {
-    let told = compared(alloc, servers, shards);
-    assert_eq!(rt; told, Ok([is_equal, !is_equal]), "{servers:?} {shards:?}");
+fn a_copy_is_equal(rt: HostRuntime) {
+    let alloc = rt.alloc();
+    assert!(rt; compared(alloc, small_copy(alloc)) == SAME);
 }
 
 #[test]
 fn configurations_of_equal_rows_are_equal(rt: HostRuntime) {
-    assert_equal(&rt, rt.alloc(), &SERVERS, &SHARDS, true);
+    let alloc = rt.alloc();
+    assert!(rt; compared(alloc, small_config(alloc)) == SAME);
 }
 
 #[test]
 fn configurations_of_fewer_rows_are_others(rt: HostRuntime) {
-    assert_equal(&rt, rt.alloc(), &SERVERS[..1], &SHARDS, false);
-    assert_equal(&rt, rt.alloc(), &SERVERS, &SHARDS[..1], false);
+    let alloc = rt.alloc();
+    assert!(rt; compared(alloc, config(alloc, &SERVERS[..1], &SHARDS)) == OTHER);
+    assert!(rt; compared(alloc, config(alloc, &SERVERS, &SHARDS[..1])) == OTHER);
 }
 
 /// Asserts that the small configuration is none of those with these servers in the place of its own.
 fn assert_other_servers(rt: &impl Abort, alloc: Global, others: &[[ServerRow; 2]]) {
-    for servers in others {
-        assert_equal(rt, alloc, servers, &SHARDS, false);
+    for at in 0..others.len() {
+        let made = config(alloc, &others[at], &SHARDS);
+        assert!(rt; compared(alloc, made) == OTHER, "servers {at}");
     }
 }
 
 /// Asserts that the small configuration is none of those with these shards in the place of its own.
 fn assert_other_shards(rt: &impl Abort, alloc: Global, others: &[[ShardRow; 2]]) {
-    for shards in others {
-        assert_equal(rt, alloc, &SERVERS, shards, false);
+    for at in 0..others.len() {
+        let made = config(alloc, &SERVERS, &others[at]);
+        assert!(rt; compared(alloc, made) == OTHER, "shards {at}");
     }
 }
 

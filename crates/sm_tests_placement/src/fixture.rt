@@ -1,7 +1,10 @@
 //! Small placements, and the calls of a placement with their conditions tested.
-ghost use Rattle.std.specs.Prelude.{◌<◌, length};
+ghost use Rattle.std.specs.Prelude.{◌<◌, length, IsTrue};
+ghost use Rattle.sm_placement.specs.Rows.{IsKnownCall};
 
-use sm_placement::{Config, ConfigFault, Lead, OpenFault, Placement, Server, Serving, Shard};
+use sm_placement::{
+    Config, ConfigFault, Entry, Lead, OpenFault, Placement, Server, Serving, Shard,
+};
 use sm_server::{Call, Cell, Refusal, Role, ServerId, ShardId};
 use std::alloc::{AllocError, Global};
 use std::process::Abort;
@@ -86,6 +89,32 @@ pub(crate) fn many_shards(
     Ok(shards)
 }
 
+/// The configuration of as many servers with this room, and of these shards, which are dropped.
+pub(crate) fn config_by(
+    alloc: Global,
+    count: u32,
+    room: u64,
+    shards: Vec<Shard>,
+) -> Result<Config, ConfigFault> {
+    let made = match many_servers(alloc, count, room) {
+        Ok(servers) => config_of(alloc, servers, &shards),
+        Err(_) => Err(ConfigFault::NoMemory),
+    };
+    drop(shards);
+    made
+}
+
+/// The configuration of servers, which are dropped, and of shards.
+pub(crate) fn config_of(
+    alloc: Global,
+    servers: Vec<Server>,
+    shards: &[Shard],
+) -> Result<Config, ConfigFault> {
+    let made = Config::new(alloc, &servers, shards);
+    drop(servers);
+    made
+}
+
 /// Three servers with room for 10, 10 and 4; shard 0 has load 4 and wants 2 with a cap of 1, shard 1 has load 6 and
 /// wants 1 with no cap.
 pub(crate) fn small_config(alloc: Global) -> Result<Config, ConfigFault> {
@@ -118,6 +147,18 @@ pub(crate) fn small_placement(alloc: Global, config: &Config) -> Result<Placemen
     Placement::open(alloc, config, &cells, &listed, &[], 1)
 }
 
+/// The small placement of the small configuration.
+pub(crate) fn small(alloc: Global) -> Result<Placement, OpenFault> {
+    match small_config(alloc) {
+        Ok(config) => {
+            let opened = small_placement(alloc, &config);
+            drop(config);
+            opened
+        }
+        Err(_) => Err(OpenFault::NoMemory),
+    }
+}
+
 /// A copy of a placement.
 pub(crate) fn copied(alloc: Global, placement: &Placement) -> Result<Placement, OpenFault> {
     Ok(placement.copy(alloc)?)
@@ -144,6 +185,18 @@ pub(crate) fn shard_id(rt: &impl Abort, placement: &Placement, shard: u32) -> Sh
     ShardId::new(shard)
 }
 
+/// Whether a call names a server that is there, where it names one.
+fn is_known_call(placement: &Placement, call: &Call) -> bool
+    ensures { IsTrue result → IsKnownCall (length placement.now.setup.servers) call.now }
+{
+    let count = placement.config().server_count();
+    match call {
+        Call::PrepareAdd { owner, .. } => owner.number() < count,
+        Call::PrepareDrop { new_owner, .. } => new_owner.number() < count,
+        _ => true,
+    }
+}
+
 /// A call, at ids that have to be there.
 pub(crate) fn call(
     rt: &impl Abort,
@@ -154,18 +207,8 @@ pub(crate) fn call(
 ) -> Result<(), Refusal> {
     let server = server_id(rt, placement, server);
     let shard = shard_id(rt, placement, shard);
-    let count = placement.config().server_count();
-    match &call {
-        Call::PrepareAdd { owner, .. } => {
-            assert!(rt; owner.number() < count);
-            placement.call(server, shard, call)
-        }
-        Call::PrepareDrop { new_owner, .. } => {
-            assert!(rt; new_owner.number() < count);
-            placement.call(server, shard, call)
-        }
-        _ => placement.call(server, shard, call),
-    }
+    assert!(rt; is_known_call(placement, &call));
+    placement.call(server, shard, call)
 }
 
 /// A numbered call, at ids that have to be there and under a number of at least 1.
@@ -179,19 +222,9 @@ pub(crate) fn call_numbered(
 ) -> Result<bool, Refusal> {
     let server = server_id(rt, placement, server);
     let shard = shard_id(rt, placement, shard);
-    let count = placement.config().server_count();
     assert!(rt; number >= 1);
-    match &call {
-        Call::PrepareAdd { owner, .. } => {
-            assert!(rt; owner.number() < count);
-            placement.call_numbered(server, shard, call, number)
-        }
-        Call::PrepareDrop { new_owner, .. } => {
-            assert!(rt; new_owner.number() < count);
-            placement.call_numbered(server, shard, call, number)
-        }
-        _ => placement.call_numbered(server, shard, call, number),
-    }
+    assert!(rt; is_known_call(placement, &call));
+    placement.call_numbered(server, shard, call, number)
 }
 
 /// The cell of a shard at a server.
@@ -235,17 +268,25 @@ pub(crate) fn serving(rt: &impl Abort, placement: &Placement, shard: u32) -> Ser
     placement.serving(shard_id(rt, placement, shard))
 }
 
-/// The published entry of a shard: the listed server's number, and the version.
-pub(crate) fn listed(rt: &impl Abort, placement: &Placement, shard: u32) -> (Option<u32>, u64) {
+/// Whether the published entry of a shard has this server and version, by each reader.
+pub(crate) fn is_listed(
+    rt: &impl Abort,
+    placement: &Placement,
+    shard: u32,
+    server: Option<u32>,
+    version: u64,
+) -> bool {
     let shard = shard_id(rt, placement, shard);
-    let entry = placement.entry(shard);
-    assert_eq!(rt; entry.server, placement.listed(shard));
-    assert_eq!(rt; entry.version, placement.version(shard));
-    let server = match entry.server {
-        Some(server) => Some(server.number()),
-        None => None,
+    let want = Entry {
+        server: match server {
+            Some(server) => Some(ServerId::new(server)),
+            None => None,
+        },
+        version,
     };
-    (server, entry.version)
+    placement.entry(shard) == want
+        && placement.listed(shard) == want.server
+        && placement.version(shard) == version
 }
 
 /// Publishes an entry for a shard.

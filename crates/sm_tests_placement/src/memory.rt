@@ -3,7 +3,7 @@
 use super::fixture::*;
 use sm_placement::{Config, ConfigFault, OpenFault, Placement, Server, Shard};
 use sm_server::Cell;
-use std::alloc::Global;
+use std::alloc::{AllocError, Global};
 use std::process::Abort;
 
 /// Whether the servers are those that `a_configuration_is_made_and_copied_or_not` made.
@@ -28,6 +28,7 @@ fn assert_made_rows(rt: &impl Abort, servers: &[Server], shards: &[Shard]) {
 fn assert_copied(rt: &impl Abort, alloc: Global, config: &Config) {
     if let Ok(copy) = config.copy(alloc) {
         assert_made_rows(rt, copy.servers(), copy.shards());
+        drop(copy);
     }
     assert_made_rows(rt, config.servers(), config.shards());
 }
@@ -36,28 +37,44 @@ fn assert_copied(rt: &impl Abort, alloc: Global, config: &Config) {
 fn assert_made(rt: &impl Abort, alloc: Global, servers: &[Server], shards: &[Shard]) {
     match Config::new(alloc, servers, shards) {
         Err(why) => assert_eq!(rt; why, ConfigFault::NoMemory),
-        Ok(config) => assert_copied(rt, alloc, &config),
+        Ok(config) => {
+            assert_copied(rt, alloc, &config);
+            drop(config);
+        }
     }
     assert_made_rows(rt, servers, shards);
+}
+
+/// The servers of `a_configuration_is_made_and_copied_or_not`.
+fn made_servers(alloc: Global) -> Result<[Server; 2], AllocError> {
+    Ok([server(alloc, "a", "r1", 10)?, server(alloc, "b", "r2", 4)?])
+}
+
+/// Asserts the same of these servers and a shard, for which there may be no memory.
+fn assert_made_of(rt: &impl Abort, alloc: Global, servers: &[Server]) {
+    if let Ok(shard) = shard(alloc, "s", 4, 2, 1) {
+        let shards = [shard];
+        assert_made(rt, alloc, servers, &shards);
+        drop(shards);
+    }
 }
 
 /// Where an allocation is refused, `new` and `copy` say so, and what they were given is as it was.
 #[test]
 fn a_configuration_is_made_and_copied_or_not(rt: HostRuntime) {
-    let alloc = rt.alloc();
-    let (Ok(a), Ok(b)) = (server(alloc, "a", "r1", 10), server(alloc, "b", "r2", 4)) else {
-        return;
-    };
-    let Ok(s) = shard(alloc, "s", 4, 2, 1) else {
-        return;
-    };
-    assert_made(&rt, alloc, &[a, b], &[s]);
+    if let Ok(servers) = made_servers(rt.alloc()) {
+        assert_made_of(&rt, rt.alloc(), &servers);
+        drop(servers);
+    }
 }
 
 /// Asserts that the small placement is opened and settled, or that memory was refused.
 fn assert_opened(rt: &impl Abort, alloc: Global, config: &Config) {
     match small_placement(alloc, config) {
-        Ok(placement) => assert!(rt; placement.settled()),
+        Ok(placement) => {
+            assert!(rt; placement.settled());
+            drop(placement);
+        }
         Err(why) => assert_eq!(rt; why, OpenFault::NoMemory),
     }
     assert_eq!(rt; config.server_count(), 3);
@@ -68,6 +85,7 @@ fn a_placement_is_opened_or_not(rt: HostRuntime) {
     let alloc = rt.alloc();
     if let Ok(config) = small_config(alloc) {
         assert_opened(&rt, alloc, &config);
+        drop(config);
     }
 }
 
@@ -81,16 +99,15 @@ fn assert_small_placement(rt: &impl Abort, placement: &Placement) {
 fn assert_copied_placement(rt: &impl Abort, alloc: Global, placement: &Placement) {
     if let Ok(copy) = copied(alloc, placement) {
         assert_small_placement(rt, &copy);
+        drop(copy);
     }
     assert_small_placement(rt, placement);
 }
 
 #[test]
 fn a_placement_is_copied_or_not(rt: HostRuntime) {
-    let alloc = rt.alloc();
-    if let Ok(config) = small_config(alloc) {
-        if let Ok(placement) = small_placement(alloc, &config) {
-            assert_copied_placement(&rt, alloc, &placement);
-        }
+    if let Ok(placement) = small(rt.alloc()) {
+        assert_copied_placement(&rt, rt.alloc(), &placement);
+        drop(placement);
     }
 }

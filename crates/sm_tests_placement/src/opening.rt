@@ -34,6 +34,7 @@ fn assert_fault(
 ) -> Result<(), ConfigFault> {
     let config = small_config(alloc)?;
     let told = Placement::open(alloc, &config, cells, listed, down, 1).err();
+    drop(config);
     assert_eq!(rt; told, Some(fault));
     Ok(())
 }
@@ -58,20 +59,26 @@ fn open_with_one_down(alloc: Global, config: &Config) -> Result<Placement, OpenF
 /// Whether that placement has the configuration and the limit that it is opened with.
 fn keeps_setup(alloc: Global, config: &Config) -> Result<bool, OpenFault> {
     let placement = open_with_one_down(alloc, config)?;
-    Ok(has_setup(&placement, config))
+    let is_kept = has_setup(&placement, config);
+    drop(placement);
+    Ok(is_kept)
 }
 
 #[test]
 fn the_setup_is_kept(rt: HostRuntime) -> Result<(), Fail> {
     let config = small_config(rt.alloc())?;
-    assert_eq!(rt; keeps_setup(rt.alloc(), &config), Ok(true));
+    let is_kept = keeps_setup(rt.alloc(), &config);
+    drop(config);
+    assert!(rt; is_kept?);
     Ok(())
 }
 
 /// Follows the steps from that placement.
 fn follow_one_down(rt: &impl Abort, alloc: Global, steps: &[Step]) -> Result<(), Fail> {
     let config = small_config(alloc)?;
-    follow_opened(rt, open_with_one_down(alloc, &config), steps)?;
+    let opened = open_with_one_down(alloc, &config);
+    drop(config);
+    follow_opened(rt, opened, steps)?;
     Ok(())
 }
 
@@ -325,6 +332,7 @@ fn assert_fault_under(
     let config = small_config(alloc)?;
     let listed = [None, None];
     let told = Placement::open(alloc, &config, &cells(), &listed, &[id(2)], limit).err();
+    drop(config);
     assert_eq!(rt; told, fault);
     Ok(())
 }
@@ -338,18 +346,22 @@ fn limits_are_kept(rt: HostRuntime) -> Result<(), Fail> {
 
 /// As many servers and shards as a configuration has, with the greatest numbers.
 fn largest_config(alloc: Global) -> Result<Config, ConfigFault> {
-    let servers = many_servers(alloc, 1024, 4294967295)?;
     let shards = many_shards(alloc, 4096, 4294967295, 0, 0)?;
-    Config::new(alloc, &servers, &shards)
+    config_by(alloc, 1024, 4294967295, shards)
+}
+
+/// Its placement with a replica of the last shard at the last server.
+fn open_largest(alloc: Global, config: &Config) -> Result<Placement, OpenFault> {
+    let listed = vec![in alloc; None; 4096]?;
+    let last = [named(4095, 1023, Cell::Primary)];
+    Placement::open(alloc, config, &last, &listed, &[], 0)
 }
 
 #[test]
 fn the_largest_configuration_opens(rt: HostRuntime) -> Result<(), Fail> {
-    let alloc = rt.alloc();
-    let config = largest_config(alloc)?;
-    let listed = vec![in alloc; None; 4096]?;
-    let last = [named(4095, 1023, Cell::Primary)];
-    let opened = Placement::open(alloc, &config, &last, &listed, &[], 0);
+    let config = largest_config(rt.alloc())?;
+    let opened = open_largest(rt.alloc(), &config);
+    drop(config);
     let steps = [HasLoad(1023, 4294967295), HasLive(4095, 1)];
     follow_opened(&rt, opened, &steps)?;
     Ok(())

@@ -1,8 +1,9 @@
 //! The table of calls, numbered calls and the handover, with each expected value written out by hand.
 use sm_server::{
-    Call, Cell, HandoverCells, Refusal, Role, Served, ServerId, ShardId, Steady, leads_where_led,
-    serve, serve_numbered, served_once, served_where_allowed,
+    Call, Cell, Handed, Handing, Ready, Refusal, Role, Served, ServerId, ShardId, Steady,
+    leads_where_led, serve, serve_numbered, served_once, served_where_allowed,
 };
+use std::alloc::{AllocError, Global};
 use std::process::Abort;
 use std::test::Fail;
 
@@ -133,18 +134,27 @@ fn assert_answers(rt: &impl Abort, free_room: u64, load: u64, table: &[(Call, An
     }
 }
 
+/// Asserts what a server answers to each call at each cell with each of these pairs of free room and load.
+fn assert_all_answers(rt: &impl Abort, rooms: &[(u64, u64)], table: &[(Call, Answers)]) {
+    for (free_room, load) in rooms {
+        assert_answers(rt, *free_room, *load, table);
+    }
+}
+
 #[test]
 fn table_of_calls(rt: HostRuntime) {
-    for (free_room, load) in [(5, 4), (4, 4), (0, 0), (u64::MAX, u64::MAX)] {
-        assert_answers(&rt, free_room, load, &with_room());
-    }
-    for (free_room, load) in [(3, 4), (0, 1), (0, u64::MAX)] {
-        assert_answers(&rt, free_room, load, &without_room());
-    }
+    let enough = [(5, 4), (4, 4), (0, 0), (u64::MAX, u64::MAX)];
+    let too_little = [(3, 4), (0, 1), (0, u64::MAX)];
+    assert_all_answers(&rt, &enough, &with_room());
+    assert_all_answers(&rt, &too_little, &without_room());
+}
+
+#[test]
+fn a_server_that_is_down_answers_nothing_else(rt: HostRuntime) {
     for (call, _) in &with_room() {
         for cell in &cells() {
-            assert_eq!(rt; serve(*cell, 4, 4, false, *call), DOWN);
-            assert_eq!(rt; serve(*cell, 3, 4, false, *call), DOWN);
+            assert!(rt; serve(*cell, 4, 4, false, *call) == DOWN, "{call:?}");
+            assert!(rt; serve(*cell, 3, 4, false, *call) == DOWN, "{call:?}");
         }
     }
 }
@@ -201,80 +211,132 @@ fn answer(cell: Cell, call: Call) -> Answer {
     serve(cell, 4, 4, true, call)
 }
 
+/// The calls of a handover of number 9 from server 1 to server 2, and of one that is cancelled: a cell, the call, the cell afterwards.
+const fn handover_calls() -> [(Cell, Call, Cell); 5] {
+    [
+        (Cell::Absent, prepare_add(1, 9), prepared(1, 9)),
+        (prepared(1, 9), Call::Drop, Cell::Absent),
+        (Cell::Primary, prepare_drop(2, 9), forwarding(2, 9)),
+        (prepared(1, 9), ADD_PRIMARY, Cell::Primary),
+        (forwarding(2, 9), Call::Drop, Cell::Absent),
+    ]
+}
+
+#[test]
+fn calls_of_a_handover(rt: HostRuntime) {
+    for (cell, call, after) in &handover_calls() {
+        assert!(rt; answer(*cell, *call) == Ok(*after), "{call:?} at {cell:?}");
+    }
+}
+
+/// Asserts that shard 0 is steady at a server.
+fn assert_steady(rt: &impl Abort, steady: &Steady, server: u32) {
+    assert!(rt; steady.shard() == ShardId::new(0));
+    assert!(rt; steady.server() == ServerId::new(server));
+    assert!(rt; steady.cells() == Cell::Primary);
+}
+
+/// Asserts that a handover is the one of `handover_calls`.
+fn assert_parties(rt: &impl Abort, shard: ShardId, number: u64, owner: ServerId, new: ServerId) {
+    assert!(rt; shard == ShardId::new(0) && number == 9);
+    assert!(rt; owner == ServerId::new(1) && new == ServerId::new(2));
+}
+
+/// Asserts that the handover is ready.
+fn assert_ready(rt: &impl Abort, ready: &Ready) {
+    assert_parties(
+        rt,
+        ready.shard(),
+        ready.number(),
+        ready.owner(),
+        ready.new_server(),
+    );
+    let cells = ready.cells();
+    assert!(rt; cells.owner == Cell::Primary && cells.new_server == prepared(1, 9));
+}
+
+/// Asserts that the old owner of the handover forwards.
+fn assert_handing(rt: &impl Abort, handing: &Handing) {
+    assert_parties(
+        rt,
+        handing.shard(),
+        handing.number(),
+        handing.owner(),
+        handing.new_server(),
+    );
+    let cells = handing.cells();
+    assert!(rt; cells.owner == forwarding(2, 9) && cells.new_server == prepared(1, 9));
+}
+
+/// Asserts that the new owner of the handover is a primary, and the old one forwards.
+fn assert_handed(rt: &impl Abort, handed: &Handed) {
+    assert_parties(
+        rt,
+        handed.shard(),
+        handed.number(),
+        handed.owner(),
+        handed.new_server(),
+    );
+    let cells = handed.cells();
+    assert!(rt; cells.owner == forwarding(2, 9) && cells.new_server == Cell::Primary);
+}
+
 #[test]
 fn cancelled_handover(rt: HostRuntime) {
-    let (shard, old, new) = (ShardId::new(0), ServerId::new(1), ServerId::new(2));
-    let steady = Steady::new(shard, old);
-    assert_eq!(rt; (steady.shard(), steady.server()), (shard, old));
-    assert_eq!(rt; steady.cells(), Cell::Primary);
-
-    let ready = steady.prepare(new, 9);
-    assert_eq!(rt; (ready.shard(), ready.number()), (shard, 9));
-    assert_eq!(rt; (ready.owner(), ready.new_server()), (old, new));
-    let cells = ready.cells();
-    assert_eq!(rt;
-        (cells.owner, cells.new_server),
-        (Cell::Primary, prepared(1, 9))
-    );
-    assert_eq!(rt;
-        answer(Cell::Absent, prepare_add(1, 9)),
-        Ok(cells.new_server)
-    );
-
+    let steady = Steady::new(ShardId::new(0), ServerId::new(1));
+    assert_steady(&rt, &steady, 1);
+    let ready = steady.prepare(ServerId::new(2), 9);
+    assert_ready(&rt, &ready);
     let steady = ready.cancel();
-    assert_eq!(rt; (steady.shard(), steady.server()), (shard, old));
-    assert_eq!(rt; steady.cells(), cells.owner);
-    assert_eq!(rt; answer(cells.new_server, Call::Drop), ABSENT);
+    assert_steady(&rt, &steady, 1);
+    drop(steady);
 }
 
 #[test]
 fn whole_handover(rt: HostRuntime) {
-    let (shard, old, new) = (ShardId::new(0), ServerId::new(1), ServerId::new(2));
-    let ready = Steady::new(shard, old).prepare(new, 9);
-    let prepared_cells = ready.cells();
-
+    let ready = Steady::new(ShardId::new(0), ServerId::new(1)).prepare(ServerId::new(2), 9);
+    assert_ready(&rt, &ready);
     let handing = ready.hand();
-    assert_eq!(rt; (handing.shard(), handing.number()), (shard, 9));
-    assert_eq!(rt; (handing.owner(), handing.new_server()), (old, new));
-    let forwarding_cells = HandoverCells {
-        owner: forwarding(2, 9),
-        new_server: prepared(1, 9),
-    };
-    assert_eq!(rt; handing.cells(), forwarding_cells);
-    assert_eq!(rt;
-        answer(prepared_cells.owner, prepare_drop(2, 9)),
-        Ok(forwarding(2, 9))
-    );
-
+    assert_handing(&rt, &handing);
     let handed = handing.take();
-    assert_eq!(rt; (handed.shard(), handed.number()), (shard, 9));
-    assert_eq!(rt; (handed.owner(), handed.new_server()), (old, new));
-    let added_cells = HandoverCells {
-        owner: forwarding(2, 9),
-        new_server: Cell::Primary,
-    };
-    assert_eq!(rt; handed.cells(), added_cells);
-    assert_eq!(rt; answer(forwarding_cells.new_server, ADD_PRIMARY), PRIMARY);
-
+    assert_handed(&rt, &handed);
     let steady = handed.settle();
-    assert_eq!(rt; (steady.shard(), steady.server()), (shard, new));
-    assert_eq!(rt; steady.cells(), Cell::Primary);
-    assert_eq!(rt; answer(added_cells.owner, Call::Drop), ABSENT);
+    assert_steady(&rt, &steady, 2);
+    drop(steady);
 }
 
 #[test]
-fn readers_and_texts(rt: HostRuntime) -> Result<(), Fail> {
-    for number in [0, 1, 1023, u32::MAX] {
-        assert_eq!(rt; ServerId::new(number).number(), number);
-        assert_eq!(rt; ShardId::new(number).number(), number);
+fn ids_are_in_the_order_of_their_numbers(rt: HostRuntime) {
+    for number in &[0, 1, 1023, u32::MAX] {
+        assert!(rt; ServerId::new(*number).number() == *number);
+        assert!(rt; ShardId::new(*number).number() == *number);
     }
     assert!(rt; ServerId::new(2) == ServerId::new(2) && ServerId::new(2) < ServerId::new(10));
     assert!(rt; ShardId::new(2) == ShardId::new(2) && ShardId::new(2) < ShardId::new(10));
+}
 
+#[test]
+fn the_first_of_the_cells_is_absent(rt: HostRuntime) {
     for (at, cell) in cells().iter().enumerate() {
-        assert_eq!(rt; cell.is_absent(), at == 0, "{cell:?}");
+        assert!(rt; cell.is_absent() == (at == 0), "{cell:?}");
     }
+}
 
+/// Asserts how a refusal is printed.
+fn assert_text(
+    rt: &impl Abort,
+    alloc: Global,
+    refusal: &Refusal,
+    text: &str,
+) -> Result<(), AllocError> {
+    let printed = format!(in alloc; "{refusal}")?;
+    assert_eq!(rt; printed.as_str(), text);
+    drop(printed);
+    Ok(())
+}
+
+#[test]
+fn refusals_in_words(rt: HostRuntime) -> Result<(), Fail> {
     let texts = [
         (Refusal::Down, "the server is down"),
         (Refusal::AlreadyHeld, "the server holds the shard already"),
@@ -285,13 +347,16 @@ fn readers_and_texts(rt: HostRuntime) -> Result<(), Fail> {
         ),
         (Refusal::NoRoom, "the server has no room for the shard"),
     ];
-    for (refusal, text) in texts {
-        let printed = format!(in rt.alloc(); "{refusal}")?;
-        assert_eq!(rt; printed.as_str(), text);
+    for (refusal, text) in &texts {
+        assert_text(&rt, rt.alloc(), refusal, text)?;
     }
+    Ok(())
+}
 
+/// The laws are functions with nothing in them, which change nothing.
+#[test]
+fn laws_are_called(_rt: HostRuntime) {
     leads_where_led();
     served_where_allowed();
     served_once();
-    Ok(())
 }

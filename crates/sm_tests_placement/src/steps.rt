@@ -43,63 +43,66 @@ pub(crate) enum Step {
     IsSettled(bool),
 }
 
-/// Does what changes a placement, and says whether the step is of that kind.
-fn change(rt: &impl Abort, placement: &mut Placement, step: &Step) -> bool {
+/// Does what changes a placement, and says whether it was answered so. Where the step only asks, nothing is done.
+fn change(rt: &impl Abort, placement: &mut Placement, step: &Step) -> Option<bool> {
     match step {
         Step::Made(server, shard, made, answer) => {
-            let told = call(rt, placement, *server, *shard, *made);
-            assert_eq!(rt; told, *answer);
+            Some(call(rt, placement, *server, *shard, *made) == *answer)
         }
         Step::Numbered(server, shard, made, number, answer) => {
-            let told = call_numbered(rt, placement, *server, *shard, *made, *number);
-            assert_eq!(rt; told, *answer);
+            Some(call_numbered(rt, placement, *server, *shard, *made, *number) == *answer)
         }
-        Step::Published(shard, server) => publish(rt, placement, *shard, *server),
-        Step::SetDown(server) => set_down(rt, placement, *server, true),
-        Step::SetUp(server) => set_down(rt, placement, *server, false),
-        Step::Forgotten => placement.forget_numbers(),
-        _ => return false,
+        Step::Published(shard, server) => {
+            publish(rt, placement, *shard, *server);
+            Some(true)
+        }
+        Step::SetDown(server) => {
+            set_down(rt, placement, *server, true);
+            Some(true)
+        }
+        Step::SetUp(server) => {
+            set_down(rt, placement, *server, false);
+            Some(true)
+        }
+        Step::Forgotten => {
+            placement.forget_numbers();
+            Some(true)
+        }
+        _ => None,
     }
-    true
 }
 
-/// Asks a placement.
-fn ask(rt: &impl Abort, placement: &Placement, step: &Step) {
+/// Whether a placement is as a step that only asks says.
+fn is_so(rt: &impl Abort, placement: &Placement, step: &Step) -> bool {
     match step {
-        Step::HasCell(server, shard, has) => {
-            assert_eq!(rt; cell(rt, placement, *shard, *server), *has);
-        }
-        Step::HasLoad(server, sum) => assert_eq!(rt; load(rt, placement, *server), *sum),
-        Step::HasLive(shard, count) => assert_eq!(rt; live(rt, placement, *shard), *count),
-        Step::IsLive(server, shard, is) => {
-            assert_eq!(rt; is_live(rt, placement, *shard, *server), *is);
-        }
-        Step::HasServing(shard, who) => assert_eq!(rt; serving(rt, placement, *shard), *who),
-        Step::HasLead(shard, found) => assert_eq!(rt; lead(rt, placement, *shard), *found),
-        Step::HasLast(server, shard, number) => {
-            assert_eq!(rt; last(rt, placement, *shard, *server), *number);
-        }
+        Step::HasCell(server, shard, has) => cell(rt, placement, *shard, *server) == *has,
+        Step::HasLoad(server, sum) => load(rt, placement, *server) == *sum,
+        Step::HasLive(shard, count) => live(rt, placement, *shard) == *count,
+        Step::IsLive(server, shard, is) => is_live(rt, placement, *shard, *server) == *is,
+        Step::HasServing(shard, who) => serving(rt, placement, *shard) == *who,
+        Step::HasLead(shard, found) => lead(rt, placement, *shard) == *found,
+        Step::HasLast(server, shard, number) => last(rt, placement, *shard, *server) == *number,
         Step::HasListed(shard, server, version) => {
-            let (told, at) = listed(rt, placement, *shard);
-            assert_eq!(rt; told, *server);
-            assert_eq!(rt; at, *version);
+            is_listed(rt, placement, *shard, *server, *version)
         }
-        Step::HasDown(count) => assert_eq!(rt; placement.down_count(), *count),
-        Step::IsSettled(is_settled) => assert_eq!(rt; placement.settled(), *is_settled),
-        _ => {}
+        Step::HasDown(count) => placement.down_count() == *count,
+        Step::IsSettled(is_settled) => placement.settled() == *is_settled,
+        _ => false,
     }
 }
 
 /// Follows the steps to their end.
 pub(crate) fn follow(rt: &impl Abort, placement: &mut Placement, steps: &[Step]) {
-    for step in steps {
-        if !change(rt, placement, step) {
-            ask(rt, placement, step);
-        }
+    for at in 0..steps.len() {
+        let is_as_told = match change(rt, placement, &steps[at]) {
+            Some(is_answered) => is_answered,
+            None => is_so(rt, placement, &steps[at]),
+        };
+        assert!(rt; is_as_told, "step {at}");
     }
 }
 
-/// Follows the steps from a placement, where it was opened.
+/// Follows the steps from a placement, where it was opened, and drops it.
 pub(crate) fn follow_opened(
     rt: &impl Abort,
     opened: Result<Placement, OpenFault>,
@@ -107,12 +110,12 @@ pub(crate) fn follow_opened(
 ) -> Result<(), OpenFault> {
     let mut placement = opened?;
     follow(rt, &mut placement, steps);
+    drop(placement);
     Ok(())
 }
 
 /// Opens the small placement, and follows the steps from there.
 pub(crate) fn follow_small(rt: &impl Abort, alloc: Global, steps: &[Step]) -> Result<(), Fail> {
-    let config = small_config(alloc)?;
-    follow_opened(rt, small_placement(alloc, &config), steps)?;
+    follow_opened(rt, small(alloc), steps)?;
     Ok(())
 }

@@ -176,14 +176,13 @@ fn make_rounds(
 }
 
 fn large_config(alloc: Global) -> Result<Config, ConfigFault> {
-    let servers = many_servers(alloc, SERVERS, 40)?;
     let mut shards = many_shards(alloc, SHARDS, 1, 3, 3)?;
     let mut number = 0u64;
     for shard in shards.iter_mut() {
         shard.load = number % 7 + 1;
         number = number.wrapping_add(1);
     }
-    Config::new(alloc, &servers, &shards)
+    config_by(alloc, SERVERS, 40, shards)
 }
 
 /// The placement of the large configuration that has no replica.
@@ -192,11 +191,23 @@ fn open_empty(alloc: Global, config: &Config) -> Result<Placement, OpenFault> {
     Placement::open(alloc, config, &[], &listed, &[], 16)
 }
 
+/// Makes the calls of every round at a placement, where it was opened, and drops it.
+fn assert_totals(
+    rt: &impl Abort,
+    alloc: Global,
+    opened: Result<Placement, OpenFault>,
+) -> Result<(), OpenFault> {
+    let mut placement = opened?;
+    let outcome = make_rounds(rt, alloc, &mut placement);
+    drop(placement);
+    Ok(outcome?)
+}
+
 #[test]
 fn totals_are_sums(rt: HostRuntime) -> Result<(), Fail> {
-    let alloc = rt.alloc();
-    let config = large_config(alloc)?;
-    let mut placement = open_empty(alloc, &config)?;
-    make_rounds(&rt, alloc, &mut placement)?;
+    let config = large_config(rt.alloc())?;
+    let opened = open_empty(rt.alloc(), &config);
+    drop(config);
+    assert_totals(&rt, rt.alloc(), opened)?;
     Ok(())
 }
