@@ -193,7 +193,9 @@ fn opened(
     let Ok(placement) = Placement::open(alloc, config, cells, listed, &[], 1) else {
         return Err(AllocError);
     };
-    pool_of(rt, alloc, &placement)
+    let pool = pool_of(rt, alloc, &placement);
+    drop(placement);
+    pool
 }
 
 /// The pool of the worked placement of a configuration.
@@ -210,7 +212,11 @@ fn worked_pool_of(rt: &impl Abort, alloc: Global, config: &Config) -> Result<Poo
 /// The pool of the worked placement, where there is memory.
 pub(crate) fn worked_pool(rt: &impl Abort, alloc: Global) -> Result<Pool, AllocError> {
     match worked_config(alloc) {
-        Ok(config) => worked_pool_of(rt, alloc, &config),
+        Ok(config) => {
+            let pool = worked_pool_of(rt, alloc, &config);
+            drop(config);
+            pool
+        }
         Err(_) => Err(AllocError),
     }
 }
@@ -224,14 +230,13 @@ fn narrow_config(alloc: Global) -> Result<Config, ConfigFault> {
 /// The pool of one server with room for 10, which is the primary of one shard of load 4.
 pub(crate) fn narrow_pool(rt: &impl Abort, alloc: Global) -> Result<Pool, AllocError> {
     let (shard, server) = (ShardId::new(0), ServerId::new(0));
+    let cells = [(shard, server, Cell::Primary)];
     match narrow_config(alloc) {
-        Ok(config) => opened(
-            rt,
-            alloc,
-            &config,
-            &[(shard, server, Cell::Primary)],
-            &[Some(server)],
-        ),
+        Ok(config) => {
+            let pool = opened(rt, alloc, &config, &cells, &[Some(server)]);
+            drop(config);
+            pool
+        }
         Err(_) => Err(AllocError),
     }
 }
@@ -245,6 +250,18 @@ pub(crate) fn taken(alloc: Global, pool: &mut Pool, rights: &Parcel) -> Result<G
         Ok(grant) => Ok(grant),
         Err(_) => Err(AllocError),
     }
+}
+
+/// Takes a portion's rights out of a pool.
+pub(crate) fn taken_of(
+    alloc: Global,
+    pool: &mut Pool,
+    portion: &Portion,
+) -> Result<Grant, AllocError> {
+    let rights = parcel_of(alloc, portion)?;
+    let grant = taken(alloc, pool, &rights);
+    drop(rights);
+    grant
 }
 
 /// Gives a grant back, where its condition is met.
@@ -279,6 +296,12 @@ pub(crate) fn assert_worked(rt: &impl Abort, pool: &Pool) {
     assert!(rt; pool.crown(ShardId::new(1)) == Some((at(1), Some(ServerId::new(1)))));
     assert!(rt; pool.crown(ShardId::new(2)).is_none());
     assert_amounts(rt, pool, [6, 4, 0, 0], [1, 0, 0]);
+}
+
+/// Ends a pool that has to be as the worked one again.
+pub(crate) fn end_worked(rt: &impl Abort, pool: Pool) {
+    assert_worked(rt, &pool);
+    drop(pool);
 }
 
 /// Asserts how much room and how many spare replicas a pool has, by the first servers and shards.

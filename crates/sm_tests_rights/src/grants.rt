@@ -31,6 +31,7 @@ fn assert_split(
 ) -> Result<(), AllocError> {
     let parcel = parcel_of(alloc, portion)?;
     assert!(rt; split(rt, from, into, &parcel) == want);
+    drop(parcel);
     Ok(())
 }
 
@@ -46,6 +47,7 @@ fn assert_takes(
     let parcel = parcel_of(alloc, portion)?;
     assert!(rt; grant.hold().can_join(&parcel) == can_join);
     assert!(rt; grant.hold().has_capacity(&parcel) == has_capacity);
+    drop(parcel);
     Ok(())
 }
 
@@ -101,7 +103,21 @@ fn assert_filled(rt: &impl Abort, hold: &Hold, cells: &[CellRight]) {
     assert!(rt; hold.spares().is_empty());
 }
 
-/// Fills a grant with room for one key, and then for two, and gives it back.
+/// Fills a grant with room for one key, and then for two, from all of these rights, and gives it back.
+fn fill_from(
+    rt: &impl Abort,
+    alloc: Global,
+    pool: &mut Pool,
+    all: &Parcel,
+) -> Result<(), AllocError> {
+    let mut into = Grant::empty(alloc, 1)?;
+    let outcome = split_off(rt, alloc, pool, all, &mut into);
+    assert_filled(rt, into.hold(), all.cells());
+    give_back(rt, pool, into);
+    outcome
+}
+
+/// Fills a grant from two cells, a crown and room.
 fn fill_by_splits(rt: &impl Abort, alloc: Global, pool: &mut Pool) -> Result<(), AllocError> {
     let cells = [
         cell(0, 1, PlainCell::Absent),
@@ -109,10 +125,8 @@ fn fill_by_splits(rt: &impl Abort, alloc: Global, pool: &mut Pool) -> Result<(),
     ];
     let crowns = [steady_crown(0, 0)];
     let all = parcel(alloc, &cells, &crowns, &[room(1, 4)], &[])?;
-    let mut into = Grant::empty(alloc, 1)?;
-    let outcome = split_off(rt, alloc, pool, &all, &mut into);
-    assert_filled(rt, into.hold(), &cells);
-    give_back(rt, pool, into);
+    let outcome = fill_from(rt, alloc, pool, &all);
+    drop(all);
     outcome
 }
 
@@ -120,8 +134,9 @@ fn fill_by_splits(rt: &impl Abort, alloc: Global, pool: &mut Pool) -> Result<(),
 #[test]
 fn a_grant_is_filled_to_its_room(rt: HostRuntime) -> Result<(), Fail> {
     let mut pool = worked_pool(&rt, rt.alloc())?;
-    fill_by_splits(&rt, rt.alloc(), &mut pool)?;
-    assert_worked(&rt, &pool);
+    let outcome = fill_by_splits(&rt, rt.alloc(), &mut pool);
+    end_worked(&rt, pool);
+    outcome?;
     Ok(())
 }
 
@@ -148,6 +163,21 @@ fn take_beside(
 }
 
 /// Joins a grant of these rights to one that holds nothing, which is then given back.
+fn join_to_nothing(
+    rt: &impl Abort,
+    alloc: Global,
+    pool: &mut Pool,
+    rights: &Parcel,
+    portion: &Portion,
+) -> Result<(), AllocError> {
+    let mut into = Grant::empty(alloc, 1)?;
+    let outcome = take_beside(rt, alloc, pool, &mut into, rights);
+    assert_holds(rt, into.hold(), portion);
+    give_back(rt, pool, into);
+    outcome
+}
+
+/// Joins a grant of a portion's rights to one that holds nothing.
 fn join_once(
     rt: &impl Abort,
     alloc: Global,
@@ -155,10 +185,8 @@ fn join_once(
     portion: &Portion,
 ) -> Result<(), AllocError> {
     let rights = parcel_of(alloc, portion)?;
-    let mut into = Grant::empty(alloc, 1)?;
-    let outcome = take_beside(rt, alloc, pool, &mut into, &rights);
-    assert_holds(rt, into.hold(), portion);
-    give_back(rt, pool, into);
+    let outcome = join_to_nothing(rt, alloc, pool, &rights, portion);
+    drop(rights);
     outcome
 }
 
@@ -172,8 +200,9 @@ fn grants_are_joined(rt: HostRuntime) -> Result<(), Fail> {
         spare: Some(spare(0, 1)),
     };
     let mut pool = worked_pool(&rt, rt.alloc())?;
-    join_once(&rt, rt.alloc(), &mut pool, &rights)?;
-    assert_worked(&rt, &pool);
+    let outcome = join_once(&rt, rt.alloc(), &mut pool, &rights);
+    end_worked(&rt, pool);
+    outcome?;
     Ok(())
 }
 
@@ -197,9 +226,7 @@ fn keep_each(
     all: &[Portion],
 ) -> Result<(), AllocError> {
     for portion in all {
-        let asked = parcel_of(alloc, portion)?;
-        let grant = taken(alloc, pool, &asked)?;
-        keep(rt, pool, grant, portion);
+        keep(rt, pool, taken_of(alloc, pool, portion)?, portion);
     }
     Ok(())
 }
@@ -214,8 +241,9 @@ fn a_grant_that_holds_something_comes_back(rt: HostRuntime) -> Result<(), Fail> 
         only_spare(0, 1),
     ];
     let mut pool = worked_pool(&rt, rt.alloc())?;
-    keep_each(&rt, rt.alloc(), &mut pool, &all)?;
-    assert_worked(&rt, &pool);
+    let outcome = keep_each(&rt, rt.alloc(), &mut pool, &all);
+    end_worked(&rt, pool);
+    outcome?;
     Ok(())
 }
 
@@ -248,11 +276,23 @@ fn end_emptied(
 }
 
 /// Ends a grant all of whose rights have gone to another one, which is given back.
+fn end_beside(
+    rt: &impl Abort,
+    alloc: Global,
+    pool: &mut Pool,
+    asked: &Parcel,
+) -> Result<(), AllocError> {
+    let mut into = Grant::empty(alloc, 1)?;
+    let outcome = end_emptied(rt, alloc, pool, &mut into, asked);
+    give_back(rt, pool, into);
+    outcome
+}
+
+/// Ends a grant that had a handover's rights.
 fn end_once(rt: &impl Abort, alloc: Global, pool: &mut Pool) -> Result<(), AllocError> {
     let asked = parcel_of(alloc, &handover())?;
-    let mut into = Grant::empty(alloc, 1)?;
-    let outcome = end_emptied(rt, alloc, pool, &mut into, &asked);
-    give_back(rt, pool, into);
+    let outcome = end_beside(rt, alloc, pool, &asked);
+    drop(asked);
     outcome
 }
 
@@ -260,17 +300,22 @@ fn end_once(rt: &impl Abort, alloc: Global, pool: &mut Pool) -> Result<(), Alloc
 fn end_empty(rt: &impl Abort, alloc: Global, pool: &mut Pool) -> Result<(), AllocError> {
     Grant::empty(alloc, 1)?.discard();
     try_to_end(rt, Grant::empty(alloc, 2)?);
-    let nothing = parcel_of(alloc, &NOTHING)?;
-    try_to_end(rt, taken(alloc, pool, &nothing)?);
+    try_to_end(rt, taken_of(alloc, pool, &NOTHING)?);
     Ok(())
+}
+
+/// Ends grants that never held anything, and one all of whose rights went elsewhere.
+fn end_each(rt: &impl Abort, alloc: Global, pool: &mut Pool) -> Result<(), AllocError> {
+    end_empty(rt, alloc, pool)?;
+    end_once(rt, alloc, pool)
 }
 
 /// A grant that holds nothing is ended, whether it never held anything or all went elsewhere.
 #[test]
 fn a_grant_that_holds_nothing_is_discarded(rt: HostRuntime) -> Result<(), Fail> {
     let mut pool = worked_pool(&rt, rt.alloc())?;
-    end_empty(&rt, rt.alloc(), &mut pool)?;
-    end_once(&rt, rt.alloc(), &mut pool)?;
-    assert_worked(&rt, &pool);
+    let outcome = end_each(&rt, rt.alloc(), &mut pool);
+    end_worked(&rt, pool);
+    outcome?;
     Ok(())
 }

@@ -8,16 +8,38 @@ use std::alloc::{AllocError, Global};
 use std::process::Abort;
 use std::test::Fail;
 
-/// A hold that has the rights of a handover names the first key that is short.
-fn assert_short(
+/// A hold of a portion's rights.
+fn hold_of(alloc: Global, portion: &Portion) -> Result<Hold, AllocError> {
+    let parcel = parcel_of(alloc, portion)?;
+    let hold = Hold::of_parcel(alloc, &parcel);
+    drop(parcel);
+    hold
+}
+
+/// A hold names the first key that is short.
+fn assert_first_short(
     rt: &impl Abort,
     alloc: Global,
+    hold: &Hold,
+    portion: &Portion,
+    want: Short,
+) -> Result<(), AllocError> {
+    let parcel = parcel_of(alloc, portion)?;
+    let short = hold.first_short(&parcel);
+    drop(parcel);
+    assert!(rt; short == Some(want), "{want:?}");
+    Ok(())
+}
+
+/// A hold names the first key that is short in each of the cases.
+fn assert_each_short(
+    rt: &impl Abort,
+    alloc: Global,
+    hold: &Hold,
     cases: &[(Portion, Short)],
 ) -> Result<(), AllocError> {
-    let hold = Hold::of_parcel(alloc, &parcel_of(alloc, &handover())?)?;
     for (portion, short) in cases {
-        let parcel = parcel_of(alloc, portion)?;
-        assert!(rt; hold.first_short(&parcel) == Some(*short), "{portion:?}");
+        assert_first_short(rt, alloc, hold, portion, *short)?;
     }
     Ok(())
 }
@@ -53,7 +75,10 @@ fn a_hold_names_the_first_key_that_is_short(rt: HostRuntime) -> Result<(), Fail>
         (amounts(5, 1), short(Key::Room { server }, 4, 5)),
         (amounts(4, 2), short(Key::Spare { shard }, 0, 2)),
     ];
-    assert_short(&rt, rt.alloc(), &cases)?;
+    let hold = hold_of(rt.alloc(), &handover())?;
+    let outcome = assert_each_short(&rt, rt.alloc(), &hold, &cases);
+    drop(hold);
+    outcome?;
     Ok(())
 }
 
@@ -147,6 +172,8 @@ fn a_hold_is_edited_by_key(rt: HostRuntime) -> Result<(), Fail> {
     edit_crowns(&rt, &mut hold);
     edit_spares(&rt, &mut hold);
     assert!(rt; !hold.is_empty());
-    assert_edited(&rt, &hold.into_parcel());
+    let parcel = hold.into_parcel();
+    assert_edited(&rt, &parcel);
+    drop(parcel);
     Ok(())
 }

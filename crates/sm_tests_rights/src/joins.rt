@@ -1,15 +1,15 @@
 //! Whether a pool can take a grant back that came from another one.
 use super::fixture::*;
 use super::pools::more;
-use super::trades::trade;
-use sm_reservation::{Hold, PlainCell, Pool, Portion};
+use super::trades::trade_once;
+use sm_reservation::{PlainCell, Pool, Portion};
 use sm_server::{ServerId, ShardId};
 use std::alloc::{AllocError, Global};
 use std::process::Abort;
 use std::test::Fail;
 
 /// Asserts which rights of a pool could be given back to another one. The pool that they are of can take them back.
-fn assert_joins(
+fn assert_joins_of(
     rt: &impl Abort,
     alloc: Global,
     pool: &mut Pool,
@@ -17,12 +17,25 @@ fn assert_joins(
     cases: &[(Portion, bool)],
 ) -> Result<(), AllocError> {
     for (portion, want) in cases {
-        let rights = parcel_of(alloc, portion)?;
-        let grant = taken(alloc, pool, &rights)?;
+        let grant = taken_of(alloc, pool, portion)?;
         assert!(rt; other.can_join(&grant) == *want, "{portion:?}");
         give_back(rt, pool, grant);
     }
     Ok(())
+}
+
+/// Asserts which rights of the worked pool, with a spare replica of shard 1 more, could be given back to another one.
+fn assert_joins(
+    rt: &impl Abort,
+    alloc: Global,
+    other: &Pool,
+    cases: &[(Portion, bool)],
+) -> Result<(), AllocError> {
+    let mut pool = worked_pool(rt, alloc)?;
+    more(rt, &mut pool, 1);
+    let outcome = assert_joins_of(rt, alloc, &mut pool, other, cases);
+    drop(pool);
+    outcome
 }
 
 /// The other pool is of server 0 and shard 0, whose crown it has.
@@ -39,10 +52,10 @@ fn rights_of_unknown_shards_and_servers_are_not_taken_back(rt: HostRuntime) -> R
         (only_spare(0, 1), true),
         (NOTHING, true),
     ];
-    let mut pool = worked_pool(&rt, rt.alloc())?;
     let narrow = narrow_pool(&rt, rt.alloc())?;
-    more(&rt, &mut pool, 1);
-    assert_joins(&rt, rt.alloc(), &mut pool, &narrow, &cases)?;
+    let outcome = assert_joins(&rt, rt.alloc(), &narrow, &cases);
+    drop(narrow);
+    outcome?;
     Ok(())
 }
 
@@ -58,9 +71,10 @@ fn cells_and_crowns_that_are_there_are_not_taken_back(rt: HostRuntime) -> Result
         (only_room(1, 4), true),
         (only_spare(0, 1), true),
     ];
-    let mut pool = worked_pool(&rt, rt.alloc())?;
     let other = worked_pool(&rt, rt.alloc())?;
-    assert_joins(&rt, rt.alloc(), &mut pool, &other, &cases)?;
+    let outcome = assert_joins(&rt, rt.alloc(), &other, &cases);
+    drop(other);
+    outcome?;
     Ok(())
 }
 
@@ -73,17 +87,19 @@ fn amounts(amount: u64, replicas: u64) -> Portion {
     }
 }
 
-/// Trades all room of server 0 and all spare replicas of shard 0 for as many as a u64 can say, which go into the pool.
-fn fill_up(rt: &impl Abort, alloc: Global, pool: &mut Pool) -> Result<(), AllocError> {
-    let out = parcel_of(alloc, &amounts(6, 1))?;
-    let got = parcel_of(alloc, &amounts(u64::MAX, u64::MAX))?;
-    let mut rest = Hold::of_parcel(alloc, &out)?;
-    let mut grant = taken(alloc, pool, &out)?;
-    trade(rt, &mut grant, &mut rest, &out, &got);
-    give_back(rt, pool, grant);
+/// Trades all room of server 0 and all spare replicas of shard 0 for as many as a u64 can say, which go into the pool;
+/// then asserts which rights of the worked pool could be given back to it.
+fn assert_joins_filled(
+    rt: &impl Abort,
+    alloc: Global,
+    pool: &mut Pool,
+    cases: &[(Portion, bool)],
+) -> Result<(), AllocError> {
+    let most = amounts(u64::MAX, u64::MAX);
+    trade_once(rt, alloc, pool, &amounts(6, 1), &most)?;
     assert!(rt; pool.room(ServerId::new(0)) == u64::MAX);
     assert!(rt; pool.spare(ShardId::new(0)) == u64::MAX);
-    Ok(())
+    assert_joins(rt, alloc, pool, cases)
 }
 
 #[test]
@@ -93,9 +109,9 @@ fn sums_above_a_u64_are_not_taken_back(rt: HostRuntime) -> Result<(), Fail> {
         (only_spare(0, 1), false),
         (only_room(1, 4), true),
     ];
-    let mut pool = worked_pool(&rt, rt.alloc())?;
     let mut other = worked_pool(&rt, rt.alloc())?;
-    fill_up(&rt, rt.alloc(), &mut other)?;
-    assert_joins(&rt, rt.alloc(), &mut pool, &other, &cases)?;
+    let outcome = assert_joins_filled(&rt, rt.alloc(), &mut other, &cases);
+    drop(other);
+    outcome?;
     Ok(())
 }

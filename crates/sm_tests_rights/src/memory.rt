@@ -27,12 +27,15 @@ fn assert_came_back(rt: &impl Abort, lists: &Lists) {
 
 /// Asserts that lists are made a parcel of two cells, or that memory was refused and they come back as they were.
 fn assert_made(rt: &impl Abort, alloc: Global, given: Lists) {
-    let outcome = Parcel::new(alloc, given);
-    match &outcome {
-        Ok(parcel) => assert_eq!(rt; parcel.cells().len(), 2),
-        Err(refused) => {
-            assert!(rt; refused.1 == ParcelFault::NoMemory);
-            assert_came_back(rt, &refused.0);
+    match Parcel::new(alloc, given) {
+        Ok(parcel) => {
+            assert_eq!(rt; parcel.cells().len(), 2);
+            drop(parcel);
+        }
+        Err((lists, fault)) => {
+            assert!(rt; fault == ParcelFault::NoMemory);
+            assert_came_back(rt, &lists);
+            drop(lists);
         }
     }
 }
@@ -73,7 +76,9 @@ fn a_grant_gets_room_or_not(rt: HostRuntime) {
     if let Ok(asked) = parcel_of(alloc, &handover()) {
         if let Ok(mut pool) = worked_pool(&rt, alloc) {
             assert_reserved(&rt, alloc, &mut pool, &asked);
+            drop(pool);
         }
+        drop(asked);
     }
 }
 
@@ -101,7 +106,9 @@ fn a_pool_is_opened_and_taken_from_or_not(rt: HostRuntime) {
     if let Ok(asked) = parcel_of(alloc, &handover()) {
         if let Ok(mut pool) = worked_pool(&rt, alloc) {
             assert_taken(&rt, alloc, &mut pool, &asked);
+            drop(pool);
         }
+        drop(asked);
     }
 }
 
@@ -114,6 +121,8 @@ fn a_key_that_is_short_is_told_or_not(rt: HostRuntime) {
         if let Ok(mut pool) = worked_pool(&rt, alloc) {
             let short = short(Key::Room { server }, 0, 1);
             assert_refused(&rt, alloc, &mut pool, &asked, short);
+            drop(pool);
         }
+        drop(asked);
     }
 }

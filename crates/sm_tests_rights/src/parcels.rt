@@ -32,6 +32,7 @@ fn a_parcel_is_in_order_without_zeros(rt: HostRuntime) -> Result<(), Fail> {
     let spares = [spare(5, 1), spare(4, 0), spare(0, 2)];
     let given = parcel(rt.alloc(), &cells, &crowns, &rooms, &spares)?;
     assert_in_order(&rt, &given);
+    drop(given);
     Ok(())
 }
 
@@ -59,6 +60,7 @@ fn a_parcel_is_looked_up_by_its_keys(rt: HostRuntime) -> Result<(), Fail> {
     let rooms = [room(1, 4), room(0, 7)];
     let given = parcel(rt.alloc(), &cells, &crowns, &rooms, &[spare(5, 1)])?;
     assert_looked_up(&rt, &given);
+    drop(given);
     Ok(())
 }
 
@@ -94,26 +96,33 @@ fn doubled_lists(alloc: Global, from: u32) -> Result<Lists, AllocError> {
     Ok(lists)
 }
 
-/// Asserts that the lists came back.
-fn assert_came_back(rt: &impl Abort, lists: &Lists, want: &Lists) {
+/// Asserts that the doubled lists came back.
+fn assert_came_back(
+    rt: &impl Abort,
+    alloc: Global,
+    lists: &Lists,
+    from: u32,
+) -> Result<(), AllocError> {
+    let want = doubled_lists(alloc, from)?;
     assert!(rt; lists.cells == want.cells);
     assert!(rt; lists.crowns == want.crowns);
     assert!(rt; lists.room == want.room);
     assert!(rt; lists.spare == want.spare);
+    drop(want);
+    Ok(())
 }
 
 /// Asserts that the doubled lists are refused with a key, and that they come back.
 fn test_double(rt: &impl Abort, alloc: Global, from: u32, key: Key) -> Result<(), AllocError> {
-    let want = doubled_lists(alloc, from)?;
-    let outcome = Parcel::new(alloc, doubled_lists(alloc, from)?);
-    match &outcome {
-        Ok(_) => assert!(rt; false, "{key:?}"),
-        Err(refused) => {
-            assert!(rt; refused.1 == ParcelFault::Double { key }, "{key:?}");
-            assert_came_back(rt, &refused.0, &want);
+    match Parcel::new(alloc, doubled_lists(alloc, from)?) {
+        Ok(_) => panic!(rt; "{key:?}"),
+        Err((lists, fault)) => {
+            assert!(rt; fault == ParcelFault::Double { key }, "{key:?}");
+            let outcome = assert_came_back(rt, alloc, &lists, from);
+            drop(lists);
+            outcome
         }
     }
-    Ok(())
 }
 
 #[test]

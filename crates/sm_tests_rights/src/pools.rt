@@ -1,6 +1,6 @@
 //! Pools by example: what they open with, what goes out and comes back, and what is short.
 use super::fixture::*;
-use sm_reservation::{Grant, Key, Lead, Parcel, PlainCell, Pool, Portion, Short, TakeFault};
+use sm_reservation::{Grant, Key, Lead, Lists, Parcel, PlainCell, Pool, Portion, Short, TakeFault};
 use sm_server::{ServerId, ShardId};
 use std::alloc::{AllocError, Global};
 use std::process::Abort;
@@ -15,7 +15,9 @@ fn assert_opened(rt: &impl Abort, pool: &Pool) {
 
 #[test]
 fn a_pool_opens_with_all_that_is_free(rt: HostRuntime) -> Result<(), Fail> {
-    assert_opened(&rt, &worked_pool(&rt, rt.alloc())?);
+    let pool = worked_pool(&rt, rt.alloc())?;
+    assert_opened(&rt, &pool);
+    drop(pool);
     Ok(())
 }
 
@@ -42,21 +44,19 @@ fn assert_handover(rt: &impl Abort, grant: &Grant) {
 
 /// Takes a handover's rights, and gives them back.
 fn take_once(rt: &impl Abort, alloc: Global, pool: &mut Pool) -> Result<(), AllocError> {
-    let asked = parcel_of(alloc, &handover())?;
-    let Ok(grant) = pool.take(alloc, &asked) else {
-        return Err(AllocError);
-    };
+    let grant = taken_of(alloc, pool, &handover())?;
     assert_handed_out(rt, pool);
     assert_handover(rt, &grant);
-    pool.give_back(grant);
+    give_back(rt, pool, grant);
     Ok(())
 }
 
 #[test]
 fn a_handover_is_taken_and_given_back(rt: HostRuntime) -> Result<(), Fail> {
     let mut pool = worked_pool(&rt, rt.alloc())?;
-    take_once(&rt, rt.alloc(), &mut pool)?;
-    assert_worked(&rt, &pool);
+    let outcome = take_once(&rt, rt.alloc(), &mut pool);
+    end_worked(&rt, pool);
+    outcome?;
     Ok(())
 }
 
@@ -78,6 +78,17 @@ pub(crate) fn assert_refused(
     assert_worked(rt, pool);
 }
 
+/// Puts a portion's cell and room behind those of lists.
+fn add_to(lists: &mut Lists, portion: &Portion) -> Result<(), AllocError> {
+    if let Some(right) = portion.cell {
+        lists.cells.push(right)?;
+    }
+    if let Some(room) = portion.room {
+        lists.room.push(room)?;
+    }
+    Ok(())
+}
+
 /// The parcel of a portion's rights, and of a cell and room that the worked pool has.
 fn beside_others(alloc: Global, portion: &Portion) -> Result<Parcel, AllocError> {
     let mut lists = lists(
@@ -87,27 +98,40 @@ fn beside_others(alloc: Global, portion: &Portion) -> Result<Parcel, AllocError>
         &[room(0, 6)],
         portion.spare.as_slice(),
     )?;
-    if let Some(right) = portion.cell {
-        lists.cells.push(right)?;
+    match add_to(&mut lists, portion) {
+        Ok(()) => Parcel::new(alloc, lists).ok().ok_or(AllocError),
+        Err(why) => {
+            drop(lists);
+            Err(why)
+        }
     }
-    if let Some(room) = portion.room {
-        lists.room.push(room)?;
-    }
-    Parcel::new(alloc, lists).ok().ok_or(AllocError)
 }
 
 /// Asserts that each portion is refused for a key, beside rights that are there.
+fn assert_short_of(
+    rt: &impl Abort,
+    alloc: Global,
+    pool: &mut Pool,
+    cases: &[(Portion, Short)],
+) -> Result<(), AllocError> {
+    for (portion, short) in cases {
+        let parcel = beside_others(alloc, portion)?;
+        assert_refused(rt, alloc, pool, &parcel, *short);
+        drop(parcel);
+    }
+    Ok(())
+}
+
+/// Asserts that the worked pool refuses each portion for a key, beside rights that are there.
 fn assert_short(
     rt: &impl Abort,
     alloc: Global,
     cases: &[(Portion, Short)],
 ) -> Result<(), AllocError> {
     let mut pool = worked_pool(rt, alloc)?;
-    for (portion, short) in cases {
-        let parcel = beside_others(alloc, portion)?;
-        assert_refused(rt, alloc, &mut pool, &parcel, *short);
-    }
-    Ok(())
+    let outcome = assert_short_of(rt, alloc, &mut pool, cases);
+    drop(pool);
+    outcome
 }
 
 /// A right to a secondary's cell, which comes before what else is short.
@@ -203,6 +227,23 @@ fn fill(rt: &impl Abort, pool: &mut Pool, grant: &mut Grant, asked: &Parcel) -> 
     pool.fill(grant, asked)
 }
 
+/// Fills a grant with a portion's rights, or not: the pool is without a handover's rights then.
+fn assert_filled(
+    rt: &impl Abort,
+    alloc: Global,
+    pool: &mut Pool,
+    grant: &mut Grant,
+    portion: &Portion,
+    want: Result<(), Short>,
+) -> Result<(), AllocError> {
+    let asked = parcel_of(alloc, portion)?;
+    let outcome = fill(rt, pool, grant, &asked);
+    drop(asked);
+    assert!(rt; outcome == want);
+    assert_handed_out(rt, pool);
+    Ok(())
+}
+
 /// Fills a grant with a handover's rights, beside which there is no more room.
 fn fill_twice(
     rt: &impl Abort,
@@ -210,14 +251,10 @@ fn fill_twice(
     pool: &mut Pool,
     grant: &mut Grant,
 ) -> Result<(), AllocError> {
-    let asked = parcel_of(alloc, &handover())?;
-    let more = parcel_of(alloc, &only_room(1, 1))?;
-    assert!(rt; fill(rt, pool, grant, &asked) == Ok(()));
-    assert_handed_out(rt, pool);
     let server = ServerId::new(1);
     let short = short(Key::Room { server }, 0, 1);
-    assert!(rt; fill(rt, pool, grant, &more) == Err(short));
-    assert_handed_out(rt, pool);
+    assert_filled(rt, alloc, pool, grant, &handover(), Ok(()))?;
+    assert_filled(rt, alloc, pool, grant, &only_room(1, 1), Err(short))?;
     assert_handover(rt, grant);
     Ok(())
 }
@@ -233,8 +270,9 @@ fn fill_once(rt: &impl Abort, alloc: Global, pool: &mut Pool) -> Result<(), Allo
 #[test]
 fn a_grant_is_filled_from_a_pool(rt: HostRuntime) -> Result<(), Fail> {
     let mut pool = worked_pool(&rt, rt.alloc())?;
-    fill_once(&rt, rt.alloc(), &mut pool)?;
-    assert_worked(&rt, &pool);
+    let outcome = fill_once(&rt, rt.alloc(), &mut pool);
+    end_worked(&rt, pool);
+    outcome?;
     Ok(())
 }
 
@@ -266,5 +304,6 @@ fn go_and_come(rt: &impl Abort, pool: &mut Pool) {
 fn spare_replicas_go_and_come(rt: HostRuntime) -> Result<(), Fail> {
     let mut pool = worked_pool(&rt, rt.alloc())?;
     go_and_come(&rt, &mut pool);
+    drop(pool);
     Ok(())
 }

@@ -13,7 +13,7 @@ use std::process::Abort;
 use std::test::Fail;
 
 /// Trades a parcel for another, where the conditions are met: `rest` has what the grant has.
-pub(crate) fn trade(rt: &impl Abort, grant: &mut Grant, rest: &mut Hold, out: &Parcel, got: &Parcel)
+fn trade(rt: &impl Abort, grant: &mut Grant, rest: &mut Hold, out: &Parcel, got: &Parcel)
     requires { rest.old ≡ grant.old }
 {
     assert!(rt; rest.first_short(out).is_none());
@@ -23,8 +23,45 @@ pub(crate) fn trade(rt: &impl Abort, grant: &mut Grant, rest: &mut Hold, out: &P
     grant.trade(out, got);
 }
 
+/// Trades a parcel's rights of a pool for another parcel's, and gives back what was got.
+fn trade_parcels(
+    rt: &impl Abort,
+    alloc: Global,
+    pool: &mut Pool,
+    out: &Parcel,
+    got: &Parcel,
+    want: &Portion,
+) -> Result<(), AllocError> {
+    let mut rest = Hold::of_parcel(alloc, out)?;
+    let outcome = match taken(alloc, pool, out) {
+        Ok(mut grant) => {
+            trade(rt, &mut grant, &mut rest, out, got);
+            assert_holds(rt, grant.hold(), want);
+            give_back(rt, pool, grant);
+            Ok(())
+        }
+        Err(why) => Err(why),
+    };
+    drop(rest);
+    outcome
+}
+
+/// Trades a parcel's rights of a pool for a portion's, and gives back what was got.
+fn trade_parcel(
+    rt: &impl Abort,
+    alloc: Global,
+    pool: &mut Pool,
+    out: &Parcel,
+    want: &Portion,
+) -> Result<(), AllocError> {
+    let got = parcel_of(alloc, want)?;
+    let outcome = trade_parcels(rt, alloc, pool, out, &got, want);
+    drop(got);
+    outcome
+}
+
 /// Trades rights of a pool, and gives back what was got.
-fn trade_once(
+pub(crate) fn trade_once(
     rt: &impl Abort,
     alloc: Global,
     pool: &mut Pool,
@@ -32,13 +69,9 @@ fn trade_once(
     want: &Portion,
 ) -> Result<(), AllocError> {
     let out = parcel_of(alloc, given)?;
-    let got = parcel_of(alloc, want)?;
-    let mut rest = Hold::of_parcel(alloc, &out)?;
-    let mut grant = taken(alloc, pool, &out)?;
-    trade(rt, &mut grant, &mut rest, &out, &got);
-    assert_holds(rt, grant.hold(), want);
-    give_back(rt, pool, grant);
-    Ok(())
+    let outcome = trade_parcel(rt, alloc, pool, &out, want);
+    drop(out);
+    outcome
 }
 
 /// A right to the cell of shard 0 at server 1, with room of that server and spare replicas of that shard.
@@ -57,7 +90,9 @@ fn rights_are_traded(rt: HostRuntime) -> Result<(), Fail> {
     let given = at_cell(PlainCell::Absent, Some(room(1, 4)), None);
     let want = at_cell(PlainCell::Secondary, None, Some(spare(0, 1)));
     let mut pool = worked_pool(&rt, rt.alloc())?;
-    trade_once(&rt, rt.alloc(), &mut pool, &given, &want)?;
+    let outcome = trade_once(&rt, rt.alloc(), &mut pool, &given, &want);
+    drop(pool);
+    outcome?;
     Ok(())
 }
 
@@ -117,7 +152,30 @@ fn exchange(
     assert!(rt; rest.has_capacity(&got));
     hold.exchange(change);
     grant.exchange(change);
+    drop(got);
+    drop(out);
     Ok(())
+}
+
+/// Makes a change of a parcel's rights of a pool, and gives back what was got.
+fn exchange_parcel(
+    rt: &impl Abort,
+    alloc: Global,
+    pool: &mut Pool,
+    rights: &Parcel,
+    change: &Change,
+    want: &Portion,
+) -> Result<(), AllocError> {
+    let mut hold = Hold::of_parcel(alloc, rights)?;
+    let mut rest = Hold::of_parcel(alloc, rights)?;
+    let mut grant = taken(alloc, pool, rights)?;
+    let outcome = exchange(rt, alloc, &mut grant, &mut hold, &mut rest, change);
+    assert_holds(rt, grant.hold(), want);
+    assert_holds(rt, &hold, want);
+    give_back(rt, pool, grant);
+    drop(rest);
+    drop(hold);
+    outcome
 }
 
 /// Makes a change of rights of a pool, and gives back what was got.
@@ -130,13 +188,8 @@ fn exchange_once(
     want: &Portion,
 ) -> Result<(), AllocError> {
     let rights = parcel_of(alloc, held)?;
-    let mut hold = Hold::of_parcel(alloc, &rights)?;
-    let mut rest = Hold::of_parcel(alloc, &rights)?;
-    let mut grant = taken(alloc, pool, &rights)?;
-    let outcome = exchange(rt, alloc, &mut grant, &mut hold, &mut rest, change);
-    assert_holds(rt, grant.hold(), want);
-    assert_holds(rt, &hold, want);
-    give_back(rt, pool, grant);
+    let outcome = exchange_parcel(rt, alloc, pool, &rights, change, want);
+    drop(rights);
     outcome
 }
 
@@ -150,7 +203,9 @@ fn rights_are_exchanged(rt: HostRuntime) -> Result<(), Fail> {
         got: at_cell(PlainCell::Secondary, None, Some(spare(0, 1))),
     };
     let mut pool = worked_pool(&rt, rt.alloc())?;
-    exchange_once(&rt, rt.alloc(), &mut pool, &held, &change, &want)?;
+    let outcome = exchange_once(&rt, rt.alloc(), &mut pool, &held, &change, &want);
+    drop(pool);
+    outcome?;
     Ok(())
 }
 
