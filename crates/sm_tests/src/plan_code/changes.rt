@@ -98,7 +98,10 @@ fn config(alloc: Global) -> Result<Config, AllocError> {
         cap: 1,
         spread: 1,
     }];
-    Config::new(alloc, &servers, &shards).map_err(|_| AllocError)
+    let made = Config::new(alloc, &servers, &shards);
+    drop(shards);
+    drop(servers);
+    made.map_err(|_| AllocError)
 }
 
 /// A hold of a portion's rights and no others.
@@ -109,8 +112,10 @@ fn hold_of(alloc: Global, portion: &Portion) -> Result<Hold, AllocError> {
         room: Vec::from_slice(alloc, portion.room.as_slice())?,
         spare: Vec::from_slice(alloc, portion.spare.as_slice())?,
     };
-    let parcel = Parcel::new(alloc, lists).map_err(|_| AllocError)?;
-    Hold::of_parcel(alloc, &parcel)
+    let parcel = Parcel::new(alloc, lists).ok().ok_or(AllocError)?;
+    let hold = Hold::of_parcel(alloc, &parcel);
+    drop(parcel);
+    hold
 }
 
 /// What is held, and what the table of rights answers to an instruction.
@@ -125,21 +130,44 @@ fn assert_made(rt: &impl Abort, answer: &Result<Change, Why>, out: &Portion, got
     assert_eq!(rt; *answer, Ok(change));
 }
 
-/// Each line is answered by what is held: needed is all that is held, and given what the line says.
-fn assert_lines(rt: &impl Abort, alloc: Global, lines: &[Line]) -> Result<(), AllocError> {
-    let config = config(alloc)?;
-    for (instr, held, want) in lines {
-        let hold = hold_of(alloc, held)?;
-        if !is_known_instr(config.shard_count(), config.server_count(), instr) {
-            return Err(AllocError);
-        }
-        let answer = change_of(&config, instr, &hold);
-        match want {
-            Ok(got) => assert_made(rt, &answer, held, got),
-            Err(why) => assert_eq!(rt; answer, Err(*why), "{instr:?}"),
-        }
+/// A line is answered by what is held: needed is all that is held, and given what the line says.
+fn assert_line(
+    rt: &impl Abort,
+    alloc: Global,
+    config: &Config,
+    line: &Line,
+) -> Result<(), AllocError> {
+    let (instr, held, want) = line;
+    assert!(rt; is_known_instr(config.shard_count(), config.server_count(), instr));
+    let hold = hold_of(alloc, held)?;
+    let answer = change_of(config, instr, &hold);
+    drop(hold);
+    match want {
+        Ok(got) => assert_made(rt, &answer, held, got),
+        Err(why) => assert_eq!(rt; answer, Err(*why), "{instr:?}"),
     }
     Ok(())
+}
+
+/// Each line is answered so with a configuration.
+fn assert_lines_with(
+    rt: &impl Abort,
+    alloc: Global,
+    config: &Config,
+    lines: &[Line],
+) -> Result<(), AllocError> {
+    for line in lines {
+        assert_line(rt, alloc, config, line)?;
+    }
+    Ok(())
+}
+
+/// Each line is answered so.
+fn assert_lines(rt: &impl Abort, alloc: Global, lines: &[Line]) -> Result<(), AllocError> {
+    let config = config(alloc)?;
+    let outcome = assert_lines_with(rt, alloc, &config, lines);
+    drop(config);
+    outcome
 }
 
 fn prepare_add() -> Instr {

@@ -45,7 +45,10 @@ fn config(alloc: Global) -> Result<Config, AllocError> {
             spread: 1,
         })?;
     }
-    Config::new(alloc, &servers, &shards).map_err(|_| AllocError)
+    let made = Config::new(alloc, &servers, &shards);
+    drop(shards);
+    drop(servers);
+    made.map_err(|_| AllocError)
 }
 
 /// No rights.
@@ -60,7 +63,7 @@ fn none(alloc: Global) -> Lists {
 
 /// The parcel of four lists.
 fn parcel(alloc: Global, lists: Lists) -> Result<Parcel, AllocError> {
-    Parcel::new(alloc, lists).map_err(|_| AllocError)
+    Parcel::new(alloc, lists).ok().ok_or(AllocError)
 }
 
 /// A plan of one stream, with one signal.
@@ -76,7 +79,7 @@ fn plan(alloc: Global, holds: Lists, code: Vec<Instr>, signal: Lists) -> Result<
         streams: Vec::from_array(alloc, [stream])?,
         signals: Vec::from_array(alloc, [parcel(alloc, signal)?])?,
     };
-    Plan::new(parts).map_err(|_| AllocError)
+    Plan::new(parts).ok().ok_or(AllocError)
 }
 
 /// A plan that makes the instruction.
@@ -89,6 +92,29 @@ fn plan_of_code(alloc: Global, instr: Instr) -> Result<Plan, AllocError> {
     )
 }
 
+/// Whether a plan, where it was made, is of a configuration.
+fn fits_in(config: &Config, made: Result<Plan, AllocError>) -> Result<bool, AllocError> {
+    let plan = made?;
+    let fits = plan.fits(config);
+    drop(plan);
+    Ok(fits)
+}
+
+/// Whether a plan, where it was made, is of the configuration.
+fn fits_worked(alloc: Global, made: Result<Plan, AllocError>) -> Result<bool, AllocError> {
+    match config(alloc) {
+        Ok(config) => {
+            let fits = fits_in(&config, made);
+            drop(config);
+            fits
+        }
+        Err(why) => {
+            drop(made);
+            Err(why)
+        }
+    }
+}
+
 /// Whether the rights are of the configuration, held by a stream or carried by a signal.
 fn test_rights(
     rt: &impl Abort,
@@ -97,11 +123,11 @@ fn test_rights(
     carried: Lists,
     fits: bool,
 ) -> Result<(), AllocError> {
-    let config = config(alloc)?;
-    let by_stream = plan(alloc, held, Vec::new(alloc), none(alloc))?;
-    assert_eq!(rt; by_stream.fits(&config), fits);
-    let by_signal = plan(alloc, none(alloc), Vec::new(alloc), carried)?;
-    assert_eq!(rt; by_signal.fits(&config), fits);
+    let by_stream = plan(alloc, held, Vec::new(alloc), none(alloc));
+    let by_signal = plan(alloc, none(alloc), Vec::new(alloc), carried);
+    let told = (fits_worked(alloc, by_stream), fits_worked(alloc, by_signal));
+    assert_eq!(rt; told.0?, fits);
+    assert_eq!(rt; told.1?, fits);
     Ok(())
 }
 
@@ -144,10 +170,9 @@ fn test_code(
     instructions: &[Instr],
     fits: bool,
 ) -> Result<(), AllocError> {
-    let config = config(alloc)?;
     for instr in instructions {
-        let plan = plan_of_code(alloc, *instr)?;
-        assert_eq!(rt; plan.fits(&config), fits);
+        let plan = plan_of_code(alloc, *instr);
+        assert_eq!(rt; fits_worked(alloc, plan)?, fits);
     }
     Ok(())
 }

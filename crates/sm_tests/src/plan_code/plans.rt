@@ -74,14 +74,20 @@ fn parcel(alloc: Global, counts: &Counts) -> Result<Parcel, AllocError> {
         room: room(alloc, counts.room, counts.amount)?,
         spare: spare(alloc, counts.spare, counts.amount)?,
     };
-    Parcel::new(alloc, lists).map_err(|_| AllocError)
+    Parcel::new(alloc, lists).ok().ok_or(AllocError)
 }
 
 /// Why the parts are no plan, if they are none.
 fn fault_of(parts: Parts) -> Option<PlanFault> {
     match Plan::new(parts) {
-        Ok(_) => None,
-        Err((_, fault)) => Some(fault),
+        Ok(plan) => {
+            drop(plan);
+            None
+        }
+        Err((parts, fault)) => {
+            drop(parts);
+            Some(fault)
+        }
     }
 }
 
@@ -297,6 +303,7 @@ fn plan_of_its_parts(rt: HostRuntime) -> Result<(), Fail> {
     assert_eq!(rt; parts.budget, 5);
     assert_eq!(rt; parts.streams.len(), 2);
     assert_eq!(rt; parts.signals.len(), 3);
+    drop(parts);
     Ok(())
 }
 

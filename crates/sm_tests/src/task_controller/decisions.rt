@@ -64,7 +64,10 @@ fn config(alloc: Global) -> Result<Config, AllocError> {
             spread: 1,
         })?;
     }
-    Config::new(alloc, &servers, &shards).map_err(|_| AllocError)
+    let made = Config::new(alloc, &servers, &shards);
+    drop(shards);
+    drop(servers);
+    made.map_err(|_| AllocError)
 }
 
 /// The worked placement, of which one server may be down.
@@ -94,30 +97,45 @@ fn decided_at(
 ) -> Result<Result<Approved, Denied>, AllocError>
     requires { IsSettled (sizes_of placement.now.setup) (place_of placement.now) }
 {
+    if case.server >= placement.config().server_count() {
+        return Err(AllocError);
+    }
     let mut pool = Pool::open(alloc, placement)?;
     let shard = ShardId::new(0);
     if case.reserved && pool.spare(shard) > 0 {
         pool.less(shard);
     }
-    if case.server >= placement.config().server_count() {
-        return Err(AllocError);
-    }
     let server = ServerId::new(case.server);
     let engaged = case.engaged.map(stream);
-    Ok(decide(placement, &pool, engaged, case.log_free, server))
+    let answer = decide(placement, &pool, engaged, case.log_free, server);
+    drop(pool);
+    Ok(answer)
 }
 
-/// What is decided of the worked placement.
-fn decided(alloc: Global, case: &Case) -> Result<Result<Approved, Denied>, AllocError> {
-    let config = config(alloc)?;
+/// What is decided of the worked placement of a configuration.
+fn decided_with(
+    alloc: Global,
+    config: &Config,
+    case: &Case,
+) -> Result<Result<Approved, Denied>, AllocError> {
     let servers = [ServerId::new(3)];
     let down = if case.down {
         &servers[..1]
     } else {
         &servers[..0]
     };
-    let placement = worked_placement(alloc, &config, down)?;
-    decided_at(alloc, &placement, case)
+    let placement = worked_placement(alloc, config, down)?;
+    let answer = decided_at(alloc, &placement, case);
+    drop(placement);
+    answer
+}
+
+/// What is decided of the worked placement.
+fn decided(alloc: Global, case: &Case) -> Result<Result<Approved, Denied>, AllocError> {
+    let config = config(alloc)?;
+    let answer = decided_with(alloc, &config, case);
+    drop(config);
+    answer
 }
 
 fn assert_decided(rt: &impl Abort, alloc: Global, cases: &[Case]) -> Result<(), AllocError> {

@@ -7,12 +7,13 @@ ghost use Rattle.sm_placement.specs.Layout.{place_of};
 ghost use Rattle.sm_placement.specs.Lead.{IsSettled};
 ghost use Rattle.sm_reservation.specs.Pool.{HasSize};
 
+use super::plans::check_for;
 use super::rows::config_of;
 use sm_placement::{Config, Placement};
 use sm_plan_code::{Instr, Parts, Plan, Stream};
 use sm_reservation::{CellRight, Crown, Key, Lead, Lists, Parcel, PlainCell, Pool, Room, Spare};
 use sm_server::{Cell, Role, ServerId, ShardId};
-use sm_verifier::{Checked, Holding, admit, check};
+use sm_verifier::{Checked, Holding, admit};
 use std::alloc::{AllocError, Global};
 use std::process::Abort;
 use std::test::Fail;
@@ -129,7 +130,7 @@ pub(super) fn parcel(alloc: Global, rights: &Rights) -> Result<Parcel, AllocErro
         room: listed(alloc, &[rights.room])?,
         spare: listed(alloc, &[rights.spare])?,
     };
-    Parcel::new(alloc, lists).map_err(|_| AllocError)
+    Parcel::new(alloc, lists).ok().ok_or(AllocError)
 }
 
 fn stream(alloc: Global, rights: &Rights, code: &[Instr]) -> Result<Stream, AllocError> {
@@ -154,7 +155,7 @@ pub(super) fn plan(
         streams: Vec::from_array(alloc, streams).map_err(|_| AllocError)?,
         signals: Vec::new(alloc),
     };
-    Plan::new(parts).map_err(|_| AllocError)
+    Plan::new(parts).ok().ok_or(AllocError)
 }
 
 /// What holds a plan up once a parcel was taken from the pool.
@@ -195,28 +196,63 @@ fn judged_at(
     requires setup { placement.now.setup ≡ checked.now.setup }
 {
     let mut pool = pool_of(alloc, placement)?;
-    judged_after(alloc, checked, placement, &mut pool, taken)
+    let answer = judged_after(alloc, checked, placement, &mut pool, taken);
+    drop(pool);
+    answer
 }
 
 /// The plan with its check, which it passes.
 pub(super) fn checked_of(alloc: Global, plan: Plan) -> Result<Checked, AllocError> {
-    let config = config_of(alloc, 4, &[4, 6])?;
-    if !plan.fits(&config) {
-        return Err(AllocError);
+    match config_of(alloc, 4, &[4, 6]) {
+        Ok(config) => {
+            let checked = check_for(alloc, &config, plan).ok().ok_or(AllocError);
+            drop(config);
+            checked
+        }
+        Err(why) => {
+            drop(plan);
+            Err(why)
+        }
     }
-    check(alloc, &config, plan).map_err(|_| AllocError)
 }
 
-/// What holds a plan up at the worked placement with servers down, once a parcel was taken from its pool.
-pub(super) fn judged(
+/// What holds a plan with its check up at the worked placement with servers down, once a parcel was taken from its pool.
+fn judged_checked(
     alloc: Global,
-    plan: Plan,
+    checked: &Checked,
     down: &[ServerId],
     taken: &Parcel,
 ) -> Result<Option<Holding>, AllocError> {
-    let checked = checked_of(alloc, plan)?;
     let placement = worked_placement(alloc, checked.config(), down)?;
-    judged_at(alloc, &checked, &placement, taken)
+    let answer = judged_at(alloc, checked, &placement, taken);
+    drop(placement);
+    answer
+}
+
+/// The same once these rights were taken.
+fn judged_once(
+    alloc: Global,
+    checked: &Checked,
+    down: &[ServerId],
+    taken: &Rights,
+) -> Result<Option<Holding>, AllocError> {
+    let parcel = parcel(alloc, taken)?;
+    let answer = judged_checked(alloc, checked, down, &parcel);
+    drop(parcel);
+    answer
+}
+
+/// What holds a plan up at the worked placement with servers down, once rights were taken from its pool.
+pub(super) fn judged(
+    alloc: Global,
+    made: Result<Plan, AllocError>,
+    down: &[ServerId],
+    taken: &Rights,
+) -> Result<Option<Holding>, AllocError> {
+    let checked = checked_of(alloc, made?)?;
+    let answer = judged_once(alloc, &checked, down, taken);
+    drop(checked);
+    answer
 }
 
 /// What holds a plan of two streams with these rights up, once others were taken.
@@ -226,8 +262,7 @@ fn held_up(
     second: &Rights,
     taken: &Rights,
 ) -> Result<Option<Holding>, AllocError> {
-    let taken = parcel(alloc, taken)?;
-    judged(alloc, plan(alloc, first, second, &[])?, &[], &taken)
+    judged(alloc, plan(alloc, first, second, &[]), &[], taken)
 }
 
 /// What holds a plan with a code and its rights up where these servers are down.
@@ -237,8 +272,7 @@ fn held_up_by_servers(
     rights: &Rights,
     code: &[Instr],
 ) -> Result<Option<Holding>, AllocError> {
-    let taken = parcel(alloc, &NOTHING)?;
-    judged(alloc, plan(alloc, &NOTHING, rights, code)?, down, &taken)
+    judged(alloc, plan(alloc, &NOTHING, rights, code), down, &NOTHING)
 }
 
 /// The key of a cell of shard 0.

@@ -56,7 +56,9 @@ fn handover_passes(rt: HostRuntime) -> Result<(), Fail> {
     let alloc = rt.alloc();
     let checked = checked_of(alloc, handover_plan(alloc, ENOUGH, &handover())?)?;
     assert_findings(&rt, &checked);
-    assert!(rt; is_handover(&checked.into_plan()));
+    let plan = checked.into_plan();
+    assert!(rt; is_handover(&plan));
+    drop(plan);
     Ok(())
 }
 
@@ -67,6 +69,7 @@ fn room_counts_the_longest_list(rt: HostRuntime) -> Result<(), Fail> {
     let numbers = Numbers { room: 5, ..ENOUGH };
     let checked = checked_of(alloc, handover_plan(alloc, numbers, &handover())?)?;
     assert!(rt; room_of(&checked) == Some(2));
+    drop(checked);
     Ok(())
 }
 
@@ -161,8 +164,14 @@ fn a_plan_is_checked_or_not(rt: HostRuntime) {
         return;
     };
     match check_of(alloc, plan) {
-        Ok(checked) => assert!(rt; is_handover(checked.plan())),
-        Err((plan, fault)) => assert!(rt; fault == Fault::NoMemory && is_handover(&plan)),
+        Ok(checked) => {
+            assert!(rt; is_handover(checked.plan()));
+            drop(checked);
+        }
+        Err((plan, fault)) => {
+            assert!(rt; fault == Fault::NoMemory && is_handover(&plan));
+            drop(plan);
+        }
     }
 }
 
@@ -193,8 +202,14 @@ fn two_streams_are_checked_or_not(rt: HostRuntime) {
         return;
     };
     match check_of(alloc, plan) {
-        Ok(checked) => assert!(rt; is_signalling(checked.plan())),
-        Err((plan, fault)) => assert!(rt; fault == Fault::NoMemory && is_signalling(&plan)),
+        Ok(checked) => {
+            assert!(rt; is_signalling(checked.plan()));
+            drop(checked);
+        }
+        Err((plan, fault)) => {
+            assert!(rt; fault == Fault::NoMemory && is_signalling(&plan));
+            drop(plan);
+        }
     }
 }
 

@@ -6,6 +6,7 @@ use sm_reservation::Parcel;
 use sm_server::{Role, ShardId};
 use sm_verifier::Bad;
 use std::alloc::Global;
+use std::process::Abort;
 
 /// The calls: of each kind, and in each role.
 fn calls() -> [Instr; 7] {
@@ -65,6 +66,7 @@ fn calls_over_the_budget(rt: HostRuntime) {
                 breaks_at(&answer, 1, Why::OverBudget),
                 "{instr:?} {before:?}"
             );
+            drop(answer);
         }
     }
 }
@@ -76,8 +78,10 @@ fn ends_in_a_handover(rt: HostRuntime) {
         let before = Held(None, led, Some(A), 0, 0);
         let empty = answer_with(rt.alloc(), 0, &before, &[]);
         assert!(rt; breaks_at(&empty, 0, Why::Unsettled), "{led:?}");
+        drop(empty);
         let idle = answer_with(rt.alloc(), 0, &before, &[IDLE, IDLE, IDLE]);
         assert!(rt; breaks_at(&idle, 3, Why::Unsettled), "{led:?}");
+        drop(idle);
     }
 }
 
@@ -92,6 +96,7 @@ fn ends_in_a_handover_of_another_shard(rt: HostRuntime) {
     };
     let answer = answer_with(rt.alloc(), 1, &before, &[IDLE, instr]);
     assert!(rt; breaks_at(&answer, 2, Why::Unsettled));
+    drop(answer);
 }
 
 /// A handover cut to so many instructions, with so many calls and retries: where and why it breaks off.
@@ -136,6 +141,7 @@ fn cut_handovers(rt: HostRuntime) {
             (_, Some((at, why))) => assert!(rt; breaks_at(&answer, at, why), "{cut:?}"),
             (Err(_), None) => assert!(rt; false, "{cut:?}"),
         }
+        drop(answer);
     }
 }
 
@@ -150,14 +156,19 @@ fn a_stream_is_followed_or_not(rt: HostRuntime) {
         role: Role::Primary,
     };
     let answer = answer_with(alloc, 1, &before, &[IDLE, instr]);
-    let Ok(others) = other_rights(alloc) else {
-        return;
-    };
-    let Ok(want) = parcel(alloc, &Held(None, At(B), Some(A), 0, 1), others) else {
-        return;
-    };
-    match &answer {
-        Ok(_) => assert!(rt; is_end(&answer, &want)),
+    if let Ok(others) = other_rights(alloc) {
+        if let Ok(want) = parcel(alloc, &Held(None, At(B), Some(A), 0, 1), others) {
+            assert_end_or_not(&rt, &answer, &want);
+            drop(want);
+        }
+    }
+    drop(answer);
+}
+
+/// The stream comes to its end with the rights, or there is no memory for it.
+fn assert_end_or_not(rt: &impl Abort, answer: &Result<Parcel, Bad>, want: &Parcel) {
+    match answer {
+        Ok(_) => assert!(rt; is_end(answer, want)),
         Err(bad) => assert_eq!(rt; *bad, Bad::NoMemory),
     }
 }
@@ -179,4 +190,5 @@ fn a_stream_breaks_off_or_not(rt: HostRuntime) {
             assert!(rt; *bad == Bad::NoMemory || *bad == Bad::At { at: 1, why });
         }
     }
+    drop(answer);
 }

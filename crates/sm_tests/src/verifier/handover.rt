@@ -1,10 +1,10 @@
 //! The worked handover followed to its end, and broken off at each of the places where it may be.
-use super::rows::config_of;
+use super::rows::{config_of, followed};
 use sm_placement::Config;
 use sm_plan_code::{Instr, Parts, Plan, Stream, Why};
 use sm_reservation::{CellRight, Crown, Lead, Lists, Parcel, PlainCell, Room};
 use sm_server::{Role, ServerId, ShardId};
-use sm_verifier::{Bad, follow};
+use sm_verifier::Bad;
 use std::alloc::{AllocError, Global};
 use std::process::Abort;
 
@@ -47,7 +47,7 @@ pub(super) fn held(alloc: Global, room: u64) -> Result<Parcel, AllocError> {
         room: Vec::from_array(alloc, [room])?,
         spare: Vec::new(alloc),
     };
-    Parcel::new(alloc, lists).map_err(|_| AllocError)
+    Parcel::new(alloc, lists).ok().ok_or(AllocError)
 }
 
 /// The steps of the handover: prepared, forwarded, added, published, dropped.
@@ -112,17 +112,23 @@ pub(super) fn handover_plan(
         streams,
         signals: Vec::new(alloc),
     };
-    Plan::new(parts).map_err(|_| AllocError)
+    Plan::new(parts).ok().ok_or(AllocError)
 }
 
 /// What the stream of such a plan holds at its end.
 fn end_of(alloc: Global, numbers: Numbers, code: &[Instr]) -> Result<Parcel, Bad> {
     let plan = handover_plan(alloc, numbers, code)?;
+    let end = end_of_plan(alloc, &plan);
+    drop(plan);
+    end
+}
+
+/// What the first stream of a plan holds at its end.
+fn end_of_plan(alloc: Global, plan: &Plan) -> Result<Parcel, Bad> {
     let config = config(alloc)?;
-    if !plan.fits(&config) || plan.streams().is_empty() {
-        return Err(Bad::NoMemory);
-    }
-    follow(alloc, &config, &plan, 0)
+    let end = followed(alloc, &config, plan, 0);
+    drop(config);
+    end
 }
 
 const fn at(at: u32, why: Why) -> Bad {
@@ -159,7 +165,10 @@ pub(super) fn assert_end(rt: &impl Abort, end: &Parcel) {
 #[test]
 fn handover_is_followed(rt: HostRuntime) {
     match end_of(rt.alloc(), ENOUGH, &handover()) {
-        Ok(end) => assert_end(&rt, &end),
+        Ok(end) => {
+            assert_end(&rt, &end);
+            drop(end);
+        }
         Err(_) => assert!(rt; false),
     }
 }

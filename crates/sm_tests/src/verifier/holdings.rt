@@ -3,8 +3,8 @@
 ghost use Rattle.std.specs.Prelude.{◌≡◌};
 
 use super::admission::{
-    NOTHING, Rights, absent, add, assert_held_up, checked_of, crown, judged, only_room, parcel,
-    plan, pool_of, spare, worked_placement,
+    NOTHING, Rights, absent, add, assert_held_up, checked_of, crown, judged, only_room, plan,
+    pool_of, spare, worked_placement,
 };
 use sm_placement::Placement;
 use sm_reservation::{Crown, Key, Lead, Room};
@@ -24,12 +24,11 @@ fn held_up_by_many(alloc: Global, first: &Rights) -> Result<Option<Holding>, All
         room: Some(Room { server, amount: 4 }),
         spare: Some(spare()),
     };
-    let taken = parcel(alloc, &NOTHING)?;
     judged(
         alloc,
-        plan(alloc, first, &second, &[add(3)])?,
+        plan(alloc, first, &second, &[add(3)]),
         &[server],
-        &taken,
+        &NOTHING,
     )
 }
 
@@ -141,16 +140,26 @@ fn judged_at_odd(
     odd: Odd,
 ) -> Result<Option<Holding>, AllocError> {
     let mut placement = worked_placement(alloc, checked.config(), &[])?;
-    let pool = pool_of(alloc, &placement)?;
+    let opened = pool_of(alloc, &placement);
     disturb(rt, &mut placement, odd);
-    Ok(admit(checked, &pool, &placement).err())
+    let answer = match opened {
+        Ok(pool) => {
+            let holding = admit(checked, &pool, &placement).err();
+            drop(pool);
+            Ok(holding)
+        }
+        Err(why) => Err(why),
+    };
+    drop(placement);
+    answer
 }
 
 /// The crown of shard 0 is not true under this lead.
 fn assert_untrue(rt: &impl Abort, alloc: Global, odd: Odd, lead: Lead) -> Result<(), AllocError> {
     let checked = checked_of(alloc, plan(alloc, &NOTHING, &only_crown(lead), &[])?)?;
-    let answer = judged_at_odd(rt, alloc, &checked, odd)?;
-    assert_eq!(rt; answer, Some(untrue_crown()));
+    let answer = judged_at_odd(rt, alloc, &checked, odd);
+    drop(checked);
+    assert_eq!(rt; answer?, Some(untrue_crown()));
     Ok(())
 }
 

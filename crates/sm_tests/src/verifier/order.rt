@@ -24,6 +24,7 @@ fn assert_order(
 ) -> Result<(), AllocError> {
     let checked = checked_of(alloc, plan(alloc, signals, codes)?)?;
     assert!(rt; checked.order() == steps);
+    drop(checked);
     Ok(())
 }
 
@@ -59,11 +60,15 @@ fn streams_with_a_signal_are_checked_or_not(rt: HostRuntime) {
         return;
     };
     match check_of(alloc, plan) {
-        Ok(checked) => assert_eq!(rt; checked.order().len(), 4),
+        Ok(checked) => {
+            assert_eq!(rt; checked.order().len(), 4);
+            drop(checked);
+        }
         Err((plan, fault)) => {
             assert!(rt;
                 fault == Fault::NoMemory && plan.streams().len() == 2 && plan.signals().len() == 1
             );
+            drop(plan);
         }
     }
 }

@@ -1,5 +1,6 @@
 //! Plans whose streams hold nothing, and the check of a plan.
 use super::handover::config;
+use sm_placement::Config;
 use sm_plan_code::{Instr, Parts, Plan, Stream};
 use sm_reservation::{Lists, Parcel};
 use sm_verifier::{Checked, Fault, check};
@@ -12,7 +13,7 @@ fn nothing(alloc: Global) -> Result<Parcel, AllocError> {
         room: Vec::new(alloc),
         spare: Vec::new(alloc),
     };
-    Parcel::new(alloc, lists).map_err(|_| AllocError)
+    Parcel::new(alloc, lists).ok().ok_or(AllocError)
 }
 
 /// A stream that makes no calls.
@@ -40,32 +41,57 @@ pub(super) fn plan(alloc: Global, signals: u32, codes: &[&[Instr]]) -> Result<Pl
         streams,
         signals: parcels,
     };
-    Plan::new(parts).map_err(|_| AllocError)
+    Plan::new(parts).ok().ok_or(AllocError)
+}
+
+/// The plan's check with a configuration, which it has to fit.
+pub(super) fn check_for(
+    alloc: Global,
+    config: &Config,
+    plan: Plan,
+) -> Result<Checked, (Plan, Fault)> {
+    if plan.fits(config) {
+        check(alloc, config, plan)
+    } else {
+        Err((plan, Fault::NoMemory))
+    }
 }
 
 /// The plan's check with the two servers and the shard of the handover.
 pub(super) fn check_of(alloc: Global, plan: Plan) -> Result<Checked, (Plan, Fault)> {
-    let Ok(config) = config(alloc) else {
-        return Err((plan, Fault::NoMemory));
-    };
-    if !plan.fits(&config) {
-        return Err((plan, Fault::NoMemory));
+    match config(alloc) {
+        Ok(config) => {
+            let checked = check_for(alloc, &config, plan);
+            drop(config);
+            checked
+        }
+        Err(_) => Err((plan, Fault::NoMemory)),
     }
-    check(alloc, &config, plan)
 }
 
 /// The plan with its check, which it passes.
 pub(super) fn checked_of(alloc: Global, plan: Plan) -> Result<Checked, AllocError> {
-    check_of(alloc, plan).map_err(|_| AllocError)
+    check_of(alloc, plan).ok().ok_or(AllocError)
+}
+
+/// Why a plan did not pass. It is dropped.
+fn end_of_check(answer: Result<Checked, (Plan, Fault)>) -> Option<Fault> {
+    match answer {
+        Ok(checked) => {
+            drop(checked);
+            None
+        }
+        Err((plan, fault)) => {
+            drop(plan);
+            Some(fault)
+        }
+    }
 }
 
 /// Why the plan does not pass.
 pub(super) fn fault_of(alloc: Global, plan: Result<Plan, AllocError>) -> Option<Fault> {
-    let Ok(plan) = plan else {
-        return Some(Fault::NoMemory);
-    };
-    match check_of(alloc, plan) {
-        Ok(_) => None,
-        Err((_, fault)) => Some(fault),
+    match plan {
+        Ok(plan) => end_of_check(check_of(alloc, plan)),
+        Err(_) => Some(Fault::NoMemory),
     }
 }

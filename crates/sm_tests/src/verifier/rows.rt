@@ -87,7 +87,10 @@ pub(super) fn config_of(alloc: Global, count: u32, loads: &[u64]) -> Result<Conf
             spread: 1,
         })?;
     }
-    Config::new(alloc, &servers, &shards).map_err(|_| AllocError)
+    let made = Config::new(alloc, &servers, &shards);
+    drop(shards);
+    drop(servers);
+    made.map_err(|_| AllocError)
 }
 
 /// No rights.
@@ -172,7 +175,7 @@ pub(super) fn parcel(alloc: Global, held: &Held, others: Lists) -> Result<Parcel
         shard,
         amount: spare,
     })?;
-    Parcel::new(alloc, lists).map_err(|_| AllocError)
+    Parcel::new(alloc, lists).ok().ok_or(AllocError)
 }
 
 /// A plan with these signals, in which the stream is the second one.
@@ -189,7 +192,7 @@ fn plan_of(alloc: Global, stream: Stream, signals: Vec<Parcel>) -> Result<Plan, 
         streams: Vec::from_array(alloc, [first, stream]).map_err(|_| AllocError)?,
         signals,
     };
-    Plan::new(parts).map_err(|_| AllocError)
+    Plan::new(parts).ok().ok_or(AllocError)
 }
 
 /// What a stream holds at its end, in a plan with these signals in which it is the second one.
@@ -199,11 +202,30 @@ pub(super) fn answer_of(
     signals: Vec<Parcel>,
 ) -> Result<Parcel, Bad> {
     let plan = plan_of(alloc, stream, signals)?;
+    let answer = answer_to_plan(alloc, &plan);
+    drop(plan);
+    answer
+}
+
+/// What the second stream of a plan holds at its end.
+fn answer_to_plan(alloc: Global, plan: &Plan) -> Result<Parcel, Bad> {
     let config = config_of(alloc, 3, &[4, 3])?;
-    if !plan.fits(&config) || plan.streams().len() < 2 {
+    let answer = followed(alloc, &config, plan, 1);
+    drop(config);
+    answer
+}
+
+/// What a stream of a plan holds at its end, where the plan has it and fits the configuration.
+pub(super) fn followed(
+    alloc: Global,
+    config: &Config,
+    plan: &Plan,
+    stream: u32,
+) -> Result<Parcel, Bad> {
+    if !plan.fits(config) || plan.streams().len() <= stream as usize {
         return Err(Bad::NoMemory);
     }
-    follow(alloc, &config, &plan, 1)
+    follow(alloc, config, plan, stream)
 }
 
 /// An instruction in one case, and the parcel of the signal with the number 1.
@@ -267,19 +289,34 @@ pub(super) fn is_under_way(led: Led) -> bool {
 
 /// All rights that are to be held after the instruction may be given away, and then nothing is left.
 fn is_given_away(alloc: Global, row: &Row) -> Result<bool, AllocError> {
-    let answer = end_of(alloc, row, &[IDLE, row.instr, GIVE_ALL]);
     let nothing = parcel(alloc, &NOTHING, no_rights(alloc))?;
-    Ok(is_end(&answer, &nothing))
+    let answer = end_of(alloc, row, &[IDLE, row.instr, GIVE_ALL]);
+    let is_end = is_end(&answer, &nothing);
+    drop(answer);
+    drop(nothing);
+    Ok(is_end)
 }
 
 /// The stream ends with these rights behind the instruction, or it may not end in a handover.
 fn is_kept(alloc: Global, row: &Row, want: &Held) -> Result<bool, AllocError> {
-    let answer = end_of(alloc, row, &[IDLE, row.instr]);
+    let code = [IDLE, row.instr];
     if is_under_way(want.1) {
-        return Ok(breaks_at(&answer, 2, Why::Unsettled));
+        return Ok(is_broken(alloc, row, &code, 2, Why::Unsettled));
     }
     let want = parcel(alloc, want, other_rights(alloc)?)?;
-    Ok(is_end(&answer, &want))
+    let answer = end_of(alloc, row, &code);
+    let is_end = is_end(&answer, &want);
+    drop(answer);
+    drop(want);
+    Ok(is_end)
+}
+
+/// The stream of a row breaks off in this code.
+fn is_broken(alloc: Global, row: &Row, code: &[Instr], at: u32, why: Why) -> bool {
+    let answer = end_of(alloc, row, code);
+    let breaks = breaks_at(&answer, at, why);
+    drop(answer);
+    breaks
 }
 
 /// The instruction leaves just these rights.
@@ -301,8 +338,8 @@ pub(super) fn assert_row(rt: &impl Abort, alloc: Global, row: &Row) -> Result<()
     match &row.want {
         Ok(want) => assert_made(rt, alloc, row, want)?,
         Err(why) => {
-            let answer = end_of(alloc, row, &[IDLE, row.instr, GIVE_ALL]);
-            assert!(rt; breaks_at(&answer, 1, *why), "{row:?}");
+            let code = [IDLE, row.instr, GIVE_ALL];
+            assert!(rt; is_broken(alloc, row, &code, 1, *why), "{row:?}");
         }
     }
     Ok(())
