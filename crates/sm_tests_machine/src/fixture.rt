@@ -52,7 +52,9 @@ pub(crate) fn small_placement(alloc: Global, down: &[ServerId]) -> Option<Placem
         (ShardId::new(1), ServerId::new(1), Cell::Primary),
     ];
     let listed = [Some(ServerId::new(0)), Some(ServerId::new(1))];
-    Placement::open(alloc, &config, &cells, &listed, down, 1).ok()
+    let opened = Placement::open(alloc, &config, &cells, &listed, down, 1);
+    drop(config);
+    opened.ok()
 }
 
 /// Opens a machine over a placement, which has to be settled.
@@ -103,6 +105,12 @@ pub(crate) fn assert_small(rt: &impl Abort, placement: &Placement, down: u32) {
     assert_cell(rt, placement, 0, 1, Cell::Absent);
     assert_cell(rt, placement, 0, 2, Cell::Secondary);
     assert_cell(rt, placement, 1, 1, Cell::Primary);
+}
+
+/// Asserts that a placement is the small one, with so many servers down, and drops it.
+pub(crate) fn end_small(rt: &impl Abort, placement: Placement, down: u32) {
+    assert_small(rt, &placement, down);
+    drop(placement);
 }
 
 /// Asserts that nothing has happened at a machine over the small placement, with so many servers down.

@@ -10,7 +10,7 @@ use std::process::Abort;
 /// Gives a machine over the small placement up, with so many servers down.
 fn give_up(rt: &impl Abort, alloc: Global, machine: Machine, permits: Vec<Permit>, down: u32) {
     let placement = machine.give_up(Vec::new(alloc), permits, Vec::new(alloc));
-    assert_small(rt, &placement, down);
+    end_small(rt, placement, down);
 }
 
 /// Asserts that no stream of a machine was begun.
@@ -101,7 +101,7 @@ fn assert_log_full(rt: &impl Abort, alloc: Global, opened: Placement, room: u32,
         }
         Err((placement, why)) => {
             assert_eq!(rt; why, OpenFault::LogFull);
-            assert_small(rt, &placement, down);
+            end_small(rt, placement, down);
         }
     }
 }
@@ -164,6 +164,7 @@ fn a_machine_forgets_the_numbers_of_calls_before_it(rt: HostRuntime) {
             assert_last(&rt, machine.placement(), 0);
             let placement = machine.give_up(Vec::new(alloc), permits, Vec::new(alloc));
             assert_last(&rt, &placement, 0);
+            drop(placement);
         }
         Err(_) => panic!(&rt; "a machine over a settled placement is not opened"),
     }
