@@ -2,7 +2,7 @@
 use super::handover::TO_THE_END;
 use super::plans::{S_TO_A, S_TO_B, T_TO_A, empty_plan, handover_plan};
 use super::run::{Run, open_in};
-use super::worlds::{World, assert_loads};
+use super::worlds::{World, end_with_loads};
 use sm_machine::{BeginFault, Step};
 use sm_reservation::Key;
 use sm_server::{ServerId, ShardId};
@@ -26,6 +26,7 @@ pub(super) fn assert_not_begun(
                 Err((checked, why)) => {
                     assert_eq!(rt; why, want);
                     assert_eq!(rt; checked.order().len(), length);
+                    drop(checked);
                 }
             }
         }
@@ -52,7 +53,7 @@ fn a_second_plan_is_held(rt: HostRuntime) {
     let untrue = Holding::Untrue { key: cell_key() };
     assert_held(&rt, alloc, &mut run, untrue);
     run.assert_recorded(&rt, 1);
-    let _placement = run.close();
+    drop(run.close());
 }
 
 /// The handover from a to b is held up by this.
@@ -71,7 +72,7 @@ fn two_plans_run_side_by_side(rt: HostRuntime) {
         run.assert_steps(&rt, 0, &TO_THE_END[at..=at]);
         run.assert_steps(&rt, 1, &TO_THE_END[at..=at]);
     }
-    assert_loads(&rt, &run.close(), &[6, 4, 4]);
+    end_with_loads(&rt, run.close(), &[6, 4, 4]);
 }
 
 /// Shard s goes to b and back, by two plans; the first one's token answers Done while the second one runs.
@@ -86,7 +87,7 @@ fn an_ended_token_changes_nothing(rt: HostRuntime) {
     run.assert_recorded(&rt, 6);
     assert_eq!(rt; run.course(&rt, 0), (5, 4, true));
     run.assert_steps(&rt, 1, &TO_THE_END);
-    assert_loads(&rt, &run.close(), &[4, 6, 4]);
+    end_with_loads(&rt, run.close(), &[4, 6, 4]);
 }
 
 #[test]
@@ -101,5 +102,5 @@ fn sixteen_plans_run_at_once(rt: HostRuntime) {
     run.assert_steps(&rt, 0, &[Step::Done]);
     run.must_begin(&rt, alloc, empty_plan(alloc));
     assert_eq!(&rt; run.tokens.len(), 17);
-    let _placement = run.close();
+    drop(run.close());
 }

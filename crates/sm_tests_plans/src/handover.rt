@@ -23,12 +23,18 @@ pub(super) const TO_THE_END: [Step; 6] = [
 ];
 
 /// Asserts that shard s went to server b.
-pub(super) fn assert_moved(rt: &impl Abort, placement: &Placement) {
+fn assert_moved(rt: &impl Abort, placement: &Placement) {
     assert_loads(rt, placement, &[0, 10, 4]);
     assert_primary(rt, placement, 0, 1, 1);
     assert_primary(rt, placement, 1, 1, 0);
     assert_eq!(rt; cell_at(rt, placement, 0, 0), Cell::Absent);
     assert_eq!(rt; cell_at(rt, placement, 0, 2), Cell::Secondary);
+}
+
+/// Asserts that shard s went to server b, at the end of a machine's placement.
+pub(super) fn end_moved(rt: &impl Abort, placement: Placement) {
+    assert_moved(rt, &placement);
+    drop(placement);
 }
 
 #[test]
@@ -38,7 +44,7 @@ fn six_steps_make_the_handover(rt: HostRuntime) {
     run.must_begin(&rt, alloc, handover_plan(alloc, World::Base, S_TO_B));
     run.assert_steps(&rt, 0, &TO_THE_END);
     run.assert_recorded(&rt, 6);
-    assert_moved(&rt, &run.close());
+    end_moved(&rt, run.close());
 }
 
 /// The first end of a stream is recorded, and no later one.
@@ -55,7 +61,7 @@ fn an_empty_stream_is_done_twice(rt: HostRuntime) {
         answer: Played::Done,
     };
     assert!(rt; run.machine.log() == [end].as_slice());
-    let _placement = run.close();
+    drop(run.close());
 }
 
 #[test]
@@ -69,7 +75,7 @@ fn a_stream_is_blocked_until_its_signal_is_posted(rt: HostRuntime) {
     run.assert_steps(&rt, 0, &[Step::Moved; 6]);
     run.assert_steps(&rt, 1, &[Step::Moved]);
     run.assert_recorded(&rt, 7);
-    let _placement = run.close();
+    drop(run.close());
 }
 
 /// The placement, where the calls of numbers 2 and 1 added a replica of shard s at server b, and dropped it.
@@ -92,5 +98,5 @@ fn numbers_from_before_the_opening_are_forgotten(rt: HostRuntime) {
     let mut run = open_over(&rt, alloc, numbered_placement(&rt, alloc), 6);
     run.must_begin(&rt, alloc, handover_plan(alloc, World::Base, S_TO_B));
     run.assert_steps(&rt, 0, &TO_THE_END);
-    assert_moved(&rt, &run.close());
+    end_moved(&rt, run.close());
 }

@@ -25,7 +25,7 @@ fn five_places_are_too_few(rt: HostRuntime) {
     let mut run = open_in(&rt, alloc, World::Base, 5);
     let checked = handover_plan(alloc, World::Base, S_TO_B);
     assert_not_begun(&rt, alloc, &mut run, checked, BeginFault::LogFull);
-    let _placement = run.close();
+    drop(run.close());
 }
 
 /// Why the restart of server c is not approved; where it is, its permit goes to the machine's.
@@ -50,7 +50,7 @@ fn assert_places(
     assert_eq!(rt; approval_at_c(rt, &mut run), approval);
     assert_eq!(rt; outcome_of(run.arrive(rt, 0, 0)), request);
     run.assert_steps(rt, 0, &TO_THE_END);
-    let _placement = run.close();
+    drop(run.close());
 }
 
 #[test]
@@ -86,7 +86,7 @@ fn refills_go_up_to_the_most_tries(rt: HostRuntime) {
     run.assert_recorded(&rt, 3);
     run.assert_steps(&rt, 0, &TO_THE_END);
     assert_refill(&rt, &mut run, 0, Err(RefillFault::Ended));
-    let _placement = run.close();
+    drop(run.close());
 }
 
 /// A refill takes a place for itself and one for each try, which come back where they were not needed.
@@ -102,7 +102,7 @@ fn refills_take_places(rt: HostRuntime) {
     assert_eq!(rt; outcome_of(run.arrive(&rt, 0, 1)), Outcome::Executed(1));
     assert_eq!(rt; outcome_of(run.arrive(&rt, 0, 1)), Outcome::LogFull);
     run.assert_recorded(&rt, 9);
-    let _placement = run.close();
+    drop(run.close());
 }
 
 /// A stream that was refilled at its end step is done.
@@ -114,5 +114,5 @@ fn a_refilled_stream_is_done(rt: HostRuntime) {
     assert_refill(&rt, &mut run, 1, Ok(()));
     run.assert_steps(&rt, 0, &[Step::Done, Step::Done]);
     assert_eq!(rt; run.course(&rt, 0), (5, 4, true));
-    let _placement = run.close();
+    drop(run.close());
 }

@@ -1,5 +1,5 @@
 //! Links that lose calls.
-use super::handover::{TO_THE_END, assert_moved};
+use super::handover::{TO_THE_END, end_moved};
 use super::last_places::assert_refill;
 use super::plans::{S_TO_B, chained_plan, handover_plan};
 use super::run::{Run, open_in};
@@ -81,6 +81,7 @@ fn what_is_lost_after_its_effect_is_made_once(rt: HostRuntime) {
     assert_loads(&rt, &placement, &[10, 8, 4, 0]);
     assert_primary(&rt, &placement, 1, 0, 1);
     assert_primary(&rt, &placement, 2, 1, 1);
+    drop(placement);
 }
 
 /// A link whose count cannot rise loses nothing.
@@ -97,7 +98,7 @@ fn a_link_that_cannot_count_loses_nothing(rt: HostRuntime) {
         assert_eq!(rt; run.step_over(&rt, 0, &mut link), *answer);
     }
     assert_eq!(rt; link.lost(), u64::MAX);
-    assert_moved(&rt, &run.close());
+    end_moved(&rt, run.close());
 }
 
 /// Without retries the stream has spent its allowance before its last call, and a refill lets it go on.
@@ -116,5 +117,5 @@ fn a_stream_that_has_spent_its_tries_goes_on_with_more(rt: HostRuntime) {
     assert_refill(&rt, &mut run, 1, Ok(()));
     run.assert_steps(&rt, 0, &TO_THE_END[4..]);
     run.assert_recorded(&rt, 8);
-    assert_moved(&rt, &run.close());
+    end_moved(&rt, run.close());
 }

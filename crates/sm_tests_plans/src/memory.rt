@@ -57,6 +57,7 @@ fn begun_or_not(
         Err((checked, why)) => {
             assert_eq!(rt; why, BeginFault::NoMemory);
             assert!(rt; is_chained(&checked));
+            drop(checked);
             assert_untouched(rt, machine);
             Vec::new(alloc)
         }
@@ -68,7 +69,7 @@ fn begin_at(rt: &impl Abort, alloc: Global, placement: Placement, checked: Check
     assert!(rt; placement.settled());
     if let Ok((mut machine, permits)) = Machine::open(alloc, placement, 14) {
         let tokens = begun_or_not(rt, alloc, &mut machine, checked);
-        let _placement = machine.give_up(tokens, permits, Vec::new(alloc));
+        drop(machine.give_up(tokens, permits, Vec::new(alloc)));
     }
 }
 
@@ -76,10 +77,10 @@ fn begin_at(rt: &impl Abort, alloc: Global, placement: Placement, checked: Check
 #[test]
 fn a_plan_is_begun_or_not(rt: HostRuntime) {
     let alloc = rt.alloc();
-    let Ok(checked) = chained_plan(alloc, 0) else {
-        return;
-    };
-    if let Ok(placement) = placement_of(alloc, World::Wide) {
-        begin_at(&rt, alloc, placement, checked);
+    if let Ok(checked) = chained_plan(alloc, 0) {
+        match placement_of(alloc, World::Wide) {
+            Ok(placement) => begin_at(&rt, alloc, placement, checked),
+            Err(_) => drop(checked),
+        }
     }
 }

@@ -1,5 +1,6 @@
 //! Plans of handovers, each by one stream, and plans whose streams have no code.
 use super::worlds::{World, config_of};
+use sm_placement::Config;
 use sm_plan_code::{Instr, Parts, Plan, Stream};
 use sm_reservation::{CellRight, Crown, Lead, Lists, Parcel, PlainCell, Room};
 use sm_server::{Role, ServerId, ShardId};
@@ -84,7 +85,7 @@ fn room_parcel(alloc: Global, server: u32, amount: u64) -> Result<Parcel, AllocE
         room: Vec::from_array(alloc, [room])?,
         spare: Vec::new(alloc),
     };
-    Parcel::new(alloc, lists).map_err(|_| AllocError)
+    Parcel::new(alloc, lists).ok().ok_or(AllocError)
 }
 
 /// What a handover holds at its start.
@@ -111,7 +112,7 @@ fn held(alloc: Global, moved: &Move) -> Result<Parcel, AllocError> {
         room: Vec::from_array(alloc, [room])?,
         spare: Vec::new(alloc),
     };
-    Parcel::new(alloc, lists).map_err(|_| AllocError)
+    Parcel::new(alloc, lists).ok().ok_or(AllocError)
 }
 
 /// A stream that makes a handover, with an instruction before it or behind it.
@@ -148,6 +149,16 @@ fn stream_of(alloc: Global, line: &Line) -> Result<Stream, AllocError> {
     })
 }
 
+/// A plan with its check for a configuration, which it has to pass.
+fn check_for(alloc: Global, config: &Config, plan: Plan) -> Result<Checked, AllocError> {
+    if plan.fits(config) {
+        check(alloc, config, plan).ok().ok_or(AllocError)
+    } else {
+        drop(plan);
+        Err(AllocError)
+    }
+}
+
 /// A plan with its check for a world, which it has to pass.
 fn checked_of(
     alloc: Global,
@@ -161,12 +172,18 @@ fn checked_of(
         streams,
         signals,
     };
-    let plan = Plan::new(parts).map_err(|_| AllocError)?;
-    let config = config_of(alloc, world)?;
-    if !plan.fits(&config) {
-        return Err(AllocError);
+    let plan = Plan::new(parts).ok().ok_or(AllocError)?;
+    match config_of(alloc, world) {
+        Ok(config) => {
+            let checked = check_for(alloc, &config, plan);
+            drop(config);
+            checked
+        }
+        Err(why) => {
+            drop(plan);
+            Err(why)
+        }
     }
-    check(alloc, &config, plan).map_err(|_| AllocError)
 }
 
 /// The plan of one handover.
@@ -223,7 +240,7 @@ pub(crate) fn empty_plan(alloc: Global) -> Result<Checked, AllocError> {
     let stream = Stream {
         budget: 0,
         retries: 0,
-        holds: Parcel::new(alloc, lists).map_err(|_| AllocError)?,
+        holds: Parcel::new(alloc, lists).ok().ok_or(AllocError)?,
         code: Vec::new(alloc),
     };
     let mut streams = Vec::new(alloc);

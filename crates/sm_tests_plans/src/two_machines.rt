@@ -14,8 +14,8 @@ fn a_token_of_another_machine_is_unknown(rt: HostRuntime) {
     let mut other = open_in(&rt, alloc, World::Base, 8);
     run.must_begin(&rt, alloc, handover_plan(alloc, World::Base, S_TO_B));
     assert_unknown(&rt, &mut run, &mut other);
-    let _placement = run.close();
-    let _placement = other.close();
+    drop(run.close());
+    drop(other.close());
 }
 
 /// The first token of a machine is unknown to another one, which stays as it is.
@@ -60,8 +60,8 @@ fn a_ticket_of_another_machine_that_agrees_is_executed(rt: HostRuntime) {
     let mut other = open_in(&rt, alloc, World::Base, 9);
     pass_between(&rt, alloc, &mut run, &mut other);
     assert_eq!(&rt; outcome_of(other.arrive(&rt, 0, 1)), Outcome::NotOwner);
-    let _placement = run.close();
-    let _placement = other.close();
+    drop(run.close());
+    drop(other.close());
 }
 
 /// The permit for the restart of a server, which is approved.
@@ -97,6 +97,6 @@ fn a_permit_for_a_server_that_is_up_comes_back(rt: HostRuntime) {
     end_at_its_own(&rt, &mut run, &mut other, permit);
     other.assert_recorded(&rt, 0);
     assert_eq!(&rt; outcome_of(run.arrive(&rt, 0, 2)), Outcome::NotOwner);
-    let _placement = run.close();
-    let _placement = other.close();
+    drop(run.close());
+    drop(other.close());
 }

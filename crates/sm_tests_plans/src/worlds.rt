@@ -84,6 +84,7 @@ pub(crate) fn placement_of(alloc: Global, world: World) -> Result<Placement, All
         World::Base => Placement::open(alloc, &config, &cells[..3], &listed[..2], &[], 1),
         World::Wide => Placement::open(alloc, &config, &cells, &listed, &[], 1),
     };
+    drop(config);
     opened.map_err(|_| AllocError)
 }
 
@@ -120,6 +121,12 @@ pub(crate) fn assert_loads(rt: &impl Abort, placement: &Placement, loads: &[u64]
             loads[number as usize]
         );
     }
+}
+
+/// Asserts what the servers carry at the end of a machine's placement.
+pub(crate) fn end_with_loads(rt: &impl Abort, placement: Placement, loads: &[u64]) {
+    assert_loads(rt, &placement, loads);
+    drop(placement);
 }
 
 /// Asserts that a shard has its primary at a server, which is listed under a version.
