@@ -1,5 +1,8 @@
 //! Tests of lists of events that are played with a hand, and of plans that are made ready, in a crate of their own: nothing here is part
 //! of the product.
+//!
+//! Owned placements and plans are dropped by name: where a function leaves that to its end, or to a `?` behind them, its
+//! proof takes many times as long.
 #![tactic(auto)]
 
 #[cfg(test)]

@@ -10,14 +10,20 @@ use sm_verifier::Checked;
 use std::alloc::Global;
 use std::process::Abort;
 
+/// Asserts that a plan is that of a handover, and drops it.
+fn end_handover(rt: &impl Abort, checked: Checked) {
+    assert!(rt; is_handover(&checked));
+    drop(checked);
+}
+
 /// Asserts that a plan is made ready, or comes back as it was.
 fn assert_made_ready(rt: &impl Abort, alloc: Global, checked: Checked) {
     match make_ready(alloc, checked) {
         Ok(ready) => {
             assert!(rt; is_handover(ready.checked()));
-            assert!(rt; is_handover(&ready.back()));
+            end_handover(rt, ready.back());
         }
-        Err((checked, _)) => assert!(rt; is_handover(&checked)),
+        Err((checked, _)) => end_handover(rt, checked),
     }
 }
 
@@ -81,5 +87,5 @@ fn events_are_played_or_not(rt: HostRuntime) {
             Err(_) => assert_untouched(&rt, &table),
         }
     }
-    let _placement = table.close();
+    drop(table.close());
 }

@@ -57,6 +57,7 @@ fn close_moved(rt: &impl Abort, table: Table) {
         1,
         [Cell::Absent, Cell::Primary, Cell::Absent],
     );
+    drop(placement);
 }
 
 /// The handover, each of whose steps is answered so; what the hand has nothing for is Unknown.
@@ -155,7 +156,7 @@ fn restarts_are_played(rt: HostRuntime) {
     play(&rt, alloc, &mut table, &restarts());
     table.assert_recorded(&rt, 6);
     assert_eq!(&rt; table.hand.permits.len(), 0);
-    let _placement = table.close();
+    drop(table.close());
 }
 
 /// The handover with lost calls, whose stream has spent its six tries before its last call goes through.
@@ -252,7 +253,7 @@ fn a_plan_that_does_not_start_stays_in_its_place(rt: HostRuntime) {
     play(&rt, alloc, &mut table, &starts());
     assert_plans(&rt, &table, [false, true, false]);
     assert_eq!(&rt; table.hand.tokens.len(), 2);
-    let _placement = table.close();
+    drop(table.close());
 }
 
 /// Steps of a halted machine change nothing; all else goes on.
@@ -277,5 +278,5 @@ fn a_halted_machine_plays(rt: HostRuntime) {
     table.machine.resume();
     play(&rt, alloc, &mut table, &[(step(0), Played::Moved)]);
     table.assert_recorded(&rt, 2);
-    let _placement = table.close();
+    drop(table.close());
 }

@@ -213,8 +213,8 @@ fn a_list_and_single_calls_leave_the_same(rt: HostRuntime) {
     let mut singly = open_with(&rt, alloc, 6);
     let mut listed = open_with(&rt, alloc, 6);
     compare(&rt, alloc, &mut singly, &mut listed);
-    let _placement = singly.close();
-    let _placement = listed.close();
+    drop(singly.close());
+    drop(listed.close());
 }
 
 /// Makes events at one machine by single calls, and at the other one by one list; they are answered alike.

@@ -91,9 +91,11 @@ fn a_plan_that_does_not_start_comes_back_ready(rt: HostRuntime) {
     assert_steps(&rt, &mut table, &TO_THE_END);
     let untrue = BeginFault::Holding(Holding::Untrue { key: place_at_b() });
     let second = not_started(&rt, &mut table, second, untrue);
-    assert!(&rt; is_handover(&second.back()));
+    let checked = second.back();
+    assert!(&rt; is_handover(&checked));
+    drop(checked);
     table.assert_recorded(&rt, 6);
-    let _placement = table.close();
+    drop(table.close());
 }
 
 #[test]
@@ -108,8 +110,8 @@ fn a_plan_starts_where_the_log_has_its_places(rt: HostRuntime) {
         (small.machine.plan_count(), table.machine.plan_count()),
         (0, 1)
     );
-    let _placement = small.close();
-    let _placement = table.close();
+    drop(small.close());
+    drop(table.close());
 }
 
 /// The last token of the hand is retired, with so many recorded steps, or comes back.
@@ -139,5 +141,5 @@ fn a_token_is_retired_at_the_end_of_its_stream(rt: HostRuntime) {
     assert_steps(&rt, &mut table, &TO_THE_END[5..]);
     assert_retired(&rt, &mut table, Some(6));
     table.assert_recorded(&rt, 6);
-    let _placement = table.close();
+    drop(table.close());
 }

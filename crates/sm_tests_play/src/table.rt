@@ -37,7 +37,7 @@ fn give_back(plan: Option<ReadyPlan>) {
     match plan {
         None => {}
         Some(ready) => {
-            let _checked = ready.back();
+            drop(ready.back());
         }
     }
 }

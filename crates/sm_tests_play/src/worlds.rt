@@ -48,7 +48,9 @@ pub(crate) fn placement(alloc: Global) -> Result<Placement, AllocError> {
         (ShardId::new(1), ServerId::new(1), Cell::Primary),
     ];
     let listed = [Some(ServerId::new(0)), Some(ServerId::new(1))];
-    Placement::open(alloc, &config, &cells, &listed, &[], 1).map_err(|_| AllocError)
+    let opened = Placement::open(alloc, &config, &cells, &listed, &[], 1);
+    drop(config);
+    opened.map_err(|_| AllocError)
 }
 
 /// A shard goes from one server to another, where it has so much load, with so many retries.
@@ -96,7 +98,7 @@ fn held(alloc: Global, moved: &Move) -> Result<Parcel, AllocError> {
         room: Vec::from_array(alloc, [room])?,
         spare: Vec::new(alloc),
     };
-    Parcel::new(alloc, lists).map_err(|_| AllocError)
+    Parcel::new(alloc, lists).ok().ok_or(AllocError)
 }
 
 /// The instructions of a handover.
@@ -124,6 +126,16 @@ const fn handover(moved: &Move) -> [Instr; 5] {
     ]
 }
 
+/// A plan with its check for a configuration, which it has to pass.
+fn check_for(alloc: Global, config: &Config, plan: Plan) -> Result<Checked, AllocError> {
+    if plan.fits(config) {
+        check(alloc, config, plan).ok().ok_or(AllocError)
+    } else {
+        drop(plan);
+        Err(AllocError)
+    }
+}
+
 /// The plan of a handover by one stream, with its check.
 pub(crate) fn plan_of(alloc: Global, moved: &Move) -> Result<Checked, AllocError> {
     let stream = Stream {
@@ -139,12 +151,18 @@ pub(crate) fn plan_of(alloc: Global, moved: &Move) -> Result<Checked, AllocError
         streams,
         signals: Vec::new(alloc),
     };
-    let plan = Plan::new(parts).map_err(|_| AllocError)?;
-    let config = config(alloc)?;
-    if !plan.fits(&config) {
-        return Err(AllocError);
+    let plan = Plan::new(parts).ok().ok_or(AllocError)?;
+    match config(alloc) {
+        Ok(config) => {
+            let checked = check_for(alloc, &config, plan);
+            drop(config);
+            checked
+        }
+        Err(why) => {
+            drop(plan);
+            Err(why)
+        }
     }
-    check(alloc, &config, plan).map_err(|_| AllocError)
 }
 
 /// The plan is that of one handover.
