@@ -137,6 +137,7 @@ fn assert_told(rt: &impl Abort, alloc: Global, world: &World, wanted: &Wanted, w
     let run = open(rt, alloc, world);
     let answer = plan_wanted(rt, alloc, &run.machine, wanted);
     let told = told_of(&answer);
+    drop(answer);
     assert!(rt;
         told.0 == want.0,
         "{} is wanted, and {} comes",

@@ -1,5 +1,5 @@
 //! As many moves and signals as a plan may have, and one more.
-use super::run::{Run, open_over};
+use super::run::{Run, open_on};
 use super::wanted::{move_of, plan_moves};
 use super::worlds::Ground;
 use sm_planner::{Move, NoPlan};
@@ -25,13 +25,9 @@ fn crowd(alloc: Global, room: u64, first: u32, second: u32) -> Result<Ground, Al
 
 /// A machine over such a placement.
 fn open_crowd(rt: &impl Abort, alloc: Global, room: u64, first: u32, second: u32) -> Run {
-    let placement = match crowd(alloc, room, first, second) {
-        Ok(ground) => ground.open(alloc),
+    let run = match crowd(alloc, room, first, second) {
+        Ok(ground) => open_on(rt, alloc, ground),
         Err(_) => None,
-    };
-    let run = match placement {
-        Some(placement) => open_over(rt, alloc, placement),
-        None => None,
     };
     match run {
         Some(run) => run,

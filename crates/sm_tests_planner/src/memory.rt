@@ -37,7 +37,10 @@ fn assert_planned_or_not(rt: &impl Abort, alloc: Global, wanted: &Wanted, stream
         return;
     };
     match plan_wanted(rt, alloc, &run.machine, wanted) {
-        Ok(checked) => assert_eq!(rt; checked.plan().streams().len(), streams),
+        Ok(checked) => {
+            assert_eq!(rt; checked.plan().streams().len(), streams);
+            drop(checked);
+        }
         Err(why) => assert_eq!(rt; why, NoPlan::NoMemory),
     }
     assert_untouched(rt, &run);

@@ -1,7 +1,7 @@
 //! Random placements, of which a server is emptied.
 ghost use Rattle.std.specs.Prelude.{◌<◌};
 
-use super::run::{Run, open_over};
+use super::run::{Run, open_on};
 use super::wanted::Wanted;
 use super::worlds::Ground;
 use sm_planner::NoPlan;
@@ -108,7 +108,7 @@ impl Dice {
         requires { 0 < servers }
     {
         match self.ground(alloc, servers) {
-            Ok(ground) => open_over(rt, alloc, ground.open(alloc)?),
+            Ok(ground) => open_on(rt, alloc, ground),
             Err(_) => panic!(rt; "there is no memory for a placement"),
         }
     }

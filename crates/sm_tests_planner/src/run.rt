@@ -33,10 +33,17 @@ pub(crate) fn open_over(rt: &impl Abort, alloc: Global, placement: Placement) ->
 
 /// Opens a machine over the placement of a world, where there is memory for it.
 pub(crate) fn open_or_not(rt: &impl Abort, alloc: Global, world: &World) -> Option<Run> {
-    let Ok(ground) = Ground::of(alloc, world) else {
-        return None;
-    };
-    match ground.open(alloc) {
+    match Ground::of(alloc, world) {
+        Ok(ground) => open_on(rt, alloc, ground),
+        Err(_) => None,
+    }
+}
+
+/// Opens a machine over the placement of a ground, which is dropped, where there is memory for it.
+pub(crate) fn open_on(rt: &impl Abort, alloc: Global, ground: Ground) -> Option<Run> {
+    let opened = ground.open(alloc);
+    drop(ground);
+    match opened {
         Some(placement) => open_over(rt, alloc, placement),
         None => None,
     }
@@ -140,6 +147,6 @@ impl Run {
             tokens,
             permits,
         } = self;
-        let _placement = machine.give_up(tokens, permits, Vec::new(alloc));
+        drop(machine.give_up(tokens, permits, Vec::new(alloc)));
     }
 }

@@ -90,7 +90,11 @@ pub(crate) fn plan_wanted(
 {
     match wanted {
         Wanted::Moves(table) => match moves_of(alloc, table) {
-            Ok(list) => plan_moves(rt, alloc, machine, &list),
+            Ok(list) => {
+                let planned = plan_moves(rt, alloc, machine, &list);
+                drop(list);
+                planned
+            }
             Err(_) => Err(NoPlan::NoMemory),
         },
         Wanted::Drain(server) => plan_drain(rt, alloc, machine, *server),

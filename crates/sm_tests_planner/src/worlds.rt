@@ -227,9 +227,20 @@ impl Ground {
 
     /// The placement, of which one server may be down, where it can be opened.
     pub fn open(&self, alloc: Global) -> Option<Placement> {
-        let Ok(config) = Config::new(alloc, &self.servers, &self.shards) else {
-            return None;
-        };
-        Placement::open(alloc, &config, &self.cells, &self.listed, &self.down, 1).ok()
+        match Config::new(alloc, &self.servers, &self.shards) {
+            Ok(config) => {
+                let opened = Placement::open(
+                    alloc,
+                    &config,
+                    &self.cells,
+                    &self.listed,
+                    &self.down,
+                    1,
+                );
+                drop(config);
+                opened.ok()
+            }
+            Err(_) => None,
+        }
     }
 }
