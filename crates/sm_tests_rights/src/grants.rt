@@ -226,7 +226,8 @@ fn keep_each(
     all: &[Portion],
 ) -> Result<(), AllocError> {
     for portion in all {
-        keep(rt, pool, taken_of(alloc, pool, portion)?, portion);
+        let grant = taken_of(alloc, pool, portion)?;
+        keep(rt, pool, grant, portion);
     }
     Ok(())
 }
