@@ -95,5 +95,5 @@ pub(crate) fn assert_played(
         assert_eq!(rt; play(rt, alloc, &mut machine, &mut hand, *event), *answer);
     }
     assert_log(rt, &machine, log);
-    let _placement = end(rt, machine, hand);
+    drop(end(rt, machine, hand));
 }
