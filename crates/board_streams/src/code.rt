@@ -63,25 +63,31 @@ fn push_exchange(
     Ok(())
 }
 
-/// The instructions of a stream: a turn with its own shard, one with that of the next stream and one with that of the stream after
-/// it, which gets a secondary at last.
-pub(crate) fn code_of(alloc: Global, shape: &Shape, stream: u32) -> Result<Vec<Instr>, AllocError> {
+/// Adds the instructions of a stream: a turn with its own shard, one with that of the next stream and one with that of the stream
+/// after it, which gets a secondary at last.
+fn push_code(code: &mut Vec<Instr>, shape: &Shape, stream: u32) -> Result<(), AllocError> {
     let (next, last) = (behind(shape, stream, 1), behind(shape, stream, 2));
     let (first, second) = (u64::from(shape.first), u64::from(shape.second));
-    let mut code = Vec::new(alloc);
-    push_turn(&mut code, stream, 0, shape.first)?;
-    push_exchange(&mut code, stream, stream, next)?;
-    push_turn(&mut code, next, first, shape.second)?;
+    push_turn(code, stream, 0, shape.first)?;
+    push_exchange(code, stream, stream, next)?;
+    push_turn(code, next, first, shape.second)?;
     let (given, awaited) = (
         shape.streams.wrapping_add(stream),
         shape.streams.wrapping_add(next),
     );
-    push_exchange(&mut code, next, given, awaited)?;
-    push_turn(&mut code, last, first + second, shape.third)?;
+    push_exchange(code, next, given, awaited)?;
+    push_turn(code, last, first + second, shape.third)?;
     code.push(Instr::Add {
         shard: ShardId::new(last),
         server: secondary_of(last),
         role: Role::Secondary,
     })?;
+    Ok(())
+}
+
+/// The instructions of a stream.
+pub(crate) fn code_of(alloc: Global, shape: &Shape, stream: u32) -> Result<Vec<Instr>, AllocError> {
+    let mut code = Vec::new(alloc);
+    push_code(&mut code, shape, stream)?;
     Ok(code)
 }

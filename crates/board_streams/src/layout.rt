@@ -2,7 +2,7 @@
 ghost use Rattle.std.specs.Prelude.{◌<◌, ◌^◌};
 
 use crate::fault::Fault;
-use sm_placement::{Config, Placement, Server, Shard};
+use sm_placement::{Config, OpenFault, Placement, Server, Shard};
 use sm_server::{Cell, ServerId, ShardId};
 use std::alloc::{AllocError, Global};
 
@@ -50,22 +50,31 @@ pub const fn publications_of(shape: &Shape) -> u64 {
     moves_of(shape) + 4
 }
 
+/// A server.
+fn server_of(alloc: Global, number: u32) -> Result<Server, AllocError> {
+    let name = format!(in alloc; "server-{number}")?;
+    Ok(Server {
+        region: String::from_str(alloc, "region")?,
+        name,
+        room: 100,
+    })
+}
+
 /// The servers.
 fn servers_of(alloc: Global) -> Result<Vec<Server>, AllocError> {
     let mut servers = Vec::new(alloc);
     for number in 0..SERVERS {
-        servers.push(Server {
-            name: format!(in alloc; "server-{number}")?,
-            region: String::from_str(alloc, "region")?,
-            room: 100,
-        })?;
+        servers.push(server_of(alloc, number)?)?;
     }
     Ok(servers)
 }
 
-/// The shards: one replica is wanted of each stream's shard, and two of each other one, of which one may be away.
-fn shards_of(alloc: Global, shape: &Shape) -> Result<Vec<Shard>, AllocError> {
-    let mut shards = Vec::new(alloc);
+/// Adds the streams' shards: one replica is wanted of each.
+fn push_moved_shards(
+    alloc: Global,
+    shards: &mut Vec<Shard>,
+    shape: &Shape,
+) -> Result<(), AllocError> {
     for number in 0..shape.streams {
         shards.push(Shard {
             name: format!(in alloc; "shard-{number}")?,
@@ -75,6 +84,11 @@ fn shards_of(alloc: Global, shape: &Shape) -> Result<Vec<Shard>, AllocError> {
             spread: 1,
         })?;
     }
+    Ok(())
+}
+
+/// Adds the shards that no plan touches: two replicas are wanted of each, of which one may be away.
+fn push_resting_shards(alloc: Global, shards: &mut Vec<Shard>) -> Result<(), AllocError> {
     for number in 0..RESTING {
         shards.push(Shard {
             name: format!(in alloc; "resting-{number}")?,
@@ -84,6 +98,14 @@ fn shards_of(alloc: Global, shape: &Shape) -> Result<Vec<Shard>, AllocError> {
             spread: 1,
         })?;
     }
+    Ok(())
+}
+
+/// The shards.
+fn shards_of(alloc: Global, shape: &Shape) -> Result<Vec<Shard>, AllocError> {
+    let mut shards = Vec::new(alloc);
+    push_moved_shards(alloc, &mut shards, shape)?;
+    push_resting_shards(alloc, &mut shards)?;
     Ok(shards)
 }
 
@@ -95,60 +117,91 @@ pub fn config_of(alloc: Global, shape: &Shape) -> Result<Config, Fault> {
 }
 
 /// What stands where, and what the published map lists for each shard.
-#[derive(Drop)]
 struct Rows {
     cells: Vec<(ShardId, ServerId, Cell)>,
     listed: Vec<Option<ServerId>>,
 }
 
-/// The rows of the streams' shards, whose primaries were moved so often.
-fn moved_rows(alloc: Global, shape: &Shape, moved: u64) -> Result<Rows, AllocError> {
-    let mut cells = Vec::new(alloc);
-    let mut listed = Vec::new(alloc);
-    for number in 0..shape.streams {
-        let server = primary_of(number, moved);
-        cells.push((ShardId::new(number), server, Cell::Primary))?;
-        listed.push(Some(server))?;
+impl Drop for Rows {
+    fn drop(self) {
+        let Rows { cells, listed } = self;
+        drop(cells);
+        drop(listed);
     }
-    Ok(Rows { cells, listed })
 }
 
-/// Adds the secondaries that the streams add.
-fn push_added(rows: &mut Rows, shape: &Shape) -> Result<(), AllocError> {
-    for number in 0..shape.streams {
-        let shard = ShardId::new(number);
-        rows.cells
-            .push((shard, secondary_of(number), Cell::Secondary))?;
+impl Rows {
+    fn new(alloc: Global) -> Rows {
+        Rows {
+            cells: Vec::new(alloc),
+            listed: Vec::new(alloc),
+        }
     }
-    Ok(())
-}
 
-/// Adds the rows of the shards that no plan touches.
-fn push_resting(rows: &mut Rows, shape: &Shape) -> Result<(), AllocError> {
-    for number in 0..RESTING {
-        let shard = ShardId::new(shape.streams.wrapping_add(number));
-        let first = ServerId::new(3 * SPREAD + number);
-        let second = ServerId::new(3 * SPREAD + (number + 1) % SPREAD);
-        rows.cells.push((shard, first, Cell::Primary))?;
-        rows.cells.push((shard, second, Cell::Secondary))?;
-        rows.listed.push(Some(first))?;
+    /// Adds the rows of the streams' shards, whose primaries were moved so often.
+    fn push_moved(&mut self, shape: &Shape, moved: u64) -> Result<(), AllocError> {
+        for number in 0..shape.streams {
+            let server = primary_of(number, moved);
+            self.cells
+                .push((ShardId::new(number), server, Cell::Primary))?;
+            self.listed.push(Some(server))?;
+        }
+        Ok(())
     }
-    Ok(())
+
+    /// Adds the secondaries that the streams add.
+    fn push_added(&mut self, shape: &Shape) -> Result<(), AllocError> {
+        for number in 0..shape.streams {
+            let shard = ShardId::new(number);
+            self.cells
+                .push((shard, secondary_of(number), Cell::Secondary))?;
+        }
+        Ok(())
+    }
+
+    /// Adds the rows of the shards that no plan touches.
+    fn push_resting(&mut self, shape: &Shape) -> Result<(), AllocError> {
+        for number in 0..RESTING {
+            let shard = ShardId::new(shape.streams.wrapping_add(number));
+            let first = ServerId::new(3 * SPREAD + number);
+            let second = ServerId::new(3 * SPREAD + (number + 1) % SPREAD);
+            self.cells.push((shard, first, Cell::Primary))?;
+            self.cells.push((shard, second, Cell::Secondary))?;
+            self.listed.push(Some(first))?;
+        }
+        Ok(())
+    }
+
+    /// Adds the rows that a plan starts at.
+    fn push_before(&mut self, shape: &Shape) -> Result<(), AllocError> {
+        self.push_moved(shape, 0)?;
+        self.push_resting(shape)
+    }
+
+    /// Adds the rows that a plan ends at.
+    fn push_after(&mut self, shape: &Shape) -> Result<(), AllocError> {
+        self.push_moved(shape, moves_of(shape))?;
+        self.push_added(shape)?;
+        self.push_resting(shape)
+    }
+
+    /// The placement with these rows. One server may be down at a time.
+    fn placed(&self, alloc: Global, config: &Config) -> Result<Placement, OpenFault> {
+        let (cells, listed) = (self.cells.as_slice(), self.listed.as_slice());
+        Placement::open(alloc, config, cells, listed, &[], 1)
+    }
 }
 
 /// The placement that a plan of this shape starts at. One server may be down at a time.
 pub fn placement_before(alloc: Global, config: &Config, shape: &Shape) -> Result<Placement, Fault> {
-    let mut rows = moved_rows(alloc, shape, 0)?;
-    push_resting(&mut rows, shape)?;
-    let Rows { cells, listed } = rows;
-    Ok(Placement::open(alloc, config, &cells, &listed, &[], 1)?)
+    let mut rows = Rows::new(alloc);
+    rows.push_before(shape)?;
+    Ok(rows.placed(alloc, config)?)
 }
 
 /// The placement that a plan of this shape ends at, but for the versions of the published map (`publications_of`).
 pub fn placement_after(alloc: Global, config: &Config, shape: &Shape) -> Result<Placement, Fault> {
-    let mut rows = moved_rows(alloc, shape, moves_of(shape))?;
-    push_added(&mut rows, shape)?;
-    push_resting(&mut rows, shape)?;
-    let Rows { cells, listed } = rows;
-    Ok(Placement::open(alloc, config, &cells, &listed, &[], 1)?)
+    let mut rows = Rows::new(alloc);
+    rows.push_after(shape)?;
+    Ok(rows.placed(alloc, config)?)
 }

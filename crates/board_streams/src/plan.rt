@@ -11,44 +11,59 @@ use sm_server::ShardId;
 use sm_verifier::{Checked, check};
 use std::alloc::{AllocError, Global};
 
-/// The rights to go on with a shard whose primary was moved so often.
-fn rights_of(alloc: Global, shard: u32, moved: u64) -> Result<Lists, AllocError> {
+/// No rights.
+fn no_rights(alloc: Global) -> Lists {
+    Lists {
+        cells: Vec::new(alloc),
+        crowns: Vec::new(alloc),
+        room: Vec::new(alloc),
+        spare: Vec::new(alloc),
+    }
+}
+
+/// Adds the rights to go on with a shard whose primary was moved so often.
+fn push_rights(lists: &mut Lists, shard: u32, moved: u64) -> Result<(), AllocError> {
     let at = primary_of(shard, moved);
-    let to = primary_of(shard, moved.wrapping_add(1));
+    let server = primary_of(shard, moved.wrapping_add(1));
     let shard = ShardId::new(shard);
-    let cell = CellRight {
+    lists.cells.push(CellRight {
         shard,
-        server: to,
+        server,
         state: PlainCell::Absent,
-    };
-    let crown = Crown {
+    })?;
+    lists.crowns.push(Crown {
         shard,
         lead: Lead::At(at),
         listed: Some(at),
-    };
-    let room = Room {
-        server: to,
-        amount: 1,
-    };
-    Ok(Lists {
-        cells: Vec::from_array(alloc, [cell])?,
-        crowns: Vec::from_array(alloc, [crown])?,
-        room: Vec::from_array(alloc, [room])?,
-        spare: Vec::new(alloc),
-    })
+    })?;
+    lists.room.push(Room { server, amount: 1 })?;
+    Ok(())
 }
 
-/// What a stream holds at its start: the rights to go on with its shard, and to add the secondary.
-fn holds_of(alloc: Global, shape: &Shape, stream: u32) -> Result<Parcel, Fault> {
-    let last = behind(shape, stream, 2);
-    let server = secondary_of(last);
-    let mut lists = rights_of(alloc, stream, 0)?;
+/// Adds the right to add the secondary of a shard.
+fn push_secondary(lists: &mut Lists, shard: u32) -> Result<(), AllocError> {
+    let server = secondary_of(shard);
     lists.cells.push(CellRight {
-        shard: ShardId::new(last),
+        shard: ShardId::new(shard),
         server,
         state: PlainCell::Absent,
     })?;
     lists.room.push(Room { server, amount: 1 })?;
+    Ok(())
+}
+
+/// The rights to go on with a shard whose primary was moved so often.
+fn rights_of(alloc: Global, shard: u32, moved: u64) -> Result<Parcel, Fault> {
+    let mut lists = no_rights(alloc);
+    push_rights(&mut lists, shard, moved)?;
+    Ok(Parcel::new(alloc, lists)?)
+}
+
+/// What a stream holds at its start: the rights to go on with its shard, and to add the secondary.
+fn holds_of(alloc: Global, shape: &Shape, stream: u32) -> Result<Parcel, Fault> {
+    let mut lists = no_rights(alloc);
+    push_rights(&mut lists, stream, 0)?;
+    push_secondary(&mut lists, behind(shape, stream, 2))?;
     Ok(Parcel::new(alloc, lists)?)
 }
 
@@ -63,53 +78,78 @@ fn budget_of(shape: &Shape) -> u32 {
     calls.min(u64::from(MOST_CALLS)) as u32
 }
 
+/// A stream.
+fn stream_of(alloc: Global, shape: &Shape, stream: u32) -> Result<Stream, Fault> {
+    let holds = holds_of(alloc, shape, stream)?;
+    Ok(Stream {
+        budget: calls_of(shape),
+        retries: 0,
+        code: code_of(alloc, shape, stream)?,
+        holds,
+    })
+}
+
 /// The streams.
 fn streams_of(alloc: Global, shape: &Shape) -> Result<Vec<Stream>, Fault> {
     let mut streams = Vec::new(alloc);
     for stream in 0..shape.streams {
-        streams.push(Stream {
-            budget: calls_of(shape),
-            retries: 0,
-            holds: holds_of(alloc, shape, stream)?,
-            code: code_of(alloc, shape, stream)?,
-        })?;
+        streams.push(stream_of(alloc, shape, stream)?)?;
     }
     Ok(streams)
 }
 
+/// Adds for each stream the rights to go on with the shard of the stream so far behind it, whose primary was moved so often.
+fn push_signals(
+    alloc: Global,
+    signals: &mut Vec<Parcel>,
+    shape: &Shape,
+    by: u32,
+    moved: u64,
+) -> Result<(), Fault> {
+    for stream in 0..shape.streams {
+        signals.push(rights_of(alloc, behind(shape, stream, by), moved)?)?;
+    }
+    Ok(())
+}
+
 /// What the signals carry: those behind the first turns, and those behind the second ones.
 fn signals_of(alloc: Global, shape: &Shape) -> Result<Vec<Parcel>, Fault> {
-    let first = u64::from(shape.first);
+    let (first, second) = (u64::from(shape.first), u64::from(shape.second));
     let mut signals = Vec::new(alloc);
-    for stream in 0..shape.streams {
-        let rights = rights_of(alloc, stream, first)?;
-        signals.push(Parcel::new(alloc, rights)?)?;
-    }
-    for stream in 0..shape.streams {
-        let next = behind(shape, stream, 1);
-        let rights = rights_of(alloc, next, first + u64::from(shape.second))?;
-        signals.push(Parcel::new(alloc, rights)?)?;
-    }
+    push_signals(alloc, &mut signals, shape, 0, first)?;
+    push_signals(alloc, &mut signals, shape, 1, first + second)?;
     Ok(signals)
 }
 
-/// The plan of a shape, checked for the configuration.
-pub fn plan_of(alloc: Global, config: &Config, shape: &Shape) -> Result<Checked, Fault>
+/// The parts of the plan of a shape.
+fn parts_of(alloc: Global, shape: &Shape) -> Result<Parts, Fault> {
+    let streams = streams_of(alloc, shape)?;
+    Ok(Parts {
+        budget: budget_of(shape),
+        signals: signals_of(alloc, shape)?,
+        streams,
+    })
+}
+
+/// A plan, checked for the configuration.
+fn checked(alloc: Global, config: &Config, plan: Plan) -> Result<Checked, Fault>
     ensures { IfOk result (λ checked. checked.setup ≡ config.now) }
 {
-    let parts = Parts {
-        budget: budget_of(shape),
-        streams: streams_of(alloc, shape)?,
-        signals: signals_of(alloc, shape)?,
-    };
-    let Ok(plan) = Plan::new(parts) else {
-        return Err(Fault::TooLarge);
-    };
     if !plan.fits(config) {
         return Err(Fault::TooLarge);
     }
     match check(alloc, config, plan) {
         Ok(checked) => Ok(checked),
         Err((_, fault)) => Err(Fault::from(fault)),
+    }
+}
+
+/// The plan of a shape, checked for the configuration.
+pub fn plan_of(alloc: Global, config: &Config, shape: &Shape) -> Result<Checked, Fault>
+    ensures { IfOk result (λ checked. checked.setup ≡ config.now) }
+{
+    match Plan::new(parts_of(alloc, shape)?) {
+        Ok(plan) => checked(alloc, config, plan),
+        Err(_) => Err(Fault::TooLarge),
     }
 }

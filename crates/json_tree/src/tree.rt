@@ -5,9 +5,8 @@ ghost use Rattle.json_tree.specs.View.{view, items_view, members_view};
 
 use serde_json::Number;
 
-/// A JSON value. Its texts are borrowed, and an object has its members in the order of the text, also those that a later one of the
-/// same name takes the place of.
-#[derive(Debug, Drop)]
+/// A JSON value. Its texts are borrowed, and an object has all its members, doubled ones too, in the order of the text.
+#[derive(Debug)]
 pub enum Tree<'a> {
     Null,
     Bool(bool),
@@ -15,6 +14,16 @@ pub enum Tree<'a> {
     String(&'a str),
     Array(Vec<Tree<'a>>),
     Object(Vec<(&'a str, Tree<'a>)>),
+}
+
+impl Drop for Tree<'_> {
+    fn drop(self) {
+        match self {
+            Tree::Array(_items) => {}
+            Tree::Object(_members) => {}
+            Tree::Null | Tree::Bool(_) | Tree::Number(_) | Tree::String(_) => {}
+        }
+    }
 }
 
 impl<'a> Tree<'a> {

@@ -74,12 +74,12 @@ fn words_of(alloc: Global, entries: &[Entry]) -> Result<Vec<u64>, AllocError>
     requires { All (IsInRange MOST_SERVERS) entries.now }
     ensures { IfOk result (λ v. v.items ≡ words_for entries.now) }
 {
-    let mut words = Vec::new(alloc);
+    let mut words = Vec::with_capacity(alloc, entries.len().max(1))?;
     for entry in entries {
-        words.push(word_of(*entry))?;
+        words.push_reserved(word_of(*entry));
     }
     if entries.is_empty() {
-        words.push(0)?;
+        words.push_reserved(0);
     }
     Ok(words)
 }

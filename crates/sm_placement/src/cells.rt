@@ -19,10 +19,18 @@ pub enum State {
 
 /// A list of cells: the state of each, and the party of each whose state has one. Beside any other state a party means
 /// nothing.
-#[derive(Drop)]
 pub struct Cells {
     states: Vec<State>,
     parties: Parties,
+}
+
+/// One call where it goes out of scope, and not one for each list.
+impl Drop for Cells {
+    fn drop(self) {
+        let Cells { states, parties } = self;
+        drop(states);
+        drop(parties);
+    }
 }
 
 impl Model for Cells {

@@ -59,12 +59,28 @@ pub enum ConfigFault {
 }
 
 /// Servers and shards, each with the number of its position.
-#[derive(Debug, Drop)]
+#[derive(Debug)]
 pub struct Config {
     servers: Vec<Server>,
     shards: Vec<Shard>,
     server_names: IndexSet<String>,
     shard_names: IndexSet<String>,
+}
+
+/// One call where it goes out of scope, and not one for each list.
+impl Drop for Config {
+    fn drop(self) {
+        let Config {
+            servers,
+            shards,
+            server_names,
+            shard_names,
+        } = self;
+        drop(servers);
+        drop(shards);
+        drop(server_names);
+        drop(shard_names);
+    }
 }
 
 impl Model for Config {
@@ -192,22 +208,47 @@ fn has_good_numbers(servers: &[Server], shards: &[Shard]) -> bool
     are_good_servers(servers) && are_good_shards(shards)
 }
 
+/// A table of names that is not yet part of a configuration.
+struct Names {
+    table: IndexSet<String>,
+}
+
+/// One call where it goes out of scope, and not one for each list.
+impl Drop for Names {
+    fn drop(self) {
+        let Names { table } = self;
+        drop(table);
+    }
+}
+
+impl Names {
+    /// The table itself.
+    fn into_table(self) -> IndexSet<String>
+        ensures { result ≡ self.table }
+    {
+        let Names { table } = self;
+        table
+    }
+}
+
 /// Puts a name last in a table, and says whether it was new there.
 #[tactic(auto, using(crate::proofs::ConfigLemmas::any_name))]
-fn insert_name(alloc: Global, names: &mut IndexSet<String>, name: &str) -> Result<bool, AllocError>
-    ensures added { IfOk result (λ added. added ≡ not (list_any (bytes_eq name.now) (map string_bytes names.old.keys))) }
-    ensures names { IfOk result (λ added. IsTrue added → map string_bytes names.new.keys ≡ map string_bytes names.old.keys ++ name.now ∷ []) }
+fn insert_name(alloc: Global, names: &mut Names, name: &str) -> Result<bool, AllocError>
+    ensures added { IfOk result (λ added. added ≡ not (list_any (bytes_eq name.now) (map string_bytes names.old.table.keys))) }
+    ensures names { IfOk result (λ added. IsTrue added → map string_bytes names.new.table.keys ≡ map string_bytes names.old.table.keys ++ name.now ∷ []) }
 {
-    Ok(names.insert(String::from_str(alloc, name)?)?)
+    Ok(names.table.insert(String::from_str(alloc, name)?)?)
 }
 
 /// The table of the servers' names, or nothing where two have one name.
 #[tactic(auto, using(crate::proofs::DoubleLemmas::server_names_more, crate::proofs::DoubleLemmas::server_single_more, crate::proofs::DoubleLemmas::server_double_here))]
-fn server_table(alloc: Global, servers: &[Server]) -> Result<Option<IndexSet<String>>, AllocError>
+fn server_table(alloc: Global, servers: &[Server]) -> Result<Option<Names>, AllocError>
     ensures double { IfOk result (λ table. is_none table ≡ has_double (server_names servers.now)) }
-    ensures names { IfOk result (λ table. IfSome table (λ names. map string_bytes names.keys ≡ server_names servers.now)) }
+    ensures names { IfOk result (λ table. IfSome table (λ names. map string_bytes names.table.keys ≡ server_names servers.now)) }
 {
-    let mut names = IndexSet::new(alloc);
+    let mut names = Names {
+        table: IndexSet::new(alloc),
+    };
     for server in servers {
         if !insert_name(alloc, &mut names, &server.name)? {
             return Ok(None);
@@ -218,11 +259,13 @@ fn server_table(alloc: Global, servers: &[Server]) -> Result<Option<IndexSet<Str
 
 /// The table of the shards' names, or nothing where two have one name.
 #[tactic(auto, using(crate::proofs::DoubleLemmas::shard_names_more, crate::proofs::DoubleLemmas::shard_single_more, crate::proofs::DoubleLemmas::shard_double_here))]
-fn shard_table(alloc: Global, shards: &[Shard]) -> Result<Option<IndexSet<String>>, AllocError>
+fn shard_table(alloc: Global, shards: &[Shard]) -> Result<Option<Names>, AllocError>
     ensures double { IfOk result (λ table. is_none table ≡ has_double (shard_names shards.now)) }
-    ensures names { IfOk result (λ table. IfSome table (λ names. map string_bytes names.keys ≡ shard_names shards.now)) }
+    ensures names { IfOk result (λ table. IfSome table (λ names. map string_bytes names.table.keys ≡ shard_names shards.now)) }
 {
-    let mut names = IndexSet::new(alloc);
+    let mut names = Names {
+        table: IndexSet::new(alloc),
+    };
     for shard in shards {
         if !insert_name(alloc, &mut names, &shard.name)? {
             return Ok(None);
@@ -263,12 +306,27 @@ fn copied_shards(alloc: Global, shards: &[Shard]) -> Result<Vec<Shard>, AllocErr
     Vec::from_clones(alloc, shards)
 }
 
+/// A copy of servers and shards.
+fn copied_rows(
+    alloc: Global,
+    servers: &[Server],
+    shards: &[Shard],
+) -> Result<(Vec<Server>, Vec<Shard>), AllocError>
+    ensures servers { IfOk result (λ rows. map server_row rows.0.items ≡ map server_row servers.now) }
+    ensures shards { IfOk result (λ rows. map shard_row rows.1.items ≡ map shard_row shards.now) }
+{
+    let servers = copied_servers(alloc, servers)?;
+    Ok((servers, copied_shards(alloc, shards)?))
+}
+
 /// A copy of a table of names.
 #[tactic(auto, using(crate::proofs::CopyLemmas::name_copies))]
-fn copied_names(names: &IndexSet<String>) -> Result<IndexSet<String>, AllocError>
-    ensures { IfOk result (λ copy. map string_bytes copy.keys ≡ map string_bytes names.now.keys) }
+fn copied_names(names: &IndexSet<String>) -> Result<Names, AllocError>
+    ensures { IfOk result (λ copy. map string_bytes copy.table.keys ≡ map string_bytes names.now.keys) }
 {
-    names.clone()
+    Ok(Names {
+        table: names.clone()?,
+    })
 }
 
 /// The number of a name in a table.
@@ -310,11 +368,12 @@ impl Config {
         if !has_good_numbers(servers, shards) {
             return Err(ConfigFault::BadNumber);
         }
+        let (servers, shards) = copied_rows(alloc, servers, shards)?;
         Ok(Config {
-            servers: copied_servers(alloc, servers)?,
-            shards: copied_shards(alloc, shards)?,
-            server_names,
-            shard_names,
+            servers,
+            shards,
+            server_names: server_names.into_table(),
+            shard_names: shard_names.into_table(),
         })
     }
 
@@ -322,11 +381,14 @@ impl Config {
     pub fn copy(&self, alloc: Global) -> Result<Config, AllocError>
         ensures { IfOk result (λ config. config ≡ self.now) }
     {
+        let server_names = copied_names(&self.server_names)?;
+        let shard_names = copied_names(&self.shard_names)?;
+        let (servers, shards) = copied_rows(alloc, self.servers(), self.shards())?;
         Ok(Config {
-            servers: copied_servers(alloc, self.servers())?,
-            shards: copied_shards(alloc, self.shards())?,
-            server_names: copied_names(&self.server_names)?,
-            shard_names: copied_names(&self.shard_names)?,
+            servers,
+            shards,
+            server_names: server_names.into_table(),
+            shard_names: shard_names.into_table(),
         })
     }
 

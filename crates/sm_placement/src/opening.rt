@@ -153,7 +153,7 @@ fn first_double(
 }
 
 /// How many of a shard's cells are primaries, and how many have a part in a handover.
-#[derive(Clone, Copy, Debug, PartialEq, Eq)]
+#[derive(Clone, Copy)]
 struct LeadCells {
     primaries: u32,
     handing: u32,
@@ -343,7 +343,8 @@ fn stand(
     if let Some(fault) = standing_fault(&table, listed, limit) {
         return Err(fault);
     }
-    let versions = vec![in alloc; 0; listed.len()]?;
+    let shards = table.config().shard_count() as usize;
+    let versions = vec![in alloc; 0; shards]?;
     let listed = Vec::from_slice(alloc, listed)?;
     Ok(Placement::from_parts(table, listed, versions, limit))
 }

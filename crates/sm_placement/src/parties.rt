@@ -21,10 +21,18 @@ pub struct Party {
 
 /// A party for each place. There is room for all of them from the beginning, and none is written before it is needed:
 /// a block that has had no party has no start.
-#[derive(Drop)]
 pub struct Parties {
     starts: Vec<Option<usize>>,
     parties: Vec<Party>,
+}
+
+/// One call where it goes out of scope, and not one for each list.
+impl Drop for Parties {
+    fn drop(self) {
+        let Parties { starts, parties } = self;
+        drop(starts);
+        drop(parties);
+    }
 }
 
 impl Model for Parties {

@@ -21,12 +21,26 @@ pub enum Serving {
 }
 
 /// What each server has of each shard, who is down, and what the published map says.
-#[derive(Drop)]
 pub struct Placement {
     table: Table,
     listed: Vec<Option<ServerId>>,
     versions: Vec<u64>,
     limit: u32,
+}
+
+/// One call where it goes out of scope, and not one for each list.
+impl Drop for Placement {
+    fn drop(self) {
+        let Placement {
+            table,
+            listed,
+            versions,
+            limit: _,
+        } = self;
+        drop(table);
+        drop(listed);
+        drop(versions);
+    }
 }
 
 impl Model for Placement {

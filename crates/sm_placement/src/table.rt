@@ -18,7 +18,6 @@ use std::marker::Model;
 
 /// The cells of a configuration shard after shard, the number of the last call that had an effect on each, who is
 /// down, and the totals of all these.
-#[derive(Drop)]
 pub struct Table {
     config: Config,
     cells: Cells,
@@ -28,6 +27,29 @@ pub struct Table {
     loads: Vec<u64>,
     lives: Vec<u32>,
     servings: Vec<u32>,
+}
+
+/// One call where it goes out of scope, and not one for each list.
+impl Drop for Table {
+    fn drop(self) {
+        let Table {
+            config,
+            cells,
+            lasts,
+            down,
+            down_count: _,
+            loads,
+            lives,
+            servings,
+        } = self;
+        drop(config);
+        drop(cells);
+        drop(lasts);
+        drop(down);
+        drop(loads);
+        drop(lives);
+        drop(servings);
+    }
 }
 
 impl Model for Table {

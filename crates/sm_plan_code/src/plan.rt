@@ -12,7 +12,6 @@ use std::marker::Model;
 use thiserror::Error;
 
 /// Instructions that are made one after another, and the rights that they begin with.
-#[derive(Drop)]
 pub struct Stream {
     /// How many calls the stream makes at most.
     pub budget: u32,
@@ -22,6 +21,20 @@ pub struct Stream {
     pub holds: Parcel,
     /// The instructions in their order.
     pub code: Vec<Instr>,
+}
+
+/// One call where it goes out of scope, and not one for each list.
+impl Drop for Stream {
+    fn drop(self) {
+        let Stream {
+            budget: _,
+            retries: _,
+            holds,
+            code,
+        } = self;
+        drop(holds);
+        drop(code);
+    }
 }
 
 impl Model for Stream {
@@ -55,11 +68,23 @@ pub enum PlanFault {
 }
 
 /// Streams and signals: each within its limits, and all signals of the instructions known.
-#[derive(Drop)]
 pub struct Plan {
     budget: u32,
     streams: Vec<Stream>,
     signals: Vec<Parcel>,
+}
+
+/// One call where it goes out of scope, and not one for each list.
+impl Drop for Plan {
+    fn drop(self) {
+        let Plan {
+            budget: _,
+            streams,
+            signals,
+        } = self;
+        drop(streams);
+        drop(signals);
+    }
 }
 
 impl Model for Plan {

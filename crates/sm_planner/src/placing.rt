@@ -13,7 +13,6 @@ use sm_reservation::Pool;
 use std::alloc::{AllocError, Global};
 
 /// Moves that are placed one after another.
-#[derive(Drop)]
 pub(crate) struct Placing {
     /// The places in the list of the moves that are placed, the first placed first.
     pub(crate) placed: Vec<usize>,
@@ -21,6 +20,20 @@ pub(crate) struct Placing {
     pub(crate) marks: Vec<bool>,
     /// How much room of each server is left.
     room: Amounts,
+}
+
+/// One call where it goes out of scope, and not one for each list.
+impl Drop for Placing {
+    fn drop(self) {
+        let Placing {
+            placed,
+            marks,
+            room,
+        } = self;
+        drop(placed);
+        drop(marks);
+        drop(room);
+    }
 }
 
 impl Placing {

@@ -25,11 +25,24 @@ use sm_server::{Role, ServerId};
 use std::alloc::{AllocError, Global};
 
 /// Moves in the order in which they are placed, the stretches of room that they take and free, and the room that they hand on.
-#[derive(Drop)]
 pub(crate) struct Draft {
     pub(crate) moves: Vec<Move>,
     pub(crate) placed: Vec<Placed>,
     pub(crate) signals: Vec<Handed>,
+}
+
+/// One call where it goes out of scope, and not one for each list.
+impl Drop for Draft {
+    fn drop(self) {
+        let Draft {
+            moves,
+            placed,
+            signals,
+        } = self;
+        drop(moves);
+        drop(placed);
+        drop(signals);
+    }
 }
 
 /// The instructions that hand a primary over.

@@ -31,13 +31,29 @@ use std::marker::Model;
 /// Rights that can be read and edited by their keys, with a capacity of so many keys in each list.
 ///
 /// A hold is a plain value: it says what is held, and nothing is held by having one.
-#[derive(Drop)]
 pub struct Hold {
     pub(crate) cells: Rows<CellRight>,
     pub(crate) crowns: Rows<Crown>,
     pub(crate) room: Rows<Room>,
     pub(crate) spare: Rows<Spare>,
     capacity: usize,
+}
+
+/// One call where it goes out of scope, and not one for each list.
+impl Drop for Hold {
+    fn drop(self) {
+        let Hold {
+            cells,
+            crowns,
+            room,
+            spare,
+            capacity: _,
+        } = self;
+        drop(cells);
+        drop(crowns);
+        drop(room);
+        drop(spare);
+    }
 }
 
 impl Model for Hold {

@@ -55,12 +55,27 @@ impl From<AllocError> for ParcelFault {
 }
 
 /// Rights to be asked for or handed on: each key once, in the order of the keys, and no amount of 0.
-#[derive(Drop)]
 pub struct Parcel {
     cells: Vec<CellRight>,
     crowns: Vec<Crown>,
     room: Vec<Room>,
     spare: Vec<Spare>,
+}
+
+/// One call where it goes out of scope, and not one for each list.
+impl Drop for Parcel {
+    fn drop(self) {
+        let Parcel {
+            cells,
+            crowns,
+            room,
+            spare,
+        } = self;
+        drop(cells);
+        drop(crowns);
+        drop(room);
+        drop(spare);
+    }
 }
 
 impl Model for Parcel {

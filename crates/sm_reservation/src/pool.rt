@@ -45,12 +45,27 @@ impl From<AllocError> for TakeFault {
 }
 
 /// The rights that no grant has.
-#[derive(Drop)]
 pub struct Pool {
     cells: Vec<Option<PlainCell>>,
     crowns: Vec<Option<(Lead, Option<ServerId>)>>,
     room: Vec<u64>,
     spare: Vec<u64>,
+}
+
+/// One call where it goes out of scope, and not one for each list.
+impl Drop for Pool {
+    fn drop(self) {
+        let Pool {
+            cells,
+            crowns,
+            room,
+            spare,
+        } = self;
+        drop(cells);
+        drop(crowns);
+        drop(room);
+        drop(spare);
+    }
 }
 
 impl Model for Pool {

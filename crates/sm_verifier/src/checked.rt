@@ -31,13 +31,30 @@ pub(crate) struct Findings {
 /// A plan that has passed the check, with what the check found out.
 ///
 /// There is no other way to get one than the check, and none to change one.
-#[derive(Drop)]
 pub struct Checked {
     config: Config,
     plan: Plan,
     order: Vec<(u32, u32)>,
     finals: Vec<Parcel>,
     peaks: Vec<u32>,
+}
+
+/// One call where it goes out of scope, and not one for each list.
+impl Drop for Checked {
+    fn drop(self) {
+        let Checked {
+            config,
+            plan,
+            order,
+            finals,
+            peaks,
+        } = self;
+        drop(config);
+        drop(plan);
+        drop(order);
+        drop(finals);
+        drop(peaks);
+    }
 }
 
 impl Model for Checked {

@@ -5,6 +5,6 @@ use Rattle.sm_placement.proofs.config.server_table.Given as goal
 
 abbrev pub invariant-loop-server : goal.invariant-loop-server
 invariant-loop-server l = record {
-  names : map string_bytes l.names.keys ≡ server_names (take l.server-index l.servers);
+  names : map string_bytes l.names.table.keys ≡ server_names (take l.server-index l.servers);
   single : has_double (server_names (take l.server-index l.servers)) ≡ false;
 }

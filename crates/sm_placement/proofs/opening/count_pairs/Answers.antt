@@ -1,6 +1,7 @@
 -- Each pair is counted at its place.
-use Rattle.std.proofs.Common.{◌≡◌, ◌+◌, ◌*◌, ◌≤◌, ◌<◌, length, length-set, set, arith, sym, ap, ◌∙◌, refl, subst}
-use Rattle.std.proofs.lemmas.List.{length-replicate}
+use Rattle.std.proofs.Common.{◌≡◌, ◌+◌, ◌*◌, ◌≤◌, ◌<◌, count_by, length, length-set, set, arith, sym, ap, ◌∙◌, refl, subst}
+use Rattle.std.proofs.lemmas.List.{length-replicate, take_all}
+use Rattle.sm_placement.specs.Opening.{is_of}
 use Rattle.sm_placement.proofs.Tallies.{ArePairsCounted, pairs_none, pair_place, pair_count_small, pairs_more}
 use Rattle.sm_placement.proofs.opening.count_pairs.Goals as goal
 
@@ -36,3 +37,9 @@ loop-shard-preserved c =
       counts = subst (λ k. ArePairsCounted (length c.args.config.now.servers) c.args.cells.now (c.loop-shard.shard-index + 1) (set c.loop-shard.counts.items k (c.index_mut.result.now + 1))) (sym same)
           (pairs_more (length c.args.config.now.shards) (length c.args.config.now.servers) c.args.cells.now c.loop-shard.shard-index c.loop-shard-item.result c.loop-shard.counts.items c.index_mut.result.now c.requires.known c.loop-shard-test.true c.loop-shard-item.is c.loop-shard.invariant.len c.loop-shard.invariant.counts (rw (← same) c.index_mut.ensures.value));
     }
+
+pub returns-clause-counts : goal.returns-clause-counts
+returns-clause-counts c = c.loop-shard.invariant.counts ∙ ap (λ l. λ s v. count_by (is_of s v) l) (take_all c.loop-shard.shard-index c.args.cells.now c.loop-shard-test.false)
+
+pub returns-clause-len : goal.returns-clause-len
+returns-clause-len c = c.loop-shard.invariant.len

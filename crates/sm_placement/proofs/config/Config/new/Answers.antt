@@ -12,6 +12,6 @@ invariant_of-result c =
     let names : has_good_names setup ≡ true = search rules in
     let doubled : has_doubled_name setup ≡ false = search rules in
     let numbers : has_good_numbers setup ≡ true = search rules in
-    let same : setup ≡ setup_of c.in_ok-copied_servers.field-0.items c.in_ok-copied_shards.field-0.items =
-    λ i. record { servers = sym c.in_ok-copied_servers.ensures i; shards = sym c.in_ok-copied_shards.ensures i } in
+    let same : setup ≡ setup_of c.in_ok-servers.servers.items c.in_ok-servers.shards.items =
+    λ i. record { servers = sym c.in_ok-servers.ensures.servers i; shards = sym c.in_ok-servers.ensures.shards i } in
     (search rules, search rules, subst IsSetup same (setup_from_tests setup large names doubled numbers))
