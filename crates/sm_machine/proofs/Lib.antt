@@ -1,6 +1,7 @@
 pub mod InTurn
 pub mod Tables
 pub mod Writes
+pub mod Desk
 pub mod ties
 pub mod Ready
 pub mod Working

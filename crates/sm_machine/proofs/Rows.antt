@@ -26,6 +26,7 @@ in_other s v r u e = rw (ne_eqb r s e) (elim (cases_lt r s) [ inl l ↦ rw (lt-l
 
 -- ---- cells
 
+-- before the first pair there is no row
 pub no_cells : (cells : ℕ → ℕ → Cell) → AreCellsBefore [] cells 0 0
 no_cells cells s v = elim (cases_eq s 0) [
   | inl e ↦ rw (e, in_row 0 0 v, le-ltb v 0 (omega arith)) refl
@@ -110,6 +111,7 @@ all_cells rows cells n h none = fun_ext (λ s. fun_ext (λ v. h s v ∙ at s v))
 
 -- ---- servers that are down
 
+-- below the first server there is none
 pub none_down : (down : ℕ → Bool) → AreDownBelow [] down 0
 none_down down v = rw (le-ltb v 0 (omega arith)) refl
 
@@ -123,6 +125,7 @@ or_true : (b : Bool) → (b || true) ≡ true
 or_true true = refl
 or_true false = refl
 
+-- a server more that is down has a row
 pub down_more : (rows : List ℕ) (down : ℕ → Bool) (n x : ℕ) → AreDownBelow rows down n → x ≡ n → down n ≡ true → AreDownBelow (rows ++ x ∷ []) down (n + 1)
 down_more rows down n x h e d v = list_any-append (λ y. y == v) rows (x ∷ []) ∙ rw e (elim (cases_eq v n) [
   | inl a ↦ rw (a, eq-eqb n n refl, lt-ltb n (n + 1) (omega arith), d) (or_true (down_of_rows rows n))
@@ -131,11 +134,13 @@ down_more rows down n x h e d v = list_any-append (λ y. y == v) rows (x ∷ [])
       rw (ne_eqb n v b, or-false (down_of_rows rows v)) (h v ∙ ap (λ t. t && down v) (below_more v n a))
 ])
 
+-- and one that is up has none
 pub down_passed : (rows : List ℕ) (down : ℕ → Bool) (n : ℕ) → AreDownBelow rows down n → down n ≡ false → AreDownBelow rows down (n + 1)
 down_passed rows down n h d v = elim (cases_eq v n) [
   | inl a ↦ rw a (h n ∙ rw (d, le-ltb n n (omega arith), lt-ltb n (n + 1) (omega arith)) refl)
   | inr a ↦ h v ∙ ap (λ t. t && down v) (below_more v n a)
 ]
 
+-- all rows
 pub all_down : (rows : List ℕ) (down : ℕ → Bool) (n : ℕ) → AreDownBelow rows down n → ((v : ℕ) → n ≤ v → down v ≡ false) → down_of_rows rows ≡ down
 all_down rows down n h none = fun_ext (λ v. h v ∙ elim (cases_lt v n) [ inl l ↦ rw (lt-ltb v n l) refl | inr l ↦ rw (le-ltb v n l) (sym (none v l)) ])

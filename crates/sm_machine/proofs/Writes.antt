@@ -282,10 +282,17 @@ module _ (b w : MachineModel) (id : StreamId) (z : b ≡ w) (h : is_begun (state
       a ∙ ap (λ y. with_signal (record (whole_of w) { grants = put2 (whole_of w).grants id.plan id.stream y }) id.plan q (change (carried_at n q).mark) o) (sym r)
       ∙ ap (λ m. with_signal (record (whole_of w) { grants = put2 (whole_of w).grants id.plan id.stream ((whole_of (record b { plans = set b.plans id.plan n' })).grants id.plan id.stream) }) id.plan q (change m) o) (mark_read q)
 
+  -- what the signal carries then
   pub signal_then : (q : ℕ) → q < signal_count (state_of w) id.plan → (g : Option HoldModel) (y : CarriedModel) →
       n' ≡ with_carried (with_course n id.stream (record (course_at n id.stream) { grant = g })) q y →
       (whole_of (record b { plans = set b.plans id.plan n' })).parcels id.plan q ≡ y.grant
   signal_then q l g y e = ap (λ x. x.parcels id.plan q) (signal-written q l g y e) ∙ put2-here (whole_of w).parcels id.plan q y.grant
+
+  -- and what the stream holds
+  pub holder_then : (q : ℕ) → q < signal_count (state_of w) id.plan → (g : Option HoldModel) (y : CarriedModel) →
+      n' ≡ with_carried (with_course n id.stream (record (course_at n id.stream) { grant = g })) q y →
+      (whole_of (record b { plans = set b.plans id.plan n' })).grants id.plan id.stream ≡ g
+  holder_then q l g y e = ap (λ x. x.grants id.plan id.stream) (signal-written q l g y e) ∙ put2-here (whole_of w).grants id.plan id.stream g
 
   -- and where what it carries is read then too
   pub signal-read : (q : ℕ) → q < signal_count (state_of w) id.plan → (change : Mark → Mark) (g o : Option HoldModel) →

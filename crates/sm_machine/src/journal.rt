@@ -9,7 +9,7 @@ use std::alloc::{AllocError, Global};
 use std::marker::Model;
 
 /// A request that a server passed on, as the log records it.
-#[derive(Clone, Copy, Debug)]
+#[derive(Clone, Copy)]
 pub(crate) struct TicketParts {
     /// The log's place of the pass.
     pub place: u32,
@@ -105,12 +105,25 @@ fn note_pass_on(passed_on: &mut [bool], event: &Event)
 }
 
 /// The recorded events, with room for all that can be recorded.
-#[derive(Drop)]
 pub(crate) struct Journal {
     log: Vec<Logged>,
     passes: Vec<Option<TicketParts>>,
     passed_on: Vec<bool>,
     room: u32,
+}
+
+impl Drop for Journal {
+    fn drop(self) {
+        let Journal {
+            log,
+            passes,
+            passed_on,
+            room: _,
+        } = self;
+        drop(log);
+        drop(passes);
+        drop(passed_on);
+    }
 }
 
 impl Model for Journal {

@@ -10,13 +10,28 @@ use std::alloc::{AllocError, Global};
 use std::marker::Model;
 
 /// The cells that are not Absent, the servers that are down, and what the published map says of each shard.
-#[derive(Drop)]
 pub(crate) struct Opening {
     cells: Vec<(ShardId, ServerId, Cell)>,
     listed: Vec<Option<ServerId>>,
     versions: Vec<u64>,
     down: Vec<ServerId>,
     limit: u32,
+}
+
+impl Drop for Opening {
+    fn drop(self) {
+        let Opening {
+            cells,
+            listed,
+            versions,
+            down,
+            limit: _,
+        } = self;
+        drop(cells);
+        drop(listed);
+        drop(versions);
+        drop(down);
+    }
 }
 
 impl Model for Opening {

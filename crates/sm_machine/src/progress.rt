@@ -7,7 +7,7 @@ ghost use Rattle.sm_protocol.specs.Steps.{tried_more, behind_call};
 use std::marker::Model;
 
 /// How far a stream has come.
-#[derive(Clone, Copy, Debug, PartialEq, Eq)]
+#[derive(Clone, Copy)]
 pub(crate) struct Progress {
     /// How many instructions it has made.
     pub at: usize,

@@ -3,6 +3,8 @@ use Rattle.std.proofs.Common.{ap, ◌∙◌}
 use Rattle.sm_machine.specs.Begun.{BegunModel, no_begun}
 use Rattle.sm_machine.specs.contracts.engine.Engine.{the_view}
 use Rattle.sm_machine.proofs.Writes.{read_here, laid_back, given-back, plan_known}
+use Rattle.sm_protocol.specs.State.{Progress}
+use Rattle.sm_machine.proofs.Desk.{still_there, progress_here, stream_here}
 use Rattle.sm_machine.proofs.Unfinished.{swapped}
 use Rattle.std.specs.Prelude.{◌==◌}
 use Rattle.sm_machine.proofs.engine.Engine.give_back.Goals as goal
@@ -18,3 +20,15 @@ invariant_of-self c =
     (plan_known (the_view c.self.inside) c.args.self.now c.args.id c.self.view_is c.requires.begun) c.swap-2.ensures.others c.swap.ensures.others c.swap.ensures.here
     (ap (λ (x : BegunModel). x.unfinished == 0) c.end-grant.ensures.after) c.self.invariant.6 in
     (c.self.invariant.0, c.self.invariant.1, c.self.invariant.2, c.self.invariant.3, c.give_back.ensures.size.shards ∙ c.self.invariant.4, c.give_back.ensures.size.servers ∙ c.self.invariant.5, plans, c.self.invariant.7)
+
+pub swap-requires : goal.swap-requires
+swap-requires c = plan_known (the_view c.self.inside) c.args.self.now c.args.id c.self.view_is c.requires.begun
+
+pub swap-requires-2 : goal.swap-requires-2
+swap-requires-2 c = still_there _ _ _ _ c.swap.ensures.others (plan_known (the_view c.self.inside) c.args.self.now c.args.id c.self.view_is c.requires.begun)
+
+pub end-grant-requires-clause-known : goal.end-grant-requires-clause-known
+end-grant-requires-clause-known c = stream_here (the_view c.self.inside) c.args.self.now c.args.id c.self.view_is _ c.swap.ensures.here c.requires.begun
+
+pub end-grant-requires-clause-running : goal.end-grant-requires-clause-running
+end-grant-requires-clause-running c = ap (λ (p : Progress). p.done) (progress_here (the_view c.self.inside) c.args.self.now c.args.id c.self.view_is _ c.swap.ensures.here) ∙ c.requires.running

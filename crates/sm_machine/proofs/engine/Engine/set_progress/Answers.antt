@@ -1,8 +1,10 @@
 -- A stream comes to another place.
-use Rattle.std.proofs.Common.{ap}
+use Rattle.std.proofs.Common.{ap, sym, ◌∙◌}
 use Rattle.sm_machine.specs.Begun.{BegunModel, no_begun}
 use Rattle.sm_machine.specs.contracts.engine.Engine.{the_view}
 use Rattle.sm_machine.proofs.Writes.{read_here, laid_back, progress-written, plan_known}
+use Rattle.sm_protocol.specs.State.{Progress}
+use Rattle.sm_machine.proofs.Desk.{still_there, progress_here, stream_here}
 use Rattle.sm_machine.proofs.Unfinished.{swapped}
 use Rattle.std.specs.Prelude.{◌==◌}
 use Rattle.sm_machine.proofs.engine.Engine.set_progress.Goals as goal
@@ -18,3 +20,15 @@ invariant_of-self c =
     (plan_known (the_view c.self.inside) c.args.self.now c.args.id c.self.view_is c.requires.known) c.swap-2.ensures.others c.swap.ensures.others c.swap.ensures.here
     (ap (λ (x : BegunModel). x.unfinished == 0) c.set_progress.ensures.value) c.self.invariant.6 in
     (c.self.invariant.0, c.self.invariant.1, c.self.invariant.2, c.self.invariant.3, c.self.invariant.4, c.self.invariant.5, plans, c.self.invariant.7)
+
+pub swap-requires : goal.swap-requires
+swap-requires c = plan_known (the_view c.self.inside) c.args.self.now c.args.id c.self.view_is c.requires.known
+
+pub swap-requires-2 : goal.swap-requires-2
+swap-requires-2 c = still_there _ _ _ _ c.swap.ensures.others (plan_known (the_view c.self.inside) c.args.self.now c.args.id c.self.view_is c.requires.known)
+
+pub set_progress-requires-clause-known : goal.set_progress-requires-clause-known
+set_progress-requires-clause-known c = stream_here (the_view c.self.inside) c.args.self.now c.args.id c.self.view_is _ c.swap.ensures.here c.requires.known
+
+pub set_progress-requires-clause-done : goal.set_progress-requires-clause-done
+set_progress-requires-clause-done c = c.requires.done ∙ sym (ap (λ (p : Progress). p.done) (progress_here (the_view c.self.inside) c.args.self.now c.args.id c.self.view_is _ c.swap.ensures.here))

@@ -1,9 +1,15 @@
 -- A stream holds otherwise.
-use Rattle.std.proofs.Common.{ap, ◌∙◌}
-use Rattle.sm_placement.specs.Setup.{sizes_of}
-use Rattle.sm_machine.specs.Begun.{BegunModel, no_begun}
+use Rattle.std.proofs.Common.{◌≡◌, ◌<◌, ap, sym, subst, ◌∙◌}
+use Rattle.std.specs.Prelude.{IfSome}
+use Rattle.sm_placement.specs.Setup.{Sizes, sizes_of}
+use Rattle.sm_plan_code.specs.Instr.{shard_of}
+use Rattle.sm_protocol.specs.State.{Progress}
+use Rattle.sm_machine.specs.Trade.{CanTrade}
+use Rattle.sm_machine.specs.Begun.{BegunModel, no_begun, course_at}
+use Rattle.sm_machine.specs.State.{state_of}
 use Rattle.sm_machine.specs.contracts.engine.Engine.{the_view}
 use Rattle.sm_machine.proofs.Writes.{read_here, laid_back, grant-kept, grant_then, grant_read, sizes_read, traded-read, change-read, plan_known}
+use Rattle.sm_machine.proofs.Desk.{still_there, progress_here, grant_here, stream_here}
 use Rattle.sm_machine.proofs.Unfinished.{swapped}
 use Rattle.std.specs.Prelude.{◌==◌}
 use Rattle.sm_machine.proofs.engine.Engine.trade.Goals as goal
@@ -34,3 +40,28 @@ invariant_of-self c =
     (plan_known (the_view c.self.inside) c.args.self.now c.args.id c.self.view_is c.requires.begun) c.swap-2.ensures.others c.swap.ensures.others c.swap.ensures.here
     (ap (λ (x : BegunModel). x.unfinished == 0) c.trade-change.ensures.others) c.self.invariant.6 in
     (c.self.invariant.0, c.self.invariant.1, c.self.invariant.2, c.self.invariant.3, c.self.invariant.4, c.self.invariant.5, plans, c.self.invariant.7)
+
+pub swap-requires : goal.swap-requires
+swap-requires c = plan_known (the_view c.self.inside) c.args.self.now c.args.id c.self.view_is c.requires.begun
+
+pub swap-requires-2 : goal.swap-requires-2
+swap-requires-2 c = still_there _ _ _ _ c.swap.ensures.others (plan_known (the_view c.self.inside) c.args.self.now c.args.id c.self.view_is c.requires.begun)
+
+pub trade-change-requires-clause-stream : goal.trade-change-requires-clause-stream
+trade-change-requires-clause-stream c = stream_here (the_view c.self.inside) c.args.self.now c.args.id c.self.view_is _ c.swap.ensures.here c.requires.begun
+
+pub trade-change-requires-clause-running : goal.trade-change-requires-clause-running
+trade-change-requires-clause-running c = ap (λ (p : Progress). p.done) (progress_here (the_view c.self.inside) c.args.self.now c.args.id c.self.view_is _ c.swap.ensures.here) ∙ c.requires.running
+
+pub trade-change-requires-clause-known : goal.trade-change-requires-clause-known
+trade-change-requires-clause-known c =
+    subst (λ (s : Sizes). IfSome (shard_of c.args.instr.now) (λ k. k < s.shards)) (sym (ap sizes_of c.config-config.ensures.setup ∙ sizes_read (the_view c.self.inside) c.args.self.now c.self.view_is)) c.requires.known
+
+pub trade-change-requires-clause-own : goal.trade-change-requires-clause-own
+trade-change-requires-clause-own c = c.requires.own
+
+pub trade-change-requires-clause-can : goal.trade-change-requires-clause-can
+trade-change-requires-clause-can c =
+    let sizes : sizes_of c.config-config.result.now ≡ (state_of c.args.self.now).sizes = ap sizes_of c.config-config.ensures.setup ∙ sizes_read (the_view c.self.inside) c.args.self.now c.self.view_is in
+    subst (λ (s : Sizes). CanTrade s c.args.instr.now (course_at c.swap.new.other c.args.id.stream).grant) (sym sizes)
+    (subst (λ g. CanTrade (state_of c.args.self.now).sizes c.args.instr.now g) (sym (grant_here (the_view c.self.inside) c.args.self.now c.args.id c.self.view_is _ c.swap.ensures.here)) c.requires.can)

@@ -1,0 +1,6 @@
+-- An end. A wrong version of the function fails here at once.
+use Rattle.std.proofs.Common.{rules}
+use Rattle.sm_machine.proofs.engine.Engine.step_end.Goals as goal
+
+pub returns : goal.returns
+returns c = search rules
