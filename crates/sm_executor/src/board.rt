@@ -154,12 +154,7 @@ impl<A: Side, B: Side, C: Side, N: Naming> Board<A, B, C, N> {
         ensures over { HasStepped L.asked link.old link.new N.opened runner.old.stream (played_of result) }
         ensures lost { L.losses link.new ≡ L.losses link.old + bit (is_lost_answer (played_of result)) }
     {
-        let step = {
-            let mut held = self.held.lock(rt);
-            held.goes_on();
-            held.machine().is_reached();
-            held.step_over(&self.words, runner, link)
-        };
+        let step = self.held.lock(rt).make_step(&self.words, runner, link);
         self.moved.notify_all();
         step
     }
@@ -199,9 +194,7 @@ impl<A: Side, B: Side, C: Side, N: Naming> Board<A, B, C, N> {
     {
         let mut held = self.held.lock(rt);
         for _ in rt.forever() {
-            held.goes_on();
-            held.machine().is_reached();
-            let step = held.step_over(&self.words, runner, link);
+            let step = held.make_step(&self.words, runner, link);
             if !is_blocked(step) {
                 self.moved.notify_all();
                 return step;

@@ -1,10 +1,10 @@
 //! What a board is opened with.
-ghost use Rattle.std.specs.Prelude.{◌≡◌, ◌<◌, ◌≤◌, ◌*◌, ◌^◌, All, IfOk, IfErr, length, map, slice_get, Some, ℕ};
+ghost use Rattle.std.specs.Prelude.{◌≡◌, ◌<◌, ◌≤◌, ◌*◌, ◌^◌, [], All, IfOk, IfErr, length, map, slice_get, Some, ℕ};
 ghost use Rattle.sm_placement.specs.Place.{entry_at};
 ghost use Rattle.sm_map.specs.Entry.{IsInRange};
 ghost use Rattle.sm_machine.specs.State.{state_of};
 ghost use Rattle.sm_executor.specs.Tied.{IsMapOf};
-ghost use Rattle.sm_executor.specs.Views.{running};
+ghost use Rattle.sm_executor.specs.Views.{held_model, running};
 ghost use Rattle.sm_plan_code.specs.declared.limits.TheConstants.{MOST_STREAMS};
 
 use crate::board::Board;
@@ -23,7 +23,6 @@ use std::sync::ledger::Blank;
 /// The words of a machine's map with their publisher, a copy of its configuration, and three ledgers that have counted nothing.
 ///
 /// A contract sees the words, the configuration, and the names of the ledgers.
-#[derive(Drop)]
 pub struct Ground {
     words: Words,
     publisher: Publisher,
@@ -31,6 +30,25 @@ pub struct Ground {
     steps: Blank,
     executed: Blank,
     refused: Blank,
+}
+
+impl Drop for Ground {
+    fn drop(self) {
+        let Ground {
+            words,
+            publisher,
+            config,
+            steps,
+            executed,
+            refused,
+        } = self;
+        drop(words);
+        drop(publisher);
+        drop(config);
+        drop(steps);
+        drop(executed);
+        drop(refused);
+    }
 }
 
 impl Model for Ground {
@@ -62,23 +80,59 @@ fn entries_of(alloc: Global, machine: &Machine) -> Result<Vec<Entry>, AllocError
     Ok(entries)
 }
 
+/// The words of a machine's map as it stands, and their publisher.
+fn words_of(alloc: Global, machine: &Machine) -> Result<(Words, Publisher), AllocError>
+    ensures map { IfOk result (λ opened. IsMapOf opened.0 (state_of machine.now)) }
+    ensures publisher { IfOk result (λ opened. opened.1 ≡ record { words = opened.0; stores = [] }) }
+{
+    let entries = entries_of(alloc, machine)?;
+    let servers = machine.config().server_count();
+    Words::open(alloc, servers, entries.as_slice())
+}
+
 impl Ground {
     /// The ground of a machine as it stands. Takes memory, and else cannot fail.
     pub fn new(alloc: Global, machine: &Machine) -> Result<Ground, AllocError>
         ensures map { IfOk result (λ ground. IsMapOf ground.words (state_of machine.now)) }
         ensures setup { IfOk result (λ ground. ground.setup ≡ machine.now.placement.setup) }
     {
-        let entries = entries_of(alloc, machine)?;
-        let servers = machine.config().server_count();
-        let (words, publisher) = Words::open(alloc, servers, entries.as_slice())?;
+        let config = machine.config().copy(alloc)?;
+        let (words, publisher) = words_of(alloc, machine)?;
         Ok(Ground {
             words,
             publisher,
-            config: machine.config().copy(alloc)?,
+            config,
             steps: Blank::new(PARTS),
             executed: Blank::new(PARTS),
             refused: Blank::new(PARTS),
         })
+    }
+
+    /// What is to lie behind the lock of a board over its machine, with the words and the configuration.
+    fn laid<A: Side, B: Side, C: Side, N: Naming>(
+        self,
+        machine: Machine,
+    ) -> (Held<A, B, C, N>, Words, Config)
+        requires map { IsMapOf self.words (state_of machine) }
+        requires setup { self.setup ≡ machine.placement.setup }
+        requires names { (self.words ≡ N.words) × (self.setup ≡ N.setup) × (state_of machine ≡ N.opened) }
+        requires steps { (self.steps ≡ A.name) × (A.parts ≡ 2 ^ 62) × (A.all ≡ 2 ^ 62) }
+        requires executed { (self.executed ≡ B.name) × (B.parts ≡ 2 ^ 62) × (B.all ≡ 2 ^ 62) }
+        requires refused { (self.refused ≡ C.name) × (C.parts ≡ 2 ^ 62) × (C.all ≡ 2 ^ 62) }
+        ensures held { result.0 ≡ held_model machine 0 0 }
+        ensures words { result.1 ≡ N.words }
+        ensures config { result.2 ≡ N.setup }
+    {
+        let Ground {
+            words,
+            publisher,
+            config,
+            steps,
+            executed,
+            refused,
+        } = self;
+        let held = Held::open(machine, publisher, steps, executed, refused);
+        (held, words, config)
     }
 }
 
@@ -142,15 +196,7 @@ impl<A: Side, B: Side, C: Side, N: Naming> Board<A, B, C, N> {
                 return Err((machine, ground, tokens, why));
             }
         };
-        let Ground {
-            words,
-            publisher,
-            config,
-            steps,
-            executed,
-            refused,
-        } = ground;
-        let mut held = Held::open(machine, publisher, steps, executed, refused);
+        let (mut held, words, config) = ground.laid(machine);
         held.take_on(&mut runners, tokens);
         Ok((Board::of(held, words, config, room), runners))
     }

@@ -2,7 +2,7 @@
 //!
 //! Each method is one event at most, and changes the machine just as the machine's own call does. The books rise with the log,
 //! and what a step publishes is stored in the words before the method returns.
-ghost use Rattle.std.specs.Prelude.{◌≡◌, ◌≢◌, OnOk, OnErr, ◌<◌, ◌≤◌, ◌+◌, ◌*◌, ◌^◌, ◌++◌, ◌∷◌, [], length, map, IfOk, IfErr, IfSome, IfNone, true, false, vec_len, vec_capacity};
+ghost use Rattle.std.specs.Prelude.{◌≡◌, ◌≢◌, OnOk, OnErr, ◌<◌, ◌≤◌, ◌+◌, ◌*◌, ◌^◌, ◌++◌, ◌∷◌, [], length, map, IfOk, IfErr, IfSome, IfNone, Bool, true, false, vec_len, vec_capacity};
 ghost use Rattle.sm_placement.specs.Place.{entry_at};
 ghost use Rattle.sm_map.specs.History.{NoneNewer};
 ghost use Rattle.sm_protocol.specs.State.{progress_of, is_running};
@@ -21,6 +21,7 @@ ghost use Rattle.sm_protocol.specs.declared.event.BeginFault.TheVariants as faul
 ghost use Rattle.sm_protocol.specs.declared.event.Played.TheVariants as played;
 ghost use Rattle.sm_executor.specs.Closed.{GoesOn};
 ghost use Rattle.sm_executor.specs.Counting.{Counts, executes, refuses};
+ghost use Rattle.sm_executor.specs.Stepping.{HasStepped, is_waiting};
 ghost use Rattle.sm_executor.specs.Tied.{IsPublished, IsBehind, HasStood};
 ghost use Rattle.sm_executor.specs.Views.{held_model, state_in, running, recorded_more, calling, AreRunners, end_in};
 ghost use Rattle.sm_plan_code.specs.declared.limits.TheConstants.{MOST_CALLS, MOST_STREAMS};
@@ -220,6 +221,26 @@ impl<A: Side, B: Side, C: Side, N: Naming> Held<A, B, C, N> {
         self.steps.add(&mut runner.share, made as u64);
         store_added::<N>(words, &mut self.publisher, &self.machine, added);
         step
+    }
+
+    /// A stream makes its next step over a link, at some state that goes on from the opening. Where it waits for a signal the link is
+    /// not asked.
+    pub fn make_step<L: Link>(
+        &mut self,
+        words: &Words,
+        runner: &mut Runner<A>,
+        link: &mut L,
+    ) -> Step
+        requires { words.now ≡ N.words }
+        ensures stream { runner.new.stream ≡ runner.old.stream }
+        ensures counts { (ended : Bool) × Counts ended (played_of result) runner.old.steps runner.new.steps }
+        ensures over { HasStepped L.asked link.old link.new N.opened runner.old.stream (played_of result) }
+        ensures lost { L.losses link.new ≡ L.losses link.old + bit (is_lost_answer (played_of result)) }
+        ensures unasked { is_waiting result ≡ true → link.new ≡ link.old }
+    {
+        self.goes_on();
+        self.machine.is_reached();
+        self.step_over(words, runner, link)
     }
 
     /// The tokens of streams that began before the board was opened get runners, in an empty list with room for them.
