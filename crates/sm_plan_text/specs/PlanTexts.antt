@@ -1,6 +1,7 @@
 -- The text of a plan, over the names of the shards and servers: what is written for it.
 use Rattle.std.specs.Prelude.{◌≡◌, ℕ, Bool, List, [], ◌∷◌, codes, map, slice_index_or, Option, Some, None, nat_lt, if◌then◌else◌}
 use Rattle.std.specs.List.{list_any}
+use Rattle.std.specs.Borrow.{Bor}
 use Rattle.serde_json.specs.Data.{Data, Members, null, number, unsigned, string, array, object, no_members, member, put}
 use Rattle.serde_json.specs.View.{items_of}
 use Rattle.serde_json.specs.Written.{compact_text}
@@ -20,6 +21,8 @@ use Rattle.sm_plan_code.specs.declared.instruction.Instr.TheVariants as instr
 use Rattle.sm_plan_code.specs.Plan.{StreamModel, PlanModel}
 use Rattle.sm_plan_text.specs.declared.member.Member.{Member}
 use Rattle.sm_plan_text.specs.declared.member.Member.TheVariants.{Server, Shard, State, Lead as LeadMember, Listed, From, To, Amount, Cells, Crowns, Room as RoomMember, Spare as SpareMember, Do, Other, Role as RoleMember, Signal, Budget, Code, Holds, Retries, Format, Signals, Streams}
+use Rattle.sm_plan_text.specs.declared.writing.Scalar.{Scalar}
+use Rattle.sm_plan_text.specs.declared.writing.Scalar.TheVariants as scalars
 use Rattle.sm_plan_text.specs.Members.{text_of}
 use Rattle.sm_plan_text.specs.Faults.{answered}
 use Rattle.sm_plan_text.specs.Plans.{plan_faults, plan_in}
@@ -40,6 +43,17 @@ whole_data n = number (unsigned n)
 
 abbrev pub list_data : List Data → Data
 list_data ds = array (items_of ds)
+
+-- what a member says that is neither a list nor an object
+abbrev pub scalar_data : Scalar → Data
+scalar_data scalars.Null = null
+scalar_data (scalars.Text text) = string text.now
+scalar_data (scalars.Number n) = whole_data n
+
+-- members with such ones put to them, one after another
+abbrev pub scalars_put : Members → List (Bor (List ℕ) × Scalar) → Members
+scalars_put found [] = found
+scalars_put found (m ∷ ms) = scalars_put (put m.0.now (scalar_data m.1) found) ms
 
 -- the name of the object with a number
 abbrev pub name_at : List (List ℕ) → ℕ → List ℕ
@@ -128,9 +142,9 @@ prepare_data shards servers word s v other = saying (
     (Shard, name_data shards s) ∷ [])
 
 -- an instruction for a shard at a server, with one member more
-abbrev pub step_data : List (List ℕ) → List (List ℕ) → List ℕ → ℕ → ℕ → List ℕ → List ℕ → Data
-step_data shards servers word s v key text =
-    object (put key (string text) (put (text_of Shard) (name_data shards s) (put (text_of Server) (name_data servers v) (put (text_of Do) (string word) no_members))))
+abbrev pub step_data : List (List ℕ) → List (List ℕ) → List ℕ → ℕ → ℕ → List ℕ → Data → Data
+step_data shards servers word s v key more =
+    object (put key more (put (text_of Shard) (name_data shards s) (put (text_of Server) (name_data servers v) (put (text_of Do) (string word) no_members))))
 
 -- an instruction of a shard alone
 abbrev pub entry_data : List (List ℕ) → List ℕ → ℕ → Data

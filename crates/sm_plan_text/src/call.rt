@@ -3,11 +3,8 @@ ghost use Rattle.std.specs.Prelude.{◌≡◌, map, option_map, IfSome};
 ghost use Rattle.sm_plan_text.specs.Words.{view, Scope, row_of, worded_faults, call_word, call_table, call_worded, call_in};
 ghost use Rattle.sm_plan_text.specs.declared.member.Member.TheVariants as members;
 
-use crate::cursor::Cursor;
-use crate::entry::Entry;
-use crate::fault::Faults;
-use crate::member::Member;
 use crate::rule::{Form, OTHER, ROLE, Rule, SERVER, SHARD};
+use crate::{Cursor, Entry, Faults, Member};
 use sm_plan_code::MOST_NUMBER;
 use sm_server::{Call, ServerId, ShardId};
 use std::alloc::AllocError;

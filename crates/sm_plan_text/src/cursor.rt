@@ -3,8 +3,7 @@
 ghost use Rattle.std.specs.Prelude.{◌≡◌, [], option_map, option_and_then, map, false, IfOk, string_bytes};
 ghost use Rattle.sm_plan_text.specs.Words.{view, found, whole_number_of, text_in, role_named, role_in, after_named, flag_in, number_in, number_or, number_below, items_of, entries_in, id_of, id_named, id_in, plain_named};
 
-use crate::member::Member;
-use crate::names::Names;
+use crate::{Member, Names};
 use json_tree::Tree;
 use sm_reservation::PlainCell;
 use sm_server::{Role, ServerId, ShardId};

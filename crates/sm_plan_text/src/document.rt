@@ -2,17 +2,11 @@
 ghost use Rattle.std.specs.Prelude.{◌≡◌, ◌≢◌, [], Option, Some, None, Ok, Err, IfOk, IfErr, OnOk, unwrap_or, map};
 ghost use Rattle.sm_plan_text.specs.Words.{Data, view, noted, Scope, HasIds, row_of, id_named, setup_of, config_fault, sizes_of, place_of, IsSettled, opened_place, open_fault, opening_of, document_table, document_faults, rows_in, IsDocument, AreKept, IsWork, work_noted, IsOutlined, IsOutline, data_of, read_data, read, rows_of, rows_of_parts};
 
-use crate::cursor::{Cursor, id_named};
-use crate::entry::Entry;
-use crate::event::EventText;
-use crate::fault::{Faults, TextFault};
+use crate::cursor::id_named;
 use crate::limits::{DOWN_LIMIT, LOG_PLACES, MOST_EVENTS, MOST_MOVES};
-use crate::member::Member;
-use crate::moves::MoveText;
-use crate::names::Names;
 use crate::outline::{Early, Outline};
 use crate::rows::{Servers, Shards, read_servers, read_shards};
-use crate::rule::{Form, Rule};
+use crate::{Cursor, Entry, EventText, Faults, Form, Member, MoveText, Names, Rule, TextFault};
 use json_tree::{ReadFault, Scratch, Tree};
 use sm_placement::{
     Config, ConfigFault, MOST_SERVERS, MOST_SHARDS, OpenFault, Placement, Server, Shard,
@@ -22,7 +16,6 @@ use sm_server::{Call, Cell, ServerId, ShardId};
 use std::alloc::{AllocError, Global};
 
 /// What a document says.
-#[derive(Drop)]
 pub struct Document {
     pub config: Config,
     /// The cells that hold something, each with its shard and server.
@@ -51,9 +44,28 @@ pub struct Document {
     pub asks: Vec<ShardId>,
 }
 
+impl Drop for Document {
+    fn drop(self) {
+        let Document {
+            config: _config,
+            cells: _cells,
+            listed: _listed,
+            down: _down,
+            limit: _,
+            log: _,
+            calls: _calls,
+            plan: _plan,
+            plans: _plans,
+            events: _events,
+            moves: _moves,
+            drain: _,
+            asks: _asks,
+        } = self;
+    }
+}
+
 impl Document {
-    /// The placement that the document names, or the first reason why it is not opened; want of memory may stand before
-    /// any other.
+    /// The placement that the document names, or the first reason why it is not opened, before which want of memory may stand.
     pub fn open(&self, alloc: Global) -> Result<Placement, OpenFault>
         ensures ok { IfOk result (λ p. place_of p ≡ opened_place (opening_of (rows_of self.now))) }
         ensures setup { IfOk result (λ p. p.setup ≡ self.now.config) }
@@ -156,8 +168,7 @@ impl Entry for ShardId {
     ghost faults_of = { λ scope parent entry. [] };
 
     fn read(cursor: &Cursor<'_, '_>, _faults: &mut Faults) -> Result<Self, AllocError> {
-        let shard = id_named(cursor.tree, cursor.scope.shards).unwrap_or(0);
-        Ok(ShardId::new(shard))
+        Ok(ShardId::new(id_named(cursor.tree, cursor.scope.shards).unwrap_or(0)))
     }
 }
 
@@ -206,13 +217,8 @@ fn read_parts(
     let servers = read_servers(alloc, lists.entries(Member::Servers), &mut listed)?;
     let shard_items = lists.entries(Member::Shards);
     let shards = read_shards(alloc, shard_items, &servers.names, &mut listed)?;
-    let cursor = Cursor::new(
-        alloc,
-        &*tree,
-        Member::Document,
-        &shards.names,
-        &servers.names,
-    );
+    let (shard_names, server_names) = (&shards.names, &servers.names);
+    let cursor = Cursor::new(alloc, &*tree, Member::Document, shard_names, server_names);
     cursor.note_own(document_rules(), faults)?;
     faults.append(listed);
     let work = read_work(&cursor, early, faults)?;

@@ -2,10 +2,8 @@
 ghost use Rattle.std.specs.Prelude.{◌≡◌, [], List, Option, None, map, option_map, IfOk, OnOk};
 ghost use Rattle.sm_plan_text.specs.Words.{Data, view, TextFault, Member, Scope, noted, found, list_in, items_of, entries_in, entries_found, walked, faults_within, HasIds, IsKept};
 
-use crate::cursor::Cursor;
-use crate::fault::Faults;
-use crate::member::Member;
 use crate::outline::EarlyList;
+use crate::{Cursor, Faults, Member};
 use std::alloc::AllocError;
 
 pub trait Entry: Drop {

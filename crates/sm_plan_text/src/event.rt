@@ -3,11 +3,9 @@ ghost use Rattle.std.specs.Prelude.{◌≡◌, map, option_map, IfSome};
 ghost use Rattle.sm_plan_text.specs.Words.{view, Scope, row_of, worded_faults, event_word, event_table, event_of, event_in};
 ghost use Rattle.sm_plan_text.specs.declared.member.Member.TheVariants as members;
 
-use crate::cursor::{Cursor, after_of};
-use crate::entry::Entry;
-use crate::fault::Faults;
-use crate::member::Member;
+use crate::cursor::after_of;
 use crate::rule::{Form, Rule, SERVER, SHARD};
+use crate::{Cursor, Entry, Faults, Member};
 use sm_plan_code::{MOST_CALLS, MOST_NUMBER};
 use sm_server::{ServerId, ShardId};
 use std::alloc::AllocError;

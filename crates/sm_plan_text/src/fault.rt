@@ -15,8 +15,7 @@ pub enum TextFault {
     NoMemory,
     #[error("not a JSON text in UTF-8")]
     NotJson,
-    /// The member is missing, has a value of another form, or stands for an object that is none or has a member that
-    /// it does not know.
+    /// The member is missing or has another form, or it stands for an object that is none or has a member that it does not know.
     #[error("`{member}` is missing or not in its form")]
     Shape { member: Member },
     #[error("`{member}` names what is not in the document")]

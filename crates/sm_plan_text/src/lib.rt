@@ -20,10 +20,15 @@ mod rows;
 mod rule;
 mod writing;
 
+use cursor::Cursor;
 pub use document::{Document, read_document};
+use entry::Entry;
 pub use event::EventText;
+use fault::Faults;
 pub use fault::{TextFault, first_is_answered};
 pub use member::Member;
 pub use moves::MoveText;
+use names::Names;
 pub use plan_text::read_plan;
+use rule::{Form, Rule};
 pub use writing::{plan_text_is_read, write_plan, written_plan_is_read};

@@ -1,11 +1,8 @@
 //! The moves of a document.
 ghost use Rattle.sm_plan_text.specs.Words.{own_faults, move_table, move_in};
 
-use crate::cursor::Cursor;
-use crate::entry::Entry;
-use crate::fault::Faults;
-use crate::member::Member;
 use crate::rule::{FROM, SHARD, TO};
+use crate::{Cursor, Entry, Faults, Member};
 use sm_server::{ServerId, ShardId};
 use std::alloc::AllocError;
 

@@ -5,13 +5,9 @@ ghost use Rattle.json.specs.Json.{value, items, members};
 ghost use Rattle.serde_json.specs.Data.{Data, Items, Members, array, put};
 ghost use Rattle.serde_json.specs.Read.{of_json, of_members, converted, read as read_text};
 
-use crate::cursor::{Cursor, Scope, items_of};
-use crate::entry::Entry;
-use crate::event::EventText;
-use crate::fault::Faults;
+use crate::cursor::{Scope, items_of};
 use crate::limits::MOST_EVENTS;
-use crate::member::Member;
-use crate::names::Names;
+use crate::{Cursor, Entry, EventText, Faults, Member, Names};
 use json_tree::{MAX_DEPTH, ReadFault, Reader, Scratch, Token, Tree, find_member, read_value};
 use sm_server::{Call, ServerId, ShardId};
 use std::alloc::{AllocError, Global};

@@ -3,12 +3,10 @@ ghost use Rattle.std.specs.Prelude.{◌≡◌, [], map, option_map, IfOk, IfSome
 ghost use Rattle.sm_plan_text.specs.Words.{view, Scope, row_of, own_faults, worded_faults, no_rights, IsOnce, rights_of, in_order, right_table, right_in, lead_word, crown_table, lead_worded, crown_in, room_table, room_in, spare_table, spare_in, parcel_faults, parcel_in};
 ghost use Rattle.sm_plan_text.specs.declared.member.Member.TheVariants as members;
 
-use crate::cursor::{Cursor, state_of};
-use crate::entry::Entry;
-use crate::fault::Faults;
+use crate::cursor::state_of;
 use crate::limits::AMOUNT_LIMIT;
-use crate::member::Member;
 use crate::rule::{FROM, Form, LISTED, Rule, SERVER, SHARD, TO};
+use crate::{Cursor, Entry, Faults, Member};
 use sm_placement::Lead;
 use sm_reservation::{CellRight, Crown, Hold, Lists, Parcel, ParcelFault, PlainCell, Room, Spare};
 use std::alloc::{AllocError, Global};

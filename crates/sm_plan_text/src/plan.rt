@@ -3,12 +3,9 @@ ghost use Rattle.std.specs.Prelude.{◌≡◌, ◌++◌, [], map};
 ghost use Rattle.sm_plan_text.specs.Words.{view, found, entries_in, Scope, row_of, own_faults, walked, parts_of, IsPlan, parcel_faults, instr_faults, faults_within, knows_retries, stream_table, stream_in, plan_faults, plan_in};
 ghost use Rattle.sm_plan_text.specs.declared.member.Member.TheVariants as members;
 
-use crate::cursor::{Cursor, Scope};
-use crate::entry::Entry;
-use crate::fault::Faults;
-use crate::member::Member;
+use crate::cursor::Scope;
 use crate::parcel::empty_parcel;
-use crate::rule::{Form, Rule};
+use crate::{Cursor, Entry, Faults, Form, Member, Rule};
 use sm_plan_code::{
     MOST_CALLS, MOST_INSTRUCTIONS, MOST_SIGNALS, MOST_STREAMS, Parts, Plan, Stream,
 };

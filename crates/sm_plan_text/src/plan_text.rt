@@ -2,12 +2,8 @@
 ghost use Rattle.std.specs.Prelude.{◌≡◌, ◌≢◌, Ok, Err, IfOk, IfErr, length};
 ghost use Rattle.sm_plan_text.specs.Words.{IsSetup, names_of_servers, names_of_shards, IsKnownPlan, read_plan};
 
-use crate::cursor::Cursor;
 use crate::document::parse;
-use crate::entry::Entry;
-use crate::fault::{Faults, TextFault};
-use crate::member::Member;
-use crate::names::Names;
+use crate::{Cursor, Entry, Faults, Member, Names, TextFault};
 use json_tree::Scratch;
 use sm_placement::Config;
 use sm_plan_code::Plan;

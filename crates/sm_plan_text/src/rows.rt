@@ -3,12 +3,10 @@ ghost use Rattle.std.specs.Prelude.{◌≡◌, ◌++◌, ◌∷◌, [], map, len
 ghost use Rattle.sm_plan_text.specs.Words.{bytes_eq, insert_key, view, noted, text_in, flag_in, names_in, entries_in, id_of, own_faults, walked, cell_in, server_row, server_table, server_faults, server_in, down_in, shard_row, cap_limit, shard_table, faults_of_shard, shard_faults, shard_in, listed_in, cell_faults, named_cell, cells_of_shard, cells_in};
 ghost use Rattle.sm_plan_text.specs.declared.member.Member.TheVariants as members;
 
-use crate::cursor::{Cursor, id};
-use crate::fault::Faults;
+use crate::cursor::id;
 use crate::limits::LOAD_LIMIT;
-use crate::member::Member;
-use crate::names::Names;
 use crate::rule::{Form, LISTED, Rule, SERVER};
+use crate::{Cursor, Faults, Member, Names};
 use json_tree::Tree;
 use sm_placement::{MOST_CELLS, MOST_REPLICAS, Server, Shard};
 use sm_server::{Cell, Role, ServerId, ShardId};

@@ -5,11 +5,9 @@ ghost use Rattle.sm_plan_text.specs.Words.{view, members_view, as_number, text_o
 ghost use Rattle.sm_plan_text.specs.Tables.{texts_found, has_double_key, is_among, has_unknown_member, object_faults, row_faults, value_faults, entry_faults, by_word, text, list, keyed};
 ghost use Rattle.sm_plan_text.specs.Rules.{has_form, number_faults, want_of, member_of};
 
-use crate::cursor::{Cursor, Scope, after_of, items_of, role_of, state_of};
-use crate::fault::{Faults, TextFault};
+use crate::cursor::{Scope, after_of, items_of, role_of, state_of};
 use crate::limits::MOST_ASKS;
-use crate::member::Member;
-use crate::names::Names;
+use crate::{Cursor, Faults, Member, Names, TextFault};
 use indexmap::IndexSet;
 use json_tree::Tree;
 use sm_plan_code::MOST_RIGHTS;

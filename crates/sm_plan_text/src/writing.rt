@@ -1,16 +1,26 @@
 //! Plans as JSON texts.
-ghost use Rattle.std.specs.Prelude.{◌≡◌, ◌<◌, ℕ, Bool, List, length, map, All, IfOk, IfSome, Ok};
+ghost use Rattle.std.specs.Prelude.{◌≡◌, ◌<◌, ℕ, Bool, List, length, map, All, IfOk, Ok};
+ghost use Rattle.serde_json.specs.Data.{object, no_members};
 ghost use Rattle.serde_json.specs.View.{view};
 ghost use Rattle.sm_plan_text.specs.Words.{Data, Member, Setup, IsSetup, names_of_servers, names_of_shards, PlanModel, IsPlan, IsKnownPlan, IsKnownStream, IsKnownInstr, IsKnownParcel, IsKnownCrown, IsKnownCellRight, read_plan};
 ghost use Rattle.sm_plan_text.specs.declared.member.Member.TheVariants as members;
-ghost use Rattle.sm_plan_text.specs.PlanTexts.{name_at, list_data, listed_data, role_text, plain_text, lead_text, right_data, crown_data, room_data, spare_data, parcel_data, step_data, instr_data, stream_data, has_retries, plan_data, plan_text, IsReadBack};
+ghost use Rattle.sm_plan_text.specs.PlanTexts.{name_data, scalar_data, scalars_put, list_data, role_text, plain_text, lead_text, right_data, crown_data, room_data, spare_data, parcel_data, step_data, instr_data, stream_data, has_retries, plan_data, plan_text, IsReadBack};
 
-use serde_json::{Value, json};
+use self::Scalar::{Null, Number, Text};
+use serde_json::{Map, Value, json, put};
 use sm_placement::{Config, Lead};
 use sm_plan_code::{Instr, Plan, Stream};
 use sm_reservation::{CellRight, Crown, Parcel, PlainCell, Room, Spare};
 use sm_server::{Role, ServerId, ShardId};
 use std::alloc::{AllocError, Global};
+
+/// What a member says that is neither a list nor an object.
+#[derive(Clone, Copy)]
+enum Scalar<'a> {
+    Null,
+    Text(&'a str),
+    Number(u64),
+}
 
 /// Writes over the names of a configuration, with the retries of streams or without.
 #[derive(Clone, Copy)]
@@ -21,31 +31,36 @@ struct Writer<'c> {
 }
 
 impl<'c> Writer<'c> {
-    #[tactic(auto, using(crate::proofs::Written::shard_name_at))]
-    fn shard(&self, shard: ShardId) -> &'c str
-        requires { shard < length self.now.config.now.shards }
-        ensures { result.now ≡ name_at (names_of_shards self.now.config.now) shard }
+    /// An object of members that are neither lists nor objects.
+    fn object(&self, members: &[(&str, Scalar<'_>)]) -> Result<Value, AllocError>
+        ensures { IfOk result (λ value. view value ≡ object (scalars_put no_members members.now)) }
     {
-        self.config.shard(shard).name.as_str()
+        let mut object = Map::new(self.alloc);
+        for member in members {
+            let value = match member.1 {
+                Null => Value::Null,
+                Text(text) => Value::try_from_str(self.alloc, text)?,
+                Number(number) => Value::from(number),
+            };
+            put(&mut object, self.alloc, member.0, value)?;
+        }
+        Ok(Value::Object(object))
+    }
+
+    #[tactic(auto, using(crate::proofs::Written::shard_name_at))]
+    fn shard(&self, shard: ShardId) -> Scalar<'c>
+        requires { shard < length self.now.config.now.shards }
+        ensures { scalar_data result ≡ name_data (names_of_shards self.now.config.now) shard }
+    {
+        Text(self.config.shard(shard).name.as_str())
     }
 
     #[tactic(auto, using(crate::proofs::Written::server_name_at))]
-    fn server(&self, server: ServerId) -> &'c str
+    fn server(&self, server: ServerId) -> Scalar<'c>
         requires { server < length self.now.config.now.servers }
-        ensures { result.now ≡ name_at (names_of_servers self.now.config.now) server }
+        ensures { scalar_data result ≡ name_data (names_of_servers self.now.config.now) server }
     {
-        self.config.server(server).name.as_str()
-    }
-
-    /// The name of the server that is listed, or null.
-    fn listed(&self, listed: Option<ServerId>) -> Result<Value, AllocError>
-        requires { IfSome listed (λ server. server < length self.now.config.now.servers) }
-        ensures { IfOk result (λ value. view value ≡ listed_data (names_of_servers self.now.config.now) listed) }
-    {
-        match listed {
-            Some(server) => Value::try_from_str(self.alloc, self.server(server)),
-            None => Ok(Value::Null),
-        }
+        Text(self.config.server(server).name.as_str())
     }
 
     /// An instruction for a shard at a server, with one member more.
@@ -55,25 +70,21 @@ impl<'c> Writer<'c> {
         shard: ShardId,
         server: ServerId,
         key: &str,
-        text: &str,
+        more: Scalar<'_>,
     ) -> Result<Value, AllocError>
         requires shard { shard < length self.now.config.now.shards }
         requires server { server < length self.now.config.now.servers }
-        ensures { IfOk result (λ value. view value ≡ step_data (names_of_shards self.now.config.now) (names_of_servers self.now.config.now) word.now shard server key.now text.now) }
+        ensures { IfOk result (λ value. view value ≡ step_data (names_of_shards self.now.config.now) (names_of_servers self.now.config.now) word.now shard server key.now (scalar_data more.entry)) }
     {
-        json!(in self.alloc; {
-            "do": word,
-            "server": self.server(server),
-            "shard": self.shard(shard),
-            (key): text,
-        })
+        let server = ("server", self.server(server));
+        let shard = ("shard", self.shard(shard));
+        self.object(&[("do", Text(word)), server, shard, (key, more)])
     }
 
     /// A list.
     fn list<T: PlanPart>(&self, items: &[T]) -> Result<Value, AllocError>
         requires { All (T.fits (length self.now.config.now.shards) (length self.now.config.now.servers)) items.now }
-        ensures { IfOk result (λ value. view value
-            ≡ list_data (map (T.written_as (names_of_shards self.now.config.now) (names_of_servers self.now.config.now) self.now.retries) items.now)) }
+        ensures { IfOk result (λ value. view value ≡ list_data (map (T.written_as (names_of_shards self.now.config.now) (names_of_servers self.now.config.now) self.now.retries) items.now)) }
     {
         let mut values = Vec::with_capacity(self.alloc, items.len())?;
         for item in items {
@@ -123,8 +134,7 @@ trait PlanPart {
 
     fn value(&self, writer: &Writer<'_>) -> Result<Value, AllocError>
         requires { fits (length writer.now.config.now.shards) (length writer.now.config.now.servers) self.now }
-        ensures { IfOk result (λ value. view value
-            ≡ written_as (names_of_shards writer.now.config.now) (names_of_servers writer.now.config.now) writer.now.retries self.now) };
+        ensures { IfOk result (λ value. view value ≡ written_as (names_of_shards writer.now.config.now) (names_of_servers writer.now.config.now) writer.now.retries self.now) };
 }
 
 impl PlanPart for CellRight {
@@ -133,11 +143,9 @@ impl PlanPart for CellRight {
     ghost written_as = { λ shards servers retries right. right_data shards servers right };
 
     fn value(&self, writer: &Writer<'_>) -> Result<Value, AllocError> {
-        json!(in writer.alloc; {
-            "server": writer.server(self.server),
-            "shard": writer.shard(self.shard),
-            "state": state_word(self.state),
-        })
+        let (server, shard) = (writer.server(self.server), writer.shard(self.shard));
+        let state = Text(state_word(self.state));
+        writer.object(&[("server", server), ("shard", shard), ("state", state)])
     }
 }
 
@@ -147,25 +155,20 @@ impl PlanPart for Crown {
     ghost written_as = { λ shards servers retries crown. crown_data shards servers crown };
 
     fn value(&self, writer: &Writer<'_>) -> Result<Value, AllocError> {
-        let alloc = writer.alloc;
-        let lead = lead_word(self.lead);
-        let listed = writer.listed(self.listed)?;
-        let shard = writer.shard(self.shard);
+        let lead = ("lead", Text(lead_word(self.lead)));
+        let listed = match self.listed {
+            Some(server) => ("listed", writer.server(server)),
+            None => ("listed", Null),
+        };
+        let shard = ("shard", writer.shard(self.shard));
         match self.lead {
-            Lead::Gone => json!(in alloc; {"lead": lead, "listed": listed, "shard": shard}),
+            Lead::Gone => writer.object(&[lead, listed, shard]),
             Lead::At(server) => {
-                let server = writer.server(server);
-                json!(in alloc; {"lead": lead, "listed": listed, "server": server, "shard": shard})
+                writer.object(&[lead, listed, ("server", writer.server(server)), shard])
             }
             Lead::Ready(from, to) | Lead::Handing(from, to) | Lead::Handed(from, to) => {
-                let (from, to) = (writer.server(from), writer.server(to));
-                json!(in alloc; {
-                    "from": from,
-                    "lead": lead,
-                    "listed": listed,
-                    "shard": shard,
-                    "to": to,
-                })
+                let (from, to) = (("from", writer.server(from)), ("to", writer.server(to)));
+                writer.object(&[from, lead, listed, shard, to])
             }
         }
     }
@@ -177,7 +180,8 @@ impl PlanPart for Room {
     ghost written_as = { λ shards servers retries room. room_data servers room };
 
     fn value(&self, writer: &Writer<'_>) -> Result<Value, AllocError> {
-        json!(in writer.alloc; {"amount": self.amount, "server": writer.server(self.server)})
+        let server = writer.server(self.server);
+        writer.object(&[("amount", Number(self.amount)), ("server", server)])
     }
 }
 
@@ -187,7 +191,8 @@ impl PlanPart for Spare {
     ghost written_as = { λ shards servers retries spare. spare_data shards spare };
 
     fn value(&self, writer: &Writer<'_>) -> Result<Value, AllocError> {
-        json!(in writer.alloc; {"amount": self.amount, "shard": writer.shard(self.shard)})
+        let shard = writer.shard(self.shard);
+        writer.object(&[("amount", Number(self.amount)), ("shard", shard)])
     }
 }
 
@@ -197,11 +202,12 @@ impl PlanPart for Parcel {
     ghost written_as = { λ shards servers retries parcel. parcel_data shards servers parcel };
 
     fn value(&self, writer: &Writer<'_>) -> Result<Value, AllocError> {
-        let cells = writer.list(self.cells())?;
-        let crowns = writer.list(self.crowns())?;
-        let room = writer.list(self.room())?;
-        let spare = writer.list(self.spare())?;
-        json!(in writer.alloc; {"cells": cells, "crowns": crowns, "room": room, "spare": spare})
+        json!(in writer.alloc; {
+            "cells": writer.list(self.cells())?,
+            "crowns": writer.list(self.crowns())?,
+            "room": writer.list(self.room())?,
+            "spare": writer.list(self.spare())?,
+        })
     }
 }
 
@@ -211,7 +217,6 @@ impl PlanPart for Instr {
     ghost written_as = { λ shards servers retries instr. instr_data shards servers instr };
 
     fn value(&self, writer: &Writer<'_>) -> Result<Value, AllocError> {
-        let alloc = writer.alloc;
         match *self {
             Instr::PrepareAdd {
                 shard,
@@ -230,22 +235,28 @@ impl PlanPart for Instr {
                 shard,
                 server,
                 role,
-            } => writer.step("add", shard, server, "role", role_word(role)),
+            } => writer.step("add", shard, server, "role", Text(role_word(role))),
             Instr::Drop { shard, server } => {
-                let (shard, server) = (writer.shard(shard), writer.server(server));
-                json!(in alloc; {"do": "drop", "server": server, "shard": shard})
+                let server = ("server", writer.server(server));
+                writer.object(&[("do", Text("drop")), server, ("shard", writer.shard(shard))])
             }
             Instr::Change { shard, server, to } => {
-                writer.step("change", shard, server, "to", role_word(to))
+                writer.step("change", shard, server, "to", Text(role_word(to)))
             }
             Instr::Publish { shard } => {
-                json!(in alloc; {"do": "publish", "shard": writer.shard(shard)})
+                writer.object(&[("do", Text("publish")), ("shard", writer.shard(shard))])
             }
             Instr::Unlist { shard } => {
-                json!(in alloc; {"do": "unlist", "shard": writer.shard(shard)})
+                writer.object(&[("do", Text("unlist")), ("shard", writer.shard(shard))])
             }
-            Instr::Signal { signal } => json!(in alloc; {"do": "signal", "signal": signal}),
-            Instr::Wait { signal } => json!(in alloc; {"do": "wait", "signal": signal}),
+            Instr::Signal { signal } => {
+                let signal = Number(u64::from(signal));
+                writer.object(&[("do", Text("signal")), ("signal", signal)])
+            }
+            Instr::Wait { signal } => {
+                let signal = Number(u64::from(signal));
+                writer.object(&[("do", Text("wait")), ("signal", signal)])
+            }
         }
     }
 }
@@ -256,17 +267,21 @@ impl PlanPart for Stream {
     ghost written_as = { stream_data };
 
     fn value(&self, writer: &Writer<'_>) -> Result<Value, AllocError> {
-        let code = writer.list(self.code.as_slice())?;
-        let holds = self.holds.value(writer)?;
+        let alloc = writer.alloc;
+        let mut stream = Map::new(alloc);
+        put(&mut stream, alloc, "budget", Value::from(self.budget))?;
+        put(
+            &mut stream,
+            alloc,
+            "code",
+            writer.list(self.code.as_slice())?,
+        )?;
+        put(&mut stream, alloc, "holds", self.holds.value(writer)?)?;
         if !writer.retries {
-            return json!(in writer.alloc; {"budget": self.budget, "code": code, "holds": holds});
+            return Ok(Value::Object(stream));
         }
-        json!(in writer.alloc; {
-            "budget": self.budget,
-            "code": code,
-            "holds": holds,
-            "retries": self.retries,
-        })
+        put(&mut stream, alloc, "retries", Value::from(self.retries))?;
+        Ok(Value::Object(stream))
     }
 }
 
@@ -282,20 +297,17 @@ fn plan_value(alloc: Global, config: &Config, plan: &Plan) -> Result<Value, Allo
     requires { IsKnownPlan (length config.now.shards) (length config.now.servers) plan.now }
     ensures { IfOk result (λ value. view value ≡ plan_data (names_of_shards config.now) (names_of_servers config.now) plan.now) }
 {
-    let retries = has_retries(plan);
     let writer = Writer {
         alloc,
         config,
-        retries,
+        retries: has_retries(plan),
     };
-    let signals = writer.list(plan.signals())?;
-    let streams = writer.list(plan.streams())?;
-    let format = if retries { 2u32 } else { 1u32 };
+    let format = if writer.retries { 2u32 } else { 1u32 };
     json!(in alloc; {
         "budget": plan.budget(),
         "format": format,
-        "signals": signals,
-        "streams": streams,
+        "signals": writer.list(plan.signals())?,
+        "streams": writer.list(plan.streams())?,
     })
 }
 

@@ -28,24 +28,6 @@ entries-preserved g c =
     l.faults.lowest c.read.new.faults.lowest l.values.items c.push.new.self.items (view c.in_ok-tree.tree) c.in_ok-entry.entry
     l.invariant going.0 (rw (← going.1) c.in_ok-tree.ensures.ok) (rw (← going.1) c.in_ok-tree.ensures.shorter) c.in_ok-entry.ensures.faults c.in_ok-entry.ensures.value pushed
 
-pub entries-preserved-in_ok-or : goal.entries-preserved-in_ok-or
-entries-preserved-in_ok-or g c =
-    let l = c.entries in
-    let going : (after_end_array l.reader ≡ None) × (c.take_end_array.new.self ≡ l.reader) = grind arith in
-    let pushed : c.push.new.self.items ≡ l.values.items ++ c.in_ok-entry.entry ∷ [] = grind arith in
-    one_more_read (g.T.Entry.faults_of c.args.scope c.args.member) (g.T.Entry.value c.args.scope) (HasIds c.args.scope) (value 125) c.next.new.self l.reader c.read_value.new.reader
-    l.faults.lowest c.read.new.faults.lowest l.values.items c.push.new.self.items (view c.in_ok-tree.tree) c.in_ok-entry.entry
-    l.invariant going.0 (rw (← going.1) c.in_ok-tree.ensures.ok) (rw (← going.1) c.in_ok-tree.ensures.shorter) c.in_ok-entry.ensures.faults c.in_ok-entry.ensures.value pushed
-
-pub entries-preserved-in_ok-or-2 : goal.entries-preserved-in_ok-or-2
-entries-preserved-in_ok-or-2 g c =
-    let l = c.entries in
-    let going : (after_end_array l.reader ≡ None) × (c.take_end_array.new.self ≡ l.reader) = grind arith in
-    let pushed : c.push.new.self.items ≡ l.values.items ++ c.in_ok-entry.entry ∷ [] = grind arith in
-    one_more_read (g.T.Entry.faults_of c.args.scope c.args.member) (g.T.Entry.value c.args.scope) (HasIds c.args.scope) (value 125) c.next.new.self l.reader c.read_value.new.reader
-    l.faults.lowest c.read.new.faults.lowest l.values.items c.push.new.self.items (view c.in_ok-tree.tree) c.in_ok-entry.entry
-    l.invariant going.0 (rw (← going.1) c.in_ok-tree.ensures.ok) (rw (← going.1) c.in_ok-tree.ensures.shorter) c.in_ok-entry.ensures.faults c.in_ok-entry.ensures.value pushed
-
 pub returns-clause-ok : goal.returns-clause-ok
 returns-clause-ok g c =
     let p = value 125 in
