@@ -1,6 +1,6 @@
 -- Turns of events, as a player makes them.
 use Rattle.std.proofs.Common.{◌≡◌, ◌<◌, ◌≤◌, ◌+◌, ◌^◌, ◌++◌, ◌∷◌, [], ℕ, Bool, List, Result, Ok, Err, Option, Some, None, length, map, refl, sym, ap, ◌∙◌, subst, arith, append_assoc}
-use Rattle.std.specs.Prelude.{All, slice_index_or, slice_set, option_map, OnOk}
+use Rattle.std.specs.Prelude.{slice_index_or, slice_set, option_map, OnOk}
 use Rattle.std.proofs.lemmas.List.{map-set, length-append}
 use Rattle.sm_placement.specs.Setup.{Setup, Sizes, sizes_of}
 use Rattle.sm_verifier.specs.Checked.{CheckedModel}
@@ -20,7 +20,7 @@ use Rattle.sm_machine.specs.Hand.{hand_plan, AreFor}
 use Rattle.sm_machine.specs.Director.{IsDirected, IsDirectedIf}
 use Rattle.sm_machine.proofs.Directed.{IsNoStart, same_plans, begun_is_there, one_more}
 use Rattle.sm_machine.proofs.FirstPlaces.{left_there}
-use Rattle.sm_machine.proofs.HandPlays.{sizes_are, same_sizes}
+use Rattle.sm_machine.proofs.HandPlays.{sizes_are}
 use Rattle.sm_machine.proofs.HandStarts.{plan_there, number_fits}
 use Rattle.sm_report.specs.declared.player.Player.{Player}
 use Rattle.sm_report.specs.PlayLines.{stream_text, progress_line_of, progress_line, event_front, played_line, outcome_line}
@@ -181,12 +181,7 @@ stream_added many place w number i out name new long named length_is added =
 
 -- ---- the names that events know
 
--- events that a configuration knows are known to each machine of it
-pub events_known : (m : MachineModel) (setup : Setup) (events : List EventText) → m.placement.setup ≡ setup → All (IsKnownEvent (length setup.shards) (length setup.servers)) events →
-    All (IsKnownEvent (state_of m).sizes.shards (state_of m).sizes.servers) events
-events_known m setup events e known = subst (λ (c : Sizes). All (IsKnownEvent c.shards c.servers) events) (sym (sizes_are m ∙ ap sizes_of e)) known
-
--- events that a machine knows are known to each other machine of its configuration
-pub events_still_known : (m n : MachineModel) (events : List EventText) → n.placement.setup ≡ m.placement.setup → All (IsKnownEvent (state_of m).sizes.shards (state_of m).sizes.servers) events →
-    All (IsKnownEvent (state_of n).sizes.shards (state_of n).sizes.servers) events
-events_still_known m n events e known = subst (λ (c : Sizes). All (IsKnownEvent c.shards c.servers) events) (sym (same_sizes m n e)) known
+-- an event that a configuration knows is known to each machine of it
+pub event_known : (m : MachineModel) (setup : Setup) (event : EventText) → m.placement.setup ≡ setup → IsKnownEvent (length setup.shards) (length setup.servers) event →
+    IsKnownEvent (state_of m).sizes.shards (state_of m).sizes.servers event
+event_known m setup event e known = subst (λ (c : Sizes). IsKnownEvent c.shards c.servers event) (sym (sizes_are m ∙ ap sizes_of e)) known

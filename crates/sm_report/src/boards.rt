@@ -122,6 +122,26 @@ fn run_begun<
     }
 }
 
+/// The lines of what clients were answered, where each client is of the ask at its place.
+fn tell_asks<B: Side, C: Side, N: Naming>(
+    alloc: Global,
+    config: &Config,
+    clients: &[Client<B, C, N>],
+    asks: &[ShardId],
+) -> Result<String, Unmade>
+    ensures shards { OnOk result (map (λ client. client.shard) clients.now ≡ asks.now) }
+    ensures asked { IfOk result (λ asked. string_bytes asked ≡ client_lines config.now 0 clients.now) }
+    ensures ways { OnOk result (All IsClient clients.now) }
+    ensures why { IfErr result (λ why. IfUnmade why (λ made. ⊥)) }
+{
+    if !are_of(clients, asks) {
+        return Err(Unmade::Unrun(Unrun::OtherAsk));
+    }
+    let mut asked = String::new(alloc);
+    push_clients(&mut asked, config, clients)?;
+    Ok(asked)
+}
+
 /// Runs the streams of the plan that has begun beside asks, and tells what the asks came to.
 fn run_told<
     A: Side + Send + Sync,
@@ -150,12 +170,7 @@ fn run_told<
     ensures why { IfErr result (λ why. IfUnmade why (λ made. ⊥)) }
 {
     run_begun(rt, alloc, board, runners, asks, given)?;
-    if !are_of(given.clients.as_slice(), asks) {
-        return Err(Unmade::Unrun(Unrun::OtherAsk));
-    }
-    let mut asked = String::new(alloc);
-    push_clients(&mut asked, board.config(), given.clients.as_slice())?;
-    Ok(asked)
+    tell_asks(alloc, board.config(), given.clients.as_slice(), asks)
 }
 
 /// Adds the lines of the streams of a machine's one plan.

@@ -1,5 +1,5 @@
 //! The lines of events that are played, and of the streams after them.
-ghost use Rattle.std.specs.Prelude.{◌≡◌, ◌++◌, IfOk, OnOk, string_bytes, slice_index_or};
+ghost use Rattle.std.specs.Prelude.{◌≡◌, ◌++◌, [], OnOk, string_bytes, slice_index_or};
 ghost use Rattle.sm_report.specs.PlayLines.{plan_front, stream_text, word_line, blocked_line, executed_line, passed_line, engaged_line, shard_cap_line, denied_line, refill_line, begun_counts_line, not_begun_line, event_front, stream_at_line, stream_done_line, waiting_line};
 
 use crate::names::{server_name, shard_name};
@@ -7,7 +7,7 @@ use crate::verdict::push_holding;
 use sm_placement::Config;
 use sm_protocol::{BeginFault, RefillFault};
 use sm_task_controller::Denied;
-use std::alloc::{AllocError, Global};
+use std::alloc::AllocError;
 
 /// Adds a line of one text.
 pub fn push_word(out: &mut String, word: &str) -> Result<(), AllocError>
@@ -34,7 +34,7 @@ pub fn push_event_front(out: &mut String, i: usize) -> Result<(), AllocError>
 }
 
 /// Adds a stream, with its plan's place where the document has a list of plans.
-fn push_stream_text(
+pub fn push_stream_text(
     out: &mut String,
     many: bool,
     place: usize,
@@ -46,20 +46,6 @@ fn push_stream_text(
         return write!(out, "plan {place} stream {stream}");
     }
     write!(out, "stream {stream}")
-}
-
-/// A stream, with its plan's place where the document has a list of plans.
-pub fn stream_text(
-    alloc: Global,
-    many: bool,
-    place: usize,
-    stream: u32,
-) -> Result<String, AllocError>
-    ensures { IfOk result (λ text. string_bytes text ≡ stream_text many place stream) }
-{
-    let mut text = String::new(alloc);
-    push_stream_text(&mut text, many, place, stream)?;
-    Ok(text)
 }
 
 /// Adds the line of a step that waits.
@@ -94,10 +80,12 @@ fn push_shard_cap(out: &mut String, shard: &str) -> Result<(), AllocError>
     writeln!(out, "denied 4 ShardCap shard {shard}")
 }
 
-fn push_engaged(out: &mut String, stream: &str) -> Result<(), AllocError>
-    ensures { OnOk result (string_bytes out.new ≡ string_bytes out.old ++ engaged_line stream.now) }
+fn push_engaged(out: &mut String, many: bool, place: usize, stream: u32) -> Result<(), AllocError>
+    ensures { OnOk result (string_bytes out.new ≡ string_bytes out.old ++ engaged_line (stream_text many place stream)) }
 {
-    writeln!(out, "denied 2 Engaged {stream}")
+    write!(out, "denied 2 Engaged ")?;
+    push_stream_text(out, many, place, stream)?;
+    writeln!(out)
 }
 
 /// Where the plan of a number stands in the document.
@@ -112,7 +100,6 @@ fn place_of_number(places: &[u32], number: u32) -> u32
 
 /// Adds the line that says why a server may not be restarted. The plans have begun from these places of the document.
 pub fn push_denied(
-    alloc: Global,
     out: &mut String,
     config: &Config,
     many: bool,
@@ -125,8 +112,7 @@ pub fn push_denied(
         Denied::AlreadyDown => push_word(out, "denied 1 AlreadyDown"),
         Denied::Engaged { stream } => {
             let place = place_of_number(places, stream.plan);
-            let text = stream_text(alloc, many, place as usize, stream.stream)?;
-            push_engaged(out, text.as_str())
+            push_engaged(out, many, place as usize, stream.stream)
         }
         Denied::GlobalCap => push_word(out, "denied 3 GlobalCap"),
         Denied::ShardCap { shard } => push_shard_cap(out, shard_name(config, shard)),
@@ -134,15 +120,22 @@ pub fn push_denied(
     }
 }
 
+/// The words that say why an allowance is not raised.
+fn refill_words(fault: RefillFault) -> &'static str
+    ensures { word_line result.now ≡ refill_line fault }
+{
+    match fault {
+        RefillFault::Ended => "refill refused 1 Ended",
+        RefillFault::TooMany => "refill refused 2 TooMany",
+        RefillFault::LogFull => "refill refused 3 LogFull",
+    }
+}
+
 /// Adds the line that says why an allowance is not raised.
 pub fn push_refill_fault(out: &mut String, fault: RefillFault) -> Result<(), AllocError>
     ensures { OnOk result (string_bytes out.new ≡ string_bytes out.old ++ refill_line fault) }
 {
-    match fault {
-        RefillFault::Ended => push_word(out, "refill refused 1 Ended"),
-        RefillFault::TooMany => push_word(out, "refill refused 2 TooMany"),
-        RefillFault::LogFull => push_word(out, "refill refused 3 LogFull"),
-    }
+    push_word(out, refill_words(fault))
 }
 
 /// Adds the line of a plan that has begun.
@@ -168,23 +161,18 @@ pub fn push_not_begun(
     }
 }
 
-/// Adds the line of a stream that has not made its end.
-pub fn push_stream_at(
-    out: &mut String,
-    stream: &str,
-    at: usize,
-    length: usize,
-) -> Result<(), AllocError>
-    ensures { OnOk result (string_bytes out.new ≡ string_bytes out.old ++ stream_at_line stream.now at length) }
+/// Adds behind a stream that it has not made its end.
+pub fn push_at(out: &mut String, at: usize, length: usize) -> Result<(), AllocError>
+    ensures { OnOk result (string_bytes out.new ≡ string_bytes out.old ++ stream_at_line [] at length) }
 {
-    writeln!(out, "{stream}: at {at} of {length}")
+    writeln!(out, ": at {at} of {length}")
 }
 
-/// Adds the line of a stream that has made its end.
-pub fn push_stream_done(out: &mut String, stream: &str) -> Result<(), AllocError>
-    ensures { OnOk result (string_bytes out.new ≡ string_bytes out.old ++ stream_done_line stream.now) }
+/// Adds behind a stream that it has made its end.
+pub fn push_done(out: &mut String) -> Result<(), AllocError>
+    ensures { OnOk result (string_bytes out.new ≡ string_bytes out.old ++ stream_done_line []) }
 {
-    writeln!(out, "{stream}: done")
+    writeln!(out, ": done")
 }
 
 /// Adds the line of a plan that has not begun.

@@ -5,14 +5,13 @@ ghost use Rattle.sm_protocol.specs.declared.event.Played.TheVariants as played;
 ghost use Rattle.sm_protocol.specs.State.{is_begun, plan_at, progress_of};
 ghost use Rattle.sm_machine.specs.State.{state_of};
 ghost use Rattle.sm_report.specs.Playing.{event_turn, scene_after};
-ghost use Rattle.sm_report.specs.PlayLines.{begun_line, played_line, outcome_line, event_lines, progress_line_of, progress_lines, plan_lines, all_plan_lines};
+ghost use Rattle.sm_report.specs.PlayLines.{begun_line, played_line, outcome_line, event_lines, stream_text, progress_line_of, progress_lines, plan_lines, all_plan_lines};
 ghost use Rattle.sm_report.specs.Player.{scene_of, IsSetUp, IsBegunThere};
 
 use crate::names::server_name;
 use crate::play_lines::{
-    push_begun, push_blocked, push_denied, push_event_front, push_executed, push_not_begun,
-    push_passed, push_refill_fault, push_stream_at, push_stream_done, push_waiting, push_word,
-    stream_text,
+    push_at, push_begun, push_blocked, push_denied, push_done, push_event_front, push_executed,
+    push_not_begun, push_passed, push_refill_fault, push_stream_text, push_waiting, push_word,
 };
 use crate::player::Player;
 use crate::verdict::call_count;
@@ -32,7 +31,6 @@ fn push_begun_plan(out: &mut String, plan: &Plan) -> Result<(), AllocError>
 
 /// Adds the line of an answer.
 fn push_answer(
-    alloc: Global,
     out: &mut String,
     config: &Config,
     many: bool,
@@ -60,7 +58,7 @@ fn push_answer(
         Played::Unavailable => push_word(out, "unavailable"),
         Played::LogFull => push_word(out, "log full"),
         Played::Approved => push_word(out, "approved"),
-        Played::Denied(denied) => push_denied(alloc, out, config, many, player.places(), denied),
+        Played::Denied(denied) => push_denied(out, config, many, player.places(), denied),
         Played::Up => push_word(out, "up"),
         Played::Begun { number } => push_begun_plan(out, player.machine().plan(number)),
         Played::NotBegun(fault) => push_not_begun(out, config, fault),
@@ -79,7 +77,8 @@ fn play_event(
     event: EventText,
 ) -> Result<(), AllocError>
     requires ready { IsSetUp player.old }
-    requires known { IsKnownEvent (state_of player.old.director).sizes.shards (state_of player.old.director).sizes.servers event }
+    requires setup { player.old.director.placement.setup ≡ config.now }
+    requires known { IsKnownEvent (length config.now.shards) (length config.now.servers) event }
     ensures line { OnOk result (string_bytes out.new ≡ string_bytes out.old ++ outcome_line config.now many i (event_turn (scene_of player.old) event).1 (event_turn (scene_of player.old) event).0) }
     ensures scene { OnOk result (scene_of player.new ≡ (event_turn (scene_of player.old) event).1) }
     ensures setup { OnOk result (player.new.director.placement.setup ≡ player.old.director.placement.setup) }
@@ -87,7 +86,7 @@ fn play_event(
 {
     push_event_front(out, i)?;
     match player.play(alloc, event) {
-        Ok(answer) => push_answer(alloc, out, config, many, player, answer),
+        Ok(answer) => push_answer(out, config, many, player, answer),
         Err(error) => Err(error),
     }
 }
@@ -102,7 +101,8 @@ pub fn play_events(
     events: &[EventText],
 ) -> Result<(), AllocError>
     requires ready { IsSetUp player.old }
-    requires known { All (IsKnownEvent (state_of player.old.director).sizes.shards (state_of player.old.director).sizes.servers) events.now }
+    requires setup { player.old.director.placement.setup ≡ config.now }
+    requires known { All (IsKnownEvent (length config.now.shards) (length config.now.servers)) events.now }
     ensures lines { OnOk result (string_bytes out.new ≡ string_bytes out.old ++ event_lines config.now many (scene_of player.old) 0 events.now) }
     ensures scene { OnOk result (scene_of player.new ≡ scene_after events.now (scene_of player.old)) }
     ensures setup { OnOk result (player.new.director.placement.setup ≡ player.old.director.placement.setup) }
@@ -114,22 +114,24 @@ pub fn play_events(
     Ok(())
 }
 
-/// Adds the line of how far a stream has come, which is named so and whose code has this length.
+/// Adds the line of how far a stream has come, whose plan is at this place and whose code has this length.
 fn push_stream(
     out: &mut String,
+    many: bool,
     player: &Player,
+    place: usize,
     id: StreamId,
-    name: &str,
     length: usize,
 ) -> Result<(), AllocError>
     requires { is_begun (state_of player.now.director) id ≡ true }
-    ensures { OnOk result (string_bytes out.new ≡ string_bytes out.old ++ progress_line_of name.now length (progress_of (state_of player.now.director) id)) }
+    ensures { OnOk result (string_bytes out.new ≡ string_bytes out.old ++ progress_line_of (stream_text many place id.stream) length (progress_of (state_of player.now.director) id)) }
 {
+    push_stream_text(out, many, place, id.stream)?;
     let machine = player.machine();
     if machine.is_done(id) {
-        push_stream_done(out, name)
+        push_done(out)
     } else {
-        push_stream_at(out, name, machine.position(id), length)
+        push_at(out, machine.position(id), length)
     }
 }
 
@@ -142,7 +144,6 @@ fn code_length(stream: &Stream) -> usize
 
 /// Adds the lines of the streams of a plan that has begun with a number.
 fn push_streams(
-    alloc: Global,
     out: &mut String,
     many: bool,
     player: &Player,
@@ -154,46 +155,33 @@ fn push_streams(
 {
     let streams = player.machine().plan(number).streams();
     for (i, parts) in streams.iter().enumerate() {
-        let stream = i as u32;
-        let name = stream_text(alloc, many, place, stream)?;
         let id = StreamId {
             plan: number,
-            stream,
+            stream: i as u32,
         };
-        push_stream(out, player, id, name.as_str(), code_length(parts))?;
+        push_stream(out, many, player, place, id, code_length(parts))?;
     }
     Ok(())
 }
 
 /// Adds the lines of the plan at a place.
-fn push_plan(
-    alloc: Global,
-    out: &mut String,
-    many: bool,
-    player: &Player,
-    place: usize,
-) -> Result<(), AllocError>
+fn push_plan(out: &mut String, many: bool, player: &Player, place: usize) -> Result<(), AllocError>
     requires { IsSetUp player.now }
     ensures { OnOk result (string_bytes out.new ≡ string_bytes out.old ++ plan_lines many (scene_of player.now) place) }
 {
     match player.number_of(place) {
-        Some(number) => push_streams(alloc, out, many, player, place, number),
+        Some(number) => push_streams(out, many, player, place, number),
         None => push_waiting(out, place),
     }
 }
 
 /// Adds the lines of all plans.
-pub fn push_plans(
-    alloc: Global,
-    out: &mut String,
-    many: bool,
-    player: &Player,
-) -> Result<(), AllocError>
+pub fn push_plans(out: &mut String, many: bool, player: &Player) -> Result<(), AllocError>
     requires { IsSetUp player.now }
     ensures { OnOk result (string_bytes out.new ≡ string_bytes out.old ++ all_plan_lines many (scene_of player.now)) }
 {
     for place in 0..player.plan_count() {
-        push_plan(alloc, out, many, player, place)?;
+        push_plan(out, many, player, place)?;
     }
     Ok(())
 }

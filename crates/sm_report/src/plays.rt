@@ -10,7 +10,6 @@ ghost use Rattle.sm_plan_text.specs.Documents.{IsDocument};
 ghost use Rattle.sm_plan_text.specs.Events.{IsKnownEvent};
 ghost use Rattle.sm_plan_text.specs.Reading.{rows_of};
 ghost use Rattle.sm_machine.specs.Hand.{AreFor, hand_plan};
-ghost use Rattle.sm_machine.specs.State.{state_of};
 ghost use Rattle.sm_report.specs.Checking.{accepted_line};
 ghost use Rattle.sm_report.specs.Early.{IfEnded, IfMade};
 ghost use Rattle.sm_report.specs.Player.{scene_of, IsSetUp};
@@ -110,13 +109,14 @@ fn play_all(
     events: &[EventText],
 ) -> Result<(), AllocError>
     requires ready { IsSetUp player.old }
-    requires known { All (IsKnownEvent (state_of player.old.director).sizes.shards (state_of player.old.director).sizes.servers) events.now }
+    requires setup { player.old.director.placement.setup ≡ config.now }
+    requires known { All (IsKnownEvent (length config.now.shards) (length config.now.servers)) events.now }
     ensures text { OnOk result (string_bytes text.new ≡ string_bytes text.old ++ event_lines config.now many (scene_of player.old) 0 events.now ++ all_plan_lines many (scene_after events.now (scene_of player.old))) }
     ensures scene { OnOk result (scene_of player.new ≡ scene_after events.now (scene_of player.old)) }
     ensures setup { OnOk result (player.new.director.placement.setup ≡ player.old.director.placement.setup) }
 {
     play_events(alloc, text, config, many, player, events)?;
-    push_plans(alloc, text, many, player)
+    push_plans(text, many, player)
 }
 
 /// The report of events that a player plays, behind a front.
@@ -129,7 +129,7 @@ fn report_played(
     events: &[EventText],
 ) -> Result<Made, AllocError>
     requires ready { IsSetUp player }
-    requires known { All (IsKnownEvent (state_of player.director).sizes.shards (state_of player.director).sizes.servers) events.now }
+    requires known { All (IsKnownEvent (length config.now.shards) (length config.now.servers)) events.now }
     requires setup { player.director.placement.setup ≡ config.now }
     ensures { IfOk result (λ made. made ≡ played_output config.now many (string_bytes front) events.now (scene_of player)) }
 {
@@ -156,7 +156,7 @@ fn report_list(
     requires room { down_count (sizes_of placement.setup) (place_of placement) ≤ log }
     requires most { log ≤ MOST_PLACES }
     requires known { All (IsKnownPlan (length placement.setup.shards) (length placement.setup.servers)) plans.items }
-    requires events { All (IsKnownEvent (length placement.setup.shards) (length placement.setup.servers)) events.now }
+    requires events { All (IsKnownEvent (length config.now.shards) (length config.now.servers)) events.now }
     ensures { IfMade result (AtChecks (sizes_of config.now) many 0 plans.items
         (IsPlayedOutput config.now many [] events.now (opened_scene (sizes_of config.now) (place_of placement) log plans.items))) }
 {
@@ -188,7 +188,7 @@ fn report_begun(
     events: &[EventText],
 ) -> Result<Made, Early>
     requires ready { IsSetUp player }
-    requires known { All (IsKnownEvent (state_of player.director).sizes.shards (state_of player.director).sizes.servers) events.now }
+    requires known { All (IsKnownEvent (length config.now.shards) (length config.now.servers)) events.now }
     requires setup { player.director.placement.setup ≡ config.now }
     ensures { IfMade result (Then (begin_stage config.now (scene_of player)) (IsPlayedOutput config.now false (string_bytes front) events.now)) }
 {
@@ -215,7 +215,7 @@ fn report_one(
     requires room { down_count (sizes_of placement.setup) (place_of placement) ≤ log }
     requires most { log ≤ MOST_PLACES }
     requires known { IsKnownPlan (length placement.setup.shards) (length placement.setup.servers) plan }
-    requires events { All (IsKnownEvent (length placement.setup.shards) (length placement.setup.servers)) events.now }
+    requires events { All (IsKnownEvent (length config.now.shards) (length config.now.servers)) events.now }
     ensures { IfMade result (AtChecks (sizes_of config.now) false 0 (plan ∷ [])
         (Then (begin_stage config.now (opened_scene (sizes_of config.now) (place_of placement) log (plan ∷ []))) (IsPlayedOutput config.now false (accepted_line plan) events.now))) }
 {
@@ -238,7 +238,7 @@ fn report_logged(
     requires setup { placement.setup ≡ (rows_of document.old).setup }
     requires settled { IsSettled (sizes_of placement.setup) (place_of placement) }
     requires room { down_count (sizes_of placement.setup) (place_of placement) ≤ document.old.log }
-    requires events { All (IsKnownEvent (length placement.setup.shards) (length placement.setup.servers)) events.now }
+    requires events { All (IsKnownEvent (length (rows_of document.old).setup.shards) (length (rows_of document.old).setup.servers)) events.now }
     ensures { IfMade result (IsLoggedForPlay (rows_of document.old) events.now (place_of placement) tt) }
 {
     let log = document.log;
@@ -272,7 +272,7 @@ fn report_placed(
     requires document { IsDocument (rows_of document.old) }
     requires setup { placement.setup ≡ (rows_of document.old).setup }
     requires settled { IsSettled (sizes_of placement.setup) (place_of placement) }
-    requires events { All (IsKnownEvent (length placement.setup.shards) (length placement.setup.servers)) events.now }
+    requires events { All (IsKnownEvent (length (rows_of document.old).setup.shards) (length (rows_of document.old).setup.servers)) events.now }
     ensures { IfMade result (IsPlacedForPlay (rows_of document.old) events.now (place_of placement)) }
 {
     has_log(alloc, document, &placement)?;

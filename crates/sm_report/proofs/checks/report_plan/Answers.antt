@@ -20,5 +20,5 @@ returns-in_err-may_start c =
 
 pub returns : goal.returns
 returns c =
-    plan_accepted c.args.placement.now.setup (place_of c.args.placement.now) c.args.plan c.in_ok-checked.checked.plan c.plan-2.result.now c.in_ok-accepted.field-0
-    c.in_ok-checked.ensures.plan c.plan-2.ensures.value c.in_ok-checked.ensures.sound c.in_ok-may_start.ensures.admitted c.in_ok-accepted.ensures
+    plan_accepted c.args.placement.now.setup (place_of c.args.placement.now) c.args.plan c.in_ok-checked.checked.plan c.plan.result.now c.in_ok-accepted.field-0
+    c.in_ok-checked.ensures.plan c.plan.ensures.value c.in_ok-checked.ensures.sound c.in_ok-may_start.ensures.admitted c.in_ok-accepted.ensures

@@ -1,4 +1,4 @@
-use Rattle.std.proofs.Common.{◌≡◌, ◌<◌, ◌∙◌, length, ap, arith}
+use Rattle.std.proofs.Common.{◌≡◌, ◌<◌, ◌∙◌, length, ap, refl, arith}
 use Rattle.std.specs.Prelude.{slice_index_or}
 use Rattle.std.proofs.lemmas.List.{get_or_default}
 use Rattle.sm_plan_code.specs.Plan.{PlanModel, StreamModel}
@@ -24,4 +24,4 @@ loop-i-preserved c =
     c.index-streams-i.is ∙ get_or_default streams c.loop-i.i c.index-streams-i.result no_stream within ∙ ap (λ xs. slice_index_or xs c.loop-i.i no_stream) streams_are in
     let long : c.code_length.result ≡ length (stream_parts w (stream_id c.args.number c.loop-i.i)).code = c.code_length.ensures ∙ ap (λ (s : StreamModel). length s.code) part in
     text_of_next (λ i. progress_line c.args.many c.args.place w (stream_id c.args.number i)) _ _ _ c.loop-i.i (stream_count w c.args.number) below
-    (stream_added c.args.many c.args.place w c.args.number c.loop-i.i _ _ _ _ (c.as_str.ensures.value ∙ c.in_ok-name.ensures) long c.in_ok-push_stream.ensures) c.loop-i.invariant
+    (stream_added c.args.many c.args.place w c.args.number c.loop-i.i _ _ _ _ refl long c.in_ok-push_stream.ensures) c.loop-i.invariant

@@ -4,7 +4,6 @@ use Rattle.sm_placement.specs.Layout.{place_of}
 use Rattle.sm_report.specs.Player.{scene_of}
 use Rattle.sm_report.specs.Playing.{opened_scene}
 use Rattle.sm_report.specs.Output.{IsPlayedOutput}
-use Rattle.sm_report.proofs.EventTurns.{events_known}
 use Rattle.sm_report.proofs.PlayStages.{stopped_report, passed_report, played_at, opened_at}
 use Rattle.sm_report.proofs.plays.report_list.Goals as goal
 
@@ -16,9 +15,6 @@ returns-in_err-player c =
     stopped_report (sizes_of c.args.placement.setup) (sizes_of c.args.config.now) c.args.many
     (IsPlayedOutput c.args.config.now c.args.many [] c.args.events.now (opened_scene (sizes_of c.args.config.now) (place_of c.args.placement) c.args.log c.args.plans.items))
     c.args.plans.items early result is (ap sizes_of c.requires.setup) c.in_err-player.ensures.ends
-
-pub report_played-requires-clause-known : goal.report_played-requires-clause-known
-report_played-requires-clause-known c = events_known c.in_ok-player.player.director c.args.placement.setup c.args.events.now c.in_ok-player.ensures.setup c.requires.events
 
 pub returns : goal.returns
 returns c =

@@ -4,12 +4,8 @@ use Rattle.sm_placement.specs.Layout.{place_of}
 use Rattle.sm_plan_code.specs.Plan.{PlanModel}
 use Rattle.sm_report.specs.Checking.{accepted_line}
 use Rattle.sm_report.specs.Player.{scene_of}
-use Rattle.sm_report.proofs.EventTurns.{events_known}
 use Rattle.sm_report.proofs.PlayStages.{one_at}
 use Rattle.sm_report.proofs.plays.report_one.Goals as goal
-
-pub report_begun-requires-clause-known : goal.report_begun-requires-clause-known
-report_begun-requires-clause-known c = events_known c.in_ok-player.player.director c.args.placement.setup c.args.events.now c.in_ok-player.ensures.setup c.requires.events
 
 pub returns : goal.returns
 returns c =
