@@ -2,6 +2,8 @@
 #![tactic(auto)]
 
 #[cfg(test)]
+mod fixture;
+#[cfg(test)]
 mod plan_code;
 #[cfg(test)]
 mod task_controller;

@@ -217,7 +217,7 @@ fn is_read(rt: &impl Abort, alloc: Global, text: &str) -> bool {
     match Tree::read(alloc, text, &mut scratch) {
         Ok(_) => true,
         Err(fault) => {
-            assert_eq!(rt; fault, ReadFault::NotJson);
+            assert!(rt; fault == ReadFault::NotJson);
             false
         }
     }
@@ -262,7 +262,7 @@ fn nested(alloc: Global, depth: usize) -> Result<String, Fail> {
 fn nests_to_127(rt: HostRuntime) -> Result<(), Fail> {
     for (depth, read) in [(1, true), (127, true), (128, false), (100_000, false)] {
         let text = nested(rt.alloc(), depth)?;
-        assert_eq!(rt; is_read(&rt, rt.alloc(), text.as_str()), read);
+        assert!(rt; is_read(&rt, rt.alloc(), text.as_str()) == read);
     }
     Ok(())
 }

@@ -6,31 +6,80 @@ use std::test::Fail;
 /// Each kind of value.
 const KINDS: &str = r#"[null,true,false,7,"seven",["a",[]],{"b":{"c":8}}]"#;
 
+/// Whether these are null, true and false.
+fn are_words(null: &Tree<'_>, yes: &Tree<'_>, no: &Tree<'_>) -> bool {
+    null.is_null() && yes.as_bool() == Some(true) && no.as_bool() == Some(false)
+}
+
+/// Whether a value is the number 7, and of no other kind.
+fn is_seven(value: &Tree<'_>) -> bool {
+    value.is_number() && !value.is_null() && value.as_u64() == Some(7) && value.as_bool().is_none()
+}
+
+/// Whether a value is the text, and of no other kind.
+fn is_text(value: &Tree<'_>) -> bool {
+    !value.is_number() && value.as_str() == Some("seven") && value.as_u64().is_none()
+}
+
+/// How many values an array has.
+fn length_of(value: &Tree<'_>) -> Option<usize> {
+    match value.as_array() {
+        Some(items) => Some(items.len()),
+        None => None,
+    }
+}
+
+/// Whether a value is the array, and of no other kind.
+fn is_array(value: &Tree<'_>) -> bool {
+    length_of(value) == Some(2)
+        && value.as_str().is_none()
+        && !value.is_object()
+        && value.get("b").is_none()
+}
+
+/// The number of a member.
+fn number_of(value: &Tree<'_>, name: &str) -> Option<u64> {
+    match value.get(name) {
+        Some(member) => member.as_u64(),
+        None => None,
+    }
+}
+
+/// The number of a member of a member.
+fn inner_number(value: &Tree<'_>, outer: &str, inner: &str) -> Option<u64> {
+    match value.get(outer) {
+        Some(member) => number_of(member, inner),
+        None => None,
+    }
+}
+
+/// Whether a value is the object, and of no other kind.
+fn is_object(value: &Tree<'_>) -> bool {
+    value.is_object()
+        && value.as_array().is_none()
+        && inner_number(value, "b", "c") == Some(8)
+        && value.get("c").is_none()
+}
+
+/// Whether these are the values of `KINDS`.
+fn are_kinds(items: &[Tree<'_>]) -> bool {
+    match items {
+        [null, yes, no, number, text, array, object] => {
+            are_words(null, yes, no)
+                && is_seven(number)
+                && is_text(text)
+                && is_array(array)
+                && is_object(object)
+        }
+        _ => false,
+    }
+}
+
 fn judge_kinds(rt: &impl Abort, tree: &Tree<'_>) {
-    let Some(items) = tree.as_array() else {
-        panic!(rt; "no array");
-    };
-    assert_eq!(rt; items.len(), 7);
-    assert!(rt; items[0].is_null() && !items[3].is_null());
-    assert_eq!(rt; items[1].as_bool(), Some(true));
-    assert_eq!(rt; items[2].as_bool(), Some(false));
-    assert!(rt; items[3].is_number() && !items[4].is_number());
-    assert_eq!(rt; items[3].as_u64(), Some(7));
-    assert_eq!(rt; items[3].as_bool(), None);
-    assert_eq!(rt; items[4].as_str(), Some("seven"));
-    assert_eq!(rt; items[4].as_u64(), None);
-    assert_eq!(rt; items[5].as_array().map(|inner| inner.len()), Some(2));
-    assert_eq!(rt; items[5].as_str(), None);
-    assert!(rt; items[6].is_object() && !items[5].is_object());
-    assert!(rt; items[6].as_array().is_none());
-    assert_eq!(rt;
-        items[6]
-            .get("b")
-            .and_then(|inner| inner.get("c"))
-            .and_then(Tree::as_u64),
-        Some(8)
-    );
-    assert!(rt; items[6].get("c").is_none() && items[5].get("b").is_none());
+    match tree.as_array() {
+        Some(items) => assert!(rt; are_kinds(items)),
+        None => panic!(rt; "no array"),
+    }
 }
 
 #[test]
@@ -47,7 +96,15 @@ fn reads_each_kind_or_not(rt: HostRuntime) {
     let mut scratch = Scratch::new(rt.alloc());
     match Tree::read(rt.alloc(), KINDS, &mut scratch) {
         Ok(tree) => judge_kinds(&rt, &tree),
-        Err(fault) => assert_eq!(rt; fault, ReadFault::NoMemory),
+        Err(fault) => assert!(rt; fault == ReadFault::NoMemory),
+    }
+}
+
+/// How many members an object has.
+fn member_count(value: &Tree<'_>) -> Option<usize> {
+    match value.as_object() {
+        Some(members) => Some(members.len()),
+        None => None,
     }
 }
 
@@ -56,10 +113,10 @@ fn the_last_of_a_name_is_found(rt: HostRuntime) -> Result<(), Fail> {
     let text = r#"{"b":1,"a":2,"\u0062":3,"c":4,"a":5}"#;
     let mut scratch = Scratch::new(rt.alloc());
     let tree = Tree::read(rt.alloc(), text, &mut scratch)?;
-    for (name, value) in [("a", Some(5)), ("b", Some(3)), ("c", Some(4)), ("d", None)] {
-        assert_eq!(rt; tree.get(name).and_then(Tree::as_u64), value);
+    for (name, value) in &[("a", Some(5)), ("b", Some(3)), ("c", Some(4)), ("d", None)] {
+        assert!(rt; number_of(&tree, name) == *value);
     }
-    assert_eq!(rt; tree.as_object().map(|members| members.len()), Some(5));
+    assert!(rt; member_count(&tree) == Some(5));
     Ok(())
 }
 
@@ -79,8 +136,7 @@ fn whole_numbers_have_64_bits(rt: HostRuntime) -> Result<(), Fail> {
     ] {
         let mut scratch = Scratch::new(rt.alloc());
         let tree = Tree::read(rt.alloc(), text, &mut scratch)?;
-        assert!(rt; tree.is_number());
-        assert_eq!(rt; tree.as_u64(), value);
+        assert!(rt; tree.is_number() && tree.as_u64() == value);
     }
     Ok(())
 }
@@ -98,7 +154,7 @@ fn escapes_are_read(rt: HostRuntime) -> Result<(), Fail> {
     ] {
         let mut scratch = Scratch::new(rt.alloc());
         let tree = Tree::read(rt.alloc(), text, &mut scratch)?;
-        assert_eq!(rt; tree.as_str(), Some(value));
+        assert!(rt; tree.as_str() == Some(value));
     }
     Ok(())
 }

@@ -13,12 +13,12 @@ fn assert_opened(rt: &impl Abort, alloc: Global, placement: Placement) {
     match open(rt, alloc, placement, 16) {
         Ok((machine, permits)) => {
             assert_untouched(rt, &machine, 1);
-            assert_eq!(rt; permits.len(), 1);
+            assert!(rt; permits.len() == 1);
             let placement = machine.give_up(Vec::new(alloc), permits, Vec::new(alloc));
             assert_small(rt, &placement, 1);
         }
         Err((placement, why)) => {
-            assert_eq!(rt; why, OpenFault::NoMemory);
+            assert!(rt; why == OpenFault::NoMemory);
             assert_small(rt, &placement, 1);
         }
     }

@@ -16,8 +16,8 @@ fn give_up(rt: &impl Abort, alloc: Global, machine: Machine, permits: Vec<Permit
 /// Asserts that no stream of a machine was begun.
 fn assert_none_begun(rt: &impl Abort, machine: &Machine) {
     for stream in 0..2 {
-        assert!(rt; !machine.is_begun(StreamId { plan: 0, stream }));
-        assert!(rt; !machine.is_begun(StreamId { plan: 1, stream }));
+        let (first, second) = (StreamId { plan: 0, stream }, StreamId { plan: 1, stream });
+        assert!(rt; !machine.is_begun(first) && !machine.is_begun(second));
     }
 }
 
@@ -36,10 +36,18 @@ fn a_machine_opens_with_no_permit_where_no_server_is_down(rt: HostRuntime) {
         Ok((machine, permits)) => {
             assert_untouched(&rt, &machine, 0);
             assert_none_begun(&rt, &machine);
-            assert_eq!(&rt; permits.len(), 0);
+            assert!(&rt; permits.is_empty());
             give_up(&rt, alloc, machine, permits, 0);
         }
         Err(_) => panic!(&rt; "a machine over a settled placement is not opened"),
+    }
+}
+
+/// Whether there is one permit, for server 2.
+fn is_one_permit(permits: &[Permit]) -> bool {
+    match permits {
+        [permit] => permit.server() == ServerId::new(2),
+        _ => false,
     }
 }
 
@@ -49,12 +57,7 @@ fn a_machine_opens_with_a_permit_for_each_server_that_is_down(rt: HostRuntime) {
     match open(&rt, alloc, placement(&rt, alloc, &[ServerId::new(2)]), 1) {
         Ok((machine, permits)) => {
             assert_untouched(&rt, &machine, 1);
-            assert_eq!(&rt; permits.len(), 1);
-            assert!(&rt;
-                permits
-                    .iter()
-                    .all(|permit| permit.server() == ServerId::new(2))
-            );
+            assert!(&rt; is_one_permit(&permits));
             give_up(&rt, alloc, machine, permits, 1);
         }
         Err(_) => panic!(&rt; "a machine with a place for each restart is not opened"),
@@ -63,7 +66,7 @@ fn a_machine_opens_with_a_permit_for_each_server_that_is_down(rt: HostRuntime) {
 
 /// Ends the restart that the last of the permits is for, and asserts that the one place of the log has been taken for it.
 fn end_restart(rt: &impl Abort, machine: &mut Machine, permits: &mut Vec<Permit>) {
-    assert_eq!(rt; machine.free_places(), 0);
+    assert!(rt; machine.free_places() == 0);
     match permits.pop() {
         Some(permit) => {
             if let Err(_) = machine.done(permit) {
@@ -72,8 +75,7 @@ fn end_restart(rt: &impl Abort, machine: &mut Machine, permits: &mut Vec<Permit>
         }
         None => panic!(rt; "there is no permit"),
     }
-    assert_eq!(rt; machine.log().len(), 1);
-    assert_eq!(rt; machine.free_places(), 0);
+    assert!(rt; machine.log().len() == 1 && machine.free_places() == 0);
 }
 
 #[test]
@@ -100,7 +102,7 @@ fn assert_log_full(rt: &impl Abort, alloc: Global, opened: Placement, room: u32,
             panic!(rt; "a machine is opened with a log of {room} places")
         }
         Err((placement, why)) => {
-            assert_eq!(rt; why, OpenFault::LogFull);
+            assert!(rt; why == OpenFault::LogFull);
             assert_small(rt, &placement, down);
         }
     }
@@ -141,8 +143,9 @@ fn a_log_with_the_most_places_is_opened(rt: HostRuntime) {
 fn assert_last(rt: &impl Abort, placement: &Placement, number: u64) {
     let shard = shard_id(rt, placement, 0);
     let server = server_id(rt, placement, 1);
-    assert_eq!(rt; placement.last(shard, server), number);
-    assert_eq!(rt; placement.cell(shard, server), Cell::Secondary);
+    assert!(rt;
+        placement.last(shard, server) == number && placement.cell(shard, server) == Cell::Secondary
+    );
 }
 
 /// The small placement, where a call of number 7 added a secondary of shard 0 at server 1.
@@ -151,7 +154,7 @@ fn numbered_placement(rt: &impl Abort, alloc: Global) -> Placement {
     let shard = shard_id(rt, &placement, 0);
     let server = server_id(rt, &placement, 1);
     let answer = placement.call_numbered(server, shard, Call::Add(Role::Secondary), 7);
-    assert_eq!(rt; answer, Ok(true));
+    assert!(rt; answer == Ok(true));
     assert_last(rt, &placement, 7);
     placement
 }

@@ -4,7 +4,7 @@
 ghost use Rattle.std.specs.Prelude.{◌≡◌, IfOk};
 ghost use Rattle.sm_reservation.specs.Capacity.{most_keys};
 
-use sm_placement::{Config, ConfigFault, Placement, Server, Shard};
+use sm_placement::{Config, Placement, Server, Shard};
 use sm_reservation::{
     CellRight, Crown, Grant, Hold, Key, Lead, Lists, Parcel, PlainCell, Pool, Portion, Room, Short,
     Spare,
@@ -140,12 +140,31 @@ pub(crate) fn parcel_of(alloc: Global, portion: &Portion) -> Result<Parcel, Allo
     )
 }
 
+/// Whether a parcel has these rights, and no others.
+pub(crate) fn has(
+    parcel: &Parcel,
+    cells: &[CellRight],
+    crowns: &[Crown],
+    room: &[Room],
+    spare: &[Spare],
+) -> bool {
+    parcel.cells() == cells
+        && parcel.crowns() == crowns
+        && parcel.room() == room
+        && parcel.spare() == spare
+}
+
+/// Whether a hold has these rights, and no others.
+fn holds(hold: &Hold, want: &Portion) -> bool {
+    hold.cells() == want.cell.as_slice()
+        && hold.crowns() == want.crown.as_slice()
+        && hold.rooms() == want.room.as_slice()
+        && hold.spares() == want.spare.as_slice()
+}
+
 /// Asserts that a hold has these rights and no others.
 pub(crate) fn assert_holds(rt: &impl Abort, hold: &Hold, want: &Portion) {
-    assert!(rt; hold.cells() == want.cell.as_slice());
-    assert!(rt; hold.crowns() == want.crown.as_slice());
-    assert!(rt; hold.rooms() == want.room.as_slice());
-    assert!(rt; hold.spares() == want.spare.as_slice());
+    assert!(rt; holds(hold, want));
 }
 
 fn server(alloc: Global, name: &str, room: u64) -> Result<Server, AllocError> {
@@ -166,14 +185,37 @@ fn shard(alloc: Global, name: &str, load: u64, want: u32, cap: u32) -> Result<Sh
     })
 }
 
-fn worked_config(alloc: Global) -> Result<Config, ConfigFault> {
-    let servers = [
-        server(alloc, "a", 10)?,
-        server(alloc, "b", 10)?,
-        server(alloc, "c", 4)?,
-    ];
-    let shards = [shard(alloc, "s", 4, 2, 1)?, shard(alloc, "t", 6, 1, 0)?];
-    Config::new(alloc, &servers, &shards)
+/// Servers of these names and rooms.
+fn servers(alloc: Global, rows: &[(&str, u64)]) -> Result<Vec<Server>, AllocError> {
+    let mut servers = Vec::new(alloc);
+    for (name, room) in rows {
+        servers.push(server(alloc, name, *room)?)?;
+    }
+    Ok(servers)
+}
+
+/// Shards of these names, loads, wants and caps.
+fn shards(alloc: Global, rows: &[(&str, u64, u32, u32)]) -> Result<Vec<Shard>, AllocError> {
+    let mut shards = Vec::new(alloc);
+    for (name, load, want, cap) in rows {
+        shards.push(shard(alloc, name, *load, *want, *cap)?)?;
+    }
+    Ok(shards)
+}
+
+/// The configuration of these servers, and of the shards of these rows.
+fn config(
+    alloc: Global,
+    servers: &[Server],
+    rows: &[(&str, u64, u32, u32)],
+) -> Result<Config, AllocError> {
+    let shards = shards(alloc, rows)?;
+    Config::new(alloc, servers, &shards).ok().ok_or(AllocError)
+}
+
+fn worked_config(alloc: Global) -> Result<Config, AllocError> {
+    let servers = servers(alloc, &[("a", 10), ("b", 10), ("c", 4)])?;
+    config(alloc, &servers, &[("s", 4, 2, 1), ("t", 6, 1, 0)])
 }
 
 /// The pool of a placement, which has to be settled.
@@ -190,50 +232,39 @@ fn opened(
     cells: &[(ShardId, ServerId, Cell)],
     listed: &[Option<ServerId>],
 ) -> Result<Pool, AllocError> {
-    let Ok(placement) = Placement::open(alloc, config, cells, listed, &[], 1) else {
-        return Err(AllocError);
-    };
+    let opened = Placement::open(alloc, config, cells, listed, &[], 1);
+    let placement = opened.ok().ok_or(AllocError)?;
     pool_of(rt, alloc, &placement)
 }
 
-/// The pool of the worked placement of a configuration.
-fn worked_pool_of(rt: &impl Abort, alloc: Global, config: &Config) -> Result<Pool, AllocError> {
+/// The pool of the worked placement, where there is memory.
+pub(crate) fn worked_pool(rt: &impl Abort, alloc: Global) -> Result<Pool, AllocError> {
+    let config = worked_config(alloc)?;
     let cells = [
         (ShardId::new(0), ServerId::new(0), Cell::Primary),
         (ShardId::new(0), ServerId::new(2), Cell::Secondary),
         (ShardId::new(1), ServerId::new(1), Cell::Primary),
     ];
     let listed = [Some(ServerId::new(0)), Some(ServerId::new(1))];
-    opened(rt, alloc, config, &cells, &listed)
+    opened(rt, alloc, &config, &cells, &listed)
 }
 
-/// The pool of the worked placement, where there is memory.
-pub(crate) fn worked_pool(rt: &impl Abort, alloc: Global) -> Result<Pool, AllocError> {
-    match worked_config(alloc) {
-        Ok(config) => worked_pool_of(rt, alloc, &config),
-        Err(_) => Err(AllocError),
-    }
-}
-
-fn narrow_config(alloc: Global) -> Result<Config, ConfigFault> {
-    let servers = [server(alloc, "a", 10)?];
-    let shards = [shard(alloc, "s", 4, 1, 0)?];
-    Config::new(alloc, &servers, &shards)
+fn narrow_config(alloc: Global) -> Result<Config, AllocError> {
+    let servers = servers(alloc, &[("a", 10)])?;
+    config(alloc, &servers, &[("s", 4, 1, 0)])
 }
 
 /// The pool of one server with room for 10, which is the primary of one shard of load 4.
 pub(crate) fn narrow_pool(rt: &impl Abort, alloc: Global) -> Result<Pool, AllocError> {
+    let config = narrow_config(alloc)?;
     let (shard, server) = (ShardId::new(0), ServerId::new(0));
-    match narrow_config(alloc) {
-        Ok(config) => opened(
-            rt,
-            alloc,
-            &config,
-            &[(shard, server, Cell::Primary)],
-            &[Some(server)],
-        ),
-        Err(_) => Err(AllocError),
-    }
+    opened(
+        rt,
+        alloc,
+        &config,
+        &[(shard, server, Cell::Primary)],
+        &[Some(server)],
+    )
 }
 
 /// Takes rights out of a pool.
@@ -253,8 +284,8 @@ pub(crate) fn give_back(rt: &impl Abort, pool: &mut Pool, grant: Grant) {
     pool.give_back(grant);
 }
 
-/// Asserts that a pool has all rights to cells that are true of the worked placement.
-fn assert_worked_cells(rt: &impl Abort, pool: &Pool) {
+/// Whether a pool has all rights to cells that are true of the worked placement.
+fn has_worked_cells(pool: &Pool) -> bool {
     let absent = Some(PlainCell::Absent);
     let cells = [
         [None, absent, Some(PlainCell::Secondary), None],
@@ -264,31 +295,44 @@ fn assert_worked_cells(rt: &impl Abort, pool: &Pool) {
     for shard in 0..3 {
         for server in 0..4 {
             let had = pool.cell_right(ShardId::new(shard), ServerId::new(server));
-            assert!(rt;
-                had == cells[shard as usize][server as usize],
-                "{shard} {server}"
-            );
+            if had != cells[shard as usize][server as usize] {
+                return false;
+            }
         }
     }
+    true
+}
+
+/// Whether a pool has all crowns that are true of the worked placement.
+fn has_worked_crowns(pool: &Pool) -> bool {
+    pool.crown(ShardId::new(0)) == Some((at(0), Some(ServerId::new(0))))
+        && pool.crown(ShardId::new(1)) == Some((at(1), Some(ServerId::new(1))))
+        && pool.crown(ShardId::new(2)).is_none()
 }
 
 /// Asserts that a pool has all rights true of the worked placement.
 pub(crate) fn assert_worked(rt: &impl Abort, pool: &Pool) {
-    assert_worked_cells(rt, pool);
-    assert!(rt; pool.crown(ShardId::new(0)) == Some((at(0), Some(ServerId::new(0)))));
-    assert!(rt; pool.crown(ShardId::new(1)) == Some((at(1), Some(ServerId::new(1)))));
-    assert!(rt; pool.crown(ShardId::new(2)).is_none());
+    assert!(rt; has_worked_cells(pool) && has_worked_crowns(pool));
     assert_amounts(rt, pool, [6, 4, 0, 0], [1, 0, 0]);
+}
+
+/// Whether a pool has so much room and so many spare replicas, by the first servers and shards.
+fn has_amounts(pool: &Pool, rooms: [u64; 4], spares: [u64; 3]) -> bool {
+    let room = [
+        pool.room(ServerId::new(0)),
+        pool.room(ServerId::new(1)),
+        pool.room(ServerId::new(2)),
+        pool.room(ServerId::new(3)),
+    ];
+    let spare = [
+        pool.spare(ShardId::new(0)),
+        pool.spare(ShardId::new(1)),
+        pool.spare(ShardId::new(2)),
+    ];
+    room == rooms && spare == spares
 }
 
 /// Asserts how much room and how many spare replicas a pool has, by the first servers and shards.
 pub(crate) fn assert_amounts(rt: &impl Abort, pool: &Pool, rooms: [u64; 4], spares: [u64; 3]) {
-    for server in 0..4 {
-        let had = pool.room(ServerId::new(server));
-        assert!(rt; had == rooms[server as usize], "{server}");
-    }
-    for shard in 0..3 {
-        let had = pool.spare(ShardId::new(shard));
-        assert!(rt; had == spares[shard as usize], "{shard}");
-    }
+    assert!(rt; has_amounts(pool, rooms, spares));
 }

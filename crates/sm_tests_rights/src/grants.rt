@@ -44,8 +44,8 @@ fn assert_takes(
     has_capacity: bool,
 ) -> Result<(), AllocError> {
     let parcel = parcel_of(alloc, portion)?;
-    assert!(rt; grant.hold().can_join(&parcel) == can_join);
-    assert!(rt; grant.hold().has_capacity(&parcel) == has_capacity);
+    let hold = grant.hold();
+    assert!(rt; hold.can_join(&parcel) == can_join && hold.has_capacity(&parcel) == has_capacity);
     Ok(())
 }
 
@@ -93,12 +93,12 @@ fn split_off(
     outcome
 }
 
-/// Asserts that a hold has these cells and room of server 1, and nothing else.
-fn assert_filled(rt: &impl Abort, hold: &Hold, cells: &[CellRight]) {
-    assert!(rt; hold.cells() == cells);
-    assert!(rt; hold.crowns().is_empty());
-    assert!(rt; hold.rooms() == [room(1, 4)].as_slice());
-    assert!(rt; hold.spares().is_empty());
+/// Whether a hold has these cells and room of server 1, and nothing else.
+fn is_filled(hold: &Hold, cells: &[CellRight]) -> bool {
+    hold.cells() == cells
+        && hold.crowns().is_empty()
+        && hold.rooms() == [room(1, 4)].as_slice()
+        && hold.spares().is_empty()
 }
 
 /// Fills a grant with room for one key, and then for two, and gives it back.
@@ -111,7 +111,7 @@ fn fill_by_splits(rt: &impl Abort, alloc: Global, pool: &mut Pool) -> Result<(),
     let all = parcel(alloc, &cells, &crowns, &[room(1, 4)], &[])?;
     let mut into = Grant::empty(alloc, 1)?;
     let outcome = split_off(rt, alloc, pool, &all, &mut into);
-    assert_filled(rt, into.hold(), &cells);
+    assert!(rt; is_filled(into.hold(), &cells));
     give_back(rt, pool, into);
     outcome
 }

@@ -133,10 +133,8 @@ fn edit_spares(rt: &impl Abort, hold: &mut Hold) {
 
 /// Asserts that a parcel has one right of each kind.
 fn assert_edited(rt: &impl Abort, parcel: &Parcel) {
-    assert!(rt; parcel.cells() == [cell(0, 1, PlainCell::Secondary)].as_slice());
-    assert!(rt; parcel.crowns() == [steady_crown(3, 2)].as_slice());
-    assert!(rt; parcel.room() == [room(1, 1)].as_slice());
-    assert!(rt; parcel.spare() == [spare(6, 3)].as_slice());
+    let (cells, crowns) = ([cell(0, 1, PlainCell::Secondary)], [steady_crown(3, 2)]);
+    assert!(rt; has(parcel, &cells, &crowns, &[room(1, 1)], &[spare(6, 3)]));
 }
 
 #[test]

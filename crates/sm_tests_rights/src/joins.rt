@@ -81,9 +81,13 @@ fn fill_up(rt: &impl Abort, alloc: Global, pool: &mut Pool) -> Result<(), AllocE
     let mut grant = taken(alloc, pool, &out)?;
     trade(rt, &mut grant, &mut rest, &out, &got);
     give_back(rt, pool, grant);
-    assert!(rt; pool.room(ServerId::new(0)) == u64::MAX);
-    assert!(rt; pool.spare(ShardId::new(0)) == u64::MAX);
     Ok(())
+}
+
+/// Asserts that there is as much room of server 0 and that there are as many spare replicas of shard 0 as a u64 can say.
+fn assert_full(rt: &impl Abort, pool: &Pool) {
+    let (room, spare) = (pool.room(ServerId::new(0)), pool.spare(ShardId::new(0)));
+    assert!(rt; room == u64::MAX && spare == u64::MAX);
 }
 
 #[test]
@@ -96,6 +100,7 @@ fn sums_above_a_u64_are_not_taken_back(rt: HostRuntime) -> Result<(), Fail> {
     let mut pool = worked_pool(&rt, rt.alloc())?;
     let mut other = worked_pool(&rt, rt.alloc())?;
     fill_up(&rt, rt.alloc(), &mut other)?;
+    assert_full(&rt, &other);
     assert_joins(&rt, rt.alloc(), &mut pool, &other, &cases)?;
     Ok(())
 }

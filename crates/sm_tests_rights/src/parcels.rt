@@ -6,7 +6,7 @@ use std::alloc::{AllocError, Global};
 use std::process::Abort;
 use std::test::Fail;
 
-/// Asserts that a parcel is that of `a_parcel_is_in_order_without_zeros`.
+/// Asserts that the parcel of `a_parcel_is_in_order_without_zeros` has these rights.
 fn assert_in_order(rt: &impl Abort, parcel: &Parcel) {
     let cells = [
         cell(0, 2, PlainCell::Secondary),
@@ -14,10 +14,8 @@ fn assert_in_order(rt: &impl Abort, parcel: &Parcel) {
         cell(1, 1, PlainCell::Absent),
     ];
     let crowns = [crown(0, at(1), None), crown(3, Lead::Gone, None)];
-    assert!(rt; parcel.cells() == cells.as_slice());
-    assert!(rt; parcel.crowns() == crowns.as_slice());
-    assert!(rt; parcel.room() == [room(0, 7), room(1, 4)].as_slice());
-    assert!(rt; parcel.spare() == [spare(0, 2), spare(5, 1)].as_slice());
+    let (rooms, spares) = ([room(0, 7), room(1, 4)], [spare(0, 2), spare(5, 1)]);
+    assert!(rt; has(parcel, &cells, &crowns, &rooms, &spares));
 }
 
 #[test]
@@ -35,18 +33,21 @@ fn a_parcel_is_in_order_without_zeros(rt: HostRuntime) -> Result<(), Fail> {
     Ok(())
 }
 
-/// Asks a parcel for what it has and for what it has not.
-fn assert_looked_up(rt: &impl Abort, given: &Parcel) {
-    let (low, high) = (ShardId::new(0), ShardId::new(5));
-    let (first, third) = (ServerId::new(0), ServerId::new(2));
-    assert!(rt; given.cell(low, third) == Some(PlainCell::Secondary));
-    assert!(rt; given.cell(low, first).is_none());
-    assert!(rt; given.crown(ShardId::new(3)) == Some((Lead::Gone, Some(third))));
-    assert!(rt; given.crown(low).is_none());
-    assert_eq!(rt; given.room_of(first), 7);
-    assert_eq!(rt; given.room_of(third), 0);
-    assert_eq!(rt; given.spare_of(high), 1);
-    assert_eq!(rt; given.spare_of(low), 0);
+/// Whether a parcel tells a cell and a crown that it has, and none of others.
+fn tells_places(given: &Parcel) -> bool {
+    let (low, third) = (ShardId::new(0), ServerId::new(2));
+    given.cell(low, third) == Some(PlainCell::Secondary)
+        && given.cell(low, ServerId::new(0)).is_none()
+        && given.crown(ShardId::new(3)) == Some((Lead::Gone, Some(third)))
+        && given.crown(low).is_none()
+}
+
+/// Whether a parcel tells amounts that it has, and 0 of others.
+fn tells_amounts(given: &Parcel) -> bool {
+    given.room_of(ServerId::new(0)) == 7
+        && given.room_of(ServerId::new(2)) == 0
+        && given.spare_of(ShardId::new(5)) == 1
+        && given.spare_of(ShardId::new(0)) == 0
 }
 
 #[test]
@@ -58,7 +59,7 @@ fn a_parcel_is_looked_up_by_its_keys(rt: HostRuntime) -> Result<(), Fail> {
     let crowns = [crown(3, Lead::Gone, Some(ServerId::new(2)))];
     let rooms = [room(1, 4), room(0, 7)];
     let given = parcel(rt.alloc(), &cells, &crowns, &rooms, &[spare(5, 1)])?;
-    assert_looked_up(&rt, &given);
+    assert!(rt; tells_places(&given) && tells_amounts(&given));
     Ok(())
 }
 
@@ -94,25 +95,28 @@ fn doubled_lists(alloc: Global, from: u32) -> Result<Lists, AllocError> {
     Ok(lists)
 }
 
-/// Asserts that the lists came back.
-fn assert_came_back(rt: &impl Abort, lists: &Lists, want: &Lists) {
-    assert!(rt; lists.cells == want.cells);
-    assert!(rt; lists.crowns == want.crowns);
-    assert!(rt; lists.room == want.room);
-    assert!(rt; lists.spare == want.spare);
+/// Whether two lists are the same.
+fn are_same(lists: &Lists, want: &Lists) -> bool {
+    lists.cells == want.cells
+        && lists.crowns == want.crowns
+        && lists.room == want.room
+        && lists.spare == want.spare
+}
+
+/// Asserts that lists are refused with a key, and that they come back as these.
+fn assert_refused(rt: &impl Abort, alloc: Global, given: Lists, key: Key, want: &Lists) {
+    match &Parcel::new(alloc, given) {
+        Ok(_) => assert!(rt; false),
+        Err((lists, fault)) => {
+            assert!(rt; *fault == ParcelFault::Double { key } && are_same(lists, want));
+        }
+    }
 }
 
 /// Asserts that the doubled lists are refused with a key, and that they come back.
 fn test_double(rt: &impl Abort, alloc: Global, from: u32, key: Key) -> Result<(), AllocError> {
     let want = doubled_lists(alloc, from)?;
-    let outcome = Parcel::new(alloc, doubled_lists(alloc, from)?);
-    match &outcome {
-        Ok(_) => assert!(rt; false, "{key:?}"),
-        Err(refused) => {
-            assert!(rt; refused.1 == ParcelFault::Double { key }, "{key:?}");
-            assert_came_back(rt, &refused.0, &want);
-        }
-    }
+    assert_refused(rt, alloc, doubled_lists(alloc, from)?, key, &want);
     Ok(())
 }
 
@@ -153,7 +157,7 @@ fn keys_go_by_kind_then_shard_then_server(rt: HostRuntime) {
         },
     ];
     for i in 1..keys.len() {
-        assert!(rt; keys[i - 1] < keys[i], "at {i}");
+        assert!(rt; keys[i - 1] < keys[i]);
     }
     let first = StreamId { plan: 0, stream: 9 };
     let second = StreamId { plan: 1, stream: 0 };

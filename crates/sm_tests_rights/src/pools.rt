@@ -8,8 +8,7 @@ use std::test::Fail;
 
 /// Asserts that a pool is the worked one.
 fn assert_opened(rt: &impl Abort, pool: &Pool) {
-    assert!(rt; pool.shard_count() == 2);
-    assert!(rt; pool.server_count() == 3);
+    assert!(rt; pool.shard_count() == 2 && pool.server_count() == 3);
     assert_worked(rt, pool);
 }
 
@@ -19,25 +18,32 @@ fn a_pool_opens_with_all_that_is_free(rt: HostRuntime) -> Result<(), Fail> {
     Ok(())
 }
 
+/// Whether a handover's cell and crown are out of the worked pool, and others in it.
+fn is_handed_out(pool: &Pool) -> bool {
+    pool.cell_right(ShardId::new(0), ServerId::new(1)).is_none()
+        && pool.cell_right(ShardId::new(0), ServerId::new(2)).is_some()
+        && pool.cell_right(ShardId::new(1), ServerId::new(0)).is_some()
+        && pool.crown(ShardId::new(0)).is_none()
+        && pool.crown(ShardId::new(1)).is_some()
+}
+
 /// Asserts that a handover's rights are out of the worked pool, and all others in it.
 fn assert_handed_out(rt: &impl Abort, pool: &Pool) {
-    assert!(rt; pool.cell_right(ShardId::new(0), ServerId::new(1)).is_none());
-    assert!(rt; pool.cell_right(ShardId::new(0), ServerId::new(2)).is_some());
-    assert!(rt; pool.cell_right(ShardId::new(1), ServerId::new(0)).is_some());
-    assert!(rt; pool.crown(ShardId::new(0)).is_none());
-    assert!(rt; pool.crown(ShardId::new(1)).is_some());
-    assert_eq!(rt; pool.room(ServerId::new(0)), 6);
-    assert_eq!(rt; pool.room(ServerId::new(1)), 0);
-    assert_eq!(rt; pool.spare(ShardId::new(0)), 1);
+    assert!(rt; is_handed_out(pool));
+    assert_amounts(rt, pool, [6, 0, 0, 0], [1, 0, 0]);
+}
+
+/// Whether a grant has a handover's rights.
+fn has_handover(grant: &Grant) -> bool {
+    grant.cell(ShardId::new(0), ServerId::new(1)) == Some(PlainCell::Absent)
+        && grant.crown(ShardId::new(0)) == Some((at(0), Some(ServerId::new(0))))
+        && grant.room(ServerId::new(1)) == 4
+        && grant.spare(ShardId::new(0)) == 0
 }
 
 /// Asserts that a grant has a handover's rights.
 fn assert_handover(rt: &impl Abort, grant: &Grant) {
-    let right = grant.cell(ShardId::new(0), ServerId::new(1));
-    assert_eq!(rt; right, Some(PlainCell::Absent));
-    assert!(rt; grant.crown(ShardId::new(0)) == Some((at(0), Some(ServerId::new(0)))));
-    assert_eq!(rt; grant.room(ServerId::new(1)), 4);
-    assert_eq!(rt; grant.spare(ShardId::new(0)), 0);
+    assert!(rt; has_handover(grant));
 }
 
 /// Takes a handover's rights, and gives them back.
@@ -71,7 +77,7 @@ pub(crate) fn assert_refused(
     match pool.take(alloc, asked) {
         Ok(grant) => {
             pool.give_back(grant);
-            assert!(rt; false, "{want:?}");
+            assert!(rt; false);
         }
         Err(fault) => assert!(rt; fault == TakeFault::Short(want), "{want:?}"),
     }
@@ -203,6 +209,20 @@ fn fill(rt: &impl Abort, pool: &mut Pool, grant: &mut Grant, asked: &Parcel) -> 
     pool.fill(grant, asked)
 }
 
+/// Fills a grant with a portion's rights, with this outcome.
+fn assert_filled(
+    rt: &impl Abort,
+    alloc: Global,
+    pool: &mut Pool,
+    grant: &mut Grant,
+    portion: &Portion,
+    want: Result<(), Short>,
+) -> Result<(), AllocError> {
+    let asked = parcel_of(alloc, portion)?;
+    assert!(rt; fill(rt, pool, grant, &asked) == want);
+    Ok(())
+}
+
 /// Fills a grant with a handover's rights, beside which there is no more room.
 fn fill_twice(
     rt: &impl Abort,
@@ -210,13 +230,11 @@ fn fill_twice(
     pool: &mut Pool,
     grant: &mut Grant,
 ) -> Result<(), AllocError> {
-    let asked = parcel_of(alloc, &handover())?;
-    let more = parcel_of(alloc, &only_room(1, 1))?;
-    assert!(rt; fill(rt, pool, grant, &asked) == Ok(()));
-    assert_handed_out(rt, pool);
     let server = ServerId::new(1);
     let short = short(Key::Room { server }, 0, 1);
-    assert!(rt; fill(rt, pool, grant, &more) == Err(short));
+    assert_filled(rt, alloc, pool, grant, &handover(), Ok(()))?;
+    assert_handed_out(rt, pool);
+    assert_filled(rt, alloc, pool, grant, &only_room(1, 1), Err(short))?;
     assert_handed_out(rt, pool);
     assert_handover(rt, grant);
     Ok(())

@@ -95,6 +95,30 @@ fn portion_parcel(alloc: Global, portion: &Portion) -> Result<Parcel, AllocError
     }
 }
 
+/// Makes a change of a grant and of a hold, where the conditions are met: `hold` and `rest` have what the grant has, and the
+/// two parcels have what the change has.
+fn exchange_parcels(
+    rt: &impl Abort,
+    grant: &mut Grant,
+    hold: &mut Hold,
+    rest: &mut Hold,
+    change: &Change,
+    out: &Parcel,
+    got: &Parcel,
+)
+    requires hold { hold.old ≡ grant.old }
+    requires rest { rest.old ≡ grant.old }
+    requires out { out.now ≡ portion_rights change.now.out }
+    requires got { got.now ≡ portion_rights change.now.got }
+{
+    assert!(rt; rest.first_short(out).is_none());
+    rest.take(out);
+    assert!(rt; rest.can_join(got));
+    assert!(rt; rest.has_capacity(got));
+    hold.exchange(change);
+    grant.exchange(change);
+}
+
 /// Makes a change of a grant and of a hold, where the conditions are met: `hold` and `rest` have what the grant has.
 fn exchange(
     rt: &impl Abort,
@@ -111,12 +135,7 @@ fn exchange(
     assert!(rt; is_positive(&change.got));
     let out = portion_parcel(alloc, &change.out)?;
     let got = portion_parcel(alloc, &change.got)?;
-    assert!(rt; rest.first_short(&out).is_none());
-    rest.take(&out);
-    assert!(rt; rest.can_join(&got));
-    assert!(rt; rest.has_capacity(&got));
-    hold.exchange(change);
-    grant.exchange(change);
+    exchange_parcels(rt, grant, hold, rest, change, &out, &got);
     Ok(())
 }
 

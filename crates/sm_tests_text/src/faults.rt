@@ -2,6 +2,7 @@
 use super::fixtures::PLACEMENT;
 use sm_plan_text::{Member, TextFault, read_document, read_plan};
 use std::alloc::{AllocError, Global};
+use std::process::Abort;
 use std::test::Fail;
 
 const fn shape(member: Member) -> TextFault {
@@ -18,6 +19,11 @@ const fn too_many(member: Member) -> TextFault {
 
 const fn number(member: Member) -> TextFault {
     TextFault::Number { member }
+}
+
+/// Asserts that a text is refused for this fault.
+fn assert_fault(rt: &impl Abort, text: &str, told: Option<TextFault>, fault: TextFault) {
+    assert!(rt; told == Some(fault), "{text}");
 }
 
 #[test]
@@ -45,7 +51,7 @@ fn refuses_documents(rt: HostRuntime) {
     ];
     for (text, fault) in texts {
         let read = read_document(rt.alloc(), text.as_bytes());
-        assert!(rt; read.is_err_and(|told| told == fault), "{text}");
+        assert_fault(&rt, text, read.err(), fault);
     }
 }
 
@@ -81,7 +87,7 @@ fn refuses_plans(rt: HostRuntime) -> Result<(), Fail> {
     ];
     for (text, fault) in texts {
         let read = read_plan(rt.alloc(), &document.config, text.as_bytes());
-        assert!(rt; read.is_err_and(|told| told == fault), "{text}");
+        assert_fault(&rt, text, read.err(), fault);
     }
     Ok(())
 }

@@ -1,4 +1,6 @@
-//! Two documents.
+//! Two documents, and configurations by their names.
+use sm_placement::{Config, Server, Shard};
+use std::alloc::{AllocError, Global};
 
 /// Three servers, two shards and no calls.
 pub const PLACEMENT: &str = r#"{"limit":1,"servers":[
@@ -28,3 +30,42 @@ pub const EVERYTHING: &str =
 {"event":"refill","plan":4,"stream":5,"more":262144},{"event":"refill","stream":6,"more":0},{"event":"begin","plan":16}],
 "moves":[{"shard":"Z","from":"x-1","to":"y_2"},{"shard":"x-1","from":"y_2","to":"y_2"}],
 "drain":"y_2","asks":["x-1","x-1"]}"#;
+
+/// Servers of these names.
+fn servers(alloc: Global, names: &[&str]) -> Result<Vec<Server>, AllocError> {
+    let mut servers = Vec::new(alloc);
+    for name in names {
+        servers.push(Server {
+            name: String::from_str(alloc, name)?,
+            region: String::from_str(alloc, "r")?,
+            room: 0,
+        })?;
+    }
+    Ok(servers)
+}
+
+/// Shards of these names.
+fn shards(alloc: Global, names: &[&str]) -> Result<Vec<Shard>, AllocError> {
+    let mut shards = Vec::new(alloc);
+    for name in names {
+        shards.push(Shard {
+            name: String::from_str(alloc, name)?,
+            load: 0,
+            want: 0,
+            cap: 0,
+            spread: 0,
+        })?;
+    }
+    Ok(shards)
+}
+
+/// The configuration of servers and shards of these names.
+pub fn config_of(
+    alloc: Global,
+    servers_of: &[&str],
+    shards_of: &[&str],
+) -> Result<Config, AllocError> {
+    let servers = servers(alloc, servers_of)?;
+    let shards = shards(alloc, shards_of)?;
+    Config::new(alloc, &servers, &shards).ok().ok_or(AllocError)
+}

@@ -3,33 +3,22 @@ use super::fixtures::{EVERYTHING, PLACEMENT};
 use sm_placement::{Server, Shard};
 use sm_plan_text::{Document, EventText, MoveText, TextFault, read_document};
 use sm_server::{Call, Cell, Role, ServerId, ShardId};
-use std::alloc::{AllocError, Global};
 use std::process::Abort;
 use std::test::Fail;
 
-fn server(alloc: Global, name: &str, region: &str, room: u64) -> Result<Server, AllocError> {
-    Ok(Server {
-        name: String::from_str(alloc, name)?,
-        region: String::from_str(alloc, region)?,
-        room,
-    })
+/// Whether a server has these members.
+fn is_server(server: &Server, name: &str, region: &str, room: u64) -> bool {
+    server.name.as_str() == name && server.region.as_str() == region && server.room == room
 }
 
-fn shard(
-    alloc: Global,
-    name: &str,
-    load: u64,
-    want: u32,
-    cap: u32,
-    spread: u32,
-) -> Result<Shard, AllocError> {
-    Ok(Shard {
-        name: String::from_str(alloc, name)?,
-        load,
-        want,
-        cap,
-        spread,
-    })
+/// Whether a shard has this name, and this load, want, cap and spread.
+fn is_shard(shard: &Shard, name: &str, numbers: (u64, u32, u32, u32)) -> bool {
+    let (load, want, cap, spread) = numbers;
+    shard.name.as_str() == name
+        && shard.load == load
+        && shard.want == want
+        && shard.cap == cap
+        && shard.spread == spread
 }
 
 const fn cell(shard: u32, server: u32, cell: Cell) -> (ShardId, ServerId, Cell) {
@@ -48,69 +37,109 @@ const fn move_text(shard: u32, from: u32, to: u32) -> MoveText {
     }
 }
 
-fn judge_placement(rt: &impl Abort, alloc: Global, document: &Document) -> Result<(), AllocError> {
-    let servers = [
-        server(alloc, "a", "r1", 10)?,
-        server(alloc, "b", "r2", 10)?,
-        server(alloc, "c", "r1", 4)?,
-    ];
-    let shards = [
-        shard(alloc, "s", 4, 2, 1, 1)?,
-        shard(alloc, "t", 6, 1, 0, 1)?,
-    ];
-    assert_eq!(rt; document.config.servers(), servers.as_slice());
-    assert_eq!(rt; document.config.shards(), shards.as_slice());
+/// Whether these are the servers of the placement.
+fn are_placed_servers(servers: &[Server]) -> bool {
+    match servers {
+        [a, b, c] => {
+            is_server(a, "a", "r1", 10) && is_server(b, "b", "r2", 10) && is_server(c, "c", "r1", 4)
+        }
+        _ => false,
+    }
+}
+
+/// Whether these are the shards of the placement.
+fn are_placed_shards(shards: &[Shard]) -> bool {
+    match shards {
+        [s, t] => is_shard(s, "s", (4, 2, 1, 1)) && is_shard(t, "t", (6, 1, 0, 1)),
+        _ => false,
+    }
+}
+
+/// Whether a document has the cells and entries of the placement, and its numbers.
+fn is_placed(document: &Document) -> bool {
     let cells = [
         cell(0, 0, Cell::Primary),
         cell(0, 2, Cell::Secondary),
         cell(1, 1, Cell::Primary),
     ];
-    assert_eq!(rt; document.cells.as_slice(), cells.as_slice());
     let listed = [Some(ServerId::new(0)), Some(ServerId::new(1))];
-    assert_eq!(rt; document.listed.as_slice(), listed.as_slice());
-    assert!(rt; document.down.is_empty());
-    assert_eq!(rt; document.limit, 1);
-    assert_eq!(rt; document.log, 65_536);
-    assert!(rt; document.calls.is_none());
-    assert!(rt; document.events.is_none());
-    assert!(rt; document.moves.is_none());
-    assert_eq!(rt; document.drain, None);
-    assert!(rt; document.asks.is_empty());
-    Ok(())
+    document.cells.as_slice() == cells.as_slice()
+        && document.listed.as_slice() == listed.as_slice()
+        && document.down.is_empty()
+        && document.limit == 1
+        && document.log == 65_536
+}
+
+/// Whether nothing is to be done in a document.
+fn asks_nothing(document: &Document) -> bool {
+    document.calls.is_none()
+        && document.events.is_none()
+        && document.moves.is_none()
+        && document.drain.is_none()
+        && document.asks.is_empty()
+}
+
+fn judge_placement(rt: &impl Abort, document: &Document) {
+    assert!(rt;
+        are_placed_servers(document.config.servers()) && are_placed_shards(document.config.shards())
+    );
+    assert!(rt; is_placed(document) && asks_nothing(document));
 }
 
 #[test]
 fn reads_a_placement(rt: HostRuntime) -> Result<(), Fail> {
     let document = read_document(rt.alloc(), PLACEMENT.as_bytes())?;
-    judge_placement(&rt, rt.alloc(), &document)?;
+    judge_placement(&rt, &document);
     Ok(())
 }
 
-fn judge_everything(rt: &impl Abort, alloc: Global, document: &Document) -> Result<(), AllocError> {
-    let servers = [
-        server(alloc, "x-1", "r.1", 4_294_967_295)?,
-        server(alloc, "y_2", "R2", 0)?,
-    ];
-    let shards = [
-        shard(alloc, "x-1", 4_294_967_295, 1024, 1023, 1022)?,
-        shard(alloc, "Z", 0, 0, 0, 0)?,
-    ];
-    assert_eq!(rt; document.config.servers(), servers.as_slice());
-    assert_eq!(rt; document.config.shards(), shards.as_slice());
-    let cells = [cell(0, 1, Cell::Secondary)];
-    assert_eq!(rt; document.cells.as_slice(), cells.as_slice());
-    assert_eq!(rt; document.listed.as_slice(), [None, None].as_slice());
-    assert_eq!(rt; document.down.as_slice(), [ServerId::new(1)].as_slice());
-    assert_eq!(rt; document.limit, 1024);
-    assert_eq!(rt; document.log, 1_048_576);
-    Ok(())
+/// Whether these are the servers of `EVERYTHING`.
+fn are_all_servers(servers: &[Server]) -> bool {
+    match servers {
+        [x, y] => is_server(x, "x-1", "r.1", 4_294_967_295) && is_server(y, "y_2", "R2", 0),
+        _ => false,
+    }
+}
+
+/// Whether these are the shards of `EVERYTHING`.
+fn are_all_shards(shards: &[Shard]) -> bool {
+    match shards {
+        [x, z] => {
+            is_shard(x, "x-1", (4_294_967_295, 1024, 1023, 1022)) && is_shard(z, "Z", (0, 0, 0, 0))
+        }
+        _ => false,
+    }
+}
+
+/// Whether a document has the cells, the entries and the numbers of `EVERYTHING`.
+fn has_all_cells(document: &Document) -> bool {
+    document.cells.as_slice() == [cell(0, 1, Cell::Secondary)].as_slice()
+        && document.listed.as_slice() == [None, None].as_slice()
+        && document.down.as_slice() == [ServerId::new(1)].as_slice()
+        && document.limit == 1024
+        && document.log == 1_048_576
+}
+
+fn judge_everything(rt: &impl Abort, document: &Document) {
+    assert!(rt;
+        are_all_servers(document.config.servers()) && are_all_shards(document.config.shards())
+    );
+    assert!(rt; has_all_cells(document));
 }
 
 #[test]
 fn reads_everything(rt: HostRuntime) -> Result<(), Fail> {
     let document = read_document(rt.alloc(), EVERYTHING.as_bytes())?;
-    judge_everything(&rt, rt.alloc(), &document)?;
+    judge_everything(&rt, &document);
     Ok(())
+}
+
+/// Whether a list was read, and is this one.
+fn are_read<T: PartialEq>(read: &Option<Vec<T>>, want: &[T]) -> bool {
+    match read {
+        Some(list) => list.as_slice() == want,
+        None => false,
+    }
 }
 
 #[test]
@@ -135,8 +164,7 @@ fn reads_each_call(rt: HostRuntime) -> Result<(), Fail> {
         call(1, 1, prepare_drop),
     ];
     let document = read_document(rt.alloc(), EVERYTHING.as_bytes())?;
-    let read = document.calls.ok_or("no calls")?;
-    assert_eq!(rt; read.as_slice(), calls.as_slice());
+    assert!(rt; are_read(&document.calls, &calls));
     Ok(())
 }
 
@@ -186,49 +214,55 @@ fn reads_each_event(rt: HostRuntime) -> Result<(), Fail> {
         EventText::Begin { plan: 16 },
     ];
     let document = read_document(rt.alloc(), EVERYTHING.as_bytes())?;
-    let read = document.events.ok_or("no events")?;
-    assert_eq!(rt; read.as_slice(), events.as_slice());
+    assert!(rt; are_read(&document.events, &events));
     Ok(())
+}
+
+/// Whether a document has the drained server and the asks of `EVERYTHING`.
+fn has_all_names(document: &Document) -> bool {
+    document.drain == Some(ServerId::new(1))
+        && document.asks.as_slice() == [ShardId::new(0), ShardId::new(0)].as_slice()
 }
 
 #[test]
 fn reads_moves_and_names(rt: HostRuntime) -> Result<(), Fail> {
     let document = read_document(rt.alloc(), EVERYTHING.as_bytes())?;
     let moves = [move_text(1, 0, 1), move_text(0, 1, 1)];
-    let read = document.moves.ok_or("no moves")?;
-    assert_eq!(rt; read.as_slice(), moves.as_slice());
-    assert_eq!(rt; document.drain, Some(ServerId::new(1)));
-    assert_eq!(rt;
-        document.asks.as_slice(),
-        [ShardId::new(0), ShardId::new(0)].as_slice()
-    );
+    assert!(rt; are_read(&document.moves, &moves));
+    assert!(rt; has_all_names(&document));
     Ok(())
+}
+
+/// Whether a document has no servers and no shards, and an empty list of calls.
+fn is_empty(document: &Document) -> bool {
+    document.config.servers().is_empty()
+        && document.config.shards().is_empty()
+        && document.cells.is_empty()
+        && document.listed.is_empty()
+        && are_read(&document.calls, &[])
 }
 
 #[test]
 fn reads_what_is_empty(rt: HostRuntime) -> Result<(), Fail> {
     let text = r#"{"limit":0,"servers":[],"shards":[],"calls":[]}"#;
     let document = read_document(rt.alloc(), text.as_bytes())?;
-    assert!(rt; document.config.servers().is_empty());
-    assert!(rt; document.config.shards().is_empty());
-    assert!(rt; document.cells.is_empty());
-    assert!(rt; document.listed.is_empty());
-    let calls = document.calls.ok_or("no calls")?;
-    assert!(rt; calls.is_empty());
+    assert!(rt; is_empty(&document));
     Ok(())
+}
+
+/// Whether a document has the counts of `EVERYTHING`.
+fn has_all_counts(document: &Document) -> bool {
+    document.limit == 1024
+        && document.config.servers().len() == 2
+        && document.config.shards().len() == 2
+        && document.cells.len() == 1
 }
 
 /// `scripts/check-memory-tests` refuses each allocation of this test in turn.
 #[test]
-fn every_member_is_read_or_not(rt: HostRuntime) -> Result<(), Fail> {
+fn every_member_is_read_or_not(rt: HostRuntime) {
     match read_document(rt.alloc(), EVERYTHING.as_bytes()) {
-        Ok(document) => {
-            assert_eq!(rt; document.limit, 1024);
-            assert_eq!(rt; document.config.servers().len(), 2);
-            assert_eq!(rt; document.config.shards().len(), 2);
-            assert_eq!(rt; document.cells.len(), 1);
-        }
-        Err(fault) => assert_eq!(rt; fault, TextFault::NoMemory),
+        Ok(document) => assert!(rt; has_all_counts(&document)),
+        Err(fault) => assert!(rt; fault == TextFault::NoMemory),
     }
-    Ok(())
 }

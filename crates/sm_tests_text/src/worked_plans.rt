@@ -1,9 +1,11 @@
 //! What good plans say.
 use super::fixtures::PLACEMENT;
-use sm_plan_code::{Instr, Plan, Stream};
-use sm_plan_text::{TextFault, read_document, read_plan};
-use sm_reservation::{CellRight, Crown, Lead, PlainCell, Room};
+use sm_placement::Config;
+use sm_plan_code::{Instr, Plan};
+use sm_plan_text::{Document, TextFault, read_document, read_plan};
+use sm_reservation::{CellRight, Crown, Lead, Parcel, PlainCell, Room};
 use sm_server::{Role, ServerId, ShardId};
+use std::alloc::{AllocError, Global};
 use std::process::Abort;
 use std::test::Fail;
 
@@ -39,9 +41,9 @@ const fn right(server: ServerId, state: PlainCell) -> CellRight {
     }
 }
 
-/// The stream is that of the handover.
-fn judge_handover_stream(rt: &impl Abort, stream: &Stream) {
-    let code = [
+/// The steps of the handover.
+const fn handover_code() -> [Instr; 5] {
+    [
         Instr::PrepareAdd {
             shard: shard(),
             server: b(),
@@ -62,42 +64,48 @@ fn judge_handover_stream(rt: &impl Abort, stream: &Stream) {
             shard: shard(),
             server: a(),
         },
-    ];
-    let crowns = [Crown {
-        shard: shard(),
-        lead: Lead::At(a()),
-        listed: Some(a()),
-    }];
-    assert_eq!(rt; stream.budget, 4);
-    assert_eq!(rt; stream.retries, 0);
-    assert_eq!(rt; stream.code.as_slice(), code.as_slice());
-    assert_eq!(rt;
-        stream.holds.cells(),
-        [right(b(), PlainCell::Absent)].as_slice()
-    );
-    assert_eq!(rt; stream.holds.crowns(), crowns.as_slice());
-    assert_eq!(rt;
-        stream.holds.room(),
-        [Room {
-            server: b(),
-            amount: 4
-        }]
-        .as_slice()
-    );
-    assert!(rt; stream.holds.spare().is_empty());
+    ]
 }
 
-fn judge_handover(rt: &impl Abort, plan: &Plan) {
-    assert_eq!(rt; plan.budget(), 4);
-    assert!(rt; plan.signals().is_empty());
-    assert_eq!(rt; plan.streams().len(), 1);
-    for stream in plan.streams() {
-        judge_handover_stream(rt, stream);
+/// Room of server b.
+const fn four_at_b() -> Room {
+    Room {
+        server: b(),
+        amount: 4,
     }
 }
 
-fn judge_drain(rt: &impl Abort, plan: &Plan) {
-    let code = [
+/// Whether a parcel has the rights of the handover.
+fn has_handover(parcel: &Parcel) -> bool {
+    let crown = Crown {
+        shard: shard(),
+        lead: Lead::At(a()),
+        listed: Some(a()),
+    };
+    parcel.cells() == [right(b(), PlainCell::Absent)].as_slice()
+        && parcel.crowns() == [crown].as_slice()
+        && parcel.room() == [four_at_b()].as_slice()
+        && parcel.spare().is_empty()
+}
+
+/// Whether a plan is the handover.
+fn is_handover(plan: &Plan) -> bool {
+    match plan.streams() {
+        [stream] => {
+            plan.budget() == 4
+                && plan.signals().is_empty()
+                && stream.budget == 4
+                && stream.retries == 0
+                && stream.code.as_slice() == handover_code().as_slice()
+                && has_handover(&stream.holds)
+        }
+        _ => false,
+    }
+}
+
+/// The steps that empty server c.
+const fn drain_code() -> [Instr; 2] {
+    [
         Instr::Add {
             shard: shard(),
             server: b(),
@@ -107,67 +115,97 @@ fn judge_drain(rt: &impl Abort, plan: &Plan) {
             shard: shard(),
             server: c(),
         },
-    ];
+    ]
+}
+
+/// Whether a parcel has the cells and the room that emptying server c takes, and no crowns.
+fn has_drain(parcel: &Parcel) -> bool {
     let cells = [
         right(b(), PlainCell::Absent),
         right(c(), PlainCell::Secondary),
     ];
-    assert_eq!(rt; plan.budget(), 2);
-    assert_eq!(rt; plan.streams().len(), 1);
-    for stream in plan.streams() {
-        assert_eq!(rt; stream.budget, 2);
-        assert_eq!(rt; stream.code.as_slice(), code.as_slice());
-        assert_eq!(rt; stream.holds.cells(), cells.as_slice());
-        assert!(rt; stream.holds.crowns().is_empty());
-        assert_eq!(rt;
-            stream.holds.room(),
-            [Room {
-                server: b(),
-                amount: 4
-            }]
-            .as_slice()
-        );
+    parcel.cells() == cells.as_slice()
+        && parcel.crowns().is_empty()
+        && parcel.room() == [four_at_b()].as_slice()
+}
+
+/// Whether a plan is the one that empties server c.
+fn is_drain(plan: &Plan) -> bool {
+    match plan.streams() {
+        [stream] => {
+            plan.budget() == 2
+                && stream.budget == 2
+                && stream.code.as_slice() == drain_code().as_slice()
+                && has_drain(&stream.holds)
+        }
+        _ => false,
     }
+}
+
+/// Reads the two plans over a configuration.
+fn judge_plans(rt: &impl Abort, alloc: Global, config: &Config) -> Result<(), TextFault> {
+    let handover = read_plan(alloc, config, HANDOVER.as_bytes())?;
+    assert!(rt; is_handover(&handover));
+    let drain = read_plan(alloc, config, DRAIN.as_bytes())?;
+    assert!(rt; is_drain(&drain));
+    Ok(())
 }
 
 #[test]
 fn reads_plans(rt: HostRuntime) -> Result<(), Fail> {
     let document = read_document(rt.alloc(), PLACEMENT.as_bytes())?;
-    assert!(rt; document.plan.is_none());
-    assert!(rt; document.plans.is_none());
-    let handover = read_plan(rt.alloc(), &document.config, HANDOVER.as_bytes())?;
-    judge_handover(&rt, &handover);
-    let drain = read_plan(rt.alloc(), &document.config, DRAIN.as_bytes())?;
-    judge_drain(&rt, &drain);
+    assert!(rt; document.plan.is_none() && document.plans.is_none());
+    judge_plans(&rt, rt.alloc(), &document.config)?;
     Ok(())
+}
+
+/// The text of the placement with the two plans.
+fn with_plans(alloc: Global) -> Result<String, AllocError> {
+    let (_, placement) = PLACEMENT.split_once("{").ok_or(AllocError)?;
+    format!(in alloc; "{{\"plan\":{HANDOVER},\"plans\":[{DRAIN},{HANDOVER}],{placement}")
+}
+
+/// Whether a document has the handover as its plan.
+fn has_plan(document: &Document) -> bool {
+    match &document.plan {
+        Some(plan) => is_handover(plan),
+        None => false,
+    }
+}
+
+/// Whether these are the plan that empties server c and the handover.
+fn are_both(plans: &[Plan]) -> bool {
+    match plans {
+        [first, second] => is_drain(first) && is_handover(second),
+        _ => false,
+    }
+}
+
+/// Whether a document has the two plans, beside each other.
+fn has_plans(document: &Document) -> bool {
+    match &document.plans {
+        Some(plans) => are_both(plans),
+        None => false,
+    }
 }
 
 /// The plans stand in a document, beside each other.
 #[test]
 fn reads_plans_of_documents(rt: HostRuntime) -> Result<(), Fail> {
-    let (_, placement) = PLACEMENT.split_once("{").ok_or("no placement")?;
-    let text = format!(in rt.alloc();
-        "{{\"plan\":{HANDOVER},\"plans\":[{DRAIN},{HANDOVER}],{placement}"
-    )?;
+    let text = with_plans(rt.alloc())?;
     let document = read_document(rt.alloc(), text.as_bytes())?;
-    let plan = document.plan.ok_or("no plan")?;
-    judge_handover(&rt, &plan);
-    let plans = document.plans.ok_or("no plans")?;
-    assert_eq!(rt; plans.len(), 2);
-    judge_drain(&rt, &plans[0]);
-    judge_handover(&rt, &plans[1]);
+    assert!(rt; has_plan(&document) && has_plans(&document));
     Ok(())
 }
 
 /// Run with each allocation refused in turn.
 #[test]
-fn reads_plans_or_not(rt: HostRuntime) -> Result<(), Fail> {
+fn reads_plans_or_not(rt: HostRuntime) {
     let Ok(document) = read_document(rt.alloc(), PLACEMENT.as_bytes()) else {
-        return Ok(());
+        return;
     };
     match read_plan(rt.alloc(), &document.config, HANDOVER.as_bytes()) {
-        Ok(plan) => judge_handover(&rt, &plan),
-        Err(fault) => assert_eq!(rt; fault, TextFault::NoMemory),
+        Ok(plan) => assert!(rt; is_handover(&plan)),
+        Err(fault) => assert!(rt; fault == TextFault::NoMemory),
     }
-    Ok(())
 }

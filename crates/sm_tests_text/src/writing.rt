@@ -1,5 +1,6 @@
 //! The texts of plans.
-use sm_placement::{Config, Lead, Server, Shard};
+use super::fixtures::config_of;
+use sm_placement::Lead;
 use sm_plan_code::{Instr, Parts, Plan, Stream};
 use sm_plan_text::write_plan;
 use sm_reservation::{CellRight, Crown, Lists, Parcel, PlainCell, Room, Spare};
@@ -52,7 +53,7 @@ fn parcel(
         room: room.to_vec(alloc)?,
         spare: spare.to_vec(alloc)?,
     };
-    Parcel::new(alloc, lists).map_err(|_| AllocError)
+    Parcel::new(alloc, lists).ok().ok_or(AllocError)
 }
 
 fn stream(
@@ -186,17 +187,12 @@ fn carried(alloc: Global) -> Result<Parcel, AllocError> {
     )
 }
 
-fn retried(alloc: Global) -> Result<Parts, AllocError> {
-    let first = parcel(
-        alloc,
-        &[],
-        &[
-            crown(shard_s(), Lead::Gone, None),
-            crown(shard_t(), Lead::Handing(server_b(), server_a()), None),
-        ],
-        &[],
-        &[],
-    )?;
+/// The stream that has retries, and waits for the signal.
+fn first_retried(alloc: Global) -> Result<Stream, AllocError> {
+    let crowns = [
+        crown(shard_s(), Lead::Gone, None),
+        crown(shard_t(), Lead::Handing(server_b(), server_a()), None),
+    ];
     let code = [
         Instr::Change {
             shard: shard_s(),
@@ -206,21 +202,19 @@ fn retried(alloc: Global) -> Result<Parts, AllocError> {
         Instr::Unlist { shard: shard_s() },
         Instr::Wait { signal: 0 },
     ];
-    let second = parcel(
-        alloc,
-        &[],
-        &[crown(
-            shard_s(),
-            Lead::Handed(server_c(), server_b()),
-            Some(server_a()),
-        )],
-        &[],
-        &[],
-    )?;
-    let streams = vec![in alloc;
-        stream(alloc, 3, 5, first, &code)?,
-        stream(alloc, 0, 0, second, &[Instr::Signal { signal: 0 }])?,
-    ]?;
+    stream(alloc, 3, 5, parcel(alloc, &[], &crowns, &[], &[])?, &code)
+}
+
+/// The stream that posts the signal.
+fn second_retried(alloc: Global) -> Result<Stream, AllocError> {
+    let lead = Lead::Handed(server_c(), server_b());
+    let crowns = [crown(shard_s(), lead, Some(server_a()))];
+    let code = [Instr::Signal { signal: 0 }];
+    stream(alloc, 0, 0, parcel(alloc, &[], &crowns, &[], &[])?, &code)
+}
+
+fn retried(alloc: Global) -> Result<Parts, AllocError> {
+    let streams = vec![in alloc; first_retried(alloc)?, second_retried(alloc)?]?;
     Ok(Parts {
         budget: 9,
         streams,
@@ -228,38 +222,9 @@ fn retried(alloc: Global) -> Result<Parts, AllocError> {
     })
 }
 
-fn server(alloc: Global, name: &str) -> Result<Server, AllocError> {
-    Ok(Server {
-        name: String::from_str(alloc, name)?,
-        region: String::from_str(alloc, "r")?,
-        room: 10,
-    })
-}
-
-fn shard(alloc: Global, name: &str) -> Result<Shard, AllocError> {
-    Ok(Shard {
-        name: String::from_str(alloc, name)?,
-        load: 4,
-        want: 2,
-        cap: 1,
-        spread: 1,
-    })
-}
-
-/// Three servers and two shards.
-fn config(alloc: Global) -> Result<Config, AllocError> {
-    let servers = [
-        server(alloc, "a")?,
-        server(alloc, "b")?,
-        server(alloc, "c")?,
-    ];
-    let shards = [shard(alloc, "s")?, shard(alloc, "t")?];
-    Config::new(alloc, &servers, &shards).map_err(|_| AllocError)
-}
-
 /// What is written for the parts of a plan, if they are one of the configuration.
 fn written(alloc: Global, parts: Parts) -> Result<Option<Vec<u8>>, AllocError> {
-    let config = config(alloc)?;
+    let config = config_of(alloc, &["a", "b", "c"], &["s", "t"])?;
     let Ok(plan) = Plan::new(parts) else {
         return Ok(None);
     };

@@ -1,7 +1,8 @@
 //! Plans with an id at its count in each kind of place.
-use sm_placement::{Config, Server, Shard};
-use sm_plan_code::{Instr, Parts, Plan, Stream};
-use sm_reservation::{CellRight, Crown, Lead, Lists, Parcel, PlainCell, Room, Spare};
+use crate::fixture::{NO_RIGHTS, config_of, parcel_of, plan_of, stream_of};
+use sm_placement::Config;
+use sm_plan_code::{Instr, Plan};
+use sm_reservation::{CellRight, Crown, Lead, PlainCell, Portion, Room, Spare};
 use sm_server::{Role, ServerId, ShardId};
 use std::alloc::{AllocError, Global};
 use std::process::Abort;
@@ -25,83 +26,47 @@ fn ends() -> Ids {
     }
 }
 
+/// A plan of one stream with these rights and this code, and with one signal that carries others.
+fn plan(
+    alloc: Global,
+    holds: &Portion,
+    code: &[Instr],
+    carried: &Portion,
+) -> Result<Plan, AllocError> {
+    let stream = stream_of(alloc, 1, 0, parcel_of(alloc, holds)?, code)?;
+    let streams = Vec::from_array(alloc, [stream])?;
+    let signals = Vec::from_array(alloc, [parcel_of(alloc, carried)?])?;
+    plan_of(1, streams, signals)
+}
+
+/// Whether such a plan is of the configuration.
+fn fits(
+    alloc: Global,
+    config: &Config,
+    holds: &Portion,
+    code: &[Instr],
+    carried: &Portion,
+) -> Result<bool, AllocError> {
+    let plan = plan(alloc, holds, code, carried)?;
+    Ok(plan.fits(config))
+}
+
 /// Three servers and two shards.
 fn config(alloc: Global) -> Result<Config, AllocError> {
-    let mut servers = Vec::new(alloc);
-    for number in 0..3 {
-        servers.push(Server {
-            name: format!(in alloc; "server-{number}")?,
-            region: String::from_str(alloc, "r1")?,
-            room: 10,
-        })?;
-    }
-    let mut shards = Vec::new(alloc);
-    for number in 0..2 {
-        shards.push(Shard {
-            name: format!(in alloc; "shard-{number}")?,
-            load: 1,
-            want: 1,
-            cap: 0,
-            spread: 1,
-        })?;
-    }
-    Config::new(alloc, &servers, &shards).map_err(|_| AllocError)
-}
-
-/// No rights.
-fn none(alloc: Global) -> Lists {
-    Lists {
-        cells: Vec::new(alloc),
-        crowns: Vec::new(alloc),
-        room: Vec::new(alloc),
-        spare: Vec::new(alloc),
-    }
-}
-
-/// The parcel of four lists.
-fn parcel(alloc: Global, lists: Lists) -> Result<Parcel, AllocError> {
-    Parcel::new(alloc, lists).map_err(|_| AllocError)
-}
-
-/// A plan of one stream, with one signal.
-fn plan(alloc: Global, holds: Lists, code: Vec<Instr>, signal: Lists) -> Result<Plan, AllocError> {
-    let stream = Stream {
-        budget: 1,
-        retries: 0,
-        holds: parcel(alloc, holds)?,
-        code,
-    };
-    let parts = Parts {
-        budget: 1,
-        streams: Vec::from_array(alloc, [stream])?,
-        signals: Vec::from_array(alloc, [parcel(alloc, signal)?])?,
-    };
-    Plan::new(parts).map_err(|_| AllocError)
-}
-
-/// A plan that makes the instruction.
-fn plan_of_code(alloc: Global, instr: Instr) -> Result<Plan, AllocError> {
-    plan(
-        alloc,
-        none(alloc),
-        Vec::from_array(alloc, [instr])?,
-        none(alloc),
-    )
+    config_of(alloc, 3, &[1, 1])
 }
 
 /// Whether the rights are of the configuration, held by a stream or carried by a signal.
 fn test_rights(
     rt: &impl Abort,
     alloc: Global,
-    held: Lists,
-    carried: Lists,
-    fits: bool,
+    cases: &[(Portion, bool)],
 ) -> Result<(), AllocError> {
     let config = config(alloc)?;
-    let by_stream = plan(alloc, held, Vec::new(alloc), none(alloc))?;
-    assert_eq!(rt; by_stream.fits(&config), fits);
-    let by_signal = plan(alloc, none(alloc), Vec::new(alloc), carried)?;
-    assert_eq!(rt; by_signal.fits(&config), fits);
+    for (rights, want) in cases {
+        assert!(rt; fits(alloc, &config, rights, &[], &NO_RIGHTS)? == *want);
+        assert!(rt; fits(alloc, &config, &NO_RIGHTS, &[], rights)? == *want);
+    }
     Ok(())
 }
 
@@ -142,12 +107,11 @@ fn test_code(
     rt: &impl Abort,
     alloc: Global,
     instructions: &[Instr],
-    fits: bool,
+    want: bool,
 ) -> Result<(), AllocError> {
     let config = config(alloc)?;
     for instr in instructions {
-        let plan = plan_of_code(alloc, *instr)?;
-        assert_eq!(rt; plan.fits(&config), fits);
+        assert!(rt; fits(alloc, &config, &NO_RIGHTS, &[*instr], &NO_RIGHTS)? == want);
     }
     Ok(())
 }
@@ -215,113 +179,97 @@ fn instructions_without_server(rt: HostRuntime) -> Result<(), Fail> {
 }
 
 /// One right to a cell.
-fn one_cell(alloc: Global, shard: ShardId, server: ServerId) -> Result<Lists, AllocError> {
-    let mut lists = none(alloc);
-    let state = PlainCell::Secondary;
-    lists.cells = Vec::from_array(
-        alloc,
-        [CellRight {
+const fn one_cell(shard: ShardId, server: ServerId) -> Portion {
+    Portion {
+        cell: Some(CellRight {
             shard,
             server,
-            state,
-        }],
-    )?;
-    Ok(lists)
+            state: PlainCell::Secondary,
+        }),
+        ..NO_RIGHTS
+    }
 }
 
 /// One crown.
-fn one_crown(
-    alloc: Global,
-    shard: ShardId,
-    lead: Lead,
-    listed: Option<ServerId>,
-) -> Result<Lists, AllocError> {
-    let mut lists = none(alloc);
-    lists.crowns = Vec::from_array(
-        alloc,
-        [Crown {
+const fn one_crown(shard: ShardId, lead: Lead, listed: Option<ServerId>) -> Portion {
+    Portion {
+        crown: Some(Crown {
             shard,
             lead,
             listed,
-        }],
-    )?;
-    Ok(lists)
+        }),
+        ..NO_RIGHTS
+    }
 }
 
 /// The room of one server.
-fn one_room(alloc: Global, server: ServerId) -> Result<Lists, AllocError> {
-    let mut lists = none(alloc);
-    lists.room = Vec::from_array(alloc, [Room { server, amount: 1 }])?;
-    Ok(lists)
+const fn one_room(server: ServerId) -> Portion {
+    Portion {
+        room: Some(Room { server, amount: 1 }),
+        ..NO_RIGHTS
+    }
 }
 
 /// The spare replica of one shard.
-fn one_spare(alloc: Global, shard: ShardId) -> Result<Lists, AllocError> {
-    let mut lists = none(alloc);
-    lists.spare = Vec::from_array(alloc, [Spare { shard, amount: 1 }])?;
-    Ok(lists)
+const fn one_spare(shard: ShardId) -> Portion {
+    Portion {
+        spare: Some(Spare { shard, amount: 1 }),
+        ..NO_RIGHTS
+    }
 }
 
 #[test]
 fn cells_room_and_spare(rt: HostRuntime) -> Result<(), Fail> {
-    let alloc = rt.alloc();
     let Ids {
         shard,
         server,
         no_shard,
         no_server,
     } = ends();
-    let cells = [
-        (shard, server, true),
-        (no_shard, server, false),
-        (shard, no_server, false),
+    let cases = [
+        (one_cell(shard, server), true),
+        (one_cell(no_shard, server), false),
+        (one_cell(shard, no_server), false),
+        (one_room(server), true),
+        (one_room(no_server), false),
+        (one_spare(shard), true),
+        (one_spare(no_shard), false),
     ];
-    for (shard, server, fits) in &cells {
-        let held = one_cell(alloc, *shard, *server)?;
-        let carried = one_cell(alloc, *shard, *server)?;
-        test_rights(&rt, alloc, held, carried, *fits)?;
-    }
-    for (server, fits) in &[(server, true), (no_server, false)] {
-        let held = one_room(alloc, *server)?;
-        test_rights(&rt, alloc, held, one_room(alloc, *server)?, *fits)?;
-    }
-    for (shard, fits) in &[(shard, true), (no_shard, false)] {
-        let held = one_spare(alloc, *shard)?;
-        test_rights(&rt, alloc, held, one_spare(alloc, *shard)?, *fits)?;
-    }
+    test_rights(&rt, rt.alloc(), &cases)?;
     Ok(())
 }
 
 #[test]
 fn crowns(rt: HostRuntime) -> Result<(), Fail> {
-    let alloc = rt.alloc();
     let Ids {
         shard,
         server,
         no_shard,
         no_server,
     } = ends();
-    let crowns = [
-        (shard, Lead::Gone, None, true),
-        (no_shard, Lead::Gone, None, false),
-        (shard, Lead::Gone, Some(server), true),
-        (shard, Lead::Gone, Some(no_server), false),
-        (shard, Lead::At(server), None, true),
-        (shard, Lead::At(no_server), None, false),
-        (shard, Lead::Ready(server, server), None, true),
-        (shard, Lead::Ready(no_server, server), None, false),
-        (shard, Lead::Ready(server, no_server), None, false),
-        (shard, Lead::Handing(server, server), None, true),
-        (shard, Lead::Handing(no_server, server), None, false),
-        (shard, Lead::Handing(server, no_server), None, false),
-        (shard, Lead::Handed(server, server), None, true),
-        (shard, Lead::Handed(no_server, server), None, false),
-        (shard, Lead::Handed(server, no_server), None, false),
+    let leads = [
+        (Lead::Gone, true),
+        (Lead::At(server), true),
+        (Lead::At(no_server), false),
+        (Lead::Ready(server, server), true),
+        (Lead::Ready(no_server, server), false),
+        (Lead::Ready(server, no_server), false),
+        (Lead::Handing(server, server), true),
+        (Lead::Handing(no_server, server), false),
+        (Lead::Handing(server, no_server), false),
+        (Lead::Handed(server, server), true),
+        (Lead::Handed(no_server, server), false),
+        (Lead::Handed(server, no_server), false),
     ];
-    for (shard, lead, listed, fits) in &crowns {
-        let held = one_crown(alloc, *shard, *lead, *listed)?;
-        let carried = one_crown(alloc, *shard, *lead, *listed)?;
-        test_rights(&rt, alloc, held, carried, *fits)?;
+    for (lead, fits) in &leads {
+        let case = (one_crown(shard, *lead, None), *fits);
+        test_rights(&rt, rt.alloc(), &[case])?;
     }
+    let cases = [
+        (one_crown(no_shard, Lead::Gone, None), false),
+        (one_crown(shard, Lead::Gone, Some(server)), true),
+        (one_crown(shard, Lead::Gone, Some(no_server)), false),
+    ];
+    test_rights(&rt, rt.alloc(), &cases)?;
     Ok(())
 }

@@ -18,9 +18,9 @@ fn assert_names(
     first: Option<ServerId>,
     second: Option<ServerId>,
 ) {
-    assert_eq!(rt; names(instr), NamedServers { first, second });
-    assert_eq!(rt; is_call(instr), call);
-    assert!(rt; !names(instr).contains(server(9)));
+    let names = names(instr);
+    assert!(rt; names == NamedServers { first, second } && !names.contains(server(9)));
+    assert!(rt; is_call(instr) == call);
 }
 
 #[test]
@@ -32,16 +32,14 @@ fn prepares(rt: HostRuntime) {
         owner: server(0),
     };
     assert_names(&rt, &add, true, Some(server(1)), Some(server(0)));
-    assert!(rt; names(&add).contains(server(0)));
-    assert!(rt; names(&add).contains(server(1)));
+    assert!(rt; names(&add).contains(server(0)) && names(&add).contains(server(1)));
     let drop = Instr::PrepareDrop {
         shard,
         server: server(0),
         new_owner: server(1),
     };
     assert_names(&rt, &drop, true, Some(server(0)), Some(server(1)));
-    assert!(rt; names(&drop).contains(server(0)));
-    assert!(rt; names(&drop).contains(server(1)));
+    assert!(rt; names(&drop).contains(server(0)) && names(&drop).contains(server(1)));
 }
 
 #[test]
@@ -96,7 +94,7 @@ fn reasons_in_words(rt: HostRuntime) -> Result<(), Fail> {
     ];
     for (why, text) in &texts {
         let printed = format!(in rt.alloc(); "{why}")?;
-        assert_eq!(rt; printed.as_str(), *text);
+        assert!(rt; printed.as_str() == *text);
     }
     has_effects();
     signal_gives();

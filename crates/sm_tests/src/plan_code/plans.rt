@@ -1,4 +1,5 @@
 //! Plans at each limit and just above it, and what a plan tells of itself.
+use crate::fixture::{nothing, stream_of};
 use sm_plan_code::{Instr, Parts, Plan, PlanFault, Stream};
 use sm_reservation::{CellRight, Crown, Lead, Lists, Parcel, PlainCell, Room, Spare};
 use sm_server::{ServerId, ShardId};
@@ -29,41 +30,49 @@ const NONE: Counts = Counts {
 };
 
 fn cells(alloc: Global, count: u32) -> Result<Vec<CellRight>, AllocError> {
-    (0..count)
-        .map(|number| CellRight {
+    let mut cells = Vec::new(alloc);
+    for number in 0..count {
+        cells.push(CellRight {
             shard: ShardId::new(number),
             server: ServerId::new(number),
             state: PlainCell::Absent,
-        })
-        .collect(alloc)
+        })?;
+    }
+    Ok(cells)
 }
 
 fn crowns(alloc: Global, count: u32) -> Result<Vec<Crown>, AllocError> {
-    (0..count)
-        .map(|number| Crown {
+    let mut crowns = Vec::new(alloc);
+    for number in 0..count {
+        crowns.push(Crown {
             shard: ShardId::new(number),
             lead: Lead::Gone,
             listed: None,
-        })
-        .collect(alloc)
+        })?;
+    }
+    Ok(crowns)
 }
 
 fn room(alloc: Global, count: u32, amount: u64) -> Result<Vec<Room>, AllocError> {
-    (0..count)
-        .map(|number| Room {
+    let mut room = Vec::new(alloc);
+    for number in 0..count {
+        room.push(Room {
             server: ServerId::new(number),
             amount,
-        })
-        .collect(alloc)
+        })?;
+    }
+    Ok(room)
 }
 
 fn spare(alloc: Global, count: u32, amount: u64) -> Result<Vec<Spare>, AllocError> {
-    (0..count)
-        .map(|number| Spare {
+    let mut spare = Vec::new(alloc);
+    for number in 0..count {
+        spare.push(Spare {
             shard: ShardId::new(number),
             amount,
-        })
-        .collect(alloc)
+        })?;
+    }
+    Ok(spare)
 }
 
 /// A parcel of so many rights.
@@ -74,37 +83,44 @@ fn parcel(alloc: Global, counts: &Counts) -> Result<Parcel, AllocError> {
         room: room(alloc, counts.room, counts.amount)?,
         spare: spare(alloc, counts.spare, counts.amount)?,
     };
-    Parcel::new(alloc, lists).map_err(|_| AllocError)
+    Parcel::new(alloc, lists).ok().ok_or(AllocError)
 }
 
 /// Why the parts are no plan, if they are none.
-fn fault_of(parts: Parts) -> Option<PlanFault> {
+fn fault_of(budget: u32, streams: Vec<Stream>, signals: Vec<Parcel>) -> Option<PlanFault> {
+    let parts = Parts {
+        budget,
+        streams,
+        signals,
+    };
     match Plan::new(parts) {
         Ok(_) => None,
         Err((_, fault)) => Some(fault),
     }
 }
 
+/// So many streams without code.
+fn many_streams(alloc: Global, count: u32) -> Result<Vec<Stream>, AllocError> {
+    let mut streams = Vec::new(alloc);
+    for _ in 0..count {
+        streams.push(stream_of(alloc, 0, 0, nothing(alloc)?, &[])?)?;
+    }
+    Ok(streams)
+}
+
+/// So many signals that carry nothing.
+fn many_signals(alloc: Global, count: u32) -> Result<Vec<Parcel>, AllocError> {
+    let mut signals = Vec::new(alloc);
+    for _ in 0..count {
+        signals.push(nothing(alloc)?)?;
+    }
+    Ok(signals)
+}
+
 /// So many streams without code, and so many signals that carry nothing.
-fn many(alloc: Global, streams: u32, signals: u32) -> Result<Parts, AllocError> {
-    let mut all_streams = Vec::new(alloc);
-    for _ in 0..streams {
-        all_streams.push(Stream {
-            budget: 0,
-            retries: 0,
-            holds: parcel(alloc, &NONE)?,
-            code: Vec::new(alloc),
-        })?;
-    }
-    let mut all_signals = Vec::new(alloc);
-    for _ in 0..signals {
-        all_signals.push(parcel(alloc, &NONE)?)?;
-    }
-    Ok(Parts {
-        budget: 0,
-        streams: all_streams,
-        signals: all_signals,
-    })
+fn with_many(alloc: Global, streams: u32, signals: u32) -> Result<Option<PlanFault>, AllocError> {
+    let streams = many_streams(alloc, streams)?;
+    Ok(fault_of(0, streams, many_signals(alloc, signals)?))
 }
 
 /// A plan's budget, and the budget and the retries of its one stream.
@@ -114,17 +130,9 @@ fn with_numbers(
     budget: u32,
     retries: u32,
 ) -> Result<Option<PlanFault>, AllocError> {
-    let stream = Stream {
-        budget,
-        retries,
-        holds: parcel(alloc, &NONE)?,
-        code: Vec::new(alloc),
-    };
-    Ok(fault_of(Parts {
-        budget: plan,
-        streams: Vec::from_array(alloc, [stream])?,
-        signals: Vec::new(alloc),
-    }))
+    let stream = stream_of(alloc, budget, retries, nothing(alloc)?, &[])?;
+    let streams = Vec::from_array(alloc, [stream])?;
+    Ok(fault_of(plan, streams, Vec::new(alloc)))
 }
 
 /// One stream that makes an instruction so many times, beside two signals.
@@ -134,42 +142,23 @@ fn with_code(
     instr: Instr,
     times: usize,
 ) -> Result<Option<PlanFault>, AllocError> {
-    let stream = Stream {
-        budget: 0,
-        retries: 0,
-        holds: parcel(alloc, &NONE)?,
-        code: vec![in alloc; instr; times]?,
-    };
-    let signals = [parcel(alloc, &NONE)?, parcel(alloc, &NONE)?];
-    Ok(fault_of(Parts {
-        budget,
-        streams: Vec::from_array(alloc, [stream])?,
-        signals: Vec::from_array(alloc, signals)?,
-    }))
+    let code = vec![in alloc; instr; times]?;
+    let stream = stream_of(alloc, 0, 0, nothing(alloc)?, &code)?;
+    let streams = Vec::from_array(alloc, [stream])?;
+    Ok(fault_of(budget, streams, many_signals(alloc, 2)?))
 }
 
 /// One stream that holds so many rights.
 fn with_hold(alloc: Global, counts: &Counts) -> Result<Option<PlanFault>, AllocError> {
-    let stream = Stream {
-        budget: 0,
-        retries: 0,
-        holds: parcel(alloc, counts)?,
-        code: Vec::new(alloc),
-    };
-    Ok(fault_of(Parts {
-        budget: 0,
-        streams: Vec::from_array(alloc, [stream])?,
-        signals: Vec::new(alloc),
-    }))
+    let stream = stream_of(alloc, 0, 0, parcel(alloc, counts)?, &[])?;
+    let streams = Vec::from_array(alloc, [stream])?;
+    Ok(fault_of(0, streams, Vec::new(alloc)))
 }
 
 /// One signal that carries so many rights.
 fn with_signal(alloc: Global, counts: &Counts) -> Result<Option<PlanFault>, AllocError> {
-    Ok(fault_of(Parts {
-        budget: 0,
-        streams: Vec::new(alloc),
-        signals: Vec::from_array(alloc, [parcel(alloc, counts)?])?,
-    }))
+    let signals = Vec::from_array(alloc, [parcel(alloc, counts)?])?;
+    Ok(fault_of(0, Vec::new(alloc), signals))
 }
 
 /// So many rights, held by a stream and carried by a signal.
@@ -179,28 +168,36 @@ fn test_rights(
     counts: &Counts,
     fault: Option<PlanFault>,
 ) -> Result<(), AllocError> {
-    assert_eq!(rt; with_hold(alloc, counts)?, fault);
-    assert_eq!(rt; with_signal(alloc, counts)?, fault);
+    assert!(rt; with_hold(alloc, counts)? == fault);
+    assert!(rt; with_signal(alloc, counts)? == fault);
     Ok(())
 }
 
 #[test]
 fn streams_and_signals(rt: HostRuntime) -> Result<(), Fail> {
-    let alloc = rt.alloc();
-    assert_eq!(rt; fault_of(many(alloc, 0, 0)?), None);
-    assert_eq!(rt; fault_of(many(alloc, 64, 256)?), None);
-    assert_eq!(rt; fault_of(many(alloc, 65, 0)?), TOO_MANY);
-    assert_eq!(rt; fault_of(many(alloc, 0, 257)?), TOO_MANY);
+    let cases = [
+        (0, 0, None),
+        (64, 256, None),
+        (65, 0, TOO_MANY),
+        (0, 257, TOO_MANY),
+    ];
+    for (streams, signals, fault) in &cases {
+        assert!(rt; with_many(rt.alloc(), *streams, *signals)? == *fault);
+    }
     Ok(())
 }
 
 #[test]
 fn budgets_and_retries(rt: HostRuntime) -> Result<(), Fail> {
-    let alloc = rt.alloc();
-    assert_eq!(rt; with_numbers(alloc, 262_144, 262_144, 262_144)?, None);
-    assert_eq!(rt; with_numbers(alloc, 262_145, 0, 0)?, TOO_MANY);
-    assert_eq!(rt; with_numbers(alloc, 0, 262_145, 0)?, TOO_MANY);
-    assert_eq!(rt; with_numbers(alloc, 0, 0, 262_145)?, TOO_MANY);
+    let cases = [
+        (262_144, 262_144, 262_144, None),
+        (262_145, 0, 0, TOO_MANY),
+        (0, 262_145, 0, TOO_MANY),
+        (0, 0, 262_145, TOO_MANY),
+    ];
+    for (plan, budget, retries, fault) in &cases {
+        assert!(rt; with_numbers(rt.alloc(), *plan, *budget, *retries)? == *fault);
+    }
     Ok(())
 }
 
@@ -251,52 +248,69 @@ fn entries_of_a_parcel(rt: HostRuntime) -> Result<(), Fail> {
 
 #[test]
 fn instructions_and_signals(rt: HostRuntime) -> Result<(), Fail> {
-    let alloc = rt.alloc();
     let publish = Instr::Publish {
         shard: ShardId::new(7),
     };
-    assert_eq!(rt; with_code(alloc, 0, publish, 4_096)?, None);
-    assert_eq!(rt; with_code(alloc, 0, publish, 4_097)?, TOO_MANY);
-    assert_eq!(rt; with_code(alloc, 0, Instr::Signal { signal: 1 }, 1)?, None);
-    assert_eq!(rt; with_code(alloc, 0, Instr::Wait { signal: 1 }, 1)?, None);
-    assert_eq!(rt;
-        with_code(alloc, 0, Instr::Signal { signal: 2 }, 1)?,
-        UNKNOWN_SIGNAL
-    );
-    assert_eq!(rt;
-        with_code(alloc, 0, Instr::Wait { signal: 2 }, 1)?,
-        UNKNOWN_SIGNAL
-    );
-    assert_eq!(rt;
-        with_code(alloc, 262_145, Instr::Wait { signal: 2 }, 1)?,
-        TOO_MANY
-    );
+    let cases = [
+        (0, publish, 4_096, None),
+        (0, publish, 4_097, TOO_MANY),
+        (0, Instr::Signal { signal: 1 }, 1, None),
+        (0, Instr::Wait { signal: 1 }, 1, None),
+        (0, Instr::Signal { signal: 2 }, 1, UNKNOWN_SIGNAL),
+        (0, Instr::Wait { signal: 2 }, 1, UNKNOWN_SIGNAL),
+        (262_145, Instr::Wait { signal: 2 }, 1, TOO_MANY),
+    ];
+    for (budget, instr, times, fault) in &cases {
+        assert!(rt; with_code(rt.alloc(), *budget, *instr, *times)? == *fault);
+    }
     Ok(())
+}
+
+/// Parts of two streams and three signals.
+fn small_parts(alloc: Global) -> Result<Parts, AllocError> {
+    let streams = many_streams(alloc, 2)?;
+    Ok(Parts {
+        budget: 262_145,
+        streams,
+        signals: many_signals(alloc, 3)?,
+    })
+}
+
+/// Asserts the numbers of parts.
+fn assert_parts(rt: &impl Abort, parts: &Parts, budget: u32) {
+    assert!(rt; parts.budget == budget);
+    assert!(rt; parts.streams.len() == 2 && parts.signals.len() == 3);
+}
+
+/// The small parts as they come back, since their budget is too high.
+fn refused_parts(rt: &impl Abort, alloc: Global) -> Result<Parts, AllocError> {
+    match Plan::new(small_parts(alloc)?) {
+        Ok(_) => {
+            assert!(rt; false);
+            Err(AllocError)
+        }
+        Err((parts, _)) => Ok(parts),
+    }
+}
+
+/// Asserts what a plan tells of itself.
+fn assert_plan(rt: &impl Abort, plan: &Plan) {
+    assert!(rt; plan.budget() == 5);
+    assert!(rt; plan.streams().len() == 2 && plan.signals().len() == 3);
 }
 
 #[test]
 fn plan_of_its_parts(rt: HostRuntime) -> Result<(), Fail> {
-    let alloc = rt.alloc();
-    let mut parts = many(alloc, 2, 3)?;
-    parts.budget = 262_145;
-    let Err((mut parts, _)) = Plan::new(parts) else {
-        assert!(rt; false);
-        return Ok(());
-    };
-    assert_eq!(rt; parts.budget, 262_145);
-    assert_eq!(rt; parts.streams.len(), 2);
+    let mut parts = refused_parts(&rt, rt.alloc())?;
+    assert_parts(&rt, &parts, 262_145);
     parts.budget = 5;
-    let Ok(plan) = Plan::new(parts) else {
-        assert!(rt; false);
-        return Ok(());
-    };
-    assert_eq!(rt; plan.budget(), 5);
-    assert_eq!(rt; plan.streams().len(), 2);
-    assert_eq!(rt; plan.signals().len(), 3);
-    let parts = plan.into_parts();
-    assert_eq!(rt; parts.budget, 5);
-    assert_eq!(rt; parts.streams.len(), 2);
-    assert_eq!(rt; parts.signals.len(), 3);
+    match Plan::new(parts) {
+        Ok(plan) => {
+            assert_plan(&rt, &plan);
+            assert_parts(&rt, &plan.into_parts(), 5);
+        }
+        Err(_) => assert!(rt; false),
+    }
     Ok(())
 }
 
@@ -314,7 +328,7 @@ fn faults_in_words(rt: HostRuntime) -> Result<(), Fail> {
     ];
     for (fault, text) in &texts {
         let printed = format!(in rt.alloc(); "{fault}")?;
-        assert_eq!(rt; printed.as_str(), *text);
+        assert!(rt; printed.as_str() == *text);
     }
     Ok(())
 }

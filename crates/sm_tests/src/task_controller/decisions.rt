@@ -6,7 +6,8 @@ ghost use Rattle.sm_placement.specs.Setup.{sizes_of};
 ghost use Rattle.sm_placement.specs.Layout.{place_of};
 ghost use Rattle.sm_placement.specs.Lead.{IsSettled};
 
-use sm_placement::{Config, Placement, Server, Shard};
+use crate::fixture::config_of;
+use sm_placement::{Config, Placement};
 use sm_reservation::{Pool, StreamId};
 use sm_server::{Cell, ServerId, ShardId};
 use sm_task_controller::{Approved, Denied, decide};
@@ -45,28 +46,6 @@ const fn stream(number: u32) -> StreamId {
     }
 }
 
-fn config(alloc: Global) -> Result<Config, AllocError> {
-    let mut servers = Vec::new(alloc);
-    for number in 0..4 {
-        servers.push(Server {
-            name: format!(in alloc; "server-{number}")?,
-            region: String::from_str(alloc, "r1")?,
-            room: 10,
-        })?;
-    }
-    let mut shards = Vec::new(alloc);
-    for number in 0..3 {
-        shards.push(Shard {
-            name: format!(in alloc; "shard-{number}")?,
-            load: 4,
-            want: 2,
-            cap: 1,
-            spread: 1,
-        })?;
-    }
-    Config::new(alloc, &servers, &shards).map_err(|_| AllocError)
-}
-
 /// The worked placement, of which one server may be down.
 fn worked_placement(
     alloc: Global,
@@ -83,7 +62,9 @@ fn worked_placement(
         (ShardId::new(2), ServerId::new(1), Cell::Primary),
     ];
     let listed = [Some(ServerId::new(0)), Some(ServerId::new(1)), None];
-    Placement::open(alloc, config, &cells, &listed, down, 1).map_err(|_| AllocError)
+    Placement::open(alloc, config, &cells, &listed, down, 1)
+        .ok()
+        .ok_or(AllocError)
 }
 
 /// What is decided of a placement.
@@ -103,13 +84,16 @@ fn decided_at(
         return Err(AllocError);
     }
     let server = ServerId::new(case.server);
-    let engaged = case.engaged.map(stream);
+    let engaged = match case.engaged {
+        Some(number) => Some(stream(number)),
+        None => None,
+    };
     Ok(decide(placement, &pool, engaged, case.log_free, server))
 }
 
 /// What is decided of the worked placement.
 fn decided(alloc: Global, case: &Case) -> Result<Result<Approved, Denied>, AllocError> {
-    let config = config(alloc)?;
+    let config = config_of(alloc, 4, &[4, 4, 4])?;
     let servers = [ServerId::new(3)];
     let down = if case.down {
         &servers[..1]
@@ -122,8 +106,7 @@ fn decided(alloc: Global, case: &Case) -> Result<Result<Approved, Denied>, Alloc
 
 fn assert_decided(rt: &impl Abort, alloc: Global, cases: &[Case]) -> Result<(), AllocError> {
     for case in cases {
-        let answer = decided(alloc, case)?;
-        assert_eq!(rt; answer, case.want);
+        assert!(rt; decided(alloc, case)? == case.want);
     }
     Ok(())
 }

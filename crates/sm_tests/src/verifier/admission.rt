@@ -7,10 +7,10 @@ ghost use Rattle.sm_placement.specs.Layout.{place_of};
 ghost use Rattle.sm_placement.specs.Lead.{IsSettled};
 ghost use Rattle.sm_reservation.specs.Pool.{HasSize};
 
-use super::rows::config_of;
+use crate::fixture::{self, config_of, plan_of, stream_of};
 use sm_placement::{Config, Placement};
-use sm_plan_code::{Instr, Parts, Plan, Stream};
-use sm_reservation::{CellRight, Crown, Key, Lead, Lists, Parcel, PlainCell, Pool, Room, Spare};
+use sm_plan_code::{Instr, Plan, Stream};
+use sm_reservation::{CellRight, Crown, Key, Lead, Parcel, PlainCell, Pool, Room, Spare};
 use sm_server::{Cell, Role, ServerId, ShardId};
 use sm_verifier::{Checked, Holding, admit, check};
 use std::alloc::{AllocError, Global};
@@ -32,7 +32,9 @@ pub(super) fn worked_placement(
         (ShardId::new(1), ServerId::new(1), Cell::Primary),
     ];
     let listed = [Some(ServerId::new(0)), Some(ServerId::new(1))];
-    Placement::open(alloc, config, &cells, &listed, down, 2).map_err(|_| AllocError)
+    Placement::open(alloc, config, &cells, &listed, down, 2)
+        .ok()
+        .ok_or(AllocError)
 }
 
 /// Room of server 1.
@@ -116,29 +118,24 @@ fn listed<T: Copy + Drop>(alloc: Global, items: &[Option<T>]) -> Result<Vec<T>, 
     let mut list = Vec::new(alloc);
     for item in items {
         if let Some(item) = item {
-            list.push(*item).map_err(|_| AllocError)?;
+            list.push(*item)?;
         }
     }
     Ok(list)
 }
 
 pub(super) fn parcel(alloc: Global, rights: &Rights) -> Result<Parcel, AllocError> {
-    let lists = Lists {
-        cells: listed(alloc, &rights.cells)?,
-        crowns: listed(alloc, &[rights.crown])?,
-        room: listed(alloc, &[rights.room])?,
-        spare: listed(alloc, &[rights.spare])?,
-    };
-    Parcel::new(alloc, lists).map_err(|_| AllocError)
+    fixture::parcel(
+        alloc,
+        &listed(alloc, &rights.cells)?,
+        rights.crown.as_slice(),
+        rights.room.as_slice(),
+        rights.spare.as_slice(),
+    )
 }
 
 fn stream(alloc: Global, rights: &Rights, code: &[Instr]) -> Result<Stream, AllocError> {
-    Ok(Stream {
-        budget: 4,
-        retries: 0,
-        holds: parcel(alloc, rights)?,
-        code: Vec::from_slice(alloc, code)?,
-    })
+    stream_of(alloc, 4, 0, parcel(alloc, rights)?, code)
 }
 
 /// A plan of two streams with these rights, of which the second has a code.
@@ -149,12 +146,7 @@ pub(super) fn plan(
     code: &[Instr],
 ) -> Result<Plan, AllocError> {
     let streams = [stream(alloc, first, &[])?, stream(alloc, second, code)?];
-    let parts = Parts {
-        budget: 8,
-        streams: Vec::from_array(alloc, streams).map_err(|_| AllocError)?,
-        signals: Vec::new(alloc),
-    };
-    Plan::new(parts).map_err(|_| AllocError)
+    plan_of(8, Vec::from_array(alloc, streams)?, Vec::new(alloc))
 }
 
 /// What holds a plan up once a parcel was taken from the pool.
@@ -204,7 +196,7 @@ pub(super) fn checked_of(alloc: Global, plan: Plan) -> Result<Checked, AllocErro
     if !plan.fits(&config) {
         return Err(AllocError);
     }
-    check(alloc, &config, plan).map_err(|_| AllocError)
+    check(alloc, &config, plan).ok().ok_or(AllocError)
 }
 
 /// What holds a plan up at the worked placement with servers down, once a parcel was taken from its pool.
@@ -259,7 +251,7 @@ pub(super) fn assert_held_up(
     want: Option<Holding>,
 ) -> Result<(), AllocError> {
     let answer = held_up(alloc, &first, &second, &taken)?;
-    assert_eq!(rt; answer, want);
+    assert!(rt; answer == want);
     Ok(())
 }
 
@@ -393,8 +385,11 @@ fn assert_down(
     want: Option<ServerId>,
 ) -> Result<(), AllocError> {
     let answer = held_up_by_servers(alloc, down, &rights, code)?;
-    let holding = want.map(|server| Holding::ServerDown { server });
-    assert_eq!(rt; answer, holding);
+    let holding = match want {
+        Some(server) => Some(Holding::ServerDown { server }),
+        None => None,
+    };
+    assert!(rt; answer == holding);
     Ok(())
 }
 

@@ -1,5 +1,5 @@
 //! Plans that pass the check, and each fault of another one.
-use super::handover::{ENOUGH, Numbers, assert_end, handover, handover_plan};
+use super::handover::{ENOUGH, Numbers, handover, handover_plan, is_end};
 use super::plans::{check_of, checked_of, fault_of, plan};
 use sm_plan_code::{Instr, Plan, Stream, Why};
 use sm_verifier::{
@@ -7,7 +7,6 @@ use sm_verifier::{
     one_fault, one_holding, signals_stand_once, some_goes_on,
 };
 use std::alloc::{AllocError, Global};
-use std::process::Abort;
 use std::test::Fail;
 
 /// The stream is the handover's.
@@ -23,13 +22,12 @@ fn is_handover_stream(stream: &Stream) -> bool {
 
 /// The plan is the handover's.
 fn is_handover(plan: &Plan) -> bool {
-    plan.budget() == 4
-        && plan.signals().is_empty()
-        && plan.streams().len() == 1
-        && plan
-            .streams()
-            .iter()
-            .all(|stream| is_handover_stream(stream))
+    match plan.streams() {
+        [stream] => {
+            plan.budget() == 4 && plan.signals().is_empty() && is_handover_stream(stream)
+        }
+        _ => false,
+    }
 }
 
 /// The most keys that one list of the first stream's hold has.
@@ -40,22 +38,25 @@ fn room_of(checked: &Checked) -> Option<u32> {
     Some(checked.peak(0))
 }
 
+/// Whether the first stream ends with the rights at the end of the handover.
+fn has_end(checked: &Checked) -> bool {
+    !checked.plan().streams().is_empty() && is_end(checked.final_hold(0))
+}
+
 /// What the check found out about the handover.
-fn assert_findings(rt: &impl Abort, checked: &Checked) {
+fn is_found_out(checked: &Checked) -> bool {
     let steps = [(0, 0), (0, 1), (0, 2), (0, 3), (0, 4), (0, 5)];
-    assert!(rt; checked.order() == steps.as_slice());
-    assert!(rt; checked.config().server_count() == 2);
-    assert!(rt; room_of(checked) == Some(1));
-    if !checked.plan().streams().is_empty() {
-        assert_end(rt, checked.final_hold(0));
-    }
+    checked.order() == steps.as_slice()
+        && checked.config().server_count() == 2
+        && room_of(checked) == Some(1)
+        && has_end(checked)
 }
 
 #[test]
 fn handover_passes(rt: HostRuntime) -> Result<(), Fail> {
     let alloc = rt.alloc();
     let checked = checked_of(alloc, handover_plan(alloc, ENOUGH, &handover())?)?;
-    assert_findings(&rt, &checked);
+    assert!(rt; is_found_out(&checked));
     assert!(rt; is_handover(&checked.into_plan()));
     Ok(())
 }
@@ -70,35 +71,41 @@ fn room_counts_the_longest_list(rt: HostRuntime) -> Result<(), Fail> {
     Ok(())
 }
 
+/// Whether the sum of the handover's calls and of so many retries passes, or is above the plan's budget.
+fn adds_up(alloc: Global, plan: u32, retries: u32, over: Option<Fault>) -> bool {
+    let numbers = Numbers {
+        plan,
+        retries,
+        ..ENOUGH
+    };
+    fault_of(alloc, handover_plan(alloc, numbers, &handover())) == over
+}
+
+/// The streams' calls and retries add up to more than the plan's budget.
+const fn over(streams: u64, plan: u32) -> Option<Fault> {
+    Some(Fault::Budget { streams, plan })
+}
+
 #[test]
 fn budgets_add_up(rt: HostRuntime) {
-    let alloc = rt.alloc();
-    let cases = [(3, 0, Some((4, 3))), (4, 1, Some((5, 4))), (5, 1, None)];
-    for (plan, retries, over) in cases {
-        let numbers = Numbers {
-            plan,
-            retries,
-            ..ENOUGH
-        };
-        let fault = fault_of(alloc, handover_plan(alloc, numbers, &handover()));
-        let want = over.map(|(streams, plan)| Fault::Budget { streams, plan });
-        assert_eq!(rt; fault, want);
-    }
+    assert!(rt; adds_up(rt.alloc(), 3, 0, over(4, 3)));
+    assert!(rt; adds_up(rt.alloc(), 4, 1, over(5, 4)));
+    assert!(rt; adds_up(rt.alloc(), 5, 1, None));
 }
 
 /// Where and why the handover's stream breaks off with this code.
-fn assert_break(rt: &impl Abort, alloc: Global, code: &[Instr], at: u32, why: Why) {
+fn breaks_off(alloc: Global, code: &[Instr], at: u32, why: Why) -> bool {
     let fault = fault_of(alloc, handover_plan(alloc, ENOUGH, code));
-    assert_eq!(rt; fault, Some(Fault::Stream { stream: 0, at, why }));
+    fault == Some(Fault::Stream { stream: 0, at, why })
 }
 
 #[test]
 fn handovers_break_off(rt: HostRuntime) {
     let alloc = rt.alloc();
     let mut code = handover();
-    assert_break(&rt, alloc, &code[..3], 3, Why::Unsettled);
+    assert!(rt; breaks_off(alloc, &code[..3], 3, Why::Unsettled));
     code.swap(3, 4);
-    assert_break(&rt, alloc, &code, 3, Why::StillListed);
+    assert!(rt; breaks_off(alloc, &code, 3, Why::StillListed));
 }
 
 /// Posts each of two signals and waits for it, and waits for the first one again.
@@ -143,14 +150,14 @@ fn signals_are_used_once(rt: HostRuntime) {
     let code = signals();
     for (length, misuse) in &MISUSES {
         let fault = misuse_of(rt.alloc(), &code[..(*length).min(5)]);
-        assert!(rt; fault == fault_for(*misuse), "{length}");
+        assert!(rt; fault == fault_for(*misuse));
     }
 }
 
 #[test]
 fn empty_plan_passes(rt: HostRuntime) {
     let alloc = rt.alloc();
-    assert_eq!(rt; fault_of(alloc, plan(alloc, 0, &[])), None);
+    assert!(rt; fault_of(alloc, plan(alloc, 0, &[])).is_none());
 }
 
 /// With each allocation refused in turn: a plan passes the check, or it comes back as it was.
@@ -203,7 +210,7 @@ fn two_streams_are_checked_or_not(rt: HostRuntime) {
 fn streams_without_code_pass(rt: HostRuntime) {
     let alloc = rt.alloc();
     let codes: [&[Instr]; 64] = [&[]; 64];
-    assert_eq!(rt; fault_of(alloc, plan(alloc, 0, &codes)), None);
+    assert!(rt; fault_of(alloc, plan(alloc, 0, &codes)).is_none());
 }
 
 #[test]

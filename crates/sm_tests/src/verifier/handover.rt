@@ -1,8 +1,8 @@
 //! The worked handover followed to its end, and broken off at each of the places where it may be.
-use super::rows::config_of;
+use crate::fixture::{config_of, parcel, plan_of, stream_of};
 use sm_placement::Config;
-use sm_plan_code::{Instr, Parts, Plan, Stream, Why};
-use sm_reservation::{CellRight, Crown, Lead, Lists, Parcel, PlainCell, Room};
+use sm_plan_code::{Instr, Plan, Why};
+use sm_reservation::{CellRight, Crown, Lead, Parcel, PlainCell, Room};
 use sm_server::{Role, ServerId, ShardId};
 use sm_verifier::{Bad, follow};
 use std::alloc::{AllocError, Global};
@@ -41,13 +41,7 @@ pub(super) fn held(alloc: Global, room: u64) -> Result<Parcel, AllocError> {
         server: new(),
         amount: room,
     };
-    let lists = Lists {
-        cells: Vec::from_array(alloc, [cell])?,
-        crowns: Vec::from_array(alloc, [crown])?,
-        room: Vec::from_array(alloc, [room])?,
-        spare: Vec::new(alloc),
-    };
-    Parcel::new(alloc, lists).map_err(|_| AllocError)
+    parcel(alloc, &[cell], &[crown], &[room], &[])
 }
 
 /// The steps of the handover: prepared, forwarded, added, published, dropped.
@@ -99,20 +93,10 @@ pub(super) fn handover_plan(
     numbers: Numbers,
     code: &[Instr],
 ) -> Result<Plan, AllocError> {
-    let stream = Stream {
-        budget: numbers.budget,
-        retries: numbers.retries,
-        holds: held(alloc, numbers.room)?,
-        code: Vec::from_slice(alloc, code)?,
-    };
-    let mut streams = Vec::new(alloc);
-    streams.push(stream).map_err(|_| AllocError)?;
-    let parts = Parts {
-        budget: numbers.plan,
-        streams,
-        signals: Vec::new(alloc),
-    };
-    Plan::new(parts).map_err(|_| AllocError)
+    let holds = held(alloc, numbers.room)?;
+    let stream = stream_of(alloc, numbers.budget, numbers.retries, holds, code)?;
+    let streams = Vec::from_array(alloc, [stream])?;
+    plan_of(numbers.plan, streams, Vec::new(alloc))
 }
 
 /// What the stream of such a plan holds at its end.
@@ -130,7 +114,7 @@ const fn at(at: u32, why: Why) -> Bad {
 }
 
 /// The parcel has the rights at the end of the handover.
-fn is_end(end: &Parcel) -> bool {
+pub(super) fn is_end(end: &Parcel) -> bool {
     let absent = CellRight {
         shard: shard(),
         server: old(),
@@ -151,24 +135,24 @@ fn is_end(end: &Parcel) -> bool {
         && end.spare().is_empty()
 }
 
-/// The rights at the end of the handover.
-pub(super) fn assert_end(rt: &impl Abort, end: &Parcel) {
-    assert!(rt; is_end(end));
+/// Whether the handover is followed to its end.
+fn is_followed(alloc: Global) -> bool {
+    match end_of(alloc, ENOUGH, &handover()) {
+        Ok(end) => is_end(&end),
+        Err(_) => false,
+    }
 }
 
 #[test]
 fn handover_is_followed(rt: HostRuntime) {
-    match end_of(rt.alloc(), ENOUGH, &handover()) {
-        Ok(end) => assert_end(&rt, &end),
-        Err(_) => assert!(rt; false),
-    }
+    assert!(rt; is_followed(rt.alloc()));
 }
 
-/// The stream of a plan with these numbers and this code breaks off.
-fn assert_break(rt: &impl Abort, alloc: Global, numbers: Numbers, code: &[Instr], want: Bad) {
+/// Whether the stream of a plan with these numbers and this code breaks off.
+fn breaks_off(alloc: Global, numbers: Numbers, code: &[Instr], want: Bad) -> bool {
     match end_of(alloc, numbers, code) {
-        Ok(_) => assert!(rt; false),
-        Err(bad) => assert!(rt; bad == want),
+        Ok(_) => false,
+        Err(bad) => bad == want,
     }
 }
 
@@ -177,13 +161,13 @@ fn handover_breaks_off(rt: HostRuntime) {
     let alloc = rt.alloc();
     let mut code = handover();
     let little_room = Numbers { room: 3, ..ENOUGH };
-    assert_break(&rt, alloc, little_room, &code, at(0, Why::NoRoom));
     let few_calls = Numbers {
         budget: 3,
         ..ENOUGH
     };
-    assert_break(&rt, alloc, few_calls, &code, at(4, Why::OverBudget));
-    assert_break(&rt, alloc, ENOUGH, &code[..3], at(3, Why::Unsettled));
+    assert!(rt; breaks_off(alloc, little_room, &code, at(0, Why::NoRoom)));
+    assert!(rt; breaks_off(alloc, few_calls, &code, at(4, Why::OverBudget)));
+    assert!(rt; breaks_off(alloc, ENOUGH, &code[..3], at(3, Why::Unsettled)));
     code.swap(3, 4);
-    assert_break(&rt, alloc, ENOUGH, &code, at(3, Why::StillListed));
+    assert!(rt; breaks_off(alloc, ENOUGH, &code, at(3, Why::StillListed)));
 }

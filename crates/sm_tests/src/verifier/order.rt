@@ -37,7 +37,7 @@ fn assert_stuck(
 ) -> Result<(), AllocError> {
     let fault = fault_of(alloc, plan(alloc, signals, codes));
     let positions = Vec::from_slice(alloc, stops)?;
-    assert_eq!(rt; fault, Some(Fault::Stuck { positions }));
+    assert!(rt; fault == Some(Fault::Stuck { positions }));
     Ok(())
 }
 
@@ -59,7 +59,7 @@ fn streams_with_a_signal_are_checked_or_not(rt: HostRuntime) {
         return;
     };
     match check_of(alloc, plan) {
-        Ok(checked) => assert_eq!(rt; checked.order().len(), 4),
+        Ok(checked) => assert!(rt; checked.order().len() == 4),
         Err((plan, fault)) => {
             assert!(rt;
                 fault == Fault::NoMemory && plan.streams().len() == 2 && plan.signals().len() == 1

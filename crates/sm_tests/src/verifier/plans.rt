@@ -1,46 +1,33 @@
 //! Plans whose streams hold nothing, and the check of a plan.
 use super::handover::config;
-use sm_plan_code::{Instr, Parts, Plan, Stream};
-use sm_reservation::{Lists, Parcel};
+use crate::fixture::{nothing, plan_of, stream_of};
+use sm_plan_code::{Instr, Plan, Stream};
+use sm_reservation::Parcel;
 use sm_verifier::{Checked, Fault, check};
 use std::alloc::{AllocError, Global};
 
-fn nothing(alloc: Global) -> Result<Parcel, AllocError> {
-    let lists = Lists {
-        cells: Vec::new(alloc),
-        crowns: Vec::new(alloc),
-        room: Vec::new(alloc),
-        spare: Vec::new(alloc),
-    };
-    Parcel::new(alloc, lists).map_err(|_| AllocError)
+/// A stream of each code, which holds nothing and makes no calls.
+fn streams(alloc: Global, codes: &[&[Instr]]) -> Result<Vec<Stream>, AllocError> {
+    let mut streams = Vec::new(alloc);
+    for code in codes {
+        streams.push(stream_of(alloc, 0, 0, nothing(alloc)?, code)?)?;
+    }
+    Ok(streams)
 }
 
-/// A stream that makes no calls.
-fn stream(alloc: Global, code: &[Instr]) -> Result<Stream, AllocError> {
-    Ok(Stream {
-        budget: 0,
-        retries: 0,
-        holds: nothing(alloc)?,
-        code: Vec::from_slice(alloc, code)?,
-    })
+/// So many signals that carry nothing.
+fn signals(alloc: Global, count: u32) -> Result<Vec<Parcel>, AllocError> {
+    let mut signals = Vec::new(alloc);
+    for _ in 0..count {
+        signals.push(nothing(alloc)?)?;
+    }
+    Ok(signals)
 }
 
 /// A plan of a stream for each code, with so many signals that carry nothing.
-pub(super) fn plan(alloc: Global, signals: u32, codes: &[&[Instr]]) -> Result<Plan, AllocError> {
-    let mut streams = Vec::new(alloc);
-    for code in codes {
-        streams.push(stream(alloc, code)?).map_err(|_| AllocError)?;
-    }
-    let mut parcels = Vec::new(alloc);
-    for _ in 0..signals {
-        parcels.push(nothing(alloc)?).map_err(|_| AllocError)?;
-    }
-    let parts = Parts {
-        budget: 0,
-        streams,
-        signals: parcels,
-    };
-    Plan::new(parts).map_err(|_| AllocError)
+pub(super) fn plan(alloc: Global, count: u32, codes: &[&[Instr]]) -> Result<Plan, AllocError> {
+    let streams = streams(alloc, codes)?;
+    plan_of(0, streams, signals(alloc, count)?)
 }
 
 /// The plan's check with the two servers and the shard of the handover.
@@ -56,7 +43,7 @@ pub(super) fn check_of(alloc: Global, plan: Plan) -> Result<Checked, (Plan, Faul
 
 /// The plan with its check, which it passes.
 pub(super) fn checked_of(alloc: Global, plan: Plan) -> Result<Checked, AllocError> {
-    check_of(alloc, plan).map_err(|_| AllocError)
+    check_of(alloc, plan).ok().ok_or(AllocError)
 }
 
 /// Why the plan does not pass.

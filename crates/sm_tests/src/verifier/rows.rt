@@ -1,7 +1,7 @@
 //! Streams that follow one instruction of a table of cases: what it leaves, and why it is not made.
-use sm_placement::{Config, Server, Shard};
-use sm_plan_code::{Instr, Parts, Plan, Stream, Why, is_call};
-use sm_reservation::{CellRight, Crown, Lead, Lists, Parcel, PlainCell, Room, Spare};
+use crate::fixture::{config_of, nothing, parcel_of, plan_of, stream_of};
+use sm_plan_code::{Instr, Plan, Stream, Why, is_call};
+use sm_reservation::{CellRight, Crown, Lead, Lists, Parcel, PlainCell, Portion, Room, Spare};
 use sm_server::{ServerId, ShardId};
 use sm_verifier::{Bad, follow};
 use std::alloc::{AllocError, Global};
@@ -21,7 +21,7 @@ pub(super) const B: u32 = 1;
 pub(super) const C: u32 = 2;
 
 /// The lead of a held crown by its servers' numbers.
-#[derive(Clone, Copy, Debug)]
+#[derive(Clone, Copy)]
 pub(super) enum Led {
     /// The crown is not held.
     Apart,
@@ -35,7 +35,7 @@ pub(super) enum Led {
 pub(super) use self::Led::{Apart, At, Gone, Handed, Handing, Ready};
 
 /// Rights: to the cell of S at B, the crown of S by its lead and its listed server, room of B, spare replicas of S.
-#[derive(Clone, Copy, Debug)]
+#[derive(Clone, Copy)]
 pub(super) struct Held(
     pub(super) Option<PlainCell>,
     pub(super) Led,
@@ -67,71 +67,47 @@ pub(super) fn server(number: u32) -> ServerId {
     ServerId::new(number)
 }
 
-/// So many servers with room for 10, and a shard for each load.
-pub(super) fn config_of(alloc: Global, count: u32, loads: &[u64]) -> Result<Config, AllocError> {
-    let mut servers = Vec::new(alloc);
-    for number in 0..count {
-        servers.push(Server {
-            name: format!(in alloc; "server-{number}")?,
-            region: String::from_str(alloc, "r1")?,
-            room: 10,
-        })?;
-    }
-    let mut shards = Vec::new(alloc);
-    for (number, load) in loads.iter().enumerate() {
-        shards.push(Shard {
-            name: format!(in alloc; "shard-{number}")?,
-            load: *load,
-            want: 2,
-            cap: 1,
-            spread: 1,
-        })?;
-    }
-    Config::new(alloc, &servers, &shards).map_err(|_| AllocError)
-}
-
-/// No rights.
-pub(super) fn no_rights(alloc: Global) -> Lists {
-    Lists {
-        cells: Vec::new(alloc),
-        crowns: Vec::new(alloc),
-        room: Vec::new(alloc),
-        spare: Vec::new(alloc),
-    }
-}
-
-/// Rights that no instruction of the cases needs: to the cells of S at A and C and that of T at B, the crown of T, room
-/// of A and C, spare replicas of T.
-pub(super) fn other_rights(alloc: Global) -> Result<Lists, AllocError> {
-    let cell = |shard, server, state| CellRight {
+/// The right to a cell.
+const fn cell(shard: u32, server: u32, state: PlainCell) -> CellRight {
+    CellRight {
         shard: ShardId::new(shard),
         server: ServerId::new(server),
         state,
-    };
-    let cells = [
+    }
+}
+
+/// Rights to cells that no instruction of the cases needs: to those of S at A and C, and to that of T at B.
+const fn other_cells() -> [CellRight; 3] {
+    [
         cell(S, A, PlainCell::Absent),
         cell(S, C, PlainCell::Secondary),
         cell(T, B, PlainCell::Absent),
-    ];
-    let crown = Crown {
+    ]
+}
+
+/// The crown of T.
+const fn other_crown() -> Crown {
+    Crown {
         shard: ShardId::new(T),
-        lead: Lead::At(server(A)),
-        listed: Some(server(A)),
-    };
-    let room = [A, C].map(|number| Room {
-        server: server(number),
-        amount: 9,
-    });
-    let spare = Spare {
-        shard: ShardId::new(T),
-        amount: 2,
-    };
-    Ok(Lists {
-        cells: Vec::from_array(alloc, cells)?,
-        crowns: Vec::from_array(alloc, [crown])?,
-        room: Vec::from_array(alloc, room)?,
-        spare: Vec::from_array(alloc, [spare])?,
-    })
+        lead: Lead::At(ServerId::new(A)),
+        listed: Some(ServerId::new(A)),
+    }
+}
+
+/// Room of a server.
+const fn room(server: u32, amount: u64) -> Room {
+    Room {
+        server: ServerId::new(server),
+        amount,
+    }
+}
+
+/// Spare replicas of a shard.
+const fn spare(shard: u32, amount: u64) -> Spare {
+    Spare {
+        shard: ShardId::new(shard),
+        amount,
+    }
 }
 
 pub(super) fn lead_of(led: Led) -> Option<Lead> {
@@ -145,51 +121,65 @@ pub(super) fn lead_of(led: Led) -> Option<Lead> {
     }
 }
 
-/// The parcel of these rights and the other ones.
-pub(super) fn parcel(alloc: Global, held: &Held, others: Lists) -> Result<Parcel, AllocError> {
-    let Held(state, led, listed, room, spare) = *held;
-    let shard = shard();
-    let mut lists = others;
-    if let Some(state) = state {
-        lists.cells.push(CellRight {
-            shard,
-            server: server(B),
-            state,
-        })?;
+/// The rights as a portion.
+fn portion_of(held: &Held) -> Portion {
+    let Held(state, led, listed, amount, replicas) = *held;
+    Portion {
+        cell: match state {
+            Some(state) => Some(cell(S, B, state)),
+            None => None,
+        },
+        crown: match lead_of(led) {
+            Some(lead) => Some(Crown {
+                shard: shard(),
+                lead,
+                listed: match listed {
+                    Some(number) => Some(server(number)),
+                    None => None,
+                },
+            }),
+            None => None,
+        },
+        room: Some(room(B, amount)),
+        spare: Some(spare(S, replicas)),
     }
-    if let Some(lead) = lead_of(led) {
-        lists.crowns.push(Crown {
-            shard,
-            lead,
-            listed: listed.map(server),
-        })?;
+}
+
+/// The parcel of these rights alone.
+pub(super) fn alone(alloc: Global, held: &Held) -> Result<Parcel, AllocError> {
+    parcel_of(alloc, &portion_of(held))
+}
+
+/// These items, and one more where there is one.
+fn with_one<T: Copy + Drop>(
+    alloc: Global,
+    items: &[T],
+    one: Option<T>,
+) -> Result<Vec<T>, AllocError> {
+    let mut list = Vec::from_slice(alloc, items)?;
+    if let Some(one) = one {
+        list.push(one)?;
     }
-    lists.room.push(Room {
-        server: server(B),
-        amount: room,
-    })?;
-    lists.spare.push(Spare {
-        shard,
-        amount: spare,
-    })?;
-    Parcel::new(alloc, lists).map_err(|_| AllocError)
+    Ok(list)
+}
+
+/// The parcel of these rights and of others that no instruction of the cases needs.
+pub(super) fn beside_others(alloc: Global, held: &Held) -> Result<Parcel, AllocError> {
+    let rights = portion_of(held);
+    let lists = Lists {
+        cells: with_one(alloc, &other_cells(), rights.cell)?,
+        crowns: with_one(alloc, &[other_crown()], rights.crown)?,
+        room: with_one(alloc, &[room(A, 9), room(C, 9)], rights.room)?,
+        spare: with_one(alloc, &[spare(T, 2)], rights.spare)?,
+    };
+    Parcel::new(alloc, lists).ok().ok_or(AllocError)
 }
 
 /// A plan with these signals, in which the stream is the second one.
-fn plan_of(alloc: Global, stream: Stream, signals: Vec<Parcel>) -> Result<Plan, AllocError> {
+fn second_of_two(alloc: Global, stream: Stream, signals: Vec<Parcel>) -> Result<Plan, AllocError> {
     let budget = stream.budget;
-    let first = Stream {
-        budget: 0,
-        retries: 0,
-        holds: parcel(alloc, &NOTHING, no_rights(alloc))?,
-        code: Vec::new(alloc),
-    };
-    let parts = Parts {
-        budget,
-        streams: Vec::from_array(alloc, [first, stream]).map_err(|_| AllocError)?,
-        signals,
-    };
-    Plan::new(parts).map_err(|_| AllocError)
+    let first = stream_of(alloc, 0, 0, nothing(alloc)?, &[])?;
+    plan_of(budget, Vec::from_array(alloc, [first, stream])?, signals)
 }
 
 /// What a stream holds at its end, in a plan with these signals in which it is the second one.
@@ -198,7 +188,7 @@ pub(super) fn answer_of(
     stream: Stream,
     signals: Vec<Parcel>,
 ) -> Result<Parcel, Bad> {
-    let plan = plan_of(alloc, stream, signals)?;
+    let plan = second_of_two(alloc, stream, signals)?;
     let config = config_of(alloc, 3, &[4, 3])?;
     if !plan.fits(&config) || plan.streams().len() < 2 {
         return Err(Bad::NoMemory);
@@ -207,36 +197,30 @@ pub(super) fn answer_of(
 }
 
 /// An instruction in one case, and the parcel of the signal with the number 1.
-#[derive(Clone, Copy, Debug)]
-pub(super) struct Row {
-    pub(super) instr: Instr,
-    pub(super) carried: Held,
-    pub(super) before: Held,
-    pub(super) want: Result<Held, Why>,
+#[derive(Clone, Copy)]
+struct Row {
+    instr: Instr,
+    carried: Held,
+    before: Held,
+    want: Result<Held, Why>,
 }
 
 /// What each signal carries: nothing, what the row says, and what is to be held after the instruction.
-pub(super) fn signals(alloc: Global, row: &Row) -> Result<Vec<Parcel>, AllocError> {
+fn signals(alloc: Global, row: &Row) -> Result<Vec<Parcel>, AllocError> {
     let want = row.want.unwrap_or(NOTHING);
     let parcels = [
-        parcel(alloc, &NOTHING, no_rights(alloc))?,
-        parcel(alloc, &row.carried, no_rights(alloc))?,
-        parcel(alloc, &want, other_rights(alloc)?)?,
+        nothing(alloc)?,
+        alone(alloc, &row.carried)?,
+        beside_others(alloc, &want)?,
     ];
-    Vec::from_array(alloc, parcels).map_err(|_| AllocError)
+    Ok(Vec::from_array(alloc, parcels)?)
 }
 
 /// What a stream that starts with the row's rights holds at the end of a code with one call at most.
-pub(super) fn end_of(alloc: Global, row: &Row, code: &[Instr]) -> Result<Parcel, Bad> {
-    let holds = parcel(alloc, &row.before, other_rights(alloc)?)?;
-    let signals = signals(alloc, row)?;
-    let stream = Stream {
-        budget: u32::from(is_call(&row.instr)),
-        retries: 0,
-        holds,
-        code: Vec::from_slice(alloc, code)?,
-    };
-    answer_of(alloc, stream, signals)
+fn end_of(alloc: Global, row: &Row, code: &[Instr]) -> Result<Parcel, Bad> {
+    let budget = u32::from(is_call(&row.instr));
+    let stream = stream_of(alloc, budget, 0, beside_others(alloc, &row.before)?, code)?;
+    answer_of(alloc, stream, signals(alloc, row)?)
 }
 
 /// The stream comes to its end with the rights.
@@ -261,14 +245,14 @@ pub(super) fn breaks_at(answer: &Result<Parcel, Bad>, at: u32, why: Why) -> bool
 }
 
 /// A handover is under way.
-pub(super) fn is_under_way(led: Led) -> bool {
+fn is_under_way(led: Led) -> bool {
     matches!(led, Ready(_, _) | Handing(_, _) | Handed(_, _))
 }
 
 /// All rights that are to be held after the instruction may be given away, and then nothing is left.
 fn is_given_away(alloc: Global, row: &Row) -> Result<bool, AllocError> {
     let answer = end_of(alloc, row, &[IDLE, row.instr, GIVE_ALL]);
-    let nothing = parcel(alloc, &NOTHING, no_rights(alloc))?;
+    let nothing = nothing(alloc)?;
     Ok(is_end(&answer, &nothing))
 }
 
@@ -278,34 +262,32 @@ fn is_kept(alloc: Global, row: &Row, want: &Held) -> Result<bool, AllocError> {
     if is_under_way(want.1) {
         return Ok(breaks_at(&answer, 2, Why::Unsettled));
     }
-    let want = parcel(alloc, want, other_rights(alloc)?)?;
+    let want = beside_others(alloc, want)?;
     Ok(is_end(&answer, &want))
 }
 
 /// The instruction leaves just these rights.
-pub(super) fn assert_made(
-    rt: &impl Abort,
-    alloc: Global,
-    row: &Row,
-    want: &Held,
-) -> Result<(), AllocError> {
-    let is_given_away = is_given_away(alloc, row)?;
-    assert!(rt; is_given_away, "given away: {row:?}");
-    let is_kept = is_kept(alloc, row, want)?;
-    assert!(rt; is_kept, "kept: {row:?}");
-    Ok(())
+fn is_made(alloc: Global, row: &Row, want: &Held) -> Result<bool, AllocError> {
+    Ok(is_given_away(alloc, row)? && is_kept(alloc, row, want)?)
+}
+
+/// The instruction is not made for this reason.
+fn is_refused(alloc: Global, row: &Row, why: Why) -> bool {
+    let answer = end_of(alloc, row, &[IDLE, row.instr, GIVE_ALL]);
+    breaks_at(&answer, 1, why)
 }
 
 /// The instruction is as the row says.
-pub(super) fn assert_row(rt: &impl Abort, alloc: Global, row: &Row) -> Result<(), AllocError> {
+fn is_so(alloc: Global, row: &Row) -> Result<bool, AllocError> {
     match &row.want {
-        Ok(want) => assert_made(rt, alloc, row, want)?,
-        Err(why) => {
-            let answer = end_of(alloc, row, &[IDLE, row.instr, GIVE_ALL]);
-            assert!(rt; breaks_at(&answer, 1, *why), "{row:?}");
-        }
+        Ok(want) => is_made(alloc, row, want),
+        Err(why) => Ok(is_refused(alloc, row, *why)),
     }
-    Ok(())
+}
+
+/// Asserts that the case at this place is as told.
+pub(super) fn assert_case(rt: &impl Abort, at: usize, is_so: bool) {
+    assert!(rt; is_so, "case {at}");
 }
 
 /// The instruction is as each of the cases says.
@@ -315,20 +297,21 @@ pub(super) fn assert_cases(
     instr: &Instr,
     cases: &[Case],
 ) -> Result<(), AllocError> {
-    for (before, want) in cases {
+    for at in 0..cases.len() {
+        let (before, want) = cases[at];
         let row = Row {
             instr: *instr,
             carried: NOTHING,
-            before: *before,
-            want: *want,
+            before,
+            want,
         };
-        assert_row(rt, alloc, &row)?;
+        assert_case(rt, at, is_so(alloc, &row)?);
     }
     Ok(())
 }
 
 /// What is held with a crown that has the wrong lead: all else that might be needed, or nothing of it.
-pub(super) fn with_lead(led: Led) -> [Held; 3] {
+fn with_lead(led: Led) -> [Held; 3] {
     [
         Held(ABSENT, led, None, 9, 9),
         Held(SECONDARY, led, None, 9, 9),
@@ -343,15 +326,15 @@ pub(super) fn assert_wrong_leads(
     instr: &Instr,
     leads: &[Led],
 ) -> Result<(), AllocError> {
-    for led in leads {
-        for before in &with_lead(*led) {
+    for at in 0..leads.len() {
+        for before in &with_lead(leads[at]) {
             let row = Row {
                 instr: *instr,
                 carried: NOTHING,
                 before: *before,
                 want: Err(Why::WrongLead),
             };
-            assert_row(rt, alloc, &row)?;
+            assert_case(rt, at, is_so(alloc, &row)?);
         }
     }
     Ok(())
@@ -367,14 +350,15 @@ pub(super) fn assert_carriages(
     instr: &Instr,
     cases: &[Carriage],
 ) -> Result<(), AllocError> {
-    for (before, carried, want) in cases {
+    for at in 0..cases.len() {
+        let (before, carried, want) = cases[at];
         let row = Row {
             instr: *instr,
-            carried: *carried,
-            before: *before,
-            want: *want,
+            carried,
+            before,
+            want,
         };
-        assert_row(rt, alloc, &row)?;
+        assert_case(rt, at, is_so(alloc, &row)?);
     }
     Ok(())
 }
@@ -386,14 +370,11 @@ pub(super) fn answer_with(
     before: &Held,
     code: &[Instr],
 ) -> Result<Parcel, Bad> {
-    let nothing = parcel(alloc, &NOTHING, no_rights(alloc))?;
-    let mut signals = Vec::new(alloc);
-    signals.push(nothing).map_err(|_| AllocError)?;
-    let stream = Stream {
-        budget,
-        retries: 5,
-        holds: parcel(alloc, before, other_rights(alloc)?)?,
-        code: Vec::from_slice(alloc, code)?,
-    };
-    answer_of(alloc, stream, signals)
+    let stream = stream_of(alloc, budget, 5, beside_others(alloc, before)?, code)?;
+    answer_of(alloc, stream, one_signal(alloc)?)
+}
+
+/// One signal that carries nothing.
+fn one_signal(alloc: Global) -> Result<Vec<Parcel>, AllocError> {
+    Ok(Vec::from_array(alloc, [nothing(alloc)?])?)
 }
