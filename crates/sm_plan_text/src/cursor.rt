@@ -41,17 +41,16 @@ impl<'p, 't> Cursor<'p, 't> {
           scope = record { shards = shards.entry; servers = servers.entry; signals = 0; retries = false };
         } }
     {
-        let scope = Scope {
-            shards,
-            servers,
-            signals: 0,
-            retries: false,
-        };
         Cursor {
             alloc,
             tree,
             member,
-            scope,
+            scope: Scope {
+                shards,
+                servers,
+                signals: 0,
+                retries: false,
+            },
         }
     }
 

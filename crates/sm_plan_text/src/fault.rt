@@ -83,9 +83,8 @@ impl Faults {
     pub fn append(&mut self, part: Faults)
         ensures { (faults : List TextFault) → part.lowest ≡ answered faults → self.new.lowest ≡ noted self.old.lowest faults }
     {
-        match part.lowest {
-            None => {}
-            Some(fault) => self.note(fault),
+        if let Some(fault) = part.lowest {
+            self.note(fault);
         }
     }
 }

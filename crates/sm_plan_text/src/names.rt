@@ -7,9 +7,14 @@ use std::alloc::{AllocError, Global};
 use std::marker::Model;
 
 /// Names, each with the number of those before it.
-#[derive(Drop)]
 pub struct Names {
     set: IndexSet<String>,
+}
+
+impl Drop for Names {
+    fn drop(self) {
+        let Names { set: _set } = self;
+    }
 }
 
 impl Model for Names {

@@ -95,10 +95,8 @@ impl Early {
     fn begin<'a>(alloc: Global, members: &[(&'a str, Tree<'a>)]) -> Result<Option<Self>, AllocError>
         ensures { IfOk result (λ found. IfSome found (λ early. IsEarly early (members_view members.now) (members_view members.now))) }
     {
-        let Some(shards) = find_member(members, "shards") else {
-            return Ok(None);
-        };
-        let Some(servers) = find_member(members, "servers") else {
+        let shards = find_member(members, "shards");
+        let (Some(shards), Some(servers)) = (shards, find_member(members, "servers")) else {
             return Ok(None);
         };
         Ok(Some(Early {

@@ -270,12 +270,8 @@ impl PlanPart for Stream {
         let alloc = writer.alloc;
         let mut stream = Map::new(alloc);
         put(&mut stream, alloc, "budget", Value::from(self.budget))?;
-        put(
-            &mut stream,
-            alloc,
-            "code",
-            writer.list(self.code.as_slice())?,
-        )?;
+        let code = writer.list(self.code.as_slice())?;
+        put(&mut stream, alloc, "code", code)?;
         put(&mut stream, alloc, "holds", self.holds.value(writer)?)?;
         if !writer.retries {
             return Ok(Value::Object(stream));
