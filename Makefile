@@ -1,6 +1,6 @@
 # make run: runs the program on a bundled example, before any proof.    make build: proves and builds build/smplan.
 # make test: the gate, and what must run beside it.    make bench: seconds and memory of a large run.
-# make edits: tries all crates' wrong versions of tests/edits, over what the gate has built.
+# make edits: tries all crates' wrong versions of tests/must-fail and tests/edits, over what the gate has built.
 # make storm: 1,000 runs of a plan of 64 streams beside askers and restarts.
 
 .PHONY: build run test edits check-caught check-program check-tests storm bench
@@ -12,8 +12,8 @@ build:
 run:
 	@scripts/try-smplan calls < examples/placement.json
 
-# (first what takes seconds; the gate leaves the program that it has proved and run beside its crate; edits are tried while there is time, so
-# that CI ends within its limit)
+# (first what takes seconds; the gate leaves the program that it has proved and run beside its crate; the wrong versions that the specification
+# names are tried always, the others while there is time, so that CI ends within its limit)
 BEGUN := $(shell date +%s)
 test:
 	scripts/check-layout
@@ -24,6 +24,7 @@ test:
 	cp crates/smplan/out/smplan build/smplan
 	$(MAKE) --jobs=2 --output-sync=line BEGUN=$(BEGUN) check-caught check-program check-tests
 	scripts/check-try-edits
+	scripts/try-edits --edits tests/must-fail
 	scripts/try-edits --until $$(( $(BEGUN) + 140 * 60 ))
 
 # (wrong versions that only tests catch, which take longest; the scripts over the program that stands in build; and those over tests)
@@ -49,6 +50,7 @@ check-tests:
 
 # (all crates' edits, over what the gate has built)
 edits:
+	scripts/try-edits --edits tests/must-fail
 	scripts/try-edits
 
 # (over the program as it is now, and not as the gate may have built it before)
