@@ -7,3 +7,4 @@ pub mod PlanCount
 pub mod MachineSent
 pub mod BoardSent
 pub mod CapturedSent
+pub mod Sureness

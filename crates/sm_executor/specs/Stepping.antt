@@ -1,12 +1,13 @@
--- A stream's step over a link at a board. What lies behind the lock then has no name in a contract, so the step is told by some state of
--- the board.
-use Rattle.std.specs.Prelude.{ℕ, Bool, true, false}
+-- A stream's step at a board. What lies behind the lock then has no name in a contract, so the step is told by some state of the board.
+use Rattle.std.specs.Prelude.{ℕ, Bool, true, false, ◌≡◌}
 use Rattle.sm_placement.specs.Setup.{Setup}
 use Rattle.sm_reservation.specs.declared.stream_id.StreamId.{StreamId}
 use Rattle.sm_protocol.specs.declared.event.Passage.{Passage}
 use Rattle.sm_protocol.specs.declared.event.Played.{Played}
 use Rattle.sm_protocol.specs.State.{State}
 use Rattle.sm_protocol.specs.Laws.{IsReached}
+use Rattle.sm_protocol.specs.Steps.{Answered}
+use Rattle.sm_protocol.specs.Happens.{happens, Step as NextStep}
 use Rattle.sm_machine.specs.declared.step.Step.{Step}
 use Rattle.sm_machine.specs.declared.step.Step.TheVariants.{Blocked}
 use Rattle.sm_machine.specs.Losses.{IsStepOver}
@@ -26,3 +27,11 @@ pub record HasStepped {L : Type 0} (asked : L → StreamId → ℕ → Passage �
   pub reached : IsReached setup now
   pub goes_on : GoesOn opened now
   pub over : IsStepOver asked old new now id answer after
+
+-- At a state that events led to, and that goes on from the opening, the stream has made its next step, of which this is the answer.
+pub record HasMadeStep (opened : State) (id : StreamId) (answer : Played) : Type 0 where
+  pub now : State
+  pub setup : Setup
+  pub reached : IsReached setup now
+  pub goes_on : GoesOn opened now
+  pub event : (happens now (NextStep id)).0 ≡ Answered answer

@@ -16,7 +16,7 @@ ghost use Rattle.sm_placement.specs.Sums.{bit};
 ghost use Rattle.sm_executor.specs.Closed.{GoesOn};
 ghost use Rattle.sm_executor.specs.Counting.{Counts, executes, refuses};
 ghost use Rattle.sm_executor.specs.Ending.{HasEnded};
-ghost use Rattle.sm_executor.specs.Stepping.{HasStepped, is_waiting};
+ghost use Rattle.sm_executor.specs.Stepping.{HasMadeStep, HasStepped, is_waiting};
 ghost use Rattle.sm_executor.specs.Tied.{HasStood};
 ghost use Rattle.sm_executor.specs.Views.{held_model, state_in, calling, AreRunners};
 ghost use Rattle.sm_plan_code.specs.declared.limits.TheConstants.{MOST_CALLS};
@@ -26,6 +26,7 @@ use crate::caller::Caller;
 use crate::held::Held;
 use crate::names::{Naming, Side};
 use crate::runner::{Ended, Runner};
+use crate::sure::Sure;
 use sm_machine::{Answer, BeginFault, Link, Machine, Permit, Step, Ticket};
 use sm_map::{Entry, Words};
 use sm_placement::Config;
@@ -166,14 +167,14 @@ impl<A: Side, B: Side, C: Side, N: Naming> Board<A, B, C, N> {
         self.held.lock(rt).caller(&self.words)
     }
 
-    /// The runner's next step.
+    /// The runner's next step, of which no call is lost.
+    #[tactic(auto, using(crate::proofs::Sureness::made_surely))]
     pub fn step<R: Wait>(&self, rt: &R, runner: &mut Runner<A>) -> Step
         ensures stream { runner.new.stream ≡ runner.old.stream }
         ensures counts { (ended : Bool) × Counts ended (played_of result) runner.old.steps runner.new.steps }
+        ensures made { HasMadeStep N.opened runner.old.stream (played_of result) }
     {
-        let step = self.held.lock(rt).step(&self.words, runner);
-        self.moved.notify_all();
-        step
+        self.step_over(rt, runner, &mut Sure)
     }
 
     /// How many instructions the runner's stream has made. None where it was not begun, or has made its end.

@@ -178,26 +178,6 @@ impl<A: Side, B: Side, C: Side, N: Naming> Held<A, B, C, N> {
         &self.machine
     }
 
-    /// A stream makes its next step. What it publishes is stored in the words.
-    pub fn step(&mut self, words: &Words, runner: &mut Runner<A>) -> Step
-        requires { words.now ≡ N.words }
-        ensures answer { (happens (state_in self.old) (happening.Step runner.old.stream)).0 ≡ Answered (played_of result) }
-        ensures state { state_in self.new ≡ (happens (state_in self.old) (happening.Step runner.old.stream)).1 }
-        ensures others { self.new ≡ held_model self.new.machine self.old.runners self.old.callers }
-        ensures runner { runner.new ≡ running runner.old.stream (runner.old.steps + recorded_more (state_in self.old) (state_in self.new)) }
-        ensures counts { Counts (progress_of (state_in self.old) runner.old.stream).done (played_of result) runner.old.steps runner.new.steps }
-    {
-        self.machine.is_reached();
-        let recorded = self.machine.log().len();
-        let added = self.machine.entries().len();
-        let step = self.machine.step(&mut runner.token);
-        self.machine.is_reached();
-        let more = self.machine.log().len() - recorded;
-        self.steps.add(&mut runner.share, more as u64);
-        store_added::<N>(words, &mut self.publisher, &self.machine, added);
-        step
-    }
-
     /// A stream makes its next step over a link. What it publishes is stored in the words.
     pub fn step_over<L: Link>(
         &mut self,
