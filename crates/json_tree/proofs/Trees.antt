@@ -40,10 +40,6 @@ pub one_more_item : (ts : List Tree) (t : Tree) (r : Option (Items × List Token
 one_more_item ts t None = refl
 one_more_item ts t (Some p) = ap (λ ds. Some (ds, p.1)) (items_push ts t p.0)
 
-pub none_before : (r : Option (Items × List Token)) → r ≡ parse_map (λ a. a) r
-none_before None = refl
-none_before (Some p) = refl
-
 after_push : (found : Members) (ms : List Member) (m : Member) → members_after found (map (λ e. (e.0, view e.1)) (ms ++ m ∷ [])) ≡ put m.0.now (view m.1) (members_after found (map (λ e. (e.0, view e.1)) ms))
 after_push found [] m = refl
 after_push found (e ∷ ms) m = after_push (put e.0.now (view e.1) found) ms m

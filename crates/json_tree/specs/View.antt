@@ -20,11 +20,14 @@ view_step (Tree-F.String s) = string s.now
 view_step (Tree-F.Array v) = array (items_of v.items)
 view_step (Tree-F.Object v) = object (members_after no_members v.items)
 
+-- the JSON value (RFC 8259) that a tree stands for
 abbrev pub view : Tree → Data
 view = fold-Tree Data view_step
 
+-- the values of an array that has these trees
 abbrev pub items_view : List Tree → Items
 items_view trees = items_of (map view trees)
 
+-- the members of an object that has these names and trees; of a name that stands twice, the last value
 abbrev pub members_view : List (Bor (List ℕ) × Tree) → Members
 members_view members = members_after no_members (map (λ m. (m.0, view m.1)) members)

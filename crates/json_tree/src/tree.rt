@@ -27,24 +27,28 @@ impl Drop for Tree<'_> {
 }
 
 impl<'a> Tree<'a> {
+    /// This is `null`.
     pub fn is_null(&self) -> bool
         ensures { result ≡ is_some (as_null (view self.now)) }
     {
         matches!(self, Tree::Null)
     }
 
+    /// This is a number.
     pub fn is_number(&self) -> bool
         ensures { result ≡ is_some (as_number (view self.now)) }
     {
         matches!(self, Tree::Number(_))
     }
 
+    /// This is an object.
     pub fn is_object(&self) -> bool
         ensures { result ≡ is_some (as_object (view self.now)) }
     {
         matches!(self, Tree::Object(_))
     }
 
+    /// The flag that this is, where it is true or false.
     pub fn as_bool(&self) -> Option<bool>
         ensures { result ≡ as_bool (view self.now) }
     {
@@ -64,6 +68,7 @@ impl<'a> Tree<'a> {
         }
     }
 
+    /// The text that this is, where it is one.
     pub fn as_str(&self) -> Option<&'a str>
         ensures { option_map (λ s. s.now) result ≡ as_str (view self.now) }
     {

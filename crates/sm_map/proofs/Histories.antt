@@ -80,11 +80,6 @@ pub enough_words : (opening : List Entry) → length opening ≤ length (words_f
 enough_words [] = omega arith
 enough_words (entry ∷ opening) = long_words (entry ∷ opening)
 
--- there is a word
-pub some_word : (opening : List Entry) → 0 < length (words_for opening)
-some_word [] = omega arith
-some_word (entry ∷ opening) = omega arith
-
 word_of_each : (opening : List Entry) (shard : ℕ) → slice_index (map word_for opening) shard ≡ word_at (newest (opened_at opening shard))
 word_of_each [] shard = refl
 word_of_each (entry ∷ opening) zero = refl

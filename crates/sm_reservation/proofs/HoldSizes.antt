@@ -143,7 +143,7 @@ sizes_of_plus r p q o s op oq sq is =
 longest : (a b c d n : ℕ) → max (max (max a b) c) d ≤ n → (a ≤ n) × (b ≤ n) × (c ≤ n) × (d ≤ n)
 longest a b c d n l = (omega arith, omega arith, omega arith, omega arith)
 
--- where lists of what there is then are within the room, there is room to put the parcel in
+-- where lists of what there is then are within the capacity, there is capacity to put the parcel in
 pub capacity_to_put : (k : HoldModel) (p q : Rights) → IsOrdered k.rights → IsPositive k.rights → IsOrdered p → IsOrdered q → IsPositive q → hold_of q ≡ plus (hold_of k.rights) p → most_keys q ≤ k.capacity → HasCapacity k p
 capacity_to_put k p q o s op oq sq is within =
     let e = sizes_of_plus k.rights p q o s op oq sq is in
@@ -155,7 +155,7 @@ capacity_to_put k p q o s op oq sq is within =
       spare = omega (arith, ap (λ z. z.spare) e, l.3);
     }
 
--- where lists of what there is after a trade are within the room, there is room for the trade
+-- where lists of what there is after a trade are within the capacity, there is capacity for the trade
 pub capacity_to_trade : (k : HoldModel) (out got q : Rights) → IsOrdered k.rights → IsPositive k.rights → IsOrdered out → IsOrdered got → first_short (hold_of k.rights) out ≡ None → IsOrdered q → IsPositive q → hold_of q ≡ plus (minus (hold_of k.rights) out) got → most_keys q ≤ k.capacity → HasCapacityAfter k out got
 capacity_to_trade k out got q o s oo og none oq sq is within =
     let m = taken k.rights out in

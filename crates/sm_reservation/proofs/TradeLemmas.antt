@@ -7,7 +7,7 @@ use Rattle.sm_reservation.specs.HoldOf.{hold_of}
 use Rattle.sm_reservation.specs.Capacity.{HoldModel, IsLess, IsMore, IsTraded, HasCapacity, HasCapacityAfter}
 use Rattle.sm_reservation.proofs.ParcelMoves.{same_sizes}
 
--- where a trade has room, what is got has room once what is given is out
+-- where there is capacity for a trade, there is capacity for what is got once what is given is out
 pub places_after : (k m : HoldModel) (p q : Rights) → IsLess k m p → hold_of m.rights ≡ minus (hold_of k.rights) p → HasCapacityAfter k p q → HasCapacity m q
 places_after k m p q less is room = record {
   cells = rw is (omega (arith, ap (λ s. s.cells) less.sizes, less.capacity, room.cells));

@@ -18,16 +18,19 @@ pub data Right : Type 0 where
   OfRoom : (v : ℕ) → Right
   OfSpare : (s : ℕ) → Right
 
+-- a cell is given, and it is in this state
 abbrev pub is_cell : PlainCell → Option PlainCell → Bool
 is_cell Absent (Some Absent) = true
 is_cell Secondary (Some Secondary) = true
 is_cell _ _ = false
 
+-- the same server is listed both times, or none is
 abbrev pub same_listed : Option ℕ → Option ℕ → Bool
 same_listed None None = true
 same_listed (Some x) (Some y) = x == y
 same_listed _ _ = false
 
+-- the two leads are the same: of one kind, with the same servers
 abbrev pub same_lead : Lead → Lead → Bool
 same_lead Gone Gone = true
 same_lead (At x) (At u) = x == u
@@ -36,6 +39,7 @@ same_lead (Handing x y) (Handing u v) = (x == u) && (y == v)
 same_lead (Handed x y) (Handed u v) = (x == u) && (y == v)
 same_lead _ _ = false
 
+-- a crown is given, and it has this lead and this listed server
 abbrev pub is_crown : Lead → Option ℕ → Option (Lead × Option ℕ) → Bool
 is_crown lead listed None = false
 is_crown lead listed (Some c) = same_lead lead c.0 && same_listed listed c.1

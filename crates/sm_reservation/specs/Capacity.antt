@@ -18,6 +18,7 @@ pub record KeyCounts : Type 0 where
   pub room : ℕ
   pub spare : ℕ
 
+-- how many keys each list of these rights has
 abbrev pub key_counts : Rights → KeyCounts
 key_counts r = record { cells = length r.cells; crowns = length r.crowns; room = length r.room; spare = length r.spare }
 
@@ -43,6 +44,7 @@ lost_keys h p = record {
   spare = count_by (loses_spare h) p.spare;
 }
 
+-- two counts of keys added up, list by list
 abbrev pub add_counts : KeyCounts → KeyCounts → KeyCounts
 add_counts a b = record { cells = a.cells + b.cells; crowns = a.crowns + b.crowns; room = a.room + b.room; spare = a.spare + b.spare }
 

@@ -27,10 +27,12 @@ abbrev pub CanMake : ℕ → (ℕ → Hold) → Move → Type 0
 CanMake n b (Moves i j p) = (i < n) × (j < n) × (i ≢ j) × IsOrdered p × (first_short (b i) p ≡ None) × AreApart (b j) (hold_of p)
 CanMake n b (Trades i p q) = (i < n) × IsOrdered p × IsOrdered q × (first_short (b i) p ≡ None) × AreApart (minus (b i) p) (hold_of q)
 
+-- what the holders have after a list of calls
 abbrev pub after_moves : (ℕ → Hold) → List Move → ℕ → Hold
 after_moves b [] = b
 after_moves b (m ∷ ms) = after_moves (after_move b m) ms
 
+-- the conditions of each call of a list hold when its turn comes
 abbrev pub CanMakeAll : ℕ → (ℕ → Hold) → List Move → Type 0
 CanMakeAll n b [] = Unit {0}
 CanMakeAll n b (m ∷ ms) = CanMake n b m × CanMakeAll n (after_move b m) ms
@@ -59,9 +61,11 @@ RightsAddUp = (n : ℕ) (b : ℕ → Hold) (ms : List Move) → CanMakeAll n b m
 
 -- ---- how many holders have a right to a cell, or a crown
 
+-- how many of the first n holders have a right to the cell of s at v
 abbrev pub cell_holders : ℕ → (ℕ → Hold) → ℕ → ℕ → ℕ
 cell_holders n b s v = sum_below n (λ i. bit (is_some ((b i).cells s v)))
 
+-- how many of the first n holders have the crown of s
 abbrev pub crown_holders : ℕ → (ℕ → Hold) → ℕ → ℕ
 crown_holders n b s = sum_below n (λ i. bit (is_some ((b i).crowns s)))
 

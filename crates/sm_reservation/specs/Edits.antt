@@ -42,9 +42,11 @@ row_in held y = Some y
 abbrev pub room_of : Room → ℕ → Option Room
 room_of y n = if n == 0 then None else Some (record y { amount = n })
 
+-- the room that is left at a key once the row's amount is taken out; none where that leaves 0
 abbrev pub room_row_out : Option Room → Room → Option Room
 room_row_out held y = room_of y (amount_of (λ x. x.amount) held - y.amount)
 
+-- the room at a key once the row's amount is put in; none where that makes 0
 abbrev pub room_row_in : Option Room → Room → Option Room
 room_row_in held y = room_of y (amount_of (λ x. x.amount) held + y.amount)
 
@@ -52,16 +54,19 @@ room_row_in held y = room_of y (amount_of (λ x. x.amount) held + y.amount)
 abbrev pub spare_of : Spare → ℕ → Option Spare
 spare_of y n = if n == 0 then None else Some (record y { amount = n })
 
+-- the spare replicas that are left at a key once the row's amount is taken out; none where that leaves 0
 abbrev pub spare_row_out : Option Spare → Spare → Option Spare
 spare_row_out held y = spare_of y (amount_of (λ x. x.amount) held - y.amount)
 
+-- the spare replicas at a key once the row's amount is put in; none where that makes 0
 abbrev pub spare_row_in : Option Spare → Spare → Option Spare
 spare_row_in held y = spare_of y (amount_of (λ x. x.amount) held + y.amount)
 
--- the same, as a machine word holds the sum
+-- the room at a key once the row's amount is put in, with the sum as a u64 holds it: modulo 2^64
 abbrev pub room_in_word : Option Room → Room → Option Room
 room_in_word held y = room_of y ((amount_of (λ x. x.amount) held + y.amount) % 2 ^ 64)
 
+-- the spare replicas at a key once the row's amount is put in, with the sum as a u64 holds it: modulo 2^64
 abbrev pub spare_in_word : Option Spare → Spare → Option Spare
 spare_in_word held y = spare_of y ((amount_of (λ x. x.amount) held + y.amount) % 2 ^ 64)
 

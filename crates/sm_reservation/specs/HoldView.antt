@@ -5,12 +5,16 @@ use Rattle.sm_reservation.specs.Key.{IsPositive, AreU64}
 use Rattle.sm_reservation.specs.Capacity.{HoldModel, IsWithin, key_counts}
 use Rattle.sm_reservation.specs.declared.hold.Hold.TheInside.{Inside}
 
+-- the rights of a hold in memory
 abbrev pub lists_of : Inside → Rights
 lists_of a = record { cells = a.cells.items; crowns = a.crowns.items; room = a.room.items; spare = a.spare.items }
 
+-- a hold in memory as contracts see it: its rights, and how many keys each of its lists can take
 abbrev pub hold_model : Inside → HoldModel
 hold_model a = record { rights = lists_of a; capacity = a.capacity }
 
+-- what every hold in memory keeps: no amount is 0, each is a u64, no list has more keys than the capacity, and each list can take
+-- as many as that
 pub record IsHold (a : Inside) : Type 0 where
   pub positive : IsPositive (lists_of a)
   pub bounded : AreU64 (lists_of a)

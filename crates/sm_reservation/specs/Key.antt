@@ -12,15 +12,19 @@ use Rattle.sm_reservation.specs.declared.right.Key.TheVariants as key
 use Rattle.sm_reservation.specs.Rights.{Rights}
 use Rattle.sm_reservation.specs.Rows.{same, before, Rises, Climbs, HasPositive, first_twin}
 
+-- a cell right's key: its shard and its server
 abbrev pub key_of_cell : CellRight → ℕ × ℕ
 key_of_cell x = (x.shard, x.server)
 
+-- a crown's key: its shard, and 0
 abbrev pub key_of_crown : Crown → ℕ × ℕ
 key_of_crown x = (x.shard, 0)
 
+-- the key of room: its server, and 0
 abbrev pub key_of_room : Room → ℕ × ℕ
 key_of_room x = (x.server, 0)
 
+-- the key of spare replicas: their shard, and 0
 abbrev pub key_of_spare : Spare → ℕ × ℕ
 key_of_spare x = (x.shard, 0)
 

@@ -12,6 +12,8 @@ use Rattle.sm_reservation.specs.declared.right.PlainCell.{PlainCell}
 use Rattle.sm_reservation.specs.Hold.{Hold}
 use Rattle.sm_reservation.specs.Amounts.{Right, OfCell, OfCrown, OfRoom, OfSpare, plain_of}
 
+-- A pool as contracts see it: how many shards and servers there are, and the rights that no grant has, in lists that are read by
+-- the numbers of shards and servers.
 pub record PoolModel : Type 0 where
   -- how many shards and servers there are
   pub shards : ℕ
@@ -39,7 +41,7 @@ pub record HasSize (c : Sizes) (k : PoolModel) : Type 0 where
   pub shards : k.shards ≡ c.shards
   pub servers : k.servers ≡ c.servers
 
--- the rights that the lists stand for
+-- the rights of a pool, read by their keys
 unfoldable pub pool_hold : PoolModel → Hold
 pool_hold k = record {
   cells = grid_of k.servers None k.cells;
@@ -70,11 +72,12 @@ true_rights c p = record {
   spare = λ s. if nat_lt s c.shards then live_at c p s - c.floor s else 0;
 }
 
--- a right to a cell, or a crown, unless some of it is in use
+-- the right to a cell, unless it is in use
 abbrev pub free_cell : (Right → ℕ) → ℕ → ℕ → Option PlainCell → Option PlainCell
 free_cell used s v None = None
 free_cell used s v (Some state) = if used (OfCell s v state) == 0 then Some state else None
 
+-- the crown of a shard, unless it is in use
 abbrev pub free_crown : (Right → ℕ) → ℕ → Option (Lead × Option ℕ) → Option (Lead × Option ℕ)
 free_crown used s None = None
 free_crown used s (Some crown) = if used (OfCrown s crown.0 crown.1) == 0 then Some crown else None

@@ -19,9 +19,11 @@ cell_short h x = if is_cell x.state (h.cells x.shard x.server) then None else So
 abbrev pub crown_short : Hold → Crown → Option Short
 crown_short h x = if is_crown x.lead x.listed (h.crowns x.shard) then None else Some (record { key = key.Crown x.shard; had = 0; asked = 1 })
 
+-- there is as much room at the server, or it is short: less was had than was asked
 abbrev pub room_short : Hold → Room → Option Short
 room_short h x = if nat_le x.amount (h.room x.server) then None else Some (record { key = key.Room x.server; had = h.room x.server; asked = x.amount })
 
+-- there are as many spare replicas of the shard, or they are short: fewer were had than were asked
 abbrev pub spare_short : Hold → Spare → Option Short
 spare_short h x = if nat_le x.amount (h.spare x.shard) then None else Some (record { key = key.Spare x.shard; had = h.spare x.shard; asked = x.amount })
 
@@ -30,6 +32,8 @@ abbrev pub first_answer : {X Y : Type 0} → (X → Option Y) → List X → Opt
 first_answer f [] = None
 first_answer f (x ∷ xs) = option_or (f x) (first_answer f xs)
 
+-- What a hold is short of for a parcel, of its cell rights first, then of its crowns, its room and its spare replicas, in the order
+-- of each list; None where it has all of them.
 abbrev pub first_short : Hold → Rights → Option Short
 first_short h p =
     option_or

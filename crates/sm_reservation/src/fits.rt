@@ -121,7 +121,7 @@ fn knows_spares(spares: &[Spare], shards: usize) -> bool
         .all(|spare| (spare.shard.number() as usize) < shards)
 }
 
-/// Whether a hold has room for the keys of a parcel that are new in it.
+/// Whether a hold has capacity for the keys of a parcel that are new in it.
 pub fn has_capacity(hold: &Hold, parcel: &Parcel) -> bool
     ensures { IsTrue result ↔ HasCapacity hold.now parcel.now }
 {

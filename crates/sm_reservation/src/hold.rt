@@ -1,5 +1,6 @@
-#![tactic(auto, unfolding(crate::specs::HoldOf::hold_of))]
 //! Holds: rights that are read and changed by their keys.
+#![tactic(auto, unfolding(crate::specs::HoldOf::hold_of))]
+
 ghost use Rattle.std.specs.Prelude.{◌≡◌, ◌↔◌, IsTrue, ◌+◌, ◌<◌, ◌≤◌, ◌==◌, ◌&&◌, ◌^◌, None, Some, nat_lt, is_none, is_some, max, IfOk, OnOk, OnErr, length};
 ghost use Rattle.sm_placement.specs.Sums.{bit};
 ghost use Rattle.sm_reservation.specs.Rights.{no_rights};

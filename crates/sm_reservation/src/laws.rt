@@ -21,7 +21,7 @@ pub fn joins_in_placement()
     ensures { JoinsInPlacement }
 {}
 
-/// Where what is held then has no more keys than there is room for, there is room for the change.
+/// Where what is held then has no more keys than the capacity, there is capacity for the change.
 pub fn capacity_by_hold()
     ensures { CapacityByHold }
 {}

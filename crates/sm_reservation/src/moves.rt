@@ -1,5 +1,6 @@
-#![tactic(auto, unfolding(crate::specs::HoldOf::hold_of))]
 //! Rights of the four kinds put into a hold or taken out of it.
+#![tactic(auto, unfolding(crate::specs::HoldOf::hold_of))]
+
 ghost use Rattle.std.specs.Prelude.{◌≡◌, ◌+◌, None};
 ghost use Rattle.sm_reservation.specs.Hold.{minus, plus};
 ghost use Rattle.sm_reservation.specs.Key.{IsOrdered, lists};

@@ -11,16 +11,19 @@ use std::marker::Model;
 pub trait Row: Copy {
     ghost key: { Self → ℕ × ℕ };
 
+    /// The row's key: a shard and a server, or one of them and 0.
     fn key(&self) -> (u32, u32)
         ensures { result ≡ key self.now };
 }
 
+/// Two keys are the same.
 pub fn is_same(a: (u32, u32), b: (u32, u32)) -> bool
     ensures { result ≡ same a b }
 {
     a.0 == b.0 && a.1 == b.1
 }
 
+/// The first key comes before the second one.
 pub fn is_before(a: (u32, u32), b: (u32, u32)) -> bool
     ensures { result ≡ before a b }
 {
@@ -78,7 +81,7 @@ impl<T: Row> Model for Rows<T> {
 }
 
 impl<T: Row> Rows<T> {
-    /// No rows, with room for a number of them.
+    /// No rows, with capacity for a number of them.
     pub fn empty(alloc: Global, capacity: usize) -> Result<Rows<T>, AllocError>
         ensures items { IfOk result (λ rows. rows.items ≡ []) }
         ensures capacity { IfOk result (λ rows. capacity ≤ rows.capacity) }
@@ -88,7 +91,7 @@ impl<T: Row> Rows<T> {
         })
     }
 
-    /// A copy of rows, with room for a number of rows in all.
+    /// A copy of rows, with capacity for a number of rows in all.
     pub fn copied(alloc: Global, rows: &[T], capacity: usize) -> Result<Rows<T>, AllocError>
         requires order { Rises T.key rows.now }
         requires capacity { length rows.now ≤ capacity }
@@ -100,7 +103,7 @@ impl<T: Row> Rows<T> {
         Ok(Rows { list })
     }
 
-    /// Makes room for a number of rows in all.
+    /// Makes the capacity enough for a number of rows in all.
     pub fn reserve(&mut self, capacity: usize) -> Result<(), AllocError>
         requires { length self.old.items ≤ capacity }
         ensures items { self.new.items ≡ self.old.items }

@@ -10,7 +10,7 @@ use Rattle.sm_server.specs.declared.call.Refusal.TheVariants.{Down, AlreadyHeld,
 use Rattle.sm_server.specs.declared.call.Served.{Served}
 use Rattle.sm_server.specs.Cell.{cell_in, IsPrepared, is_absent}
 
--- The calls of Lee et al. 2021 as a set of triples: a call leads from a cell to a next cell.
+-- The five calls (SM 2021) as a set of triples: a call leads from a cell to a next cell.
 abbrev pub Leads : Call → Cell → Cell → Type 0
 Leads (Add r) cell next =
     ((cell ≡ Absent) × (next ≡ cell_in r)) ⊎ (IsPrepared cell × (r ≡ role.Primary) × (next ≡ Primary))

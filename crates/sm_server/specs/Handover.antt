@@ -12,23 +12,23 @@ pub record SteadyModel : Type 0 where
   pub shard : ℕ
   pub server : ℕ
 
--- a handover under way: who has the primary, who is to have it, and the handover's number
+-- a handover under way (SM 2021): who has the primary, who is to have it, and the handover's number
 pub record HandoverModel : Type 0 where
   pub shard : ℕ
   pub owner : ℕ
   pub new_server : ℕ
   pub number : ℕ
 
--- the two cells once the new server is prepared
+-- the two cells once the new server is prepared (SM 2021)
 abbrev pub ready_cells : HandoverModel → HandoverCells
 ready_cells t = record { owner = Primary; new_server = Prepared t.owner t.number }
 
--- the two cells once the owner forwards
+-- the two cells once the owner forwards (SM 2021)
 abbrev pub handing_cells : HandoverModel → HandoverCells
 handing_cells t =
     record { owner = Forwarding t.new_server t.number; new_server = Prepared t.owner t.number }
 
--- the two cells once the new server is the primary
+-- the two cells once the new server is the primary (SM 2021)
 abbrev pub handed_cells : HandoverModel → HandoverCells
 handed_cells t = record { owner = Forwarding t.new_server t.number; new_server = Primary }
 

@@ -1,3 +1,4 @@
+//! The ids of shards: their positions in the configuration.
 ghost use Rattle.std.specs.Prelude.{◌≡◌};
 
 use std::marker::Model;

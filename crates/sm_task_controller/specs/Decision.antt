@@ -14,14 +14,14 @@ use Rattle.sm_task_controller.specs.declared.decision.Denied.TheVariants.{Alread
 abbrev pub denied_if : Bool → Denied → Option Denied
 denied_if test why = if test then Some why else None
 
--- the lowest shard that is live at the server and of which no spare replica is free
+-- the lowest shard that is live at the server and of which no spare replica is free (SM 2021, the cap for each shard)
 abbrev pub first_without_spare : Sizes → Place → Hold → ℕ → Option ℕ
 first_without_spare c p pool v =
     first_from 0 c.shards (λ s. if is_live_at p s v && (pool.spare s == 0) then Some s else None)
 
--- Why the server may not be taken down, None where it may: the first reason in the order of these lines. The pool has the
--- spare replicas that are free, `engaged` is the lowest unfinished stream whose code names the server, and `log_free` is
--- the number of log places that are neither used nor set aside.
+-- Why the server may not be taken down, None where it may: the first reason in the order of these lines (SM 2021, the caps of the
+-- TaskController). The pool has the spare replicas that are free, `engaged` is the lowest unfinished stream whose code names the
+-- server, and `log_free` is the number of log places that are neither used nor set aside.
 abbrev pub denial : Sizes → Place → Hold → Option StreamId → ℕ → ℕ → Option Denied
 denial c p pool engaged log_free v =
     option_or (denied_if (p.down v) AlreadyDown)

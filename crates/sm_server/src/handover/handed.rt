@@ -1,3 +1,4 @@
+//! The handover after its third step, `add_shard` at the new server.
 use super::{HandoverCells, Steady};
 use crate::call::{Call, Cell};
 use crate::server_id::ServerId;
@@ -26,6 +27,7 @@ impl Handed {
     ghost use Rattle.sm_server.specs.declared.call.Cell.TheVariants.{Absent, Primary};
     ghost use Rattle.sm_server.specs.Handover.{handed_cells, Serves};
 
+    /// The shard whose primary is handed over.
     pub const fn shard(&self) -> ShardId
         ensures { result ≡ self.now.shard }
     {

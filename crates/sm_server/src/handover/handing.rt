@@ -1,3 +1,4 @@
+//! The handover after its second step, `prepare_drop_shard` at the owner.
 use super::{Handed, HandoverCells};
 use crate::call::{Call, Cell, Role};
 use crate::server_id::ServerId;
@@ -25,6 +26,7 @@ impl Handing {
     ghost use Rattle.std.specs.Prelude.{◌≡◌};
     ghost use Rattle.sm_server.specs.Handover.{handing_cells, handed_cells, Serves};
 
+    /// The shard whose primary is handed over.
     pub const fn shard(&self) -> ShardId
         ensures { result ≡ self.now.shard }
     {

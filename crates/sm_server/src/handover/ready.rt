@@ -1,3 +1,4 @@
+//! The handover after its first step, `prepare_add_shard` at the new server.
 use super::{Handing, HandoverCells, Steady};
 use crate::call::{Call, Cell};
 use crate::server_id::ServerId;
@@ -26,6 +27,7 @@ impl Ready {
     ghost use Rattle.sm_server.specs.declared.call.Cell.TheVariants.{Absent, Primary};
     ghost use Rattle.sm_server.specs.Handover.{ready_cells, handing_cells, Serves};
 
+    /// The shard whose primary is handed over.
     pub const fn shard(&self) -> ShardId
         ensures { result ≡ self.now.shard }
     {

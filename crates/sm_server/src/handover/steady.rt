@@ -1,3 +1,4 @@
+//! Before and after a handover: the primary stands at one server.
 use super::Ready;
 use crate::call::{Call, Cell};
 use crate::server_id::ServerId;
@@ -31,12 +32,14 @@ impl Steady {
         Steady { shard, server }
     }
 
+    /// The shard that the primary is of.
     pub const fn shard(&self) -> ShardId
         ensures { result ≡ self.now.shard }
     {
         self.shard
     }
 
+    /// The server where the primary stands.
     pub const fn server(&self) -> ServerId
         ensures { result ≡ self.now.server }
     {
