@@ -108,7 +108,7 @@ module _ (starts : List (Option ℕ)) (parties : List Party) (block : ℕ) (h : 
       let z : x + 256 ≤ length parties = w x refl in
       entries_of-is no_party after (x + k) ∙ get_or_append_left parties (replicate 256 no_party) no_party (x + k) (omega arith) ∙ sym (entries_of-is no_party parties (x + k))
 
-  -- with it each place still has the party that it had
+  -- with it each slot still has the party that it had
   pub party_at-more : party_at (set starts block (Some (length parties))) (parties ++ replicate 256 no_party) ≡ party_at starts parties
   party_at-more = fun_ext (λ k. elim (cases_eq (k / 256) block) [
     | inl e ↦ ap (λ (b : ℕ). party_in (entries_of None now b) after (k % 256)) e ∙ ap (λ (o : Option ℕ). party_in o after (k % 256)) block_here ∙ fresh (k % 256)
@@ -116,45 +116,45 @@ module _ (starts : List (Option ℕ)) (parties : List Party) (block : ℕ) (h : 
     | inr d ↦ ap (λ (o : Option ℕ). party_in o after (k % 256)) (beside (k / 256) d) ∙ kept (entries_of None starts (k / 256)) (k % 256) (omega arith) (λ x e. h.within (k / 256) x e)
   ])
 
--- a place stands within its block
-pub within_block : (starts : List (Option ℕ)) (parties : List Party) (place start : ℕ) → IsBlocks starts parties → entries_of None starts (place / 256) ≡ Some start → start + place % 256 < length parties
-within_block starts parties place start h is = let w : start + 256 ≤ length parties = h.within (place / 256) start is in let m : place % 256 < 256 = omega arith in omega arith
+-- a slot stands within its block
+pub within_block : (starts : List (Option ℕ)) (parties : List Party) (slot start : ℕ) → IsBlocks starts parties → entries_of None starts (slot / 256) ≡ Some start → start + slot % 256 < length parties
+within_block starts parties slot start h is = let w : start + 256 ≤ length parties = h.within (slot / 256) start is in let m : slot % 256 < 256 = omega arith in omega arith
 
 -- a party is set
-module _ (starts : List (Option ℕ)) (parties : List Party) (place start : ℕ) (party : Party) (h : IsBlocks starts parties) (is : entries_of None starts (place / 256) ≡ Some start) where
-  pub IsBlocks-set : IsBlocks starts (set parties (start + place % 256) party)
+module _ (starts : List (Option ℕ)) (parties : List Party) (slot start : ℕ) (party : Party) (h : IsBlocks starts parties) (is : entries_of None starts (slot / 256) ≡ Some start) where
+  pub IsBlocks-set : IsBlocks starts (set parties (start + slot % 256) party)
   IsBlocks-set =
-      let e : length (set parties (start + place % 256) party) ≡ length parties = length-set parties (start + place % 256) party in
+      let e : length (set parties (start + slot % 256) party) ≡ length parties = length-set parties (start + slot % 256) party in
       record {
         written = e ∙ h.written;
         within = λ b x f. let w : x + 256 ≤ length parties = h.within b x f in omega arith;
         apart = h.apart;
       }
 
-  at_place : start + place % 256 < length parties
-  at_place = within_block starts parties place start h is
+  at_slot : start + slot % 256 < length parties
+  at_slot = within_block starts parties slot start h is
 
-  same_place : (k x : ℕ) → entries_of None starts (k / 256) ≡ Some x → x + k % 256 ≡ start + place % 256 → k ≡ place
-  same_place k x e s =
-      let b : k / 256 ≡ place / 256 = h.apart (k / 256) (place / 256) x start (k % 256) (place % 256) e is (omega arith) (omega arith) s in
+  same_slot : (k x : ℕ) → entries_of None starts (k / 256) ≡ Some x → x + k % 256 ≡ start + slot % 256 → k ≡ slot
+  same_slot k x e s =
+      let b : k / 256 ≡ slot / 256 = h.apart (k / 256) (slot / 256) x start (k % 256) (slot % 256) e is (omega arith) (omega arith) s in
       let o : x ≡ start = same_Some x start (sym e ∙ ap (entries_of None starts) b ∙ is) in
       omega arith
 
-  other : (k : ℕ) (o : Option ℕ) → entries_of None starts (k / 256) ≡ o → k ≢ place → party_in o (set parties (start + place % 256) party) (k % 256) ≡ party_in o parties (k % 256)
+  other : (k : ℕ) (o : Option ℕ) → entries_of None starts (k / 256) ≡ o → k ≢ slot → party_in o (set parties (start + slot % 256) party) (k % 256) ≡ party_in o parties (k % 256)
   other k None e d = refl
   other k (Some x) e d =
-      ap (λ (f : ℕ → Party). f (x + k % 256)) (entries_of-set no_party parties (start + place % 256) party at_place)
-      ∙ put-apart (entries_of no_party parties) (start + place % 256) party (x + k % 256) (λ s. d (same_place k x e s))
+      ap (λ (f : ℕ → Party). f (x + k % 256)) (entries_of-set no_party parties (start + slot % 256) party at_slot)
+      ∙ put-apart (entries_of no_party parties) (start + slot % 256) party (x + k % 256) (λ s. d (same_slot k x e s))
 
-  -- its place has that party then, and each other place the one that it had
-  pub party_at-set : party_at starts (set parties (start + place % 256) party) ≡ put (party_at starts parties) place party
-  party_at-set = fun_ext (λ k. elim (cases_eq k place) [
-    | inl e ↦ ap (λ (q : ℕ). party_at starts (set parties (start + place % 256) party) q) e
-        ∙ ap (λ (o : Option ℕ). party_in o (set parties (start + place % 256) party) (place % 256)) is
-        ∙ ap (λ (f : ℕ → Party). f (start + place % 256)) (entries_of-set no_party parties (start + place % 256) party at_place)
-        ∙ put-here (entries_of no_party parties) (start + place % 256) party (start + place % 256) refl
-        ∙ sym (put-here (party_at starts parties) place party k e)
-    | inr d ↦ other k (entries_of None starts (k / 256)) refl d ∙ sym (put-apart (party_at starts parties) place party k d)
+  -- its slot has that party then, and each other slot the one that it had
+  pub party_at-set : party_at starts (set parties (start + slot % 256) party) ≡ put (party_at starts parties) slot party
+  party_at-set = fun_ext (λ k. elim (cases_eq k slot) [
+    | inl e ↦ ap (λ (q : ℕ). party_at starts (set parties (start + slot % 256) party) q) e
+        ∙ ap (λ (o : Option ℕ). party_in o (set parties (start + slot % 256) party) (slot % 256)) is
+        ∙ ap (λ (f : ℕ → Party). f (start + slot % 256)) (entries_of-set no_party parties (start + slot % 256) party at_slot)
+        ∙ put-here (entries_of no_party parties) (start + slot % 256) party (start + slot % 256) refl
+        ∙ sym (put-here (party_at starts parties) slot party k e)
+    | inr d ↦ other k (entries_of None starts (k / 256)) refl d ∙ sym (put-apart (party_at starts parties) slot party k d)
   ])
 
 -- what the code reads: where a block starts, and a party of it. `now` is the model as its callers see it
@@ -162,20 +162,20 @@ pub start_read : {starts : List (Option ℕ)} {parties : List Party} {now : Part
     x ≡ get_or starts block x → entries_of None starts block ≡ x
 start_read {starts} {parties} {now} block x e l r = sym (entries_of-read None starts block (length starts) x refl (omega (arith, ap (λ (m : PartiesModel). length m.starts) e)) r)
 
--- what is read in the block of a place is the party of the place
-pub party_read : {starts : List (Option ℕ)} {parties : List Party} {now : PartiesModel} (place start : ℕ) (x : Party) → ◌≡◌ {A = PartiesModel} (record { starts = starts; parties = parties }) now →
-    entries_of None starts (place / 256) ≡ Some start → start + place % 256 < length parties → x ≡ get_or parties (start + place % 256) x → x ≡ party_at now.starts now.parties place
-party_read {starts} {parties} {now} place start x e is l r =
-    entries_of-read no_party parties (start + place % 256) (length parties) x refl l r
-    ∙ ap (λ (o : Option ℕ). party_in o parties (place % 256)) (sym is)
-    ∙ ap (λ (m : PartiesModel). party_at m.starts m.parties place) e
+-- what is read in the block of a slot is the party of the slot
+pub party_read : {starts : List (Option ℕ)} {parties : List Party} {now : PartiesModel} (slot start : ℕ) (x : Party) → ◌≡◌ {A = PartiesModel} (record { starts = starts; parties = parties }) now →
+    entries_of None starts (slot / 256) ≡ Some start → start + slot % 256 < length parties → x ≡ get_or parties (start + slot % 256) x → x ≡ party_at now.starts now.parties slot
+party_read {starts} {parties} {now} slot start x e is l r =
+    entries_of-read no_party parties (start + slot % 256) (length parties) x refl l r
+    ∙ ap (λ (o : Option ℕ). party_in o parties (slot % 256)) (sym is)
+    ∙ ap (λ (m : PartiesModel). party_at m.starts m.parties slot) e
 
--- a place whose block was not written has no party
-pub no_party_read : {starts : List (Option ℕ)} {parties : List Party} {now : PartiesModel} (place : ℕ) (x : Party) → ◌≡◌ {A = PartiesModel} (record { starts = starts; parties = parties }) now →
-    entries_of None starts (place / 256) ≡ None → x ≡ no_party → x ≡ party_at now.starts now.parties place
-no_party_read {starts} {parties} {now} place x e is n =
-    n ∙ ap (λ (o : Option ℕ). party_in o parties (place % 256)) (sym is)
-    ∙ ap (λ (m : PartiesModel). party_at m.starts m.parties place) e
+-- a slot whose block was not written has no party
+pub no_party_read : {starts : List (Option ℕ)} {parties : List Party} {now : PartiesModel} (slot : ℕ) (x : Party) → ◌≡◌ {A = PartiesModel} (record { starts = starts; parties = parties }) now →
+    entries_of None starts (slot / 256) ≡ None → x ≡ no_party → x ≡ party_at now.starts now.parties slot
+no_party_read {starts} {parties} {now} slot x e is n =
+    n ∙ ap (λ (o : Option ℕ). party_in o parties (slot % 256)) (sym is)
+    ∙ ap (λ (m : PartiesModel). party_at m.starts m.parties slot) e
 
 -- the list after a block is added to it
 pub grown : (xs ys : List Party) (n k : ℕ) (x : Party) → n ≡ length xs → k ≡ length xs → x ≡ no_party → ys ≡ take (n + 256) xs ++ replicate (n + 256 - k) x → ys ≡ xs ++ replicate 256 no_party

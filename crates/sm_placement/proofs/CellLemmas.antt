@@ -52,7 +52,7 @@ get_or-with_parties : (states : List State) (at : ℕ → Party) (k : ℕ) (d : 
 get_or-with_parties states at k d l =
     ap (λ (xs : List Cell). get_or xs k d) (with_parties-is states at) ∙ get_or-map-range_with_len (λ j. cell_of (entries_of state.Absent states j) (at j)) 0 (length states) k k d l (omega arith)
 
--- the cell at a place. `now` is the list as its callers see it
+-- the cell at a slot. `now` is the list as its callers see it
 pub with_parties-read : (states : List State) (at : ℕ → Party) {now : List Cell} (k : ℕ) (s : State) → with_parties states at ≡ now → k < length now → s ≡ get_or states k s →
     cell_of s (at k) ≡ entries_of Absent now k
 with_parties-read states at {now} k s e l r =
@@ -60,7 +60,7 @@ with_parties-read states at {now} k s e l r =
     ap (λ (x : State). cell_of x (at k)) (entries_of-read state.Absent states k (length states) s refl m r)
     ∙ sym (get_or-with_parties states at k Absent m) ∙ sym (entries_of-is Absent (with_parties states at) k) ∙ ap (λ (xs : List Cell). entries_of Absent xs k) e
 
--- one state is set, with the parties of the other places as they are
+-- one state is set, with the parties of the other slots as they are
 pub with_parties-set : (states : List State) (before after : ℕ → Party) (k : ℕ) (s : State) (cell : Cell) → k < length states → ((j : ℕ) → j ≢ k → after j ≡ before j) → cell_of s (after k) ≡ cell →
     with_parties (set states k s) after ≡ set (with_parties states before) k cell
 with_parties-set states before after k s cell l others here = ext_get_or Absent (with_parties (set states k s) after) (set (with_parties states before) k cell) len at

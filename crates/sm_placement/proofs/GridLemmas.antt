@@ -37,11 +37,11 @@ grid_of-below width height none xs s v e h = elim (cases_lt v width) [
 pub entries_of-past : {A : Type 0} (none : A) (xs : List A) (k : ℕ) → length xs ≤ k → entries_of none xs k ≡ none
 entries_of-past none xs k l = entries_of-is none xs k ∙ get_or_past xs k none l
 
--- the place of a pair is within the list
+-- the slot of a pair is within the list
 pub place_within : {A : Type 0} (xs : List A) (width height s v : ℕ) → length xs ≡ height * width → s < height → v < width → s * width + v < length xs
 place_within xs width height s v e l m = let p : s * width + v < width * height = mul-add-lt s width v height l m in grind arith
 
--- a write at a pair's place changes what stands at that pair alone
+-- a write at a pair's slot changes what stands at that pair alone
 pub grid_of-set : {A : Type 0} (width : ℕ) (none : A) (xs : List A) (s v : ℕ) (x : A) → v < width → s * width + v < length xs →
     grid_of width none (set xs (s * width + v) x) ≡ put2 (grid_of width none xs) s v x
 grid_of-set {A} width none xs s v x l m = fun_ext (λ r. fun_ext (λ q. at r q))
@@ -110,7 +110,7 @@ grid_of-empty width none n = fun_ext (λ s. fun_ext (λ v. at s v))
       | inr l ↦ grid_of-beside width none (replicate n none) s v l
     ]
 
--- what is read at the place of a pair, or of a server
+-- what is read at a pair's slot, or at a server
 pub grid_of-read : {A : Type 0} (width height : ℕ) (none : A) (xs : List A) (s v : ℕ) (x : A) → length xs ≡ height * width → s < height → v < width →
     x ≡ get_or xs (s * width + v) x → x ≡ grid_of width none xs s v
 grid_of-read width height none xs s v x e l m r = get_or_read xs (s * width + v) x (place_within xs width height s v e l m) r none ∙ sym (grid_of-within width none xs s v m)

@@ -26,7 +26,7 @@ ArePairsCounted n cells i counts = grid_of n 0 counts ≡ (λ s v. count_by (is_
 pub pairs_none : (n k : ℕ) (cells : List NamedCell) (counts : List ℕ) → counts ≡ replicate k 0 → ArePairsCounted n cells 0 counts
 pairs_none n k cells counts e = rw e (grid_of-empty n 0 k)
 
--- the place of the i-th cell's pair
+-- the slot of the i-th cell's pair
 pub pair_place : (m n : ℕ) (cells : List NamedCell) (i : ℕ) (x : NamedCell) (counts : List ℕ) → AreKnown m n cells → i < length cells → x ≡ get_or cells i x → length counts ≡ m * n →
     x.0 * n + x.1 < length counts
 pair_place m n cells i x counts k l e len =
@@ -78,7 +78,7 @@ pairs_more m n cells i x counts b k l e len at r =
       | inr q ↦ apart s v q ∙ sym (no s v q)
     ]
 
--- what is read at a pair's place
+-- what is read at a pair's slot
 pub count_read : (m n : ℕ) (counts : List ℕ) (s v d : ℕ) → length counts ≡ m * n → s < m → v < n → grid_of n 0 counts s v ≡ get_or counts (s * n + v) d
 count_read m n counts s v d len l h = grid_of-within n 0 counts s v h ∙ get_or_default counts (s * n + v) 0 d (place_within counts n m s v len l h)
 

@@ -6,12 +6,15 @@ use Rattle.sm_placement.specs.declared.config.ConfigFault.{ConfigFault}
 use Rattle.sm_placement.specs.declared.config.ConfigFault.TheVariants.{TooMany, BadName, DoubleName, BadNumber}
 use Rattle.sm_placement.specs.Setup.{ServerRow, ShardRow, Setup, is_too_large, has_good_names, has_doubled_name, has_good_numbers}
 
+-- a server as a configuration says it: its name and its region as bytes, and its room
 abbrev pub server_row : Server → ServerRow
 server_row s = record { name = string_bytes s.name; region = string_bytes s.region; room = s.room }
 
+-- a shard as a configuration says it: its name as bytes, with its load, want, cap and spread
 abbrev pub shard_row : Shard → ShardRow
 shard_row s = record { name = string_bytes s.name; load = s.load; want = s.want; cap = s.cap; spread = s.spread }
 
+-- the configuration of these servers and shards, each at the number that its position in the list gives
 abbrev pub setup_of : List Server → List Shard → Setup
 setup_of servers shards = record { servers = map server_row servers; shards = map shard_row shards }
 

@@ -9,18 +9,23 @@ use Rattle.sm_placement.specs.Sums.{count_below}
 use Rattle.sm_placement.specs.Place.{load_of}
 use Rattle.sm_placement.specs.Layout.{grid_of, entries_of}
 
+-- a table as contracts see it: a configuration, the cells and their last call numbers (shard after shard, with one entry for each
+-- server), and for each server whether it is down
 pub record TableModel : Type 0 where
   pub setup : Setup
   pub cells : List Cell
   pub lasts : List ℕ
   pub down : List Bool
 
+-- what a server has of a shard by the table, read by shard, then by server
 abbrev pub cells_of : TableModel → ℕ → ℕ → Cell
 cells_of g = grid_of (length g.setup.servers) Absent g.cells
 
+-- the number of the last call that had an effect on the cell, 0 for none, read by shard, then by server
 abbrev pub lasts_of : TableModel → ℕ → ℕ → ℕ
 lasts_of g = grid_of (length g.setup.servers) 0 g.lasts
 
+-- the server is down by the table; one that the configuration does not have is up
 abbrev pub down_of : TableModel → ℕ → Bool
 down_of g = entries_of false g.down
 

@@ -6,6 +6,9 @@ use Rattle.sm_placement.specs.Setup.{Setup, Sizes}
 use Rattle.sm_placement.specs.Rows.{IsKnownCell}
 use Rattle.sm_placement.specs.Place.{Place, load_at}
 
+-- a placement as contracts see it: a configuration, the cells and their last call numbers (shard after shard, with one entry for
+-- each server), for each server whether it is down, for each shard the listed server and the version of the map's entry, and how
+-- many servers may be down at once (SM 2021)
 pub record PlacementModel : Type 0 where
   pub setup : Setup
   pub cells : List Cell

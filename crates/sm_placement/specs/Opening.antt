@@ -26,6 +26,7 @@ pub record Opening : Type 0 where
   pub down : List ℕ
   pub limit : ℕ
 
+-- the cell is named for the shard s and the server v
 abbrev pub is_of : ℕ → ℕ → NamedCell → Bool
 is_of s v named = (named.0 == s) && (named.1 == v)
 

@@ -1,4 +1,4 @@
--- The parties of a list of places, in blocks of as many places each.
+-- The parties of a list of slots, in blocks of as many slots each.
 -- Steps of the code's own way, which private functions' contracts cite: no reader of the public ones must believe them.
 use Rattle.std.specs.Prelude.{◌≡◌, ◌≤◌, ◌<◌, ℕ, ◌+◌, ◌*◌, ◌/◌, ◌%◌, List, length, Option, Some, None, is_some}
 use Rattle.sm_placement.specs.declared.parties.Party.{Party}
@@ -6,6 +6,7 @@ use Rattle.sm_placement.specs.declared.parties.TheConstants.{BLOCK}
 use Rattle.sm_placement.specs.Sums.{count_below}
 use Rattle.sm_placement.specs.Layout.{entries_of}
 
+-- the parties of places as contracts see them: where each block begins in the list, and the list of the blocks that were written
 pub record PartiesModel : Type 0 where
   -- where each block starts in the list of parties, if it was written
   pub starts : List (Option ℕ)
@@ -15,12 +16,12 @@ pub record PartiesModel : Type 0 where
 abbrev pub no_party : Party
 no_party = record { server = 0; number = 0 }
 
--- the party at a place of a block
+-- the party at a slot of a block
 abbrev pub party_in : Option ℕ → List Party → ℕ → Party
 party_in None parties k = no_party
 party_in (Some start) parties k = entries_of no_party parties (start + k)
 
--- the party of a place
+-- the party of a slot
 abbrev pub party_at : List (Option ℕ) → List Party → ℕ → Party
 party_at starts parties k = party_in (entries_of None starts (k / BLOCK)) parties (k % BLOCK)
 

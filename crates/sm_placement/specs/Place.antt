@@ -12,6 +12,8 @@ use Rattle.sm_placement.specs.Sums.{put, put2, bit, sum_below, count_below}
 use Rattle.sm_placement.specs.Setup.{Sizes}
 use Rattle.sm_placement.specs.Rows.{is_live, live_in}
 
+-- A placement, read by the numbers of shards and servers: the cells with their last call numbers, which servers are down, the
+-- entries of the published map, and how many servers may be down at once (SM 2021).
 pub record Place : Type 0 where
   -- by shard, then by server
   pub cells : ℕ → ℕ → Cell
@@ -36,6 +38,7 @@ weight cell load = if is_absent cell then 0 else load
 abbrev pub load_of : Sizes → (ℕ → ℕ → Cell) → ℕ → ℕ
 load_of c cells v = sum_below c.shards (λ s. weight (cells s v) (c.load s))
 
+-- the load of a server in a placement: the loads of all shards whose cell there is not absent
 abbrev pub load_at : Sizes → Place → ℕ → ℕ
 load_at c p v = load_of c p.cells v
 
@@ -98,6 +101,7 @@ abbrev pub with_served : Place → ℕ → ℕ → Result Served Refusal → Res
 with_served p s v (Ok served) = Ok (record { place = set_last (set_cell p s v served.cell) s v served.last; fresh = served.fresh })
 with_served p s v (Err why) = Err why
 
+-- the placement after a numbered call, and whether the call had its effect now; or why the call is refused
 abbrev pub called_numbered : Sizes → Place → ℕ → ℕ → Call → ℕ → Result CallEffect Refusal
 called_numbered c p s v call number = with_served p s v (numbered_answer_at c p s v call number)
 

@@ -14,7 +14,7 @@ pub record ServerRow : Type 0 where
   pub region : List ℕ
   pub room : ℕ
 
--- a shard: its name, the load of each replica, how many replicas it wants, how many of them may be away at once,
+-- a shard: its name, the load of each replica, how many replicas it wants, how many of them may be away at once (SM 2021),
 -- and in how many regions its replicas are to stand
 pub record ShardRow : Type 0 where
   pub name : List ℕ
@@ -23,13 +23,16 @@ pub record ShardRow : Type 0 where
   pub cap : ℕ
   pub spread : ℕ
 
+-- a configuration as contracts see it: its servers and its shards, each numbered by its position in its list
 pub record Setup : Type 0 where
   pub servers : List ServerRow
   pub shards : List ShardRow
 
+-- the names of all servers, in the order of their numbers
 abbrev pub names_of_servers : Setup → List (List ℕ)
 names_of_servers setup = map (λ r. r.name) setup.servers
 
+-- the names of all shards, in the order of their numbers
 abbrev pub names_of_shards : Setup → List (List ℕ)
 names_of_shards setup = map (λ r. r.name) setup.shards
 
@@ -69,6 +72,7 @@ is_good_server r = nat_le r.room MOST_LOAD
 abbrev pub is_good_shard : ShardRow → Bool
 is_good_shard r = nat_le r.load MOST_LOAD && (nat_le r.want MOST_REPLICAS && (nat_le r.cap MOST_REPLICAS && (nat_le r.spread MOST_REPLICAS && nat_le r.cap r.want)))
 
+-- the numbers of every server and of every shard are good: within their limits, and no cap above its want
 abbrev pub has_good_numbers : Setup → Bool
 has_good_numbers setup = list_all is_good_server setup.servers && list_all is_good_shard setup.shards
 
@@ -96,10 +100,12 @@ same_shard a b = bytes_eq a.name b.name && ((a.load == b.load) && ((a.want == b.
 abbrev pub same_setup : Setup → Setup → Bool
 same_setup a b = pointwise same_server a.servers b.servers && pointwise same_shard a.shards b.shards
 
+-- that two servers agree is an equivalence
 pub same_server_laws : IsEquivalence same_server
 same_server_laws =
     and_equiv (on_equiv (λ r. r.name) nat_list_eq_equiv) (and_equiv (on_equiv (λ r. r.region) nat_list_eq_equiv) (on_equiv (λ r. r.room) nat_eq_equiv))
 
+-- that two shards agree is an equivalence
 pub same_shard_laws : IsEquivalence same_shard
 same_shard_laws =
     and_equiv (on_equiv (λ r. r.name) nat_list_eq_equiv)
@@ -107,12 +113,15 @@ same_shard_laws =
     (and_equiv (on_equiv (λ r. r.want) nat_eq_equiv)
     (and_equiv (on_equiv (λ r. r.cap) nat_eq_equiv) (on_equiv (λ r. r.spread) nat_eq_equiv))))
 
+-- that two configurations are the same is an equivalence
 pub same_setup_laws : IsEquivalence same_setup
 same_setup_laws = and_equiv (on_equiv (λ c. c.servers) (lists_equiv same_server_laws)) (on_equiv (λ c. c.shards) (lists_equiv same_shard_laws))
 
+-- what is read at a number that no server has: no name, no region and no room
 abbrev pub no_server : ServerRow
 no_server = record { name = []; region = []; room = 0 }
 
+-- what is read at a number that no shard has: no name, and 0 for each of its numbers
 abbrev pub no_shard : ShardRow
 no_shard = record { name = []; load = 0; want = 0; cap = 0; spread = 0 }
 
@@ -124,7 +133,7 @@ pub record Sizes : Type 0 where
   pub load : ℕ → ℕ
   pub floor : ℕ → ℕ
 
--- the floor of a shard is the number of live replicas that it never falls below
+-- the numbers of this configuration; a shard's floor is its want less its cap: the live replicas below which it never falls
 abbrev pub sizes_of : Setup → Sizes
 sizes_of setup = record {
   servers = length setup.servers;

@@ -137,26 +137,26 @@ impl Cells {
         })
     }
 
-    /// The cell at a place.
-    pub fn get(&self, place: usize) -> Cell
-        requires { place < length self.now }
-        ensures { result ≡ entries_of Cell.Absent self.now place }
+    /// The cell at a slot.
+    pub fn get(&self, slot: usize) -> Cell
+        requires { slot < length self.now }
+        ensures { result ≡ entries_of Cell.Absent self.now slot }
     {
-        let state = self.states[place];
+        let state = self.states[slot];
         if !has_party(state) {
             return cell_of(state, no_party());
         }
-        cell_of(state, self.parties.get(place))
+        cell_of(state, self.parties.get(slot))
     }
 
-    /// Sets the cell at a place. Takes no memory.
-    pub fn set(&mut self, place: usize, cell: Cell)
-        requires { place < length self.old }
-        ensures { self.new ≡ slice_set self.old place cell }
+    /// Sets the cell at a slot. Takes no memory.
+    pub fn set(&mut self, slot: usize, cell: Cell)
+        requires { slot < length self.old }
+        ensures { self.new ≡ slice_set self.old slot cell }
     {
-        self.states[place] = state_of_cell(&cell);
+        self.states[slot] = state_of_cell(&cell);
         match named_party(&cell) {
-            Some(party) => self.parties.set(place, party),
+            Some(party) => self.parties.set(slot, party),
             None => {}
         }
     }

@@ -118,8 +118,8 @@ fn are_name_bytes(text: &str) -> bool
     text.bytes().all(is_name_byte)
 }
 
-/// Whether a text is a name.
-fn is_name(text: &str) -> bool
+/// Whether a text is a name: 1 to 32 letters or digits of ASCII, `-`, `.` and `_`.
+pub fn is_name(text: &str) -> bool
     ensures { result ≡ is_name text.now }
 {
     !text.is_empty() && text.len() <= MOST_NAME_BYTES && are_name_bytes(text)

@@ -6,7 +6,7 @@ ghost use Rattle.sm_placement.specs.Lasts.{padded};
 use std::alloc::{AllocError, Global};
 use std::marker::Model;
 
-/// A number for each place, 0 at first. There is room for all of them from the beginning, and none is written before
+/// A number for each slot, 0 at first. There is room for all of them from the beginning, and none is written before
 /// the first is set or all are forgotten.
 #[derive(Drop)]
 pub struct Lasts {
@@ -38,12 +38,12 @@ fn write_all(numbers: &mut Vec<u64>, count: usize)
     }
 }
 
-/// The number of a place, 0 behind those that are written.
+/// The number of a slot, 0 behind those that are written.
 #[tactic(auto, unfolding(crate::specs::Layout::entries_of))]
-fn number_at(numbers: &[u64], place: usize) -> u64
-    ensures { result ≡ entries_of 0 numbers.now place }
+fn number_at(numbers: &[u64], slot: usize) -> u64
+    ensures { result ≡ entries_of 0 numbers.now slot }
 {
-    match numbers.get(place) {
+    match numbers.get(slot) {
         Some(number) => *number,
         None => 0,
     }
@@ -72,20 +72,20 @@ impl Lasts {
         })
     }
 
-    /// The number of a place.
-    pub fn get(&self, place: usize) -> u64
-        ensures { result ≡ entries_of 0 self.now place }
+    /// The number of a slot.
+    pub fn get(&self, slot: usize) -> u64
+        ensures { result ≡ entries_of 0 self.now slot }
     {
-        number_at(&self.numbers, place)
+        number_at(&self.numbers, slot)
     }
 
-    /// Sets the number of a place. Takes no memory.
-    pub fn set(&mut self, place: usize, number: u64)
-        requires { place < length self.old }
-        ensures { self.new ≡ slice_set self.old place number }
+    /// Sets the number of a slot. Takes no memory.
+    pub fn set(&mut self, slot: usize, number: u64)
+        requires { slot < length self.old }
+        ensures { self.new ≡ slice_set self.old slot number }
     {
         write_all(&mut self.numbers, self.count);
-        self.numbers[place] = number;
+        self.numbers[slot] = number;
     }
 
     /// Sets all numbers to 0. Takes no memory.

@@ -15,7 +15,7 @@ mod placement;
 mod row;
 mod table;
 
-pub use config::{Config, ConfigFault, Server, Shard};
+pub use config::{Config, ConfigFault, Server, Shard, is_name};
 pub use entry::Entry;
 pub use laws::{
     answered_where_allowed, lead_where_described, live_moves, numbered_as_called, serving_by_lead,

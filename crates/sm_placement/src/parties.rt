@@ -1,4 +1,4 @@
-//! Who else has a part in a handover, for each place of a list: in blocks, each written when a place of it first has a
+//! Who else has a part in a handover, for each slot of a list: in blocks, each written when a slot of it first has a
 //! party.
 ghost use Rattle.std.specs.Prelude.{◌≡◌, ◌<◌, ◌≤◌, ◌*◌, ◌^◌, length, vec_capacity, IfOk, Some, None};
 ghost use Rattle.sm_placement.specs.declared.parties.TheConstants.{BLOCK};
@@ -9,7 +9,7 @@ use sm_server::ServerId;
 use std::alloc::{AllocError, Global};
 use std::marker::Model;
 
-/// How many places share a block. A block of parties is one page of memory.
+/// How many slots share a block. A block of parties is one page of memory.
 pub const BLOCK: usize = 256;
 
 /// The other server of a handover, and the handover's number.
@@ -19,7 +19,7 @@ pub struct Party {
     pub number: u64,
 }
 
-/// A party for each place. There is room for all of them from the beginning, and none is written before it is needed:
+/// A party for each slot. There is room for all of them from the beginning, and none is written before it is needed:
 /// a block that has had no party has no start.
 pub struct Parties {
     starts: Vec<Option<usize>>,
@@ -60,7 +60,7 @@ pub fn no_party() -> Party
 impl Parties {
     ghost use Rattle.sm_placement.specs.Parties.{party_at};
 
-    /// Room for the parties of this many places.
+    /// Room for the parties of this many slots.
     pub fn new(alloc: Global, count: usize) -> Result<Parties, AllocError>
         requires { count < 2 ^ 32 }
         ensures room { IfOk result (λ p. count ≤ length p.starts * BLOCK) }
@@ -84,13 +84,13 @@ impl Parties {
         })
     }
 
-    /// The party of a place.
-    pub fn get(&self, place: usize) -> Party
-        requires { place < length self.now.starts * BLOCK }
-        ensures { result ≡ party_at self.now.starts self.now.parties place }
+    /// The party of a slot.
+    pub fn get(&self, slot: usize) -> Party
+        requires { slot < length self.now.starts * BLOCK }
+        ensures { result ≡ party_at self.now.starts self.now.parties slot }
     {
-        match self.starts[place / BLOCK] {
-            Some(start) => self.parties[start + place % BLOCK],
+        match self.starts[slot / BLOCK] {
+            Some(start) => self.parties[start + slot % BLOCK],
             None => no_party(),
         }
     }
@@ -125,13 +125,13 @@ impl Parties {
         }
     }
 
-    /// Sets the party of a place. Takes no memory.
-    pub fn set(&mut self, place: usize, party: Party)
-        requires { place < length self.old.starts * BLOCK }
-        ensures parties { party_at self.new.starts self.new.parties ≡ put (party_at self.old.starts self.old.parties) place party }
+    /// Sets the party of a slot. Takes no memory.
+    pub fn set(&mut self, slot: usize, party: Party)
+        requires { slot < length self.old.starts * BLOCK }
+        ensures parties { party_at self.new.starts self.new.parties ≡ put (party_at self.old.starts self.old.parties) slot party }
         ensures blocks { length self.new.starts ≡ length self.old.starts }
     {
-        let start = self.start_of(place / BLOCK);
-        self.parties[start + place % BLOCK] = party;
+        let start = self.start_of(slot / BLOCK);
+        self.parties[start + slot % BLOCK] = party;
     }
 }

@@ -15,8 +15,11 @@ use std::marker::Model;
 /// Who serves a shard: executes requests for it, as a primary, or as a prepared server to which the owner forwards.
 #[derive(Clone, Copy, Debug, PartialEq, Eq)]
 pub enum Serving {
+    /// No server does.
     Nobody,
+    /// This server does, and no other.
     One(ServerId),
+    /// So many servers do, two or more.
     Several(u32),
 }
 
@@ -126,6 +129,7 @@ impl Placement {
         self.table.last(shard, server)
     }
 
+    /// Whether a server is down, so that it refuses every call.
     pub fn is_down(&self, server: ServerId) -> bool
         requires { server < length self.now.setup.servers }
         ensures { result ≡ (place_of self.now).down server }

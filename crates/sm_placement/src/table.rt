@@ -202,6 +202,7 @@ impl Table {
         shard.number() as usize * self.down.len() + server.number() as usize
     }
 
+    /// What a server has of a shard.
     pub fn cell(&self, shard: ShardId, server: ServerId) -> Cell
         requires shard { shard < length self.now.setup.shards }
         requires server { server < length self.now.setup.servers }
@@ -219,6 +220,7 @@ impl Table {
         self.lasts.get(self.slot(shard, server))
     }
 
+    /// Whether a server is down.
     pub fn is_down(&self, server: ServerId) -> bool
         requires { server < length self.now.setup.servers }
         ensures { result ≡ down_of self.now server }

@@ -1,4 +1,4 @@
--- Beyond the row there is nothing, and within it the cell stands at its place.
+-- Beyond the row there is nothing, and within it the cell stands at its slot.
 use Rattle.std.proofs.Common.{◌+◌, ◌*◌, ◌<◌, ◌∙◌, ℕ, sym, ap, arith}
 use Rattle.sm_server.specs.declared.call.Cell.TheVariants.{Absent}
 use Rattle.sm_placement.specs.Layout.{entries_of}

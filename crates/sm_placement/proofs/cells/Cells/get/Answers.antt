@@ -1,4 +1,4 @@
--- The state's cell, with the party of its place where it has one.
+-- The state's cell, with the party of its slot where it has one.
 use Rattle.std.proofs.Common.{◌∙◌, length, ap, arith, sym}
 use Rattle.sm_placement.specs.declared.parties.Party.{Party}
 use Rattle.sm_placement.specs.Parties.{party_at}
@@ -11,8 +11,8 @@ index-state-requires c = omega (arith, c.requires, ap length c.self.view_is, len
 
 pub returns-then-not-has_party : goal.returns-then-not-has_party
 returns-then-not-has_party c =
-    c.cell_of.ensures ∙ cell_of-any c.index-state.result.now c.no_party.result (party_at c.self.inside.parties.starts c.self.inside.parties.parties c.args.place) (sym c.has_party.ensures ∙ c.if-not-has_party.true)
-    ∙ with_parties-read c.self.inside.states.items (party_at c.self.inside.parties.starts c.self.inside.parties.parties) c.args.place c.index-state.result.now c.self.view_is c.requires c.index-state.ensures
+    c.cell_of.ensures ∙ cell_of-any c.index-state.result.now c.no_party.result (party_at c.self.inside.parties.starts c.self.inside.parties.parties c.args.slot) (sym c.has_party.ensures ∙ c.if-not-has_party.true)
+    ∙ with_parties-read c.self.inside.states.items (party_at c.self.inside.parties.starts c.self.inside.parties.parties) c.args.slot c.index-state.result.now c.self.view_is c.requires c.index-state.ensures
 
 pub get-requires : goal.get-requires
 get-requires c = omega (arith, c.requires, c.self.invariant, ap length c.self.view_is, length-with_parties c.self.inside.states.items (party_at c.self.inside.parties.starts c.self.inside.parties.parties))
@@ -20,4 +20,4 @@ get-requires c = omega (arith, c.requires, c.self.invariant, ap length c.self.vi
 pub returns : goal.returns
 returns c =
     c.cell_of-2.ensures ∙ ap (λ (p : Party). cell_of c.index-state.result.now p) c.get.ensures
-    ∙ with_parties-read c.self.inside.states.items (party_at c.self.inside.parties.starts c.self.inside.parties.parties) c.args.place c.index-state.result.now c.self.view_is c.requires c.index-state.ensures
+    ∙ with_parties-read c.self.inside.states.items (party_at c.self.inside.parties.starts c.self.inside.parties.parties) c.args.slot c.index-state.result.now c.self.view_is c.requires c.index-state.ensures

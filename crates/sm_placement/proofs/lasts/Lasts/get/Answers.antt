@@ -6,4 +6,4 @@ use Rattle.sm_placement.proofs.lasts.Lasts.get.Goals as goal
 
 pub returns : goal.returns
 returns c =
-    (rw c.deref.ensures.value at c.number_at.ensures) ∙ sym (entries_of-padded c.self.inside.count c.self.inside.numbers.items c.args.place) ∙ ap (λ (xs : List ℕ). entries_of 0 xs c.args.place) c.self.view_is
+    (rw c.deref.ensures.value at c.number_at.ensures) ∙ sym (entries_of-padded c.self.inside.count c.self.inside.numbers.items c.args.slot) ∙ ap (λ (xs : List ℕ). entries_of 0 xs c.args.slot) c.self.view_is
