@@ -101,25 +101,31 @@ to_list (Handed u v) = Some v
 abbrev pub refused_line : Why → Hold → Line
 refused_line why h = record { tests = (false, why) ∷ []; change = h }
 
+-- The line of prepare_add of s at v, where u is the owner: the lead At(u) becomes Ready(u, v), and the right to the absent cell
+-- and room for the load leave the hold.
 abbrev pub prepare_add_line : Sizes → ℕ → ℕ → ℕ → Hold → Line
 prepare_add_line c s v u h = record {
   tests = (has_crown h s, NoCrown) ∷ (has_lead h s (At u), WrongLead) ∷ (has_right h s v, NoRight) ∷ (has_cell h s v Absent, WrongState) ∷ (has_room h v (c.load s), NoRoom) ∷ [];
   change = pay_room (with_cell (with_lead h s (Ready u v)) s v None) v (c.load s);
 }
 
+-- the line of prepare_drop of s at u, where v is the new owner: the lead Ready(u, v) becomes Handing(u, v)
 abbrev pub prepare_drop_line : ℕ → ℕ → ℕ → Hold → Line
 prepare_drop_line s u v h = record {
   tests = (has_crown h s, NoCrown) ∷ (has_lead h s (Ready u v), WrongLead) ∷ [];
   change = with_lead h s (Handing u v);
 }
 
+-- The line of add of s at v as secondary: the right to the absent cell becomes one to a secondary, room for the load leaves the
+-- hold, and one spare replica comes in.
 abbrev pub add_secondary_line : Sizes → ℕ → ℕ → Hold → Line
 add_secondary_line c s v h = record {
   tests = (has_right h s v, NoRight) ∷ (has_cell h s v Absent, WrongState) ∷ (has_room h v (c.load s), NoRoom) ∷ [];
   change = get_spare (pay_room (with_cell h s v (Some Secondary)) v (c.load s)) s 1;
 }
 
--- add as primary, by the crown
+-- The line of add of s at v as primary, by the lead of the crown. Handing(u, v) becomes Handed(u, v). Gone becomes At(v): then the
+-- right to the absent cell and room for the load leave the hold, and one spare replica comes in.
 abbrev pub add_primary_line : Sizes → ℕ → ℕ → Hold → Option Lead → Line
 add_primary_line c s v h None = refused_line NoCrown h
 add_primary_line c s v h (Some (Handing u w)) = record {
@@ -132,14 +138,17 @@ add_primary_line c s v h (Some Gone) = record {
 }
 add_primary_line c s v h (Some lead) = refused_line WrongLead h
 
--- drop, where the right to the cell is held
+-- The line of drop of s at v, where the right to the cell is held: the right to a secondary becomes one to an absent cell, one spare
+-- replica leaves the hold, and room for the load comes in.
 abbrev pub drop_held_line : Sizes → ℕ → ℕ → Hold → Line
 drop_held_line c s v h = record {
   tests = (has_cell h s v Secondary, WrongState) ∷ (has_spare h s, NoSpare) ∷ [];
   change = get_room (pay_spare (with_cell h s v (Some Absent)) s 1) v (c.load s);
 }
 
--- drop, where it isn't, by the crown
+-- The line of drop of s at v, where that right isn't held, by the lead of the crown. Handed(v, w) becomes At(w), once v isn't listed;
+-- Ready(u, v) becomes At(u); At(v) becomes Gone, once no server is listed, and one spare replica leaves the hold. Each time the
+-- right to the absent cell and room for the load come in.
 abbrev pub drop_led_line : Sizes → ℕ → ℕ → Hold → Option Lead → Line
 drop_led_line c s v h None = refused_line NoRight h
 drop_led_line c s v h (Some (Handed u w)) = record {
@@ -156,31 +165,36 @@ drop_led_line c s v h (Some (At u)) = record {
 }
 drop_led_line c s v h (Some lead) = refused_line WrongLead h
 
+-- the line of change of s at v to primary: the lead Gone becomes At(v), and the right to the secondary cell leaves the hold
 abbrev pub to_primary_line : ℕ → ℕ → Hold → Line
 to_primary_line s v h = record {
   tests = (has_crown h s, NoCrown) ∷ (has_lead h s Gone, WrongLead) ∷ (has_right h s v, NoRight) ∷ (has_cell h s v Secondary, WrongState) ∷ [];
   change = with_cell (with_lead h s (At v)) s v None;
 }
 
+-- The line of change of s at u to secondary: the lead At(u) becomes Gone, once no server is listed, and the right to a secondary
+-- cell comes in.
 abbrev pub to_secondary_line : ℕ → ℕ → Hold → Line
 to_secondary_line s u h = record {
   tests = (has_crown h s, NoCrown) ∷ (has_lead h s (At u), WrongLead) ∷ (is_unlisted h s, StillListed) ∷ (not (has_right h s u), Twice) ∷ [];
   change = with_cell (with_lead h s Gone) s u (Some Secondary);
 }
 
--- publish, by the crown
+-- the line of publish of s: the crown lists the server that a publication lists under its lead, and the lead stays
 abbrev pub publish_line : ℕ → Hold → Option Lead → Line
 publish_line s h None = refused_line NoCrown h
 publish_line s h (Some lead) = record { tests = []; change = with_crown h s lead (to_list lead) }
 
--- unlist, by the crown
+-- the line of unlist of s: the crown lists no server, and its lead stays
 abbrev pub unlist_line : ℕ → Hold → Option Lead → Line
 unlist_line s h None = refused_line NoCrown h
 unlist_line s h (Some lead) = record { tests = []; change = with_crown h s lead None }
 
+-- the line of a signal with this parcel: the hold must have all its rights, and they leave it
 abbrev pub signal_line : Rights → Hold → Line
 signal_line p h = record { tests = (is_none (first_short h p), NotCarried) ∷ []; change = minus h p }
 
+-- the line of a wait for this parcel: the hold must have no cell right and no crown at its keys, and its rights come in
 abbrev pub wait_line : Rights → Hold → Line
 wait_line p h = record { tests = (is_apart h p, Twice) ∷ []; change = plus h p }
 
@@ -209,10 +223,12 @@ after c signals i h = decided (line_of c signals i h)
 
 -- ---- the holds along a code
 
+-- the hold that an instruction leaves, or this one where it may not be made
 abbrev pub hold_or : Hold → Result Hold Why → Hold
 hold_or h (Ok next) = next
 hold_or h (Err why) = h
 
+-- the hold behind an instruction: as it was where the instruction may not be made, and where there is none
 abbrev pub hold_past : Sizes → (ℕ → Rights) → Option Instr → Hold → Hold
 hold_past c signals None h = h
 hold_past c signals (Some i) h = hold_or h (after c signals i h)

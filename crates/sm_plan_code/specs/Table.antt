@@ -27,17 +27,19 @@ use Rattle.sm_plan_code.specs.After.{Line, first_why, unless_refused, after, has
 
 -- ---- portions
 
+-- the portion of these rights, at most one of each kind
 abbrev pub portion : Option CellRight → Option Crown → Option Room → Option Spare → Portion
 portion cell crown room spare = record { cell = cell; crown = crown; room = room; spare = spare }
 
+-- the portion without any right
 abbrev pub nothing : Portion
 nothing = portion None None None None
 
--- the right to the cell of s at v
+-- the right to the cell of s at v, in this state
 abbrev pub cell : ℕ → ℕ → PlainCell → Option CellRight
 cell s v state = Some (record { shard = s; server = v; state = state })
 
--- the crown of s
+-- the crown of s, at this lead and listed server
 abbrev pub crown : ℕ → Lead → Option ℕ → Option Crown
 crown s lead listed = Some (record { shard = s; lead = lead; listed = listed })
 
@@ -46,11 +48,11 @@ abbrev pub held_crown : ℕ → Option (Lead × Option ℕ) → Option Crown
 held_crown s None = None
 held_crown s (Some held) = crown s held.0 held.1
 
--- room at v
+-- so much room at v
 abbrev pub room : ℕ → ℕ → Option Room
 room v amount = Some (record { server = v; amount = amount })
 
--- spare replicas of s
+-- so many spare replicas of s
 abbrev pub spare : ℕ → ℕ → Option Spare
 spare s amount = Some (record { shard = s; amount = amount })
 
@@ -60,25 +62,31 @@ spare s amount = Some (record { shard = s; amount = amount })
 abbrev pub no_exchange : Exchange
 no_exchange = record { out = nothing; got = nothing }
 
+-- prepare_add of s at v, where u is the owner: the crown at At(u), the right to the absent cell and room for the load are given up
+-- for the crown at Ready(u, v)
 abbrev pub prepare_add_exchange : Sizes → ℕ → ℕ → ℕ → Option ℕ → Exchange
 prepare_add_exchange c s v u listed = record {
   out = portion (cell s v Absent) (crown s (At u) listed) (room v (c.load s)) None;
   got = portion None (crown s (Ready u v) listed) None None;
 }
 
+-- prepare_drop of s at u, where v is the new owner: the crown at Ready(u, v) is given up for the crown at Handing(u, v)
 abbrev pub prepare_drop_exchange : ℕ → ℕ → ℕ → Option ℕ → Exchange
 prepare_drop_exchange s u v listed = record {
   out = portion None (crown s (Ready u v) listed) None None;
   got = portion None (crown s (Handing u v) listed) None None;
 }
 
+-- add of s at v as secondary: the right to the absent cell and room for the load are given up for the right to a secondary and one
+-- spare replica
 abbrev pub add_secondary_exchange : Sizes → ℕ → ℕ → Exchange
 add_secondary_exchange c s v = record {
   out = portion (cell s v Absent) None (room v (c.load s)) None;
   got = portion (cell s v Secondary) None None (spare s 1);
 }
 
--- add as primary, by the lead of the crown
+-- add of s at v as primary, by the lead of the crown: at Handing(u, v) that crown is given up for the one at Handed(u, v), and at
+-- Gone with the right to the absent cell and room for the load, for the one at At(v) and one spare replica
 abbrev pub add_primary_exchange : Sizes → ℕ → ℕ → Option ℕ → Option Lead → Exchange
 add_primary_exchange c s v listed (Some (Handing u w)) = record {
   out = portion None (crown s (Handing u v) listed) None None;
@@ -90,14 +98,17 @@ add_primary_exchange c s v listed (Some Gone) = record {
 }
 add_primary_exchange c s v listed _ = no_exchange
 
--- drop, where the right to the cell is held
+-- drop of s at v, where the right to the cell is held: the right to a secondary and one spare replica are given up for the right to
+-- an absent cell and room for the load
 abbrev pub drop_held_exchange : Sizes → ℕ → ℕ → Exchange
 drop_held_exchange c s v = record {
   out = portion (cell s v Secondary) None None (spare s 1);
   got = portion (cell s v Absent) None (room v (c.load s)) None;
 }
 
--- drop, where it isn't, by the lead of the crown
+-- drop of s at v, where that right isn't held, by the lead of the crown: at Handed(v, w) that crown is given up for the one at At(w),
+-- at Ready(u, v) for the one at At(u), and at At(v) with one spare replica for the one at Gone, where neither lists a server; each
+-- time the right to the absent cell and room for the load are got too
 abbrev pub drop_led_exchange : Sizes → ℕ → ℕ → Option ℕ → Option Lead → Exchange
 drop_led_exchange c s v listed (Some (Handed u w)) = record {
   out = portion None (crown s (Handed v w) listed) None None;
@@ -113,19 +124,22 @@ drop_led_exchange c s v listed (Some (At u)) = record {
 }
 drop_led_exchange c s v listed _ = no_exchange
 
+-- change of s at v to primary: the crown at Gone and the right to the secondary cell are given up for the crown at At(v)
 abbrev pub to_primary_exchange : ℕ → ℕ → Option ℕ → Exchange
 to_primary_exchange s v listed = record {
   out = portion (cell s v Secondary) (crown s Gone listed) None None;
   got = portion None (crown s (At v) listed) None None;
 }
 
+-- change of s at u to secondary: the crown at At(u) is given up for the crown at Gone and the right to a secondary cell; neither
+-- crown lists a server
 abbrev pub to_secondary_exchange : ℕ → ℕ → Exchange
 to_secondary_exchange s u = record {
   out = portion None (crown s (At u) None) None None;
   got = portion (cell s u Secondary) (crown s Gone None) None None;
 }
 
--- publish, by the lead of the crown
+-- publish of s: the crown is given up for one that lists the server that a publication lists under its lead
 abbrev pub publish_exchange : ℕ → Option ℕ → Option Lead → Exchange
 publish_exchange s listed None = no_exchange
 publish_exchange s listed (Some lead) = record {
@@ -133,7 +147,7 @@ publish_exchange s listed (Some lead) = record {
   got = portion None (crown s lead (to_list lead)) None None;
 }
 
--- unlist, by the lead of the crown
+-- unlist of s: the crown is given up for one that lists no server
 abbrev pub unlist_exchange : ℕ → Option ℕ → Option Lead → Exchange
 unlist_exchange s listed None = no_exchange
 unlist_exchange s listed (Some lead) = record {

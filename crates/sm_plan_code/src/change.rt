@@ -1,5 +1,5 @@
 //! What an instruction exchanges: its line of the table of rights, as a change of what is held.
-ghost use Rattle.std.specs.Prelude.{◌≡◌, ◌<◌, ◌^◌, ℕ, None, IfOk, IfErr, OnOk, IfSome, Ok, Err, length};
+ghost use Rattle.std.specs.Prelude.{◌≡◌, ◌<◌, ◌^◌, ℕ, None, Some, IfOk, IfErr, OnOk, IfSome, Ok, Err, length};
 ghost use Rattle.sm_placement.specs.Setup.{Sizes, sizes_of};
 ghost use Rattle.sm_reservation.specs.Rights.{Rights};
 ghost use Rattle.sm_reservation.specs.Hold.{minus, plus};
@@ -9,7 +9,7 @@ ghost use Rattle.sm_reservation.specs.Change.{portion_rights};
 ghost use Rattle.sm_reservation.specs.Short.{first_short};
 ghost use Rattle.sm_plan_code.specs.Instr.{shard_of, IsOwn};
 ghost use Rattle.sm_plan_code.specs.After.{after, line_of, to_list, lead_held, listed_of, prepare_add_line, prepare_drop_line, add_secondary_line, add_primary_line, drop_held_line, drop_led_line, to_primary_line, to_secondary_line, publish_line, unlist_line};
-ghost use Rattle.sm_plan_code.specs.Table.{portion, cell, crown, held_crown, exchanged, exchange_of, needs_of, gives_of, no_exchange, IsSmallPortion, prepare_add_exchange, prepare_drop_exchange, add_secondary_exchange, add_primary_exchange, drop_held_exchange, drop_led_exchange, to_primary_exchange, to_secondary_exchange, publish_exchange, unlist_exchange};
+ghost use Rattle.sm_plan_code.specs.Table.{portion, cell, crown, room, held_crown, exchanged, exchange_of, needs_of, gives_of, no_exchange, IsSmallPortion, prepare_add_exchange, prepare_drop_exchange, add_secondary_exchange, add_primary_exchange, drop_held_exchange, drop_led_exchange, to_primary_exchange, to_secondary_exchange, publish_exchange, unlist_exchange};
 
 use crate::{Instr, Why};
 use sm_placement::{Config, Lead};
@@ -247,6 +247,26 @@ fn drop_held(
     })
 }
 
+/// What is exchanged for a server's part in the lead of a crown: its room comes back, and the crown has another lead.
+fn part_dropped(
+    config: &Config,
+    server: ServerId,
+    held: &Crown,
+    next: Lead,
+    spare: Option<Spare>,
+) -> Change
+    requires { held.now.shard < length config.now.shards }
+    ensures { result ≡ record { out = portion None (Some held.now) None spare; got = portion (cell held.now.shard server PlainCell.Absent) (crown held.now.shard next held.now.listed) (room server ((sizes_of config.now).load held.now.shard)) None } }
+{
+    let absent = cell(held.shard, server, PlainCell::Absent);
+    let amount = config.load(held.shard);
+    let room = Some(Room { server, amount });
+    Change {
+        out: portion(None, Some(*held), None, spare),
+        got: portion(absent, led(held, next), room, None),
+    }
+}
+
 /// Drops what a server has by its part in the lead.
 fn drop_led(config: &Config, hold: &Hold, shard: ShardId, server: ServerId) -> Result<Change, Why>
     requires { shard < length config.now.shards }
@@ -284,13 +304,7 @@ fn drop_led(config: &Config, hold: &Hold, shard: ShardId, server: ServerId) -> R
         }
         Lead::Gone | Lead::Handing(_, _) => return Err(Why::WrongLead),
     };
-    let absent = cell(shard, server, PlainCell::Absent);
-    let amount = config.load(shard);
-    let room = Some(Room { server, amount });
-    Ok(Change {
-        out: portion(None, Some(crown), None, spare),
-        got: portion(absent, led(&crown, next), room, None),
-    })
+    Ok(part_dropped(config, server, &crown, next, spare))
 }
 
 /// Makes a secondary the primary of a shard that has none.

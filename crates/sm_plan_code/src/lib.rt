@@ -18,7 +18,7 @@ pub use law::{
     reach_is_exclusive, signal_gives, stays_reachable, wait_takes,
 };
 pub use limits::{
-    MOST_ALLOWANCE, MOST_AMOUNT, MOST_CALLS, MOST_INSTRUCTIONS, MOST_NUMBER, MOST_PLACES,
-    MOST_PLANS, MOST_RIGHTS, MOST_SIGNALS, MOST_STREAMS,
+    MOST_ALLOWANCE, MOST_AMOUNT, MOST_CALLS, MOST_INSTRUCTIONS, MOST_MOVES, MOST_NUMBER,
+    MOST_PLACES, MOST_PLANS, MOST_RIGHTS, MOST_SIGNALS, MOST_STREAMS,
 };
 pub use plan::{Parts, Plan, PlanFault, Stream};

@@ -28,6 +28,9 @@ pub const MOST_AMOUNT: u64 = 4_294_967_295;
 /// How many plans run at a time at most.
 pub const MOST_PLANS: usize = 16;
 
+/// How many moves are planned at once at most.
+pub const MOST_MOVES: usize = 4_096;
+
 /// How many tries a stream's budget, its retries and its refills allow together at most.
 pub const MOST_ALLOWANCE: u32 = 524_288;
 

@@ -118,9 +118,6 @@ module _ (c : Sizes) (p : Place) (plan : PlanModel) (f : ℕ → Progress) (mark
       | inr e ↦ e
     ]
 
-    pub turn : IsNextTurn c plan i (f i).at x
-    turn = next_turn c plan i (f i).at x good here
-
     -- the stream stands behind the instruction
     pub behind_course : (y : Progress) → y.at ≡ (f i).at + 1 → y.ahead ≡ false → y.done ≡ (f i).done →
         y.effects ≡ calls_before (stream_at c plan i) ((f i).at + 1) → IsOnCourse c p plan i y

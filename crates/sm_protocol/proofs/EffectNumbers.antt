@@ -1,6 +1,6 @@
 -- The numbers of calls that have their effect along a list of events: none is there twice.
 use Rattle.sm_protocol.proofs.Below.{◌≡◌, ◌≢◌, ◌⊎◌, ℕ, ◌+◌, ◌<◌, ◌≤◌, Bool, true, false, Ok, refl, sym, ap, ◌∙◌, inl, inr, arith, subst, List, [], ◌∷◌, ◌++◌, ◌==◌, nat_lt, if◌then◌else◌, count_by, cases_Bool, cases_eq, eq-eqb, ne_eqb, eqb-true, lt-ltb, le-ltb, sum_by-cons, bit, sizes_of, CallEffect, StreamId, ServerCall, Instr}
-use Rattle.sm_protocol.proofs.Words.{Passage, State, Progress, opened, progress_of, set_progress, call_number, number_after_try, tried_more, behind_call, ahead_of_call, Happening, Step, Lose, happens, AllFit, EffectsOnce, effect_numbers, effect_numbers_at}
+use Rattle.sm_protocol.proofs.Words.{Passage, State, Progress, opened, progress_of, set_progress, call_number, number_after_try, tried_more, behind_call, ahead_of_call, Happening, Step, Lose, happens, AllFit, EffectsOnce, effect_numbers, effect_numbers_at, effect_of_stream}
 use Rattle.sm_protocol.proofs.Invariant.{IsKept, code_of}
 use Rattle.sm_protocol.proofs.Numbers.{one_stream, goes_on, IsTryNumber, is_try_number}
 use Rattle.sm_protocol.proofs.Tries.{by_answer}
@@ -17,21 +17,17 @@ pub record IsSpent (next : ℕ) (x : StreamId → Progress) (n : ℕ) : Type 0 w
 abbrev pub IsSpentAt : State → ℕ → Type 0
 IsSpentAt w n = IsSpent w.next_number (progress_of w) n
 
--- the numbers of the calls of a stream that have their effect between two states
-abbrev pub effects_between : State → StreamId → State → List ℕ
-effects_between w id new = if nat_lt (progress_of w id).effects (progress_of new id).effects then call_number w (progress_of w id) ∷ [] else []
-
 -- What an event makes of spent numbers: they are spent still, and one that has its effect now wasn't spent and is now.
 pub record SpendsOnce (w new : State) (numbers : List ℕ) : Type 0 where
   pub still : (n : ℕ) → IsSpentAt w n → IsSpentAt new n
   pub now : (numbers ≡ []) ⊎ ((n : ℕ) × (numbers ≡ n ∷ []) × (IsSpentAt w n → ⊥) × IsSpentAt new n)
 
-none_between : (w : State) (id : StreamId) (new : State) → (progress_of new id).effects ≡ (progress_of w id).effects → effects_between w id new ≡ []
+none_between : (w : State) (id : StreamId) (new : State) → (progress_of new id).effects ≡ (progress_of w id).effects → effect_of_stream w id new ≡ []
 none_between w id new e =
     let t : nat_lt (progress_of w id).effects (progress_of new id).effects ≡ false = le-ltb (progress_of w id).effects (progress_of new id).effects (omega arith) in
     rw t refl
 
-one_between : (w : State) (id : StreamId) (new : State) → (progress_of new id).effects ≡ (progress_of w id).effects + 1 → effects_between w id new ≡ call_number w (progress_of w id) ∷ []
+one_between : (w : State) (id : StreamId) (new : State) → (progress_of new id).effects ≡ (progress_of w id).effects + 1 → effect_of_stream w id new ≡ call_number w (progress_of w id) ∷ []
 one_between w id new e =
     let t : nat_lt (progress_of w id).effects (progress_of new id).effects ≡ true = lt-ltb (progress_of w id).effects (progress_of new id).effects (omega arith) in
     rw t refl
@@ -59,7 +55,7 @@ module _ (w : State) (v : IsKept w) where
     }
 
     -- without an effect
-    quiet : w.next_number ≤ new.next_number → y.effects ≡ (progress_of w id).effects → ((n : ℕ) → IsSpentAt w n → y.pending ≡ n → n ≢ 0 → y.ahead ≡ true) → SpendsOnce w new (effects_between w id new)
+    quiet : w.next_number ≤ new.next_number → y.effects ≡ (progress_of w id).effects → ((n : ℕ) → IsSpentAt w n → y.pending ≡ n → n ≢ 0 → y.ahead ≡ true) → SpendsOnce w new (effect_of_stream w id new)
     quiet next e own = record { still = still_by next own; now = inl (none_between w id new (ap (λ b. b.effects) here ∙ e)) }
 
     number : IsTryNumber w.place.last w.next_number (code_of w) (progress_of w) v.numbered id
@@ -67,7 +63,7 @@ module _ (w : State) (v : IsKept w) where
 
     -- with an effect
     first : new.next_number ≡ number_after_try w (progress_of w id) → y.effects ≡ (progress_of w id).effects + 1 → (progress_of w id).ahead ≡ false → ((y.pending ≡ 0) ⊎ (y.ahead ≡ true)) →
-        SpendsOnce w new (effects_between w id new)
+        SpendsOnce w new (effect_of_stream w id new)
     first next e a own =
         let n = number in
         record {
@@ -107,11 +103,11 @@ module _ (w : State) (v : IsKept w) where
   idle_spends numbers e = record { still = λ n s. s; now = inl e }
 
   same_step_spends : (id : StreamId) (y : Progress) (new : State) → progress_of new ≡ (λ a. set_progress w id y a.plan a.stream) → new.next_number ≡ w.next_number →
-      y.pending ≡ (progress_of w id).pending → y.ahead ≡ (progress_of w id).ahead → y.effects ≡ (progress_of w id).effects → SpendsOnce w new (effects_between w id new)
+      y.pending ≡ (progress_of w id).pending → y.ahead ≡ (progress_of w id).ahead → y.effects ≡ (progress_of w id).effects → SpendsOnce w new (effect_of_stream w id new)
   same_step_spends id y new g next p a e = quiet id y new g (omega arith) e (λ n s. spent_still n id y p a s)
 
   lost_spends : (id : StreamId) (y : Progress) (new : State) → progress_of new ≡ (λ a. set_progress w id y a.plan a.stream) → new.next_number ≡ number_after_try w (progress_of w id) →
-      y.pending ≡ call_number w (progress_of w id) → y.ahead ≡ (progress_of w id).ahead → y.effects ≡ (progress_of w id).effects → SpendsOnce w new (effects_between w id new)
+      y.pending ≡ call_number w (progress_of w id) → y.ahead ≡ (progress_of w id).ahead → y.effects ≡ (progress_of w id).effects → SpendsOnce w new (effect_of_stream w id new)
   lost_spends id y new g next p a e =
       quiet id y new g (let n = (number id y new g).grows in omega arith) e (λ n s q z. elim (cases_eq (progress_of w id).pending 0) [
         | inl h ↦ let m : call_number w (progress_of w id) ≡ w.next_number = rw (eq-eqb (progress_of w id).pending 0 h) refl in let u = s.used in absurd (omega arith)
@@ -123,7 +119,7 @@ module _ (w : State) (v : IsKept w) where
   -- a call was served: it has its effect now, or had it before
   served_spends : (id : StreamId) (i : Instr) (x : ServerCall) (effect : CallEffect) → IsTry w id i x → answer_to w id x ≡ Ok effect → (y : Progress) (new : State) →
       progress_of new ≡ (λ a. set_progress w id y a.plan a.stream) → new.next_number ≡ number_after_try w (progress_of w id) →
-      ((y.pending ≡ 0) ⊎ (y.ahead ≡ true)) → y.effects ≡ (progress_of w id).effects + bit effect.fresh → SpendsOnce w new (effects_between w id new)
+      ((y.pending ≡ 0) ⊎ (y.ahead ≡ true)) → y.effects ≡ (progress_of w id).effects + bit effect.fresh → SpendsOnce w new (effect_of_stream w id new)
   served_spends id i x effect t f y new g next own e = elim (cases_Bool effect.fresh) [
     | inl fresh ↦
         let one : y.effects ≡ (progress_of w id).effects + 1 = e ∙ ap (λ b. (progress_of w id).effects + bit b) fresh in
@@ -136,7 +132,7 @@ module _ (w : State) (v : IsKept w) where
         quiet id y new g (let n = (number id y new g).grows in omega arith) none (λ n s p z. elim own [ inl q ↦ absurd (z (sym p ∙ q)) | inr q ↦ q ])
   ]
 
-  by_steps : (id : StreamId) (passage : Passage) → OfSteps w id passage (λ o. SpendsOnce w o.1 (effects_between w id o.1))
+  by_steps : (id : StreamId) (passage : Passage) → OfSteps w id passage (λ o. SpendsOnce w o.1 (effect_of_stream w id o.1))
   by_steps id passage = record {
     idle = λ answer. idle_spends _ (none_between w id w refl);
     refused = λ i x why t e. idle_spends _ (none_between w id w refl);
@@ -153,8 +149,8 @@ module _ (w : State) (v : IsKept w) where
 
   -- the numbers that have their effect by an event that leads to a state
   abbrev numbers_by : Happening → State → List ℕ
-  numbers_by (Step id) new = effects_between w id new
-  numbers_by (Lose id after) new = effects_between w id new
+  numbers_by (Step id) new = effect_of_stream w id new
+  numbers_by (Lose id after) new = effect_of_stream w id new
   numbers_by _ new = []
 
   numbers_are : (e : Happening) → numbers_by e (happens w e).1 ≡ effect_numbers_at w e

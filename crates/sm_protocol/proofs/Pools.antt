@@ -5,10 +5,6 @@ use Rattle.sm_reservation.proofs.ParcelSums.{no_cell}
 use Rattle.sm_protocol.proofs.Invariant.{IsKept}
 use Rattle.sm_protocol.proofs.Steps.{lead_is}
 
-if_some : {A : Type 0} (t : Bool) (x y : A) → (if t then Some x else None) ≡ Some y → (t ≡ true) × (x ≡ y)
-if_some true x y e = (refl, cc)
-if_some false x y e = cc
-
 module _ (w : State) (v : IsKept w) where
   cell_within : (s u : ℕ) (state : PlainCell) → count (pool w) (OfCell s u state) + held w (OfCell s u state) ≤ bit (is_cell state (plain_of (w.place.cells s u)))
   cell_within s u state = go ((true_rights w.sizes w.place).cells s u) refl

@@ -3,7 +3,7 @@ use Rattle.sm_protocol.proofs.Below.{◌≡◌, ℕ, ◌+◌, ◌<◌, ◌≤◌
 use Rattle.sm_protocol.proofs.Words.{Logged, Passage, State, Progress, Mark, plan_at, progress_of, set_progress, reach, behind, ended, step}
 use Rattle.sm_protocol.proofs.Invariant.{IsOnCourse, IsRunning, AreNumbered, IsKept, code_of}
 use Rattle.sm_protocol.proofs.Holds.{share, load, held_moves, held_moves_signal}
-use Rattle.sm_protocol.proofs.Courses.{IsNextTurn, not_ahead, next_turn, good, behind_course, ended_course, stands, posts, awaits, not_posted, not_awaited, some_same}
+use Rattle.sm_protocol.proofs.Courses.{not_ahead, behind_course, ended_course, stands, posts, awaits, not_posted, not_awaited, some_same}
 use Rattle.sm_protocol.proofs.Courses as courses
 use Rattle.sm_protocol.proofs.Numbers.{goes_on, same_try}
 use Rattle.sm_protocol.proofs.Trials.{IsBegun, running}

@@ -6,6 +6,8 @@ use Rattle.sm_protocol.specs.State.{State, stream_id}
 use Rattle.sm_protocol.specs.Steps.{Outcome, Refused, Answered}
 use Rattle.sm_protocol.specs.Happens.{Happening, Step, Lose, Refill, Arrive, PassOn, Approve, Done, Begin, happens}
 
+-- A hand, with which events are made: tokens of streams, permits to end restarts of servers, tickets of requests that were passed on,
+-- and plans to start.
 pub record Hand : Type 0 where
   pub tokens : List StreamId
   -- the servers that may end a restart

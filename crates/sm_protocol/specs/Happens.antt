@@ -31,7 +31,7 @@ refilled w id more None =
     let progress = set_progress w id (record (progress_of w id) { refills = (progress_of w id).refills + more }) in
     (Answered Played.Refilled, record w { progress = progress; log = logged w (Event.Refill id more) Played.Refilled })
 
--- what a server answers to a request by its cell; one that was passed on comes with its ticket, and a pass is recorded here
+-- what a server answers to a request by its cell (SM 2021); one that was passed on comes with its ticket, and a pass is recorded here
 abbrev pub answer_by : Cell → ℕ → Option Ticket → ℕ → Played
 answer_by Cell.Primary v sent place = Played.Executed v
 answer_by (Cell.Forwarding to number) v sent place = Played.Passed to number place

@@ -82,7 +82,7 @@ WithLosses = (setup : Setup) (w : State) → IsReached setup w →
     ((e : Happening) → FitsConfig w.sizes e → (happens w e).0 ≢ Refused) × IsSafe w × SomeCanStepOrSpent w
 
 -- where an event of the stream leads from one state to the other: the number of its try, if the call had its effect just then
-abbrev effect_of_stream : State → StreamId → State → List ℕ
+abbrev pub effect_of_stream : State → StreamId → State → List ℕ
 effect_of_stream w id new = if nat_lt (progress_of w id).effects (progress_of new id).effects then call_number w (progress_of w id) ∷ [] else []
 
 -- the number of the call that has its effect by the event, if there is one

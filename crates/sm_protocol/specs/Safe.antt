@@ -14,7 +14,7 @@ pub record IsAccepted (w : State) (plan : PlanModel) : Type 0 where
   pub up : AreUp w.place plan.streams
 
 -- The server is up, no unfinished stream's code mentions it, fewer servers are down than the limit, each shard that is live
--- at it keeps its floor and what is reserved without it, and the log has two free places.
+-- at it keeps its floor and what is reserved without it (SM 2021, the caps of the TaskController), and the log has two free places.
 pub record IsApproved (w : State) (v : ℕ) : Type 0 where
   pub up : w.place.down v ≡ false
   pub free : (id : StreamId) → is_running w id ≡ true → engages w v id ≡ false

@@ -37,6 +37,8 @@ pub record Mark : Type 0 where
 abbrev pub no_mark : Mark
 no_mark = record { posted = false; awaited = false }
 
+-- A state of the protocol: the placement as it stands, the plans that were begun with how far their streams and signals have come,
+-- the numbers that calls are made under, the log, and the halt flag.
 pub record State : Type 0 where
   -- the numbers of the configuration, and the placement at the opening: neither changes
   pub sizes : Sizes
@@ -81,10 +83,11 @@ no_start = record { plan = record { budget = 0; streams = []; signals = [] }; si
 abbrev pub plan_at : State → ℕ → PlanModel
 plan_at w k = (slice_index_or w.plans k no_start).plan
 
--- how many streams and signals it has
+-- how many streams the plan at a number has
 abbrev pub stream_count : State → ℕ → ℕ
 stream_count w k = length (plan_at w k).streams
 
+-- how many signals the plan at a number has
 abbrev pub signal_count : State → ℕ → ℕ
 signal_count w k = length (plan_at w k).signals
 
@@ -92,10 +95,11 @@ signal_count w k = length (plan_at w k).signals
 abbrev pub stream_id : ℕ → ℕ → StreamId
 stream_id k i = record { plan = k; stream = i }
 
--- a stream as its plan has it, and as it stands
+-- a stream as its plan has it
 abbrev pub stream_parts : State → StreamId → StreamModel
 stream_parts w id = slice_index_or (plan_at w id.plan).streams id.stream no_stream
 
+-- how far a stream has come
 abbrev pub progress_of : State → StreamId → Progress
 progress_of w id = w.progress id.plan id.stream
 
@@ -123,10 +127,11 @@ is_unfinished w k = any_below (stream_count w k) (λ i. not (w.progress k i).don
 abbrev pub set_progress : State → StreamId → Progress → ℕ → ℕ → Progress
 set_progress w id progress = put2 w.progress id.plan id.stream progress
 
--- the log with one more event and its answer, and the state where nothing else changes
+-- the log with one more event and its answer
 abbrev pub logged : State → Event → Played → List Logged
 logged w event answer = w.log ++ record { event = event; answer = answer } ∷ []
 
+-- the state with one more event and its answer in the log, where nothing else changes
 abbrev pub recorded : State → Event → Played → State
 recorded w event answer = record w { log = logged w event answer }
 
@@ -139,10 +144,11 @@ reach at false = at
 abbrev pub hold_at_progress : State → ℕ → ℕ → Progress → Hold
 hold_at_progress w k i progress = hold_before (stream_at w.sizes (plan_at w k) i) (reach progress.at progress.ahead)
 
--- what a stream holds, and what a signal carries
+-- what a stream holds
 abbrev pub hold_of_stream : State → ℕ → ℕ → Hold
 hold_of_stream w k i = hold_at_progress w k i (w.progress k i)
 
+-- what a signal of a plan carries
 abbrev pub parcel_at : State → ℕ → ℕ → Rights
 parcel_at w k q = parcels_of (plan_at w k).signals q
 

@@ -11,6 +11,8 @@ pub mod FirstRows
 pub mod Judging
 pub mod Beyond
 pub mod DownLemmas
+pub mod NextNumbers
+pub mod TruePool
 pub mod Verdicts
 pub mod VerdictCases
 pub mod Holdings

@@ -49,17 +49,19 @@ IsFreeAt pool streams i key = Has (declared streams i) key → Agree (declared s
 
 -- ---- room, spare replicas and servers
 
--- how much room of a server, and how many spare replicas of a shard, the streams declare together
+-- how much room of a server the streams declare together
 abbrev pub declared_room : List StreamModel → ℕ → ℕ
 declared_room streams v = sum_by (λ stream. (hold_of stream.holds).room v) streams
 
+-- how many spare replicas of a shard the streams declare together
 abbrev pub declared_spare : List StreamModel → ℕ → ℕ
 declared_spare streams s = sum_by (λ stream. (hold_of stream.holds).spare s) streams
 
--- the pool has the room, and the spare replicas, that the streams declare together
+-- the pool has the room of a server that the streams declare together
 abbrev pub HasDeclaredRoom : Hold → List StreamModel → ℕ → Type 0
 HasDeclaredRoom pool streams v = declared_room streams v ≤ pool.room v
 
+-- the pool has the spare replicas of a shard that the streams declare together
 abbrev pub HasDeclaredSpare : Hold → List StreamModel → ℕ → Type 0
 HasDeclaredSpare pool streams s = declared_spare streams s ≤ pool.spare s
 
@@ -73,18 +75,23 @@ IsUpWhereMentioned p streams v = IsMentioned streams v → p.down v ≡ false
 
 -- ---- what is kept everywhere, and where it first is not
 
+-- each cell right and each crown that a stream declares is true of the placement
 abbrev pub AreTrue : Sizes → Place → List StreamModel → Type 0
 AreTrue c p streams = (i : ℕ) (key : Key) → IsTrueAt c p streams i key
 
+-- each cell right and each crown that a stream declares is in the pool in just that state, and no earlier stream declares its key
 abbrev pub AreFree : Hold → List StreamModel → Type 0
 AreFree pool streams = (i : ℕ) (key : Key) → IsFreeAt pool streams i key
 
+-- of each server the pool has the room that the streams declare together
 abbrev pub HasAllRoom : Hold → List StreamModel → Type 0
 HasAllRoom pool streams = (v : ℕ) → HasDeclaredRoom pool streams v
 
+-- of each shard the pool has the spare replicas that the streams declare together
 abbrev pub HasAllSpare : Hold → List StreamModel → Type 0
 HasAllSpare pool streams = (s : ℕ) → HasDeclaredSpare pool streams s
 
+-- each server that an instruction mentions is up
 abbrev pub AreUp : Place → List StreamModel → Type 0
 AreUp p streams = (v : ℕ) → IsUpWhereMentioned p streams v
 

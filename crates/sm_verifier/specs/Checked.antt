@@ -18,6 +18,7 @@ pub record CheckedModel : Type 0 where
   pub finals : List Rights
   pub peaks : List ℕ
 
+-- the checked plan of this configuration and this plan, with an order of its steps, and its streams' rights at the end and peaks
 abbrev pub checked_model : Setup → PlanModel → List PlanStep → List Rights → List ℕ → CheckedModel
 checked_model setup plan order finals peaks = record { setup = setup; plan = plan; order = order; finals = finals; peaks = peaks }
 

@@ -2,6 +2,7 @@
 use Rattle.sm_verifier.specs.declared.checked.Checked.TheInside.{Inside}
 use Rattle.sm_verifier.specs.Checked.{CheckedModel}
 
+-- a checked plan in memory as contracts see it
 abbrev pub checked_of : Inside → CheckedModel
 checked_of a = record {
   setup = a.config;

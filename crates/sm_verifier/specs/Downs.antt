@@ -17,14 +17,16 @@ abbrev pub if_down : (ℕ → Bool) → Option ℕ → Option ℕ
 if_down down None = None
 if_down down (Some v) = if down v then Some v else None
 
--- the lowest one once an instruction, a code and streams have been gone through
+-- the lowest server that is down, of the one found before and those that this instruction mentions
 abbrev pub down_at : (ℕ → Bool) → Option ℕ → Instr → Option ℕ
 down_at down lowest i = lower_server (lower_server lowest (if_down down (names_of i).first)) (if_down down (names_of i).second)
 
+-- the lowest server that is down, of the one found before and those that this code mentions
 abbrev pub down_in_code : (ℕ → Bool) → Option ℕ → List Instr → Option ℕ
 down_in_code down lowest [] = lowest
 down_in_code down lowest (i ∷ is) = down_in_code down (down_at down lowest i) is
 
+-- the lowest server that is down, of the one found before and those that the codes of these streams mention
 abbrev pub down_in_streams : (ℕ → Bool) → Option ℕ → List StreamModel → Option ℕ
 down_in_streams down lowest [] = lowest
 down_in_streams down lowest (s ∷ ss) = down_in_streams down (down_in_code down lowest s.code) ss

@@ -15,6 +15,7 @@ pub mod CheckedView
 pub mod Admission
 pub mod Finding
 pub mod Downs
+pub mod Next
 pub mod FirstHolding
 pub mod Within
 pub mod Verdict

@@ -40,6 +40,7 @@ pub record IsRun (plan : PlanModel) (steps : List PlanStep) (to : ℕ → ℕ) :
 abbrev pub IsOrder : PlanModel → List PlanStep → Type 0
 IsOrder plan steps = IsRun plan steps (λ i. suc (length (code_at plan i)))
 
+-- there is an order of the plan's steps
 abbrev pub HasOrder : PlanModel → Type 0
 HasOrder plan = (steps : List PlanStep) × IsOrder plan steps
 

@@ -14,18 +14,21 @@ use Rattle.sm_verifier.specs.Order.{HasOrder, IsStuckAt}
 abbrev pub total_budget : PlanModel → ℕ
 total_budget plan = sum_by (λ stream. stream.budget + stream.retries) plan.streams
 
+-- the instruction posts the signal k
 abbrev pub is_post : ℕ → Instr → Bool
 is_post k (Signal j) = j == k
 is_post k _ = false
 
+-- the instruction waits for the signal k
 abbrev pub is_wait : ℕ → Instr → Bool
 is_wait k (Wait j) = j == k
 is_wait k _ = false
 
--- how often the plan posts a signal, and how often it waits for it
+-- how often the plan posts the signal k
 abbrev pub posts : PlanModel → ℕ → ℕ
 posts plan k = sum_by (λ stream. count_by (is_post k) stream.code) plan.streams
 
+-- how often the plan waits for the signal k
 abbrev pub waits : PlanModel → ℕ → ℕ
 waits plan k = sum_by (λ stream. count_by (is_wait k) stream.code) plan.streams
 

@@ -16,10 +16,11 @@ first_step_in test streams i = (i, position_or_len test (slice_index_or streams 
 abbrev pub first_step : (Instr → Bool) → List StreamModel → PlanStep
 first_step test streams = first_step_in test streams (position_or_len (λ stream. list_any test stream.code) streams)
 
--- where a plan posts a signal, and where it waits for it
+-- the first step that posts the signal, in the first stream that has one
 unfoldable pub post_of : PlanModel → ℕ → PlanStep
 post_of plan k = first_step (is_post k) plan.streams
 
+-- the first step that waits for the signal, in the first stream that has one
 unfoldable pub wait_of : PlanModel → ℕ → PlanStep
 wait_of plan k = first_step (is_wait k) plan.streams
 
@@ -34,6 +35,7 @@ pub record StandsOnce (plan : PlanModel) (k : ℕ) : Type 0 where
   pub post : StandsOnlyAt plan (Signal k) (post_of plan k)
   pub wait : StandsOnlyAt plan (Wait k) (wait_of plan k)
 
+-- so it is of each signal that a plan uses once
 abbrev pub SignalsStandOnce : Type 0
 SignalsStandOnce = (plan : PlanModel) (k : ℕ) → IsUsedOnce plan k → StandsOnce plan k
 
@@ -42,5 +44,6 @@ pub record IsOfPlan (plan : PlanModel) (i p k : ℕ) : Type 0 where
   pub post : slice_get (code_at plan i) p ≡ Some (Signal k) → k < length plan.signals
   pub wait : slice_get (code_at plan i) p ≡ Some (Wait k) → k < length plan.signals
 
+-- so it is at each position of a plan that knows its signals
 abbrev pub SignalsAreOfPlan : Type 0
 SignalsAreOfPlan = (plan : PlanModel) (i p k : ℕ) → KnowsSignals plan → IsOfPlan plan i p k

@@ -22,6 +22,7 @@ pub record Course : Type 0 where
   pub holds : Rights
   pub code : List Instr
 
+-- a stream to be followed, of these parts: the configuration's numbers, signals, budget, rights at the start and instructions
 abbrev pub course : Sizes → List Rights → ℕ → Rights → List Instr → Course
 course c signals budget holds code = record { sizes = c; signals = signals; budget = budget; holds = holds; code = code }
 
@@ -29,6 +30,7 @@ course c signals budget holds code = record { sizes = c; signals = signals; budg
 abbrev pub course_of : Sizes → List Rights → StreamModel → Course
 course_of c signals stream = course c signals stream.budget stream.holds stream.code
 
+-- what is read at a number that no stream has: it holds nothing and has no instruction
 abbrev pub no_stream : StreamModel
 no_stream = record { budget = 0; retries = 0; holds = no_rights; code = [] }
 

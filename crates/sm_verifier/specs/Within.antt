@@ -11,6 +11,7 @@ use Rattle.sm_plan_code.specs.Plan.{StreamModel, PlanModel, IsKnownPlan}
 use Rattle.sm_plan_code.specs.Effects.{IsScene}
 use Rattle.sm_verifier.specs.Admission.{declared, Has, AreUp, IsAdmitted}
 
+-- how much of a right the streams declare together
 abbrev pub declared_sum : List StreamModel → Right → ℕ
 declared_sum streams r = sum_below (length streams) (λ i. count (declared streams i) r)
 

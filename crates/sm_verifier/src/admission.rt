@@ -2,9 +2,10 @@
 ghost use Rattle.std.specs.Prelude.{◌≡◌, ◌≤◌, All, OnOk, OnErr, IfErr, length};
 ghost use Rattle.sm_placement.specs.Setup.{sizes_of};
 ghost use Rattle.sm_placement.specs.Layout.{place_of};
-ghost use Rattle.sm_reservation.specs.Pool.{pool_hold, HasSize};
+ghost use Rattle.sm_reservation.specs.declared.right.Key.{Key};
+ghost use Rattle.sm_reservation.specs.Pool.{pool_hold, true_rights, HasSize};
 ghost use Rattle.sm_plan_code.specs.Plan.{IsKnownStream, IsSmallStream};
-ghost use Rattle.sm_verifier.specs.Admission.{IsAdmitted, IsHolding};
+ghost use Rattle.sm_verifier.specs.Admission.{AreFree, AreTrue, IsAdmitted, IsHolding, IsIn};
 
 use crate::Checked;
 use crate::amounts::{first_short_room, first_short_spare};
@@ -71,7 +72,6 @@ pub fn admit(checked: &Checked, pool: &Pool, placement: &Placement) -> Result<()
     ensures holding { IfErr result (λ why. IsHolding (sizes_of checked.now.setup) (place_of placement.now) (pool_hold pool.now) checked.now.plan why) }
     ensures refused { OnErr result (¬ IsAdmitted (sizes_of checked.now.setup) (place_of placement.now) (pool_hold pool.now) checked.now.plan) }
 {
-    let config = checked.config();
     let streams = checked.plan().streams();
     if let Some(key) = first_untrue(placement, streams) {
         return Err(Holding::Untrue { key });
@@ -79,14 +79,50 @@ pub fn admit(checked: &Checked, pool: &Pool, placement: &Placement) -> Result<()
     if let Some(key) = first_taken(pool, streams) {
         return Err(Holding::Taken { key });
     }
-    if let Some(server) = first_short_room(config, pool, streams) {
+    admit_free(checked, pool, placement)
+}
+
+/// Judges as `admit` does, where each cell right and crown of the pool is true of the placement. Takes no memory.
+///
+/// What the pool has needs no look at the placement then. Only where a right is taken is each declared one looked up there,
+/// since one that is not true is named first.
+pub fn admit_from_true_pool(
+    checked: &Checked,
+    pool: &Pool,
+    placement: &Placement,
+) -> Result<(), Holding>
+    requires size { HasSize (sizes_of checked.now.setup) pool.now }
+    requires setup { placement.now.setup ≡ checked.now.setup }
+    requires true_pool { (key : Key) → IsIn (pool_hold pool.now) (true_rights (sizes_of placement.now.setup) (place_of placement.now)) key }
+    ensures admitted { OnOk result (IsAdmitted (sizes_of checked.now.setup) (place_of placement.now) (pool_hold pool.now) checked.now.plan) }
+    ensures holding { IfErr result (λ why. IsHolding (sizes_of checked.now.setup) (place_of placement.now) (pool_hold pool.now) checked.now.plan why) }
+    ensures refused { OnErr result (¬ IsAdmitted (sizes_of checked.now.setup) (place_of placement.now) (pool_hold pool.now) checked.now.plan) }
+{
+    if first_taken(pool, checked.plan().streams()).is_some() {
+        return admit(checked, pool, placement);
+    }
+    admit_free(checked, pool, placement)
+}
+
+/// Judges by room, spare replicas and servers alone, where the cell rights and crowns that the streams declare are true
+/// and free.
+fn admit_free(checked: &Checked, pool: &Pool, placement: &Placement) -> Result<(), Holding>
+    requires setup { placement.now.setup ≡ checked.now.setup }
+    requires true_ones { AreTrue (sizes_of checked.now.setup) (place_of placement.now) checked.now.plan.streams }
+    requires free_ones { AreFree (pool_hold pool.now) checked.now.plan.streams }
+    ensures admitted { OnOk result (IsAdmitted (sizes_of checked.now.setup) (place_of placement.now) (pool_hold pool.now) checked.now.plan) }
+    ensures holding { IfErr result (λ why. IsHolding (sizes_of checked.now.setup) (place_of placement.now) (pool_hold pool.now) checked.now.plan why) }
+    ensures refused { OnErr result (¬ IsAdmitted (sizes_of checked.now.setup) (place_of placement.now) (pool_hold pool.now) checked.now.plan) }
+{
+    let streams = checked.plan().streams();
+    if let Some(server) = first_short_room(pool, streams) {
         return Err(Holding::ShortRoom {
             server,
             free: pool.room(server),
             declared: declared_room(streams, server),
         });
     }
-    if let Some(shard) = first_short_spare(config, pool, streams) {
+    if let Some(shard) = first_short_spare(pool, streams) {
         return Err(Holding::ShortSpare {
             shard,
             free: pool.spare(shard),

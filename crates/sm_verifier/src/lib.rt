@@ -11,13 +11,14 @@ mod downs;
 mod following;
 mod free;
 mod laws;
+mod next;
 mod order;
 mod signals;
 mod steps;
 mod truth;
 mod verdict;
 
-pub use admission::{Holding, admit};
+pub use admission::{Holding, admit, admit_from_true_pool};
 pub use checked::Checked;
 pub use checking::{Fault, check};
 pub use following::{Bad, follow};

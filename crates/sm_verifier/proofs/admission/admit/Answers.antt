@@ -7,12 +7,3 @@ pub returns-in-Some-first_taken-clause-refused : goal.returns-in-Some-first_take
 returns-in-Some-first_taken-clause-refused c = λ admitted.
     let first = rw (c.streams-streams.ensures.value, c.plan.ensures.value) at c.in-Some-first_taken.ensures.first in
     first.1.lowest.broken (admitted.free_ones first.0 c.in-Some-first_taken.key)
-
-pub first_short_room-requires-clause-fits : goal.first_short_room-requires-clause-fits
-first_short_room-requires-clause-fits c = rw (c.streams-streams.ensures.value, c.plan.ensures.value, c.config-config.ensures) c.plan.ensures.fits.streams
-
-pub first_short_spare-requires-clause-fits : goal.first_short_spare-requires-clause-fits
-first_short_spare-requires-clause-fits c = rw (c.streams-streams.ensures.value, c.plan.ensures.value, c.config-config.ensures) c.plan.ensures.fits.streams
-
-pub first_down-requires : goal.first_down-requires
-first_down-requires c = rw (c.streams-streams.ensures.value, c.plan.ensures.value, c.requires.setup) c.plan.ensures.fits.streams
