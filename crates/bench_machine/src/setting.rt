@@ -16,6 +16,7 @@ pub(crate) struct Setting {
     pub length: u32,
 }
 
+/// Many long streams: as many as a plan may have, of as many instructions as a stream may.
 pub(crate) const MANY: Setting = Setting {
     servers: 1_024,
     shards: 4_096,
@@ -23,6 +24,7 @@ pub(crate) const MANY: Setting = Setting {
     length: 4_096,
 };
 
+/// Few short streams, on a machine of the same size.
 pub(crate) const FEW: Setting = Setting {
     servers: 1_024,
     shards: 4_096,

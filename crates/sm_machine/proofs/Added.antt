@@ -16,7 +16,8 @@ use Rattle.sm_machine.specs.Course.{CourseModel, no_course, hold_in, capacity_in
 use Rattle.sm_machine.specs.Begun.{BegunModel, no_begun, no_carried, start_of, course_at, carried_at}
 use Rattle.sm_machine.specs.Machine.{MachineModel, begun_at}
 use Rattle.sm_machine.specs.State.{whole_of}
-use Rattle.sm_machine.specs.Tied.{declares, pool_left}
+use Rattle.sm_verifier.specs.FirstHolding.{declared_rights}
+use Rattle.sm_machine.specs.Tied.{pool_left}
 use Rattle.sm_machine.specs.Starts.{empty_kept, ready_course, ready_signal, ready_courses, begun_of, AreFilled, IsGranted, IsBegunIn}
 use Rattle.sm_machine.proofs.Readied.{first_count, first_at}
 use Rattle.sm_machine.proofs.Tables.{inner, inner-more}
@@ -40,9 +41,9 @@ module _ (p : CheckedModel) (courses : List CourseModel) (f : AreFilled p.plan.s
   ]
 
   -- each stream has what it declares
-  pub courses_granted : (i : ℕ) → i < streams → IsGranted (declares p.plan.streams i) (peaks i) (get_or courses i no_course).grant
+  pub courses_granted : (i : ℕ) → i < streams → IsGranted (declared_rights p.plan.streams i) (peaks i) (get_or courses i no_course).grant
   courses_granted i l = record {
-    hold = (f.filled i l).hold ∙ ap (λ (x : CourseModel). plus (hold_in x.grant) (declares p.plan.streams i)) (ready_at i l) ∙ ap (λ h. plus h (declares p.plan.streams i)) (no_rights_hold);
+    hold = (f.filled i l).hold ∙ ap (λ (x : CourseModel). plus (hold_in x.grant) (declared_rights p.plan.streams i)) (ready_at i l) ∙ ap (λ h. plus h (declared_rights p.plan.streams i)) (no_rights_hold);
     capacity = (f.filled i l).capacity ∙ ap (λ (x : CourseModel). capacity_in x.grant) (ready_at i l);
   }
 
@@ -100,7 +101,7 @@ begun_in b p courses free f h = record {
   setup = refl;
   pool = h;
   grants = λ k i l. ap (λ (m : BegunModel). (course_at m i).grant) (old_begun b (filled_plan b p courses) k (old_here b k l));
-  granted = λ i l. subst (λ (m : BegunModel). IsGranted (declares p.plan.streams i) (slice_index p.peaks i) (course_at m i).grant) (sym (new_here b (filled_plan b p courses))) (courses_granted p courses f i l);
+  granted = λ i l. subst (λ (m : BegunModel). IsGranted (declared_rights p.plan.streams i) (slice_index p.peaks i) (course_at m i).grant) (sym (new_here b (filled_plan b p courses))) (courses_granted p courses f i l);
   parcels = λ k q l. ap (λ (m : BegunModel). (carried_at m q).grant) (old_begun b (filled_plan b p courses) k (old_here b k l));
   parceled = λ q l. ap (λ (m : BegunModel). (carried_at m q).grant) (new_here b (filled_plan b p courses)) ∙ signals_granted p.plan.signals q l;
   unfinished = λ k l. ap (λ (m : BegunModel). m.unfinished) (old_begun b (filled_plan b p courses) k (old_here b k l));

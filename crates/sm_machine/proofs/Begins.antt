@@ -15,15 +15,14 @@ use Rattle.sm_verifier.specs.Stream.{no_stream, stream_at, Course}
 use Rattle.sm_verifier.specs.Step.{parcels_of}
 use Rattle.sm_verifier.specs.Peak.{IsPeak}
 use Rattle.sm_verifier.specs.Admission.{IsAdmitted}
-use Rattle.sm_verifier.specs.FirstHolding.{first_holding}
+use Rattle.sm_verifier.specs.FirstHolding.{first_holding, declared_rights}
 use Rattle.sm_verifier.specs.declared.admission.Holding.{Holding}
 use Rattle.sm_verifier.proofs.Holdings.{finds_holding}
-use Rattle.sm_protocol.specs.declared.event.BeginFault.{BeginFault}
 use Rattle.sm_protocol.specs.declared.event.BeginFault.TheVariants as fault
 use Rattle.sm_protocol.specs.declared.event.Played.TheVariants as played
 use Rattle.sm_protocol.specs.State.{State, Start, no_start, plan_at, signal_count, parcel_at, is_begun, pool, places_of, free_places}
 use Rattle.sm_protocol.specs.Steps.{Answered}
-use Rattle.sm_protocol.specs.Happens.{happens, begun, started, running_plans, has_all_plans, Begin}
+use Rattle.sm_protocol.specs.Happens.{happens, begun, started, has_all_plans, Begin}
 use Rattle.sm_protocol.specs.Laws.{IsReached, IsCheckedPlan}
 use Rattle.sm_protocol.proofs.Starts.{length_push, get_push_old, get_push_new}
 use Rattle.sm_protocol.proofs.Keeping.{begun as known_begun, is_begun_true}
@@ -31,19 +30,16 @@ use Rattle.sm_protocol.proofs.Reached.{reached_next}
 use Rattle.sm_machine.specs.Course.{hold_in, capacity_in}
 use Rattle.sm_machine.specs.Begun.{course_at}
 use Rattle.sm_machine.specs.State.{Whole}
-use Rattle.sm_machine.specs.Tied.{IsTied, HasCounters, declares, pool_left}
+use Rattle.sm_machine.specs.Tied.{IsTied, HasCounters, pool_left}
 use Rattle.sm_machine.specs.Working.{IsWorking, HasCapacityOn, IsUnsent}
 use Rattle.sm_machine.specs.Starts.{empty_kept, ready_course, begun_of, CanFillAt, CanFillAll, IsBegunIn, fault_after, begin_fault}
-use Rattle.sm_machine.specs.Started.{ArePeaksOf, IsStarted, IsNotStarted}
+use Rattle.sm_machine.specs.Started.{ArePeaksOf, IsStarted}
 use Rattle.sm_machine.proofs.Readied.{first_at}
 use Rattle.sm_machine.proofs.ties.Starting.{can_fill, tied_started}
 use Rattle.sm_machine.proofs.ties.Counters.{counted_started}
 
 some_not_none : {A : Type 0} {a : A} → Some a ≡ None → ⊥
 some_not_none e = cc
-
-some_same : {A : Type 0} {a b : A} → Some a ≡ Some b → a ≡ b
-some_same e = cc
 
 -- the tests in the order of the faults
 record Passes (x : Whole) (plan : PlanModel) (o : Option Holding) : Type 0 where
@@ -60,24 +56,6 @@ passes x plan None e = go (nat_lt x.free (places_of plan)) refl (nat_le 16 x.run
     go true a t b e = absurd (some_not_none e)
     go false a true b e = absurd (some_not_none e)
     go false a false b e = record { held = refl; places = a; plans = b }
-
--- what the tests say is what the protocol says
-refused : (w : State) (plan : PlanModel) (o : Option Holding) (free running : ℕ) → free ≡ free_places w → running ≡ running_plans w → (why : BeginFault) →
-    (x : Whole) → x.state ≡ w → x.free ≡ free → x.running ≡ running → fault_after x plan o ≡ Some why → begun w plan o ≡ (Answered (played.NotBegun why), w)
-refused w plan (Some h) free running f r why x xs xf xr e = ap (λ y. (Answered (played.NotBegun y), w)) (some_same e)
-refused w plan None free running f r why x xs xf xr e = go (nat_lt (free_places w) (places_of plan)) refl (has_all_plans w) refl
-    (subst (λ n. (if nat_lt n (places_of plan) then Some fault.LogFull else if has_all_plans w then Some fault.TooManyPlans else None) ≡ Some why) (xf ∙ f)
-    (subst (λ n. (if nat_lt x.free (places_of plan) then Some fault.LogFull else if nat_le 16 n || nat_lt 4294967295 (length w.plans) then Some fault.TooManyPlans else None) ≡ Some why) (xr ∙ r)
-    (subst (λ (y : State). (if nat_lt x.free (places_of plan) then Some fault.LogFull else if nat_le 16 x.running || nat_lt 4294967295 (length y.plans) then Some fault.TooManyPlans else None) ≡ Some why) xs e)))
-  where
-    go : (s : Bool) → nat_lt (free_places w) (places_of plan) ≡ s → (t : Bool) → has_all_plans w ≡ t →
-        (if nat_lt (free_places w) (places_of plan) then Some fault.LogFull else if has_all_plans w then Some fault.TooManyPlans else None) ≡ Some why →
-        begun w plan None ≡ (Answered (played.NotBegun why), w)
-    go true a t b e = rw a (ap (λ y. (Answered (played.NotBegun y), w)) (some_same (subst (λ s. (if s then Some fault.LogFull else if has_all_plans w then Some fault.TooManyPlans else None) ≡ Some why) a e)))
-    go false a true b e = rw (a, b) (ap (λ y. (Answered (played.NotBegun y), w)) (some_same
-        (subst (λ t. (if t then Some fault.TooManyPlans else None) ≡ Some why) b (subst (λ s. (if s then Some fault.LogFull else if has_all_plans w then Some fault.TooManyPlans else None) ≡ Some why) a e))))
-    go false a false b e = absurd (some_not_none (sym
-        (subst (λ t. (if t then Some fault.TooManyPlans else None) ≡ Some why) b (subst (λ s. (if s then Some fault.LogFull else if has_all_plans w then Some fault.TooManyPlans else None) ≡ Some why) a e))))
 
 -- where nothing holds a plan up, another number is left
 pub few_by : (x : Whole) (plan : PlanModel) → begin_fault x plan ≡ None → length x.state.plans ≤ 4294967295
@@ -96,10 +74,6 @@ module _ (x : Whole) (g : IsWorking x) (p : CheckedModel) (checked : IsCheckedPl
 
   same_holding : held_by_pool ≡ first_holding w.sizes w.place (pool w) p.plan
   same_holding = ap (λ h. first_holding w.sizes w.place h p.plan) g.tied.pool
-
-  -- the plan does not start
-  pub not_started : (why : BeginFault) → begin_fault x p.plan ≡ Some why → IsNotStarted w p.plan why
-  not_started why e = ap (begun w p.plan) (sym same_holding) ∙ refused w p.plan held_by_pool x.free x.running g.counted.places g.counted.plans why x refl refl refl e
 
   module _ (none : begin_fault x p.plan ≡ None) where
     tests : Passes x p.plan held_by_pool
@@ -130,12 +104,12 @@ module _ (x : Whole) (g : IsWorking x) (p : CheckedModel) (checked : IsCheckedPl
       can_fill_all i l =
           let a = can_fill g.setup w g.reached p.plan checked admitted i l (empty_kept (slice_index p.peaks i)) refl (slice_index p.peaks i) (peaks i l) (omega arith) in
           let at : course_at (begun_of p 0) i ≡ ready_course (slice_index p.peaks i) = first_at (λ j. slice_index p.peaks j) (length p.plan.streams) i _ l in
-          subst (λ h. CanFillAt (pool_left h p.plan.streams i) (course_at (begun_of p 0) i) (declares p.plan.streams i)) (sym g.tied.pool)
-          (subst (λ c. CanFillAt (pool_left (pool w) p.plan.streams i) c (declares p.plan.streams i)) (sym at) (record {
+          subst (λ h. CanFillAt (pool_left h p.plan.streams i) (course_at (begun_of p 0) i) (declared_rights p.plan.streams i)) (sym g.tied.pool)
+          (subst (λ c. CanFillAt (pool_left (pool w) p.plan.streams i) c (declared_rights p.plan.streams i)) (sym at) (record {
             running = refl;
             enough = a.enough;
             fits = a.fits;
-            room = a.room;
+            capacity = a.capacity;
           }))
 
       module _ (y : Whole) (b : IsBegunIn x p y) where
@@ -158,7 +132,7 @@ module _ (x : Whole) (g : IsWorking x) (p : CheckedModel) (checked : IsCheckedPl
         tied_here = subst (λ h. IsTied next h (λ k i. hold_in (y.grants k i)) (λ k q. hold_in (y.parcels k q))) (sym b.pool)
             (tied_started g.setup w g.reached p.plan checked admitted x.pool (λ k i. hold_in (x.grants k i)) (λ k q. hold_in (x.parcels k q)) (λ k i. hold_in (y.grants k i)) (λ k q. hold_in (y.parcels k q)) g.tied
             (λ k i l. ap hold_in (b.grants k i l))
-            (λ i l. (b.granted i l).hold ∙ plus_none (declares p.plan.streams i) (All-get_or (λ (s : StreamModel). IsOrderedParcel s.holds) p.plan.streams i no_stream l checked.parts.parcels.streams).ordered)
+            (λ i l. (b.granted i l).hold ∙ plus_none (declared_rights p.plan.streams i) (All-get_or (λ (s : StreamModel). IsOrderedParcel s.holds) p.plan.streams i no_stream l checked.parts.parcels.streams).ordered)
             (λ k q l. ap hold_in (b.parcels k q l))
             (λ q l. ap hold_in (b.parceled q l) ∙ no_rights_hold))
 

@@ -69,7 +69,7 @@ module _ (b w : MachineModel) (id : StreamId) (z : b ≡ w) (n : BegunModel) (v 
       subst (λ g. CanJoin (hold_in g) (hold_of (parcels_of n.plan.signals q))) (sym (carried_here q))
       (subst (λ (p : PlanModel). CanJoin (hold_in ((whole_of w).parcels id.plan q)) (hold_of (parcels_of p.signals q))) (sym plan_here) h)
 
-  -- and the signal has room for it
+  -- and the signal has capacity for it
   pub sent_capacity : (q : ℕ) → HasCapacityIn ((whole_of w).parcels id.plan q) (parcel_at (state_of w) id.plan q) → HasCapacityIn (carried_at n q).grant (parcels_of n.plan.signals q)
   sent_capacity q h =
       subst (λ g. HasCapacityIn g (parcels_of n.plan.signals q)) (sym (carried_here q)) (subst (λ (p : PlanModel). HasCapacityIn ((whole_of w).parcels id.plan q) (parcels_of p.signals q)) (sym plan_here) h)
@@ -88,7 +88,7 @@ module _ (b w : MachineModel) (id : StreamId) (z : b ≡ w) (n : BegunModel) (v 
   taken_fits q h =
       subst (λ g. CanJoin (hold_in g) (hold_in (carried_at n q).grant)) (sym grant_here) (subst (λ g. CanJoin (hold_in (grant_of w id)) (hold_in g)) (sym (carried_here q)) h)
 
-  -- and the stream has room for it
+  -- and the stream has capacity for it
   pub taken_capacity : (q : ℕ) → HasCapacityIn (grant_of w id) (rights_in ((whole_of w).parcels id.plan q)) → HasCapacityIn (course_at n id.stream).grant (rights_in (carried_at n q).grant)
   taken_capacity q h =
       subst (λ g. HasCapacityIn g (rights_in (carried_at n q).grant)) (sym grant_here) (subst (λ g. HasCapacityIn (grant_of w id) (rights_in g)) (sym (carried_here q)) h)

@@ -57,8 +57,3 @@ module _ {T : Type 0} where
   left_there (y ∷ ys) zero (suc k) x e = e
   left_there (y ∷ ys) (suc i) zero x e = e
   left_there (y ∷ ys) (suc i) (suc k) x e = left_there ys i k x e
-
-  pub set_none_back : (xs : List (Option T)) (i : ℕ) → slice_index_or xs i None ≡ None → slice_set xs i None ≡ xs
-  set_none_back [] i e = refl
-  set_none_back (y ∷ ys) zero e = ap (λ z. z ∷ ys) (sym e)
-  set_none_back (y ∷ ys) (suc i) e = ap (λ zs. y ∷ zs) (set_none_back ys i e)

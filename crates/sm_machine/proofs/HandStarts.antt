@@ -26,7 +26,7 @@ use Rattle.sm_machine.specs.Started.{IsNotStarted}
 use Rattle.sm_machine.specs.Starts.{AreTokens}
 use Rattle.sm_machine.specs.Hand.{hand_plan, hand_of, AreLeft, token_count, HasHandRoom, IsTurn}
 use Rattle.sm_machine.proofs.FirstPlaces.{left_there}
-use Rattle.sm_machine.proofs.Hands.{nothing_given, given_so}
+use Rattle.sm_machine.proofs.Hands.{given_so}
 
 -- ---- the number of a plan that has begun
 
@@ -85,9 +85,6 @@ beyond [] i l = refl
 beyond (x ∷ xs) zero l = absurd (omega arith)
 beyond (x ∷ xs) (suc i) l = beyond xs i (omega arith)
 
-pub no_place : (m : MachineModel) (h : declared.Hand) (place : ℕ) → length h.plans.items ≤ place → IsTurn m h (event.Begin place) played.Unknown m h
-no_place m h place l = nothing_given m h (event.Begin place) (ap (option_map Begin) (plan_there h.plans.items place ∙ ap hand_plan (beyond h.plans.items place l)))
-
 -- the hands have the same, but for their plans, which are the same too
 pub record HasSamePlans (h k : declared.Hand) : Type 0 where
   pub tokens : k.tokens ≡ h.tokens
@@ -106,14 +103,6 @@ same_room h k s more r = record {
   tokens = subst (λ ts. length ts.items + sum_by token_count k.plans.items ≤ vec_capacity ts) (sym s.tokens) (subst (λ ps. length h.tokens.items + sum_by token_count ps ≤ vec_capacity h.tokens) (sym s.plans) r.tokens);
   permits = subst (λ ps. length ps.items + more ≤ vec_capacity ps) (sym s.permits) (let a = r.permits in omega arith);
   tickets = subst (λ ts. length ts.items + more ≤ vec_capacity ts) (sym s.tickets) (let a = r.tickets in omega arith);
-}
-
-pub empty_place : (m : MachineModel) (h k : declared.Hand) (place : ℕ) → slice_index_or h.plans.items place None ≡ None → HasSamePlans h k → IsTurn m h (event.Begin place) played.Unknown m k
-empty_place m h k place e s = record {
-  turn = (nothing_given m h (event.Begin place) (ap (option_map Begin) (plan_there h.plans.items place ∙ ap hand_plan e))).turn ∙ ap (λ y. (Answered played.Unknown, record { state = state_of m; hand = y })) (sym (same_hand h k s));
-  setup = refl;
-  left = same_left h k s;
-  room = same_room h k s;
 }
 
 module _ (m n : MachineModel) (h k : declared.Hand) (place : ℕ) (p : CheckedModel) (there : slice_index_or h.plans.items place None ≡ Some p) where

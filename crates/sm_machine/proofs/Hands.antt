@@ -1,19 +1,17 @@
 -- Turns of events, as a machine plays them.
 use Rattle.std.proofs.Common.{◌≡◌, ◌≤◌, ◌+◌, ◌++◌, ◌∷◌, [], ℕ, suc, Bool, true, false, List, Option, Some, None, length, refl, sym, ap, ◌∙◌, subst, arith}
 use Rattle.std.specs.Prelude.{◌==◌, slice_index_or, option_map, if◌then◌else◌, vec_capacity}
-use Rattle.std.specs.List.{list_any, insert, remove, sum_by}
+use Rattle.std.specs.List.{insert, remove, sum_by}
 use Rattle.std.specs.Option.{option_to_list}
 use Rattle.std.proofs.lemmas.Bool.{eqb-true}
-use Rattle.sm_reservation.specs.declared.stream_id.StreamId.{StreamId}
-use Rattle.sm_task_controller.specs.declared.decision.Denied.{Denied}
 use Rattle.sm_protocol.specs.declared.event.Event.{Event}
 use Rattle.sm_protocol.specs.declared.event.Event.TheVariants as event
 use Rattle.sm_protocol.specs.declared.event.Played.{Played}
 use Rattle.sm_protocol.specs.declared.event.Played.TheVariants as played
 use Rattle.sm_protocol.specs.Steps.{Answered}
 use Rattle.sm_protocol.specs.Ticket.{Ticket}
-use Rattle.sm_protocol.specs.Happens.{Happening, Step, Lose, Refill, Arrive, PassOn, Approve, Done, happens}
-use Rattle.sm_protocol.specs.Hand.{Game, is_token, given, spends, without_first, tickets_of, hand_after, turn_by}
+use Rattle.sm_protocol.specs.Happens.{Happening, PassOn, Done, happens}
+use Rattle.sm_protocol.specs.Hand.{Game, given, spends, without_first, tickets_of, hand_after, turn_by}
 use Rattle.sm_machine.specs.declared.hand.Hand as declared
 use Rattle.sm_machine.specs.Machine.{MachineModel}
 use Rattle.sm_machine.specs.State.{state_of}
@@ -47,37 +45,6 @@ given_so m n h k e x a is answer state setup hand left room = record {
   where
     outcome : turn_by (game_of m h) e (Some x) ≡ (Answered a, game_of n k)
     outcome = rw answer (ap (λ (g : Game). (Answered a, g)) (ap (λ w. record { state = w; hand = hand_after (hand_of h) e x a }) (sym state) ∙ ap (λ y. record { state = state_of n; hand = y }) (sym hand)))
-
--- the hand stays
-pub given_kept : (m n : MachineModel) (h : declared.Hand) (e : Event) (x : Happening) (a : Played) → given (hand_of h) e ≡ Some x →
-    (happens (state_of m) x).0 ≡ Answered a → state_of n ≡ (happens (state_of m) x).1 → n.placement.setup ≡ m.placement.setup → hand_of h ≡ hand_after (hand_of h) e x a → IsTurn m h e a n h
-given_kept m n h e x a is answer state setup hand = given_so m n h h e x a is answer state setup hand (λ place p q. q) (λ more r. room_stays h more r)
-
--- ---- events of streams
-
-module _ (m : MachineModel) (h : declared.Hand) (id : StreamId) where
-  abbrev held : Bool
-  held = list_any (is_token id) h.tokens.items
-
-  module _ (none : held ≡ false) where
-    pub no_step : IsTurn m h (event.Step id) played.Unknown m h
-    no_step = nothing_given m h (event.Step id) (ap (λ t. if t then Some (Step id) else None) none)
-
-    pub no_lose : (after : Bool) → IsTurn m h (event.Lose id after) played.Unknown m h
-    no_lose after = nothing_given m h (event.Lose id after) (ap (λ t. if t then Some (Lose id after) else None) none)
-
-    pub no_refill : (more : ℕ) → IsTurn m h (event.Refill id more) played.Unknown m h
-    no_refill more = nothing_given m h (event.Refill id more) (ap (λ t. if t then Some (Refill id more) else None) none)
-
-  module _ (there : held ≡ true) (n : MachineModel) (a : Played) (setup : n.placement.setup ≡ m.placement.setup) where
-    pub stepped : (happens (state_of m) (Step id)).0 ≡ Answered a → state_of n ≡ (happens (state_of m) (Step id)).1 → IsTurn m h (event.Step id) a n h
-    stepped answer state = given_kept m n h (event.Step id) (Step id) a (ap (λ t. if t then Some (Step id) else None) there) answer state setup refl
-
-    pub lost : (after : Bool) → (happens (state_of m) (Lose id after)).0 ≡ Answered a → state_of n ≡ (happens (state_of m) (Lose id after)).1 → IsTurn m h (event.Lose id after) a n h
-    lost after answer state = given_kept m n h (event.Lose id after) (Lose id after) a (ap (λ t. if t then Some (Lose id after) else None) there) answer state setup refl
-
-    pub refilled : (more : ℕ) → (happens (state_of m) (Refill id more)).0 ≡ Answered a → state_of n ≡ (happens (state_of m) (Refill id more)).1 → IsTurn m h (event.Refill id more) a n h
-    refilled more answer state = given_kept m n h (event.Refill id more) (Refill id more) a (ap (λ t. if t then Some (Refill id more) else None) there) answer state setup refl
 
 -- ---- what of a hand is as it was, but for its tickets, or its permits
 
@@ -138,13 +105,6 @@ behind_is xs ys None e = sym (append_none xs) ∙ ap (λ zs. xs ++ zs) e
     append_none (x ∷ xs) = ap (λ ys. x ∷ ys) (append_none xs)
 behind_is xs ys (Some x) e = ap (λ zs. xs ++ zs) e
 
-pub arrived : (m n : MachineModel) (h k : declared.Hand) (s v : ℕ) (a : Played) (left : Option Ticket) →
-    (happens (state_of m) (Arrive s v)).0 ≡ Answered a → state_of n ≡ (happens (state_of m) (Arrive s v)).1 → n.placement.setup ≡ m.placement.setup →
-    option_to_list left ≡ tickets_of s v a → k.tickets.items ≡ put_behind h.tickets.items left → HasOtherTickets h k → IsTurn m h (event.Arrive s v) a n k
-arrived m n h k s v a left answer state setup of is o =
-    with_tickets m n h k (event.Arrive s v) (Arrive s v) a refl answer state setup o
-    (ap (λ ts. record (hand_of h) { tickets = ts }) (is ∙ behind_is h.tickets.items (tickets_of s v a) left of))
-
 -- where the hand has no ticket of the place, passing it on is Unknown and changes nothing
 pub no_ticket : (m : MachineModel) (h : declared.Hand) (place : ℕ) → IsFirstPlace (λ t. t.place == place) h.tickets.items None → IsTurn m h (event.PassOn place) played.Unknown m h
 no_ticket m h place f = nothing_given m h (event.PassOn place) (ap (option_map PassOn) (find_none (λ t. t.place == place) h.tickets.items f))
@@ -179,15 +139,6 @@ module _ (m n : MachineModel) (h k : declared.Hand) (place at : ℕ) (t : Ticket
 
 -- ---- restarts
 
-pub approved : (m n : MachineModel) (h k : declared.Hand) (v : ℕ) → (happens (state_of m) (Approve v)).0 ≡ Answered played.Approved → state_of n ≡ (happens (state_of m) (Approve v)).1 → n.placement.setup ≡ m.placement.setup →
-    k.permits.items ≡ h.permits.items ++ v ∷ [] → HasOtherPermits h k → IsTurn m h (event.Approve v) played.Approved n k
-approved m n h k v answer state setup items o =
-    with_permits m n h k (event.Approve v) (Approve v) played.Approved refl answer state setup o (ap (λ ps. record (hand_of h) { permits = ps }) items)
-
-pub denied : (m n : MachineModel) (h : declared.Hand) (v : ℕ) (why : Denied) → (happens (state_of m) (Approve v)).0 ≡ Answered (played.Denied why) → state_of n ≡ (happens (state_of m) (Approve v)).1 → n.placement.setup ≡ m.placement.setup →
-    IsTurn m h (event.Approve v) (played.Denied why) n h
-denied m n h v why answer state setup = given_kept m n h (event.Approve v) (Approve v) (played.Denied why) refl answer state setup refl
-
 -- where the hand has no permit of the server, the end of its restart is Unknown and changes nothing
 pub no_permit : (m : MachineModel) (h : declared.Hand) (v : ℕ) → IsFirstPlace (λ permit. permit == v) h.permits.items None → IsTurn m h (event.Done v) played.Unknown m h
 no_permit m h v f = nothing_given m h (event.Done v) (ap (λ t. if t then Some (Done v) else None) (any_none (λ permit. permit == v) h.permits.items f))
@@ -196,17 +147,10 @@ module _ (m n : MachineModel) (h k : declared.Hand) (v at : ℕ) (f : IsFirstPla
   permit_given : given (hand_of h) (event.Done v) ≡ Some (Done v)
   permit_given = ap (λ t. if t then Some (Done v) else None) (any_some (λ permit. permit == v) h.permits.items at f)
 
-  pub permit_is : (p : ℕ) → p ≡ slice_index_or h.permits.items at p → p ≡ v
-  permit_is p e = e ∙ eqb-true (slice_index_or h.permits.items at p) v (f.1 p)
-
   pub restarted : (happens (state_of m) (Done v)).0 ≡ Answered played.Up → state_of n ≡ (happens (state_of m) (Done v)).1 → k.permits.items ≡ remove h.permits.items at → IsTurn m h (event.Done v) played.Up n k
   restarted answer state items =
       with_permits m n h k (event.Done v) (Done v) played.Up permit_given answer state setup o
       (ap (λ ps. record (hand_of h) { permits = ps }) (items ∙ sym (without_some (λ permit. permit == v) h.permits.items at f)))
-
-  pub not_restarted : (happens (state_of m) (Done v)).0 ≡ Answered played.Unknown → state_of n ≡ (happens (state_of m) (Done v)).1 → k.permits.items ≡ h.permits.items → IsTurn m h (event.Done v) played.Unknown n k
-  not_restarted answer state items =
-      with_permits m n h k (event.Done v) (Done v) played.Unknown permit_given answer state setup o (ap (λ ps. record (hand_of h) { permits = ps }) items)
 
 -- the end of a restart brings the server up, and spends its first permit
 pub restarted_turn : (m n : MachineModel) (h k : declared.Hand) (v at : ℕ) (f : IsFirstPlace (λ permit. permit == v) h.permits.items (Some at)) (p : ℕ) → p ≡ slice_index_or h.permits.items at p →

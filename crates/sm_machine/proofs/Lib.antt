@@ -15,6 +15,7 @@ pub mod Rows
 pub mod Records
 pub mod Readied
 pub mod Added
+pub mod TruePool
 pub mod Held
 pub mod Begins
 pub mod SeenStart

@@ -4,7 +4,7 @@ use Rattle.std.specs.Prelude.{◌==◌, ◌&&◌, nat_lt, if◌then◌else◌}
 use Rattle.std.proofs.lemmas.Bool.{and_parts, ltb-false, not-true}
 use Rattle.sm_server.specs.declared.call.Refusal.{Refusal}
 use Rattle.sm_placement.specs.Sums.{bit}
-use Rattle.sm_placement.specs.Place.{CallEffect, called_numbered}
+use Rattle.sm_placement.specs.Place.{CallEffect}
 use Rattle.sm_reservation.specs.declared.stream_id.StreamId.{StreamId}
 use Rattle.sm_plan_code.specs.declared.instruction.Instr.{Instr}
 use Rattle.sm_plan_code.specs.declared.instruction.Instr.TheVariants.{PrepareAdd, PrepareDrop, Add, Drop, Change, Publish, Unlist, Signal, Wait}
@@ -18,9 +18,9 @@ use Rattle.sm_protocol.specs.declared.event.RefillFault.{RefillFault}
 use Rattle.sm_protocol.specs.declared.event.RefillFault.TheVariants as fault
 use Rattle.sm_protocol.specs.declared.event.Played.TheVariants as played
 use Rattle.sm_protocol.specs.State.{State, stream_parts, progress_of, is_begun, is_running, next_instruction, allowance, free_places}
-use Rattle.sm_protocol.specs.Steps.{Outcome, Answered, unchanged, call_number, call_to_make, call_tried, tried, made, step}
+use Rattle.sm_protocol.specs.Steps.{Answered, call_number, tried, step}
 use Rattle.sm_protocol.specs.Happens.{Refill, refill_fault, refilled, happens}
-use Rattle.sm_protocol.proofs.Cases.{IsTry, answer_to, parcel_taken}
+use Rattle.sm_protocol.proofs.Cases.{IsTry, answer_to}
 use Rattle.sm_machine.specs.State.{Whole}
 use Rattle.sm_machine.specs.Working.{IsWorking}
 use Rattle.sm_machine.specs.Losses.{HasHappened, IsStepOver, is_lost, is_lost_answer, is_call_next, makes_try, event_over}
@@ -64,52 +64,6 @@ no_both true e f = absurd cc
 no_both false e f = absurd cc
 
 -- ---- steps over links
-
--- what is answered is not that a call was lost
-abbrev Quiet : Outcome × State → Type 0
-Quiet z = (a : Played) → z.0 ≡ Answered a → is_lost_answer a ≡ false
-
-tried_quiet : (w : State) (id : StreamId) (i : Instr) (r : Result CallEffect Refusal) → Quiet (tried w id i Through r)
-tried_quiet w id i (Ok effect) a e = cc
-tried_quiet w id i (Err why) a e = cc
-
-unless_quiet : (w : State) (id : StreamId) (i : Instr) (r : Result CallEffect Refusal) (t : Bool) → Quiet (if t then unchanged w played.Spent else tried w id i Through r)
-unless_quiet w id i r true a e = cc
-unless_quiet w id i r false a e = tried_quiet w id i r a e
-
-call_quiet : (w : State) (id : StreamId) (i : Instr) (o : Option ServerCall) → Quiet (call_tried w id Through i o)
-call_quiet w id i None a e = cc
-call_quiet w id i (Some x) a e = unless_quiet w id i (called_numbered w.sizes w.place x.shard x.server x.call (call_number w (progress_of w id))) ((progress_of w id).tries == allowance w id) a e
-
-wait_quiet : (w v : State) (q : ℕ) (t : Bool) → Quiet (if t then (Answered played.Moved, v) else unchanged w (played.Blocked q))
-wait_quiet w v q true a e = cc
-wait_quiet w v q false a e = cc
-
-made_quiet : (w : State) (id : StreamId) (o : Option Instr) → Quiet (made w id Through o)
-made_quiet w id None a e = cc
-made_quiet w id (Some (Publish s)) a e = cc
-made_quiet w id (Some (Unlist s)) a e = cc
-made_quiet w id (Some (Signal q)) a e = cc
-made_quiet w id (Some (Wait q)) a e = wait_quiet w (parcel_taken w id q) q (w.marks id.plan q).posted a e
-made_quiet w id (Some (PrepareAdd s v u)) a e = call_quiet w id (PrepareAdd s v u) (call_to_make w (progress_of w id) (PrepareAdd s v u)) a e
-made_quiet w id (Some (PrepareDrop s u v)) a e = call_quiet w id (PrepareDrop s u v) (call_to_make w (progress_of w id) (PrepareDrop s u v)) a e
-made_quiet w id (Some (Add s v role)) a e = call_quiet w id (Add s v role) (call_to_make w (progress_of w id) (Add s v role)) a e
-made_quiet w id (Some (Drop s v)) a e = call_quiet w id (Drop s v) (call_to_make w (progress_of w id) (Drop s v)) a e
-made_quiet w id (Some (Change s v role)) a e = call_quiet w id (Change s v role) (call_to_make w (progress_of w id) (Change s v role)) a e
-
-choice_quiet : (w : State) (z : Outcome × State) (answer : Played) (t : Bool) → is_lost_answer answer ≡ false → Quiet z → Quiet (if t then unchanged w answer else z)
-choice_quiet w z answer true l q a e = cc
-choice_quiet w z answer false l q a e = q a e
-
-begun_quiet : (w : State) (z : Outcome × State) (t : Bool) → Quiet z → Quiet (if t then z else unchanged w played.Unknown)
-begun_quiet w z true q a e = q a e
-begun_quiet w z false q a e = cc
-
--- a step where nothing is lost isn't answered that a call was
-step_quiet : (w : State) (id : StreamId) → Quiet (step w id Through)
-step_quiet w id =
-    choice_quiet w _ played.Halted w.halted refl
-    (begun_quiet w _ (is_begun w id) (choice_quiet w _ played.Done (progress_of w id).done refl (made_quiet w id (next_instruction w id))))
 
 -- the event of a step whose call fares so
 event_step : (w : State) (id : StreamId) (p : Passage) → happens w (event_over id p) ≡ step w id p
@@ -161,15 +115,6 @@ module _ (w : State) (id : StreamId) where
       tried_says w id n.0 p (answer_to w id x.0) a (ap (λ z. z.0) (sym (step_tried w id p (not-true w.halted b.0) n.0 x.0 t)) ∙ e)
 
   module _ {L : Type 0} (asked : L → StreamId → ℕ → Passage → L → Type 0) (answer : Played) (v : State) where
-    pub over_untried : (link : L) → makes_try w id ≡ false → step w id Through ≡ (Answered answer, v) → IsStepOver asked link link w id answer v
-    over_untried link none e = record {
-      passage = Through;
-      event = e;
-      lost = step_quiet w id answer (ap (λ z. z.0) e);
-      tried = λ some. absurd (no_both (makes_try w id) some none);
-      untried = λ same. (refl, refl);
-    }
-
     -- a step that tries a call is one over the link that was asked once, under the try's number
     pub over_tried : (old new : L) (p : Passage) → makes_try w id ≡ true → asked old id (call_number w (progress_of w id)) p new → step w id p ≡ (Answered answer, v) → IsStepOver asked old new w id answer v
     over_tried old new p some was e = record {
@@ -180,15 +125,6 @@ module _ (w : State) (id : StreamId) where
       untried = λ none. absurd (no_both (makes_try w id) some none);
     }
 
-    pub count_untried : (n : ℕ) → step w id Through ≡ (Answered answer, v) → n ≡ n + bit (is_lost_answer answer)
-    count_untried n e = let l = ap bit (step_quiet w id answer (ap (λ z. z.0) e)) in omega arith
-
     -- where a step tries a call, a count that rises where the try is lost rises where Lost is answered
     pub count_tried : (n m : ℕ) (p : Passage) → makes_try w id ≡ true → m ≡ n + bit (is_lost p) → step w id p ≡ (Answered answer, v) → m ≡ n + bit (is_lost_answer answer)
     count_tried n m p some l e = l ∙ ap (λ t. n + bit t) (sym (try_says some p answer (ap (λ z. z.0) e)))
-
-  pub begun_at_try : makes_try w id ≡ true → is_begun w id ≡ true
-  begun_at_try is =
-      let b = and_parts (not w.halted) (is_running w id && (is_call_next (next_instruction w id) && not ((progress_of w id).tries == allowance w id))) is in
-      let c = and_parts (is_running w id) (is_call_next (next_instruction w id) && not ((progress_of w id).tries == allowance w id)) b.1 in
-      (and_parts (is_begun w id) (not (progress_of w id).done) c.0).0

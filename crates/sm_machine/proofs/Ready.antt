@@ -110,7 +110,7 @@ module _ (x : Whole) (g : IsWorking x) (id : StreamId) where
               CanTrade w.sizes i (Some k) × ((h : Option HoldModel) → IsTradedBy w.sizes i (Some k) h → hold_in h ≡ hold_behind w id)
           go k o e r =
               let c = can_exchange g.setup w g.reached id i b own here k e o.ordered o.positive r.0 r.1 r.2 in (
-                record { signals = parcels_of (plan_at w id.plan).signals; made = subst IsOk (sym c.leaves) refl; joins = c.fits; capacity = c.room },
+                record { signals = parcels_of (plan_at w id.plan).signals; made = subst IsOk (sym c.leaves) refl; joins = c.fits; capacity = c.capacity },
                 λ h t. t.hold ∙ c.left,
               )
 
@@ -191,7 +191,7 @@ module _ (x : Whole) (g : IsWorking x) (id : StreamId) where
                 there = c.awaited;
                 held = ap (λ o. first_short (hold_in o) (parcel_at w id.plan q)) e ∙ c.enough;
                 fits = subst (λ o. CanJoin (hold_in o) (hold_of (parcel_at w id.plan q))) (sym f) c.fits;
-                capacity = subst (λ o. HasCapacityIn o (parcel_at w id.plan q)) (sym f) c.room;
+                capacity = subst (λ o. HasCapacityIn o (parcel_at w id.plan q)) (sym f) c.capacity;
               },
               λ h n i j. (i ∙ ap (λ o. minus (hold_in o) (parcel_at w id.plan q)) e ∙ c.left, j ∙ ap (λ o. plus (hold_in o) (parcel_at w id.plan q)) f ∙ c.sent),
             )
@@ -223,7 +223,7 @@ module _ (x : Whole) (g : IsWorking x) (id : StreamId) where
                 signal = c.signal;
                 there = c.awaited;
                 fits = subst (λ o. CanJoin (hold_in o) (hold_in (x.parcels id.plan q))) (sym e) (subst (λ o. CanJoin (hold_of k.rights) (hold_in o)) (sym f) c.fits);
-                capacity = subst (λ o. HasCapacityIn o (rights_in (x.parcels id.plan q))) (sym e) (subst (λ o. HasCapacity k (rights_in o)) (sym f) c.room);
+                capacity = subst (λ o. HasCapacityIn o (rights_in (x.parcels id.plan q))) (sym e) (subst (λ o. HasCapacity k (rights_in o)) (sym f) c.capacity);
               },
               λ h i. i ∙ ap (λ o. plus (hold_in o) (rights_in (x.parcels id.plan q))) e ∙ ap (λ o. plus (hold_of k.rights) (rights_in o)) f ∙ c.left,
             )

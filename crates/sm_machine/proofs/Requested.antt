@@ -11,11 +11,11 @@ use Rattle.sm_protocol.specs.declared.event.Event.TheVariants as event
 use Rattle.sm_protocol.specs.Ticket.{Ticket, is_open_ticket}
 use Rattle.sm_protocol.specs.State.{State, recorded, free_places}
 use Rattle.sm_protocol.specs.Steps.{Outcome, Answered, unchanged}
-use Rattle.sm_protocol.specs.Happens.{PassOn, Arrive, answer_by, requested, happens}
+use Rattle.sm_protocol.specs.Happens.{PassOn, Arrive, answer_by, requested}
 use Rattle.sm_protocol.proofs.Replays.{open_ticket}
 use Rattle.sm_machine.specs.State.{Whole, with_state}
 use Rattle.sm_machine.specs.Working.{IsWorking}
-use Rattle.sm_machine.specs.Requested.{reply_of, IsRequest, IsReply, IsAsked, asked_whole}
+use Rattle.sm_machine.specs.Requested.{reply_of, IsRequest, IsReply, IsAsked}
 use Rattle.sm_machine.proofs.KnownPasses.{passes_known}
 use Rattle.sm_machine.proofs.ties.Events.{working_recorded}
 
@@ -39,6 +39,10 @@ is_reply w s v sent = go (w.place.down v)
     go false = cell_reply (w.place.cells s v) v sent (length w.log)
 
 -- ---- the log is full, or has a place
+
+-- a request that was answered is recorded, and takes a place of the log
+abbrev asked_whole : Whole → ℕ → ℕ → Option Ticket → Event → Whole
+asked_whole x s v sent event = record x { state = recorded x.state event (reply_of x.state s v sent); free = x.free - 1 }
 
 module _ (x : Whole) (g : IsWorking x) (s v : ℕ) (sent : Option Ticket) (e : Event) where
   abbrev by_room : Bool → Outcome × State
@@ -95,9 +99,3 @@ module _ (x : Whole) (g : IsWorking x) (t : Ticket) where
   passes_on o =
       let known = passes_known g.setup x.state g.reached t.place t (open_ticket x.state.log t o).pass in
       record { shard = known.0; server = known.1; made = PassOn t; fits = tt; is = ap by_ticket o }
-
-  pub not_passed_on : is_open_ticket x.state.log t ≡ false → happens x.state (PassOn t) ≡ (Answered played.Unknown, x.state)
-  not_passed_on o = ap by_ticket o
-
-  pub passed_on : (y : Whole) (answer : Played) → is_open_ticket x.state.log t ≡ true → IsAsked x t.shard t.target (Some t) (event.PassOn t.place) answer y → happens x.state (PassOn t) ≡ (Answered answer, y.state)
-  passed_on y answer o a = ap by_ticket o ∙ a.outcome

@@ -1,5 +1,5 @@
 -- A machine approves and ends restarts as the protocol says, and keeps what every machine keeps.
-use Rattle.std.proofs.Common.{◌≡◌, ◌≤◌, ◌<◌, ◌+◌, ◌^◌, ℕ, true, false, refl, sym, ap, ◌∙◌, subst, arith, [], ◌∷◌, Option, Some, None, length, length-append}
+use Rattle.std.proofs.Common.{◌≡◌, ◌≤◌, ◌<◌, ◌+◌, ◌^◌, ℕ, true, false, sym, ap, ◌∙◌, subst, arith, [], ◌∷◌, Option, None, length, length-append}
 use Rattle.sm_placement.specs.Place.{set_down}
 use Rattle.sm_task_controller.specs.declared.decision.Denied.{Denied}
 use Rattle.sm_task_controller.specs.Decision.{denial}
@@ -8,7 +8,7 @@ use Rattle.sm_protocol.specs.declared.event.Event.TheVariants as event
 use Rattle.sm_protocol.specs.declared.event.Played.TheVariants as played
 use Rattle.sm_protocol.specs.State.{State, logged, pool, free_places}
 use Rattle.sm_protocol.specs.Steps.{Answered}
-use Rattle.sm_protocol.specs.Happens.{Approve, Done, approved, engaged, happens}
+use Rattle.sm_protocol.specs.Happens.{Approve, approved, engaged, happens}
 use Rattle.sm_protocol.proofs.Reached.{of_opening}
 use Rattle.sm_machine.specs.State.{Whole}
 use Rattle.sm_machine.specs.Working.{IsWorking}
@@ -51,9 +51,6 @@ module _ (x : Whole) (g : IsWorking x) (u : ℕ) where
           let one : length (logged w (event.Done u) played.Up) ≡ length w.log + 1 = length-append w.log (record { event = event.Done u; answer = played.Up } ∷ []) in
           omega arith
 
-      pub restarted_so : (y : Whole) → y ≡ restarted_whole x u → (happens w (Done u) ≡ (Answered played.Up, y.state)) × IsWorking y
-      restarted_so y e = subst (λ z. (happens w (Done u) ≡ (Answered played.Up, z.state)) × IsWorking z) (sym e) ((rw down refl), restarted_working)
-
     -- ---- an approval
 
     abbrev denied : Option Denied
@@ -81,9 +78,3 @@ module _ (x : Whole) (g : IsWorking x) (u : ℕ) where
       -- the restart is approved as the protocol says, and all that every machine keeps is kept
       pub approved_so : (y : Whole) → y ≡ approved_whole x u → (happens w (Approve u) ≡ (Answered played.Approved, y.state)) × IsWorking y
       approved_so y e = subst (λ z. (happens w (Approve u) ≡ (Answered played.Approved, z.state)) × IsWorking z) (sym e) (ap (approved w u) no_denial, working_approved x g u known no_denial)
-
-    pub denied_so : (why : Denied) → denied ≡ Some why → happens w (Approve u) ≡ (Answered (played.Denied why), w)
-    denied_so why e = ap (approved w u) (sym same_denial ∙ e)
-
-  pub not_down : w.place.down u ≡ false → happens w (Done u) ≡ (Answered played.Unknown, w)
-  not_down e = rw e refl

@@ -1,16 +1,14 @@
 -- The rows of a placement, one more at a time.
-use Rattle.std.proofs.Common.{◌≡◌, ◌≢◌, ◌≤◌, ◌+◌, ◌∙◌, ℕ, Bool, true, false, List, [], ◌∷◌, ◌++◌, refl, sym, ap, inl, inr, arith}
-use Rattle.std.specs.Prelude.{◌&&◌, ◌||◌, ◌==◌, nat_lt, if◌then◌else◌}
+use Rattle.std.proofs.Common.{◌≡◌, ◌≢◌, ◌≤◌, ◌+◌, ◌∙◌, ℕ, Bool, false, List, [], ◌∷◌, ◌++◌, refl, sym, ap, inl, inr, arith}
+use Rattle.std.specs.Prelude.{◌&&◌, nat_lt, if◌then◌else◌}
 use Rattle.std.proofs.Math.Path.{fun_ext}
-use Rattle.std.proofs.Math.Bool.{or-false}
 use Rattle.std.proofs.lemmas.Bool.{cases_eq, cases_lt, lt-ltb, le-ltb, ne_eqb, eq-eqb}
-use Rattle.std.proofs.lemmas.List.Folds.{list_any-append}
 use Rattle.sm_server.specs.declared.call.Cell.{Cell}
 use Rattle.sm_server.specs.declared.call.Cell.TheVariants.{Absent}
 use Rattle.sm_placement.specs.Sums.{put2}
 use Rattle.sm_placement.proofs.Sums.{put2-here, put2-row, put2-apart}
 use Rattle.sm_placement.specs.Opening.{NamedCell, put_all}
-use Rattle.sm_machine.specs.Opening.{cells_of_rows, down_of_rows, is_before, AreCellsBefore, AreDownBelow}
+use Rattle.sm_machine.specs.Opening.{cells_of_rows, down_of_rows, is_before, AreCellsBefore}
 
 put_all_push : (rows : List NamedCell) (x : NamedCell) (f : ℕ → ℕ → Cell) → put_all (rows ++ x ∷ []) f ≡ put2 (put_all rows f) x.0 x.1 x.2
 put_all_push [] x f = refl
@@ -111,35 +109,13 @@ all_cells rows cells n h none = fun_ext (λ s. fun_ext (λ v. h s v ∙ at s v))
 
 -- ---- servers that are down
 
+-- the rows name the servers below this one that are down, and no others
+abbrev pub AreDownBelow : List ℕ → (ℕ → Bool) → ℕ → Type 0
+AreDownBelow rows down server = (v : ℕ) → down_of_rows rows v ≡ (nat_lt v server && down v)
+
 -- below the first server there is none
 pub none_down : (down : ℕ → Bool) → AreDownBelow [] down 0
 none_down down v = rw (le-ltb v 0 (omega arith)) refl
-
-below_more : (v n : ℕ) → v ≢ n → nat_lt v n ≡ nat_lt v (n + 1)
-below_more v n d = elim (cases_lt v n) [
-  | inl l ↦ lt-ltb v n l ∙ sym (lt-ltb v (n + 1) (omega arith))
-  | inr l ↦ le-ltb v n l ∙ sym (le-ltb v (n + 1) (omega arith))
-]
-
-or_true : (b : Bool) → (b || true) ≡ true
-or_true true = refl
-or_true false = refl
-
--- a server more that is down has a row
-pub down_more : (rows : List ℕ) (down : ℕ → Bool) (n x : ℕ) → AreDownBelow rows down n → x ≡ n → down n ≡ true → AreDownBelow (rows ++ x ∷ []) down (n + 1)
-down_more rows down n x h e d v = list_any-append (λ y. y == v) rows (x ∷ []) ∙ rw e (elim (cases_eq v n) [
-  | inl a ↦ rw (a, eq-eqb n n refl, lt-ltb n (n + 1) (omega arith), d) (or_true (down_of_rows rows n))
-  | inr a ↦
-      let b : n ≢ v = λ f. a (sym f) in
-      rw (ne_eqb n v b, or-false (down_of_rows rows v)) (h v ∙ ap (λ t. t && down v) (below_more v n a))
-])
-
--- and one that is up has none
-pub down_passed : (rows : List ℕ) (down : ℕ → Bool) (n : ℕ) → AreDownBelow rows down n → down n ≡ false → AreDownBelow rows down (n + 1)
-down_passed rows down n h d v = elim (cases_eq v n) [
-  | inl a ↦ rw a (h n ∙ rw (d, le-ltb n n (omega arith), lt-ltb n (n + 1) (omega arith)) refl)
-  | inr a ↦ h v ∙ ap (λ t. t && down v) (below_more v n a)
-]
 
 -- all rows
 pub all_down : (rows : List ℕ) (down : ℕ → Bool) (n : ℕ) → AreDownBelow rows down n → ((v : ℕ) → n ≤ v → down v ≡ false) → down_of_rows rows ≡ down

@@ -173,9 +173,6 @@ module _ (x : Whole) (id : StreamId) (q : ℕ) where
     pub wait_known : q < signal_count x.state id.plan
     wait_known = (waited_signal x at.working id q (before x id _ at)).0
 
-    pub wait_blocked : (x.state.marks id.plan q).posted ≡ false → (p : Passage) → IsStepped x id p (played.Blocked q) x
-    wait_blocked e p = stepped_idle x id (Some (Wait q)) at p (played.Blocked q) (rw e refl)
-
     module _ (order : IsGrantInOrder (x.grants id.plan id.stream)) (there : is_some (x.grants id.plan id.stream) ≡ not (progress_of x.state id).done)
         (was : (x.state.marks id.plan q).posted ≡ true) (sent_order : IsGrantInOrder (x.parcels id.plan q)) (sent_there : is_some (x.parcels id.plan q) ≡ not (x.state.marks id.plan q).awaited) where
       -- all that a wait for a posted signal asks for is there

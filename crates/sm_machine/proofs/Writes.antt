@@ -75,20 +75,6 @@ course-change b k i x l m =
     (inner-kept (λ n. n.signals) (λ x. x.grant) no_begun no_carried b.plans k n' l refl)
     (outer-kept (λ n. n.unfinished) no_begun b.plans k n' l refl)
 
-pub carried-change : (b : MachineModel) (k q : ℕ) (x : CarriedModel) → k < length b.plans → q < length (begun_at b.plans k).signals →
-    whole_of (record b { plans = set b.plans k (with_carried (begun_at b.plans k) q x) }) ≡ with_signal (whole_of b) k q x.mark x.grant
-unfolding whole_of
-carried-change b k q x l m =
-    let n : BegunModel = begun_at b.plans k in
-    let n' : BegunModel = with_carried n q x in
-    with_plans b (set b.plans k n') _ _ _ _
-    (map-kept start_of b.plans k n' no_begun refl)
-    (inner-kept (λ n. n.courses) (λ x. x.progress) no_begun no_course b.plans k n' l refl)
-    (inner-kept (λ n. n.courses) (λ x. x.grant) no_begun no_course b.plans k n' l refl)
-    (inner-set (λ n. n.signals) (λ x. x.mark) no_begun no_carried b.plans k q n' x l m refl)
-    (inner-set (λ n. n.signals) (λ x. x.grant) no_begun no_carried b.plans k q n' x l m refl)
-    (outer-kept (λ n. n.unfinished) no_begun b.plans k n' l refl)
-
 pub both-change : (b : MachineModel) (k i q : ℕ) (x : CourseModel) (y : CarriedModel) → k < length b.plans → i < length (begun_at b.plans k).courses → q < length (begun_at b.plans k).signals →
     whole_of (record b { plans = set b.plans k (with_carried (with_course (begun_at b.plans k) i x) q y) })
     ≡ record (whole_of b) { state = record (whole_of b).state { progress = put2 (whole_of b).state.progress k i x.progress; marks = put2 (whole_of b).state.marks k q y.mark }; grants = put2 (whole_of b).grants k i x.grant; parcels = put2 (whole_of b).parcels k q y.grant }

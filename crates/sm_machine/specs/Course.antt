@@ -7,11 +7,13 @@ use Rattle.sm_reservation.specs.Capacity.{HoldModel, HasCapacity, HasCapacityAft
 use Rattle.sm_plan_code.specs.Plan.{IsOrderedParcel}
 use Rattle.sm_protocol.specs.State.{Progress, fresh}
 
+-- A stream that was begun: how far it has come, and what it holds.
 pub record CourseModel : Type 0 where
   pub progress : Progress
   -- what it holds; none once it has made its end
   pub grant : Option HoldModel
 
+-- what stands where the plan has no such stream
 abbrev pub no_course : CourseModel
 no_course = record { progress = fresh; grant = None }
 
@@ -20,16 +22,17 @@ abbrev pub hold_in : Option HoldModel → Hold
 hold_in None = no_hold
 hold_in (Some kept) = hold_of kept.rights
 
+-- the rights of a grant as the lists that it keeps, which are empty where there is no grant
 abbrev pub rights_in : Option HoldModel → Rights
 rights_in None = no_rights
 rights_in (Some kept) = kept.rights
 
--- there is room for the keys of a parcel that are new
+-- there is capacity for the keys of a parcel that are new
 abbrev pub HasCapacityIn : Option HoldModel → Rights → Type 0
 HasCapacityIn None p = Unit {0}
 HasCapacityIn (Some kept) p = HasCapacity kept p
 
--- there is room for the new keys of what is got, once what is given is out
+-- there is capacity for the new keys of what is got, once what is given is out
 abbrev pub HasCapacityAfterIn : Option HoldModel → Rights → Rights → Type 0
 HasCapacityAfterIn None out got = Unit {0}
 HasCapacityAfterIn (Some kept) out got = HasCapacityAfter kept out got
@@ -39,7 +42,7 @@ abbrev pub IsGrantInOrder : Option HoldModel → Type 0
 IsGrantInOrder None = Unit {0}
 IsGrantInOrder (Some kept) = IsOrderedParcel kept.rights
 
--- for how many keys it has room
+-- for how many keys it has capacity
 abbrev pub capacity_in : Option HoldModel → ℕ
 capacity_in None = 0
 capacity_in (Some kept) = kept.capacity

@@ -20,5 +20,6 @@ engaging n k v i = if engages_in n v i then Some (stream_id k i) else None
 abbrev pub engaged_in : BegunModel → ℕ → ℕ → Option StreamId
 engaged_in n k v = first_from 0 (length n.plan.streams) (engaging n k v)
 
+-- the lowest stream of the plan of this number that engages the server, in a state of the protocol
 abbrev pub engaged_by : State → ℕ → ℕ → Option StreamId
 engaged_by w v k = first_from 0 (stream_count w k) (λ i. if engages w v (stream_id k i) then Some (stream_id k i) else None)

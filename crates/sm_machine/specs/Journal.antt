@@ -4,6 +4,7 @@ use Rattle.sm_protocol.specs.declared.event.Event.{Event}
 use Rattle.sm_protocol.specs.declared.event.Logged.{Logged}
 use Rattle.sm_protocol.specs.Ticket.{Ticket, passes, is_pass_on, is_passed_on}
 
+-- A machine's log: the recorded events with their answers, and how many places there are for them.
 pub record JournalModel : Type 0 where
   pub log : List Logged
   pub room : ℕ

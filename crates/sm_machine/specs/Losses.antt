@@ -28,6 +28,7 @@ event_over id Through = Step id
 event_over id LostBefore = Lose id false
 event_over id LostAfter = Lose id true
 
+-- what a stream makes next is a call, and neither another instruction nor its end
 abbrev pub is_call_next : Option Instr → Bool
 is_call_next None = false
 is_call_next (Some i) = is_call i
@@ -37,6 +38,7 @@ is_call_next (Some i) = is_call i
 abbrev pub makes_try : State → StreamId → Bool
 makes_try w id = not w.halted && (is_running w id && (is_call_next (next_instruction w id) && not ((progress_of w id).tries == allowance w id)))
 
+-- a step is answered that its call, or the call's answer, was lost
 abbrev pub is_lost_answer : Played → Bool
 is_lost_answer played.Lost = true
 is_lost_answer _ = false

@@ -7,6 +7,7 @@ use Rattle.sm_machine.specs.Begun.{BegunModel, no_begun}
 use Rattle.sm_machine.specs.Journal.{JournalModel}
 use Rattle.sm_machine.specs.Opening.{OpeningRows}
 
+-- A machine, as contracts see it: the placement, who has which rights, the plans that were begun, and the log.
 pub record MachineModel : Type 0 where
   -- the placement at the opening, and as it stands
   pub opening : OpeningRows
@@ -25,5 +26,6 @@ pub record MachineModel : Type 0 where
   pub running : ℕ
   pub halted : Bool
 
+-- the plan of this number, of those that were begun
 abbrev pub begun_at : List BegunModel → ℕ → BegunModel
 begun_at plans k = slice_index_or plans k no_begun

@@ -36,13 +36,10 @@ place_of_rows rows = record {
 
 -- ---- how far the rows have come, shard after shard and in each server after server
 
+-- the cell of shard s at server v comes before the one of the first two numbers, by the shard and then by the server
 abbrev pub is_before : ℕ → ℕ → ℕ → ℕ → Bool
 is_before shard server s v = nat_lt s shard || ((s == shard) && nat_lt v server)
 
 -- the rows name the cells before this pair, and no others
 abbrev pub AreCellsBefore : List NamedCell → (ℕ → ℕ → Cell) → ℕ → ℕ → Type 0
 AreCellsBefore rows cells shard server = (s v : ℕ) → cells_of_rows rows s v ≡ (if is_before shard server s v then cells s v else Absent)
-
--- the rows name the servers below this one that are down, and no others
-abbrev pub AreDownBelow : List ℕ → (ℕ → Bool) → ℕ → Type 0
-AreDownBelow rows down server = (v : ℕ) → down_of_rows rows v ≡ (nat_lt v server && down v)

@@ -1,11 +1,11 @@
 -- Requests as a machine answers them.
-use Rattle.std.specs.Prelude.{◌≡◌, ◌<◌, ◌-◌, ℕ, Option, List, [], ◌∷◌, length, if◌then◌else◌}
+use Rattle.std.specs.Prelude.{◌≡◌, ◌<◌, ℕ, Option, List, [], ◌∷◌, length, if◌then◌else◌}
 use Rattle.std.specs.Option.{option_to_list}
 use Rattle.sm_protocol.specs.declared.event.Event.{Event}
 use Rattle.sm_protocol.specs.declared.event.Played.{Played}
 use Rattle.sm_protocol.specs.declared.event.Played.TheVariants as played
 use Rattle.sm_protocol.specs.Ticket.{Ticket}
-use Rattle.sm_protocol.specs.State.{State, recorded}
+use Rattle.sm_protocol.specs.State.{State}
 use Rattle.sm_protocol.specs.Steps.{Answered}
 use Rattle.sm_protocol.specs.Happens.{Happening, answer_by, requested, happens}
 use Rattle.sm_protocol.specs.Laws.{FitsConfig}
@@ -41,10 +41,6 @@ pub record IsAsked (x : Whole) (s v : ℕ) (sent : Option Ticket) (event : Event
   pub reply : IsReply answer
   pub setup : y.setup ≡ x.setup
   pub working : IsWorking y
-
--- a request that was answered is recorded, and takes a place of the log
-abbrev pub asked_whole : Whole → ℕ → ℕ → Option Ticket → Event → Whole
-asked_whole x s v sent event = record x { state = recorded x.state event (reply_of x.state s v sent); free = x.free - 1 }
 
 -- ---- answers with their tickets
 

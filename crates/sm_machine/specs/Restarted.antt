@@ -42,10 +42,12 @@ restarted_whole x u = record x {
 
 -- ---- answers, as the log and lists of events have them
 
+-- of a restart that is asked for (SM 2021, the TaskController): it is approved, or why it is denied
 abbrev pub approval_of : Result ℕ Denied → Played
 approval_of (Ok permit) = played.Approved
 approval_of (Err why) = played.Denied why
 
+-- of a restart that is to end: the server is up, or its permit ends nothing, since the server was not down
 abbrev pub restart_of : Result (Unit {0}) ℕ → Played
 restart_of (Ok done) = played.Up
 restart_of (Err permit) = played.Unknown

@@ -1,9 +1,9 @@
 -- Plans that are ready to start, and what a start gives.
-use Rattle.std.specs.Prelude.{◌≡◌, ◌<◌, ◌≤◌, nat_lt, nat_le, ◌||◌, if◌then◌else◌, false, Option, None, ◌+◌, ◌++◌, ◌∷◌, [], count_by, ℕ, zero, suc, Some, List, length, map, slice_index, slice_index_or}
+use Rattle.std.specs.Prelude.{◌≡◌, ◌<◌, ◌≤◌, nat_lt, nat_le, ◌||◌, if◌then◌else◌, false, Option, None, ◌++◌, ◌∷◌, [], ℕ, zero, suc, Some, List, length, map, slice_index, slice_index_or}
 use Rattle.sm_reservation.specs.Rights.{Rights, no_rights}
 use Rattle.sm_reservation.specs.Capacity.{HoldModel, most_keys}
 use Rattle.sm_reservation.specs.declared.stream_id.StreamId.{StreamId}
-use Rattle.sm_protocol.specs.State.{fresh, no_mark, stream_id, is_no_call, places_of}
+use Rattle.sm_protocol.specs.State.{fresh, no_mark, stream_id, places_of}
 use Rattle.sm_verifier.specs.Checked.{CheckedModel}
 use Rattle.sm_reservation.specs.Hold.{Hold, no_hold, plus}
 use Rattle.sm_reservation.specs.HoldOf.{hold_of}
@@ -12,7 +12,8 @@ use Rattle.sm_reservation.specs.Short.{first_short}
 use Rattle.sm_plan_code.specs.Plan.{StreamModel}
 use Rattle.sm_machine.specs.Course.{CourseModel, no_course, rights_in, hold_in, capacity_in, HasCapacityIn}
 use Rattle.sm_machine.specs.Begun.{BegunModel, CarriedModel, course_at}
-use Rattle.sm_machine.specs.Tied.{declares, pool_left}
+use Rattle.sm_verifier.specs.FirstHolding.{declared_rights}
+use Rattle.sm_machine.specs.Tied.{pool_left}
 use Rattle.sm_machine.specs.State.{Whole}
 use Rattle.sm_plan_code.specs.Plan.{PlanModel}
 use Rattle.sm_plan_code.specs.declared.limits.TheConstants.{MOST_NUMBER, MOST_PLANS}
@@ -23,15 +24,15 @@ use Rattle.sm_protocol.specs.declared.event.BeginFault.TheVariants as fault
 use Rattle.sm_verifier.specs.Step.{parcels_of}
 use Rattle.sm_protocol.specs.Happens.{started}
 
--- a grant of nothing, with room for so many keys
+-- a grant of nothing, with capacity for so many keys
 abbrev pub empty_kept : ℕ → HoldModel
 empty_kept n = record { rights = no_rights; capacity = n }
 
--- a stream that has made nothing and holds nothing, with so much room
+-- a stream that has made nothing and holds nothing, with so much capacity
 abbrev pub ready_course : ℕ → CourseModel
 ready_course n = record { progress = fresh; grant = Some (empty_kept n) }
 
--- a signal that was not posted, with room for its parcel
+-- a signal that was not posted, with capacity for its parcel
 abbrev pub ready_signal : Rights → CarriedModel
 ready_signal p = record { mark = no_mark; grant = Some (empty_kept (most_keys p)) }
 
@@ -39,27 +40,26 @@ ready_signal p = record { mark = no_mark; grant = Some (empty_kept (most_keys p)
 abbrev pub IsEmptyCourse : CourseModel → Type 0
 IsEmptyCourse x = rights_in x.grant ≡ no_rights
 
+-- the signal carries nothing
 abbrev pub IsEmptyCarried : CarriedModel → Type 0
 IsEmptyCarried x = rights_in x.grant ≡ no_rights
 
--- the streams and the signals of a checked plan before its start: the first n streams, by the room that each takes
+-- the streams and the signals of a checked plan before its start: the first n streams, by the capacity of each
 abbrev pub first_courses : (ℕ → ℕ) → ℕ → List CourseModel
 first_courses peaks zero = []
 first_courses peaks (suc n) = first_courses peaks n ++ ready_course (peaks n) ∷ []
 
+-- all streams of a checked plan before its start, each with room for its peak
 abbrev pub ready_courses : CheckedModel → List CourseModel
 ready_courses p = first_courses (λ i. slice_index p.peaks i) (length p.plan.streams)
 
+-- all signals of a checked plan before its start, each with room for its parcel
 abbrev pub ready_signals : CheckedModel → List CarriedModel
 ready_signals p = map ready_signal p.plan.signals
 
 -- the plan as it is begun, before its streams have what they declare
 abbrev pub begun_of : CheckedModel → ℕ → BegunModel
 begun_of p since = record { plan = p.plan; since = since; courses = ready_courses p; signals = ready_signals p; unfinished = length p.plan.streams }
-
--- how many places of the log a stream takes
-abbrev pub places_of_stream : StreamModel → ℕ
-places_of_stream stream = stream.budget + stream.retries + count_by is_no_call stream.code + 1
 
 -- ---- what streams declare is taken out of a pool
 
@@ -68,11 +68,11 @@ pub record CanFillAt (free : Hold) (x : CourseModel) (p : Rights) : Type 0 where
   pub running : x.progress.done ≡ false
   pub enough : first_short free p ≡ None
   pub fits : CanJoin (hold_in x.grant) (hold_of p)
-  pub room : HasCapacityIn x.grant p
+  pub capacity : HasCapacityIn x.grant p
 
 -- each stream may in its turn
 abbrev pub CanFillAll : BegunModel → Hold → Type 0
-CanFillAll n h = (i : ℕ) → i < length n.plan.streams → CanFillAt (pool_left h n.plan.streams i) (course_at n i) (declares n.plan.streams i)
+CanFillAll n h = (i : ℕ) → i < length n.plan.streams → CanFillAt (pool_left h n.plan.streams i) (course_at n i) (declared_rights n.plan.streams i)
 
 -- the stream has taken them
 pub record IsFilledBy (p : Rights) (old new : CourseModel) : Type 0 where
@@ -83,12 +83,12 @@ pub record IsFilledBy (p : Rights) (old new : CourseModel) : Type 0 where
 -- the first n streams have taken what they declare, and the others stand as they stood
 pub record AreFilled (streams : List StreamModel) (n : ℕ) (old new : List CourseModel) : Type 0 where
   pub count : length new ≡ length old
-  pub filled : (i : ℕ) → i < n → IsFilledBy (declares streams i) (slice_index_or old i no_course) (slice_index_or new i no_course)
+  pub filled : (i : ℕ) → i < n → IsFilledBy (declared_rights streams i) (slice_index_or old i no_course) (slice_index_or new i no_course)
   pub left : (i : ℕ) → n ≤ i → slice_index_or new i no_course ≡ slice_index_or old i no_course
 
 -- ---- what a machine has after a start
 
--- the grant has this, with so much room
+-- the grant has this, with so much capacity
 pub record IsGranted (p : Rights) (n : ℕ) (grant : Option HoldModel) : Type 0 where
   pub hold : hold_in grant ≡ plus no_hold p
   pub capacity : capacity_in grant ≡ n
@@ -99,7 +99,7 @@ pub record IsBegunIn (x : Whole) (p : CheckedModel) (y : Whole) : Type 0 where
   pub setup : y.setup ≡ x.setup
   pub pool : y.pool ≡ pool_left x.pool p.plan.streams (length p.plan.streams)
   pub grants : (k i : ℕ) → k < length x.state.plans → y.grants k i ≡ x.grants k i
-  pub granted : (i : ℕ) → i < length p.plan.streams → IsGranted (declares p.plan.streams i) (slice_index p.peaks i) (y.grants (length x.state.plans) i)
+  pub granted : (i : ℕ) → i < length p.plan.streams → IsGranted (declared_rights p.plan.streams i) (slice_index p.peaks i) (y.grants (length x.state.plans) i)
   pub parcels : (k q : ℕ) → k < length x.state.plans → y.parcels k q ≡ x.parcels k q
   pub parceled : (q : ℕ) → q < length p.plan.signals → y.parcels (length x.state.plans) q ≡ Some (empty_kept (most_keys (parcels_of p.plan.signals q)))
   pub unfinished : (k : ℕ) → k < length x.state.plans → y.unfinished k ≡ x.unfinished k
@@ -115,6 +115,7 @@ fault_after x plan None =
     else if nat_le MOST_PLANS x.running || nat_lt MOST_NUMBER (length x.state.plans) then Some fault.TooManyPlans
     else None
 
+-- why a machine does not start the plan, where memory is there; none where it starts it
 abbrev pub begin_fault : Whole → PlanModel → Option BeginFault
 begin_fault x plan = fault_after x plan (first_holding x.state.sizes x.state.place x.pool plan)
 

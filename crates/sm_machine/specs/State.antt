@@ -30,6 +30,7 @@ pub record Whole : Type 0 where
   -- how many places of the log are neither used nor set aside
   pub free : ℕ
 
+-- the state of the protocol, from the machine's parts
 abbrev pub state_parts : MachineModel → State
 state_parts m = record {
   sizes = sizes_of m.placement.setup;
@@ -46,6 +47,7 @@ state_parts m = record {
   halted = m.halted;
 }
 
+-- the machine's state with its configuration, its counts, and its rights by who has them
 unfoldable pub whole_of : MachineModel → Whole
 whole_of m = record {
   state = state_parts m;

@@ -1,13 +1,12 @@
 -- What a machine's pool, its streams' grants and its parcels under way are, at a state of the protocol.
-use Rattle.std.specs.Prelude.{◌≡◌, ◌<◌, ℕ, zero, suc, Bool, true, List, length, not, slice_index_or, if◌then◌else◌}
+use Rattle.std.specs.Prelude.{◌≡◌, ◌<◌, ℕ, zero, suc, Bool, true, List, length, not, if◌then◌else◌}
 use Rattle.sm_placement.specs.Sums.{count_below}
 use Rattle.sm_reservation.specs.declared.stream_id.StreamId.{StreamId}
-use Rattle.sm_reservation.specs.Rights.{Rights}
 use Rattle.sm_reservation.specs.Hold.{Hold, no_hold, minus, pay_spare, get_spare}
 use Rattle.sm_reservation.specs.HoldOf.{hold_of}
 use Rattle.sm_plan_code.specs.Plan.{StreamModel}
-use Rattle.sm_verifier.specs.Stream.{no_stream}
-use Rattle.sm_protocol.specs.State.{State, plan_at, stream_count, is_running, signal_count, hold_of_stream, parcel_at, is_under_way, free_places}
+use Rattle.sm_verifier.specs.FirstHolding.{declared_rights}
+use Rattle.sm_protocol.specs.State.{State, stream_count, is_running, signal_count, hold_of_stream, parcel_at, is_under_way, free_places}
 use Rattle.sm_protocol.specs.Happens.{running_plans}
 use Rattle.sm_protocol.specs.State as state
 
@@ -24,14 +23,10 @@ pub record IsTied (w : State) (free : Hold) (granted : ℕ → ℕ → Hold) (se
 
 -- ---- what starts of plans and restarts do to a pool
 
--- what a stream of a plan declares
-abbrev pub declares : List StreamModel → ℕ → Rights
-declares streams i = (slice_index_or streams i no_stream).holds
-
 -- a pool from which what the first n streams declare has been taken
 abbrev pub pool_left : Hold → List StreamModel → ℕ → Hold
 pool_left h streams zero = h
-pool_left h streams (suc n) = minus (pool_left h streams n) (declares streams n)
+pool_left h streams (suc n) = minus (pool_left h streams n) (declared_rights streams n)
 
 -- a pool from which a spare replica of each of the first n shards that are live has been taken
 abbrev pub pay_live : Hold → (ℕ → Bool) → ℕ → Hold

@@ -38,6 +38,7 @@ abbrev pub IsTradedUnless : Bool → Sizes → Instr → Option HoldModel → Op
 IsTradedUnless true c i old new = new ≡ old
 IsTradedUnless false c i old new = IsTradedBy c i old new
 
+-- The instruction may be made with what the grant holds; a call that has had its effect before asks for nothing.
 abbrev pub CanTradeUnless : Bool → Sizes → Instr → Option HoldModel → Type 0
 CanTradeUnless true c i grant = Unit {0}
 CanTradeUnless false c i grant = CanTrade c i grant

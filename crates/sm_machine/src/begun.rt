@@ -50,7 +50,7 @@ impl Model for Carried {
 }
 
 impl Carried {
-    /// A signal that was not posted, with an empty grant that has room for its parcel.
+    /// A signal that was not posted, with an empty grant that has capacity for its parcel.
     pub fn new(grant: Grant) -> Carried
         ensures { result ≡ record { mark = record { posted = false; awaited = false }; grant = Some grant } }
     {

@@ -21,6 +21,8 @@ ghost use Rattle.sm_reservation.specs.Pool.{true_rights};
 ghost use Rattle.sm_machine.specs.Opening.{place_of_rows};
 ghost use Rattle.sm_machine.specs.Course.{hold_in, rights_in, capacity_in, HasCapacityIn, IsGrantInOrder};
 ghost use Rattle.sm_machine.specs.State.{whole_of, state_of, grant_of, with_state, with_stream, with_signal, opened_whole};
+ghost use Rattle.sm_reservation.specs.declared.right.Key.{Key};
+ghost use Rattle.sm_verifier.specs.Admission.{IsIn};
 ghost use Rattle.sm_verifier.specs.FirstHolding.{first_holding};
 ghost use Rattle.sm_machine.specs.Ready.{IsReadyToTrade};
 ghost use Rattle.sm_machine.specs.Starts.{CanFillAll, IsBegunIn, begun_of};
@@ -54,7 +56,7 @@ use sm_protocol::{Event, Logged, Played};
 use sm_reservation::{Change, Pool, StreamId};
 use sm_server::{ServerId, ShardId};
 use sm_task_controller::{Approved, Denied, decide};
-use sm_verifier::{Checked, Holding, admit};
+use sm_verifier::{Checked, Holding, admit_from_true_pool};
 use std::alloc::Global;
 use std::marker::Model;
 
@@ -489,11 +491,12 @@ impl Engine {
 
     /// What holds a plan up that was checked for the machine's configuration.
     pub fn holding(&self, checked: &Checked) -> Option<Holding>
-        requires { checked.now.setup ≡ self.now.placement.setup }
+        requires setup { checked.now.setup ≡ self.now.placement.setup }
+        requires true_pool { (key : Key) → IsIn (whole_of self.now).pool (true_rights (state_of self.now).sizes (state_of self.now).place) key }
         ensures { result ≡ first_holding (state_of self.now).sizes (state_of self.now).place (whole_of self.now).pool checked.now.plan }
     {
         let _plan = checked.plan().streams();
-        match admit(checked, &self.pool, &self.placement) {
+        match admit_from_true_pool(checked, &self.pool, &self.placement) {
             Ok(()) => None,
             Err(why) => Some(why),
         }

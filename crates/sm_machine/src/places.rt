@@ -1,7 +1,6 @@
 //! The places of the log that a plan takes.
 ghost use Rattle.std.specs.Prelude.{◌≡◌, ◌≤◌, ◌+◌, ◌*◌, length, count_by, sum_by};
 ghost use Rattle.sm_protocol.specs.State.{is_no_call, places_of};
-ghost use Rattle.sm_machine.specs.Starts.{places_of_stream};
 ghost use Rattle.sm_plan_code.specs.declared.limits.TheConstants.{MOST_ALLOWANCE, MOST_INSTRUCTIONS, MOST_STREAMS};
 
 use sm_plan_code::{Instr, Plan, is_call};

@@ -84,11 +84,11 @@ fn longest_of(parcel: &Parcel) -> u32
 }
 
 /// One stream more, with an empty grant.
-fn add_course(alloc: Global, courses: &mut Vec<Course>, room: u32) -> Result<(), AllocError>
-    ensures ok { OnOk result (courses.new.items ≡ courses.old.items ++ ready_course room ∷ []) }
+fn add_course(alloc: Global, courses: &mut Vec<Course>, capacity: u32) -> Result<(), AllocError>
+    ensures ok { OnOk result (courses.new.items ≡ courses.old.items ++ ready_course capacity ∷ []) }
     ensures err { OnErr result (courses.new.items ≡ courses.old.items) }
 {
-    let grant = Grant::empty(alloc, room)?;
+    let grant = Grant::empty(alloc, capacity)?;
     match courses.push(Course::new(grant)) {
         Ok(()) => Ok(()),
         Err(AllocFailed { value }) => {
@@ -98,7 +98,7 @@ fn add_course(alloc: Global, courses: &mut Vec<Course>, room: u32) -> Result<(),
     }
 }
 
-/// One signal more, with an empty grant that has room for its parcel.
+/// One signal more, with an empty grant that has capacity for its parcel.
 fn add_signal(alloc: Global, signals: &mut Vec<Carried>, parcel: &Parcel) -> Result<(), AllocError>
     requires { IsSmallParcel parcel.now }
     ensures ok { OnOk result (signals.new.items ≡ signals.old.items ++ ready_signal parcel.now ∷ []) }
@@ -114,7 +114,7 @@ fn add_signal(alloc: Global, signals: &mut Vec<Carried>, parcel: &Parcel) -> Res
     }
 }
 
-/// The streams of a checked plan, each with an empty grant that has room for all that it holds on its way.
+/// The streams of a checked plan, each with an empty grant that has capacity for all that it holds on its way.
 fn make_courses(alloc: Global, checked: &Checked) -> Result<Vec<Course>, AllocError>
     ensures courses { IfOk result (λ courses. courses.items ≡ ready_courses checked.now) }
     ensures peaks { OnOk result (ArePeaksOf (sizes_of checked.now.setup) checked.now (length checked.now.plan.streams)) }
@@ -133,7 +133,7 @@ fn make_courses(alloc: Global, checked: &Checked) -> Result<Vec<Course>, AllocEr
     Ok(courses)
 }
 
-/// The signals of a checked plan, each with an empty grant that has room for its parcel.
+/// The signals of a checked plan, each with an empty grant that has capacity for its parcel.
 fn make_signals(alloc: Global, checked: &Checked) -> Result<Vec<Carried>, AllocError>
     ensures { IfOk result (λ signals. signals.items ≡ ready_signals checked.now) }
 {
@@ -151,7 +151,7 @@ fn make_signals(alloc: Global, checked: &Checked) -> Result<Vec<Carried>, AllocE
     Ok(signals)
 }
 
-/// The streams and the signals of a checked plan, each with room for what it will have, and the servers that each stream mentions.
+/// The streams and the signals of a checked plan, each with capacity for what it will have, and the servers that each stream mentions.
 fn make_parts(
     alloc: Global,
     checked: &Checked,

@@ -42,6 +42,7 @@ impl Engine {
     fn begin_fault(&self, checked: &Checked, places: u64) -> Option<BeginFault>
         requires setup { checked.now.setup ≡ self.now.placement.setup }
         requires places { places ≡ places_of checked.now.plan }
+        requires working { IsWorking (whole_of self.now) }
         ensures { result ≡ begin_fault (whole_of self.now) checked.now.plan }
     {
         if let Some(why) = self.holding(checked) {

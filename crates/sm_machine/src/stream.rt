@@ -84,7 +84,7 @@ impl Course {
         requires capacity { HasCapacityAfterIn self.old.grant (portion_rights change.now.out) (portion_rights change.now.got) }
         ensures others { self.new ≡ record self.old { grant = self.new.grant } }
         ensures hold { hold_in self.new.grant ≡ plus (minus (hold_in self.old.grant) (portion_rights change.now.out)) (portion_rights change.now.got) }
-        ensures places { capacity_in self.new.grant ≡ capacity_in self.old.grant }
+        ensures capacity { capacity_in self.new.grant ≡ capacity_in self.old.grant }
     {
         match &mut self.grant {
             Some(grant) => grant.exchange(change),
@@ -133,7 +133,7 @@ impl Course {
         requires fits { CanJoin (hold_of into.old.rights) (hold_of parcel.now) }
         ensures others { self.new ≡ record self.old { grant = self.new.grant } }
         ensures left { hold_in self.new.grant ≡ minus (hold_in self.old.grant) parcel.now }
-        ensures places { capacity_in self.new.grant ≡ capacity_in self.old.grant }
+        ensures capacity { capacity_in self.new.grant ≡ capacity_in self.old.grant }
         ensures given { hold_of into.new.rights ≡ plus (hold_of into.old.rights) parcel.now }
     {
         match &mut self.grant {
@@ -152,7 +152,7 @@ impl Course {
         requires capacity { HasCapacityIn self.old.grant other.rights }
         ensures others { self.new ≡ record self.old { grant = self.new.grant } }
         ensures hold { hold_in self.new.grant ≡ plus (hold_in self.old.grant) other.rights }
-        ensures places { capacity_in self.new.grant ≡ capacity_in self.old.grant }
+        ensures capacity { capacity_in self.new.grant ≡ capacity_in self.old.grant }
     {
         match &mut self.grant {
             Some(grant) => grant.join(other),

@@ -1,5 +1,5 @@
 -- A stream before its next instruction: what it holds, and what it is to hold behind it.
-use Rattle.std.proofs.Common.{◌≡◌, ◌+◌, ℕ, true, false, ap, Option, Some}
+use Rattle.std.proofs.Common.{◌≡◌, ◌+◌, ℕ, false, ap, Option, Some}
 use Rattle.sm_placement.specs.Setup.{Setup, IsSetup, sizes_of}
 use Rattle.sm_reservation.specs.declared.stream_id.StreamId.{StreamId}
 use Rattle.sm_reservation.specs.Hold.{Hold}
@@ -69,10 +69,6 @@ module _ (w : State) (v : IsKept w) (id : StreamId) where
   -- where the call at which the stream stands has not had its effect, the stream holds what it holds before it
   pub holds_here : (progress_of w id).ahead ≡ false → hold_of_stream w id.plan id.stream ≡ hold_here w id
   holds_here a = ap (λ q. hold_before (course_at w id) (reach (progress_of w id).at q)) a
-
-  -- where it has, the stream holds what it holds behind it
-  pub holds_behind : (progress_of w id).ahead ≡ true → hold_of_stream w id.plan id.stream ≡ hold_behind w id
-  holds_behind a = ap (λ q. hold_before (course_at w id) (reach (progress_of w id).at q)) a
 
   module _ (i : Instr) (b : IsBefore w id (Some i)) where
     -- the instruction leads from what the stream holds before it to what it holds behind it, in budget

@@ -69,7 +69,7 @@ pub record CanSend (w : State) (k q : ℕ) (g into : HoldModel) (h : Hold) : Typ
   pub awaited : (w.marks k q).awaited ≡ false
   pub enough : first_short (hold_of g.rights) (parcel_at w k q) ≡ None
   pub fits : CanJoin (hold_of into.rights) (hold_of (parcel_at w k q))
-  pub room : HasCapacity into (parcel_at w k q)
+  pub capacity : HasCapacity into (parcel_at w k q)
   pub left : minus (hold_of g.rights) (parcel_at w k q) ≡ h
   pub sent : plus (hold_of into.rights) (parcel_at w k q) ≡ hold_of (parcel_at w k q)
 
@@ -93,7 +93,7 @@ module _ (setup : Setup) (w : State) (reached : IsReached setup w) (id : StreamI
   pub can_send_into : (q : ℕ) → IsBefore w id (Some (Signal q)) → (g into : HoldModel) → hold_of g.rights ≡ hold_of_stream w id.plan id.stream →
       hold_of into.rights ≡ no_hold → IsOrdered into.rights → IsPositive into.rights →
       most_keys (parcel_at w id.plan q) ≤ into.capacity → CanSend w id.plan q g into (hold_behind w id)
-  can_send_into q b g into is nothing ordered positive room =
+  can_send_into q b g into is nothing ordered positive enough =
       let n = known w v id _ b in
       let run : IsRunning w.sizes w.place (plan_at w id.plan) (w.progress id.plan) (w.marks id.plan) = running w v id n in
       let once = not_posted w.sizes w.place (plan_at w id.plan) (w.progress id.plan) (w.marks id.plan) run id.stream n.stream q b.next_is in
@@ -113,8 +113,8 @@ module _ (setup : Setup) (w : State) (reached : IsReached setup w) (id : StreamI
         awaited = once.2;
         enough = ap (λ h. first_short h p) is ∙ none_of (first_short (hold_of_stream w id.plan id.stream) p) ok.0.0;
         fits = subst (λ h. CanJoin h (hold_of p)) (sym nothing) fits;
-        room = capacity_to_put into p p ordered positive
-            o.ordered o.ordered o.positive (sym sent) room;
+        capacity = capacity_to_put into p p ordered positive
+            o.ordered o.ordered o.positive (sym sent) enough;
         left = ap (λ h. minus h p) is ∙ ok.1;
         sent = sent;
       }
@@ -122,8 +122,8 @@ module _ (setup : Setup) (w : State) (reached : IsReached setup w) (id : StreamI
   -- a stream before a signal can give its parcel to a grant that is empty and has the capacity for it
   pub can_send : (q : ℕ) → IsBefore w id (Some (Signal q)) → (g into : HoldModel) → hold_of g.rights ≡ hold_of_stream w id.plan id.stream → into.rights ≡ no_rights →
       most_keys (parcel_at w id.plan q) ≤ into.capacity → CanSend w id.plan q g into (hold_behind w id)
-  can_send q b g into is empty room = can_send_into q b g into is (ap hold_of empty ∙ no_rights_hold) (subst IsOrdered (sym empty) (record { cells = tt; crowns = tt; room = tt; spare = tt }))
-      (subst IsPositive (sym empty) (record { room = tt; spare = tt })) room
+  can_send q b g into is empty enough = can_send_into q b g into is (ap hold_of empty ∙ no_rights_hold) (subst IsOrdered (sym empty) (record { cells = tt; crowns = tt; room = tt; spare = tt }))
+      (subst IsPositive (sym empty) (record { room = tt; spare = tt })) enough
 
 -- ---- waits
 
@@ -133,7 +133,7 @@ pub record CanTake (w : State) (k q : ℕ) (g from : HoldModel) (h : Hold) : Typ
   pub signal : q < signal_count w k
   pub awaited : (w.marks k q).awaited ≡ false
   pub fits : CanJoin (hold_of g.rights) (hold_of from.rights)
-  pub room : HasCapacity g from.rights
+  pub capacity : HasCapacity g from.rights
   pub left : plus (hold_of g.rights) from.rights ≡ h
 
 -- what a stream holds and what a parcel of its plan carries are together part of what is held
@@ -151,7 +151,7 @@ module _ (setup : Setup) (w : State) (reached : IsReached setup w) (id : StreamI
       hold_of g.rights ≡ hold_of_stream w id.plan id.stream → IsOrdered g.rights → IsPositive g.rights →
       hold_of from.rights ≡ hold_of (parcel_at w id.plan q) → IsOrdered from.rights →
       (n : ℕ) → IsPeak (course_at w id) n → n ≤ g.capacity → CanTake w id.plan q g from (hold_behind w id)
-  can_take q b posted g from is ordered positive carries in_order n room enough =
+  can_take q b posted g from is ordered positive carries in_order n peak enough =
       let v = kept setup w reached in
       let k = known w v id _ b in
       let run : IsRunning w.sizes w.place (plan_at w id.plan) (w.progress id.plan) (w.marks id.plan) = running w v id k in
@@ -168,12 +168,12 @@ module _ (setup : Setup) (w : State) (reached : IsReached setup w) (id : StreamI
       let a = share_and_load w id r q k.plan k.stream once.0 in
       let f = v.fits r in
       omega arith) in
-      let listed = room.bound ((progress_of w id).at + 1) (let l = slice_get_within (course_at w id).code (progress_of w id).at (Wait q) b.next_is in omega arith) in
+      let listed = peak.bound ((progress_of w id).at + 1) (let l = slice_get_within (course_at w id).code (progress_of w id).at (Wait q) b.next_is in omega arith) in
       record {
         signal = once.0;
         awaited = once.1;
         fits = subst (λ x. CanJoin x (hold_of from.rights)) (sym is) (subst (λ x. CanJoin h x) (sym carries) fits);
-        room = capacity_to_put g from.rights listed.0 ordered positive in_order listed.1.ordered listed.1.positive (listed.1.hold ∙ sym left) (let m = listed.2 in omega arith);
+        capacity = capacity_to_put g from.rights listed.0 ordered positive in_order listed.1.ordered listed.1.positive (listed.1.hold ∙ sym left) (let m = listed.2 in omega arith);
         left = left;
       }
 

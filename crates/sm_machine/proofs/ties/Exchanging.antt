@@ -7,7 +7,7 @@ use Rattle.sm_reservation.specs.declared.change.Change.{Change as Exchange}
 use Rattle.sm_reservation.specs.Rights.{Rights}
 use Rattle.sm_reservation.specs.Hold.{Hold, minus, plus}
 use Rattle.sm_reservation.specs.HoldOf.{hold_of}
-use Rattle.sm_reservation.specs.Amounts.{Right, count}
+use Rattle.sm_reservation.specs.Amounts.{count}
 use Rattle.sm_reservation.specs.CanJoin.{CanJoin}
 use Rattle.sm_reservation.specs.Change.{portion_rights}
 use Rattle.sm_reservation.specs.Key.{IsOrdered, IsPositive}
@@ -34,13 +34,13 @@ use Rattle.sm_protocol.proofs.Cases.{IsBefore}
 use Rattle.sm_machine.proofs.ties.Before.{course_at, hold_here, hold_behind, kept, is_setup, same_sizes, known, holds_here, turn, can_reach}
 
 -- The grant g is that of a stream before the instruction i, which leads to the hold h: the table of rights has its line, the
--- grant has what the line needs, and room for what the line gives, which leads to that hold.
+-- grant has what the line needs, and capacity for what the line gives, which leads to that hold.
 pub record CanExchange (c : Sizes) (signals : ℕ → Rights) (i : Instr) (g : HoldModel) (h : Hold) : Type 0 where
   pub shard : IfSome (shard_of i) (λ s. s < c.shards)
   pub leaves : after c signals i (hold_of g.rights) ≡ Ok h
   pub held : first_short (hold_of g.rights) (portion_rights (exchange_of c i (hold_of g.rights)).out) ≡ None
   pub fits : CanJoin (minus (hold_of g.rights) (portion_rights (exchange_of c i (hold_of g.rights)).out)) (hold_of (portion_rights (exchange_of c i (hold_of g.rights)).got))
-  pub room : HasCapacityAfter g (portion_rights (exchange_of c i (hold_of g.rights)).out) (portion_rights (exchange_of c i (hold_of g.rights)).got)
+  pub capacity : HasCapacityAfter g (portion_rights (exchange_of c i (hold_of g.rights)).out) (portion_rights (exchange_of c i (hold_of g.rights)).got)
   pub left : plus (minus (hold_of g.rights) (portion_rights (exchange_of c i (hold_of g.rights)).out)) (portion_rights (exchange_of c i (hold_of g.rights)).got) ≡ h
 
 module _ (w : State) (v : IsKept w) (id : StreamId) (i : Instr) (b : IsBefore w id (Some i)) (a : (progress_of w id).ahead ≡ false) where
@@ -70,13 +70,13 @@ module _ (setup : Setup) (w : State) (reached : IsReached setup w) (id : StreamI
   -- what the stream's grant exchanges with its next instruction, whose call has not had its effect
   pub can_exchange : IsOwn i → (progress_of w id).ahead ≡ false → (g : HoldModel) → hold_of g.rights ≡ hold_of_stream w id.plan id.stream → IsOrdered g.rights → IsPositive g.rights →
       (n : ℕ) → IsPeak (course_at w id) n → n ≤ g.capacity → CanExchange w.sizes (parcels_of (plan_at w id.plan).signals) i g (hold_behind w id)
-  can_exchange own a g is ordered positive n room enough =
+  can_exchange own a g is ordered positive n peak enough =
       let v = kept setup w reached in
       let here : hold_here w id ≡ hold_of g.rights = sym (is ∙ holds_here w v id a) in
       let leaves = leaves_behind w v id i b a in
       let x = lines_exchange w.sizes (parcels_of (plan_at w id.plan).signals) (hold_here w id) (hold_behind w id) i own (turn w v id i b).leaves in
       let fits = exchange_fits own a x in
-      let listed = room.bound ((progress_of w id).at + 1) (within (known w v id (Some i) b)) in
+      let listed = peak.bound ((progress_of w id).at + 1) (within (known w v id (Some i) b)) in
       let all : IsExchanged (hold_of g.rights) (hold_behind w id) (exchange_of w.sizes i (hold_of g.rights)).out (exchange_of w.sizes i (hold_of g.rights)).got =
       subst (λ h. IsExchanged h (hold_behind w id) (exchange_of w.sizes i h).out (exchange_of w.sizes i h).got) here x in
       record {
@@ -84,7 +84,7 @@ module _ (setup : Setup) (w : State) (reached : IsReached setup w) (id : StreamI
         leaves = subst (λ h. after w.sizes (parcels_of (plan_at w id.plan).signals) i h ≡ Ok (hold_behind w id)) (sym is) leaves;
         held = all.held;
         fits = subst (λ h. CanJoin (minus h (portion_rights (exchange_of w.sizes i h).out)) (hold_of (portion_rights (exchange_of w.sizes i h).got))) here fits;
-        room = capacity_to_trade g (portion_rights (exchange_of w.sizes i (hold_of g.rights)).out) (portion_rights (exchange_of w.sizes i (hold_of g.rights)).got) listed.0 ordered positive
+        capacity = capacity_to_trade g (portion_rights (exchange_of w.sizes i (hold_of g.rights)).out) (portion_rights (exchange_of w.sizes i (hold_of g.rights)).got) listed.0 ordered positive
             (portion_ordered _) (portion_ordered _) all.held listed.1.ordered listed.1.positive (listed.1.hold ∙ all.left) (let m = listed.2 in omega arith);
         left = sym all.left;
       }

@@ -19,7 +19,7 @@ use Rattle.sm_protocol.specs.declared.event.Event.{Event}
 use Rattle.sm_protocol.specs.declared.event.Event.TheVariants as event
 use Rattle.sm_protocol.specs.declared.event.Played.{Played}
 use Rattle.sm_protocol.specs.declared.event.Played.TheVariants as played
-use Rattle.sm_protocol.specs.State.{State, Mark, Progress, fresh, stream_count, stream_parts, progress_of, stream_id, is_begun, is_running, allowance, set_progress, logged, places_left, places_of, set_aside, free_places, is_no_call}
+use Rattle.sm_protocol.specs.State.{State, Mark, Progress, stream_count, stream_parts, progress_of, stream_id, is_begun, is_running, allowance, set_progress, logged, places_left, places_of, set_aside, free_places, is_no_call}
 use Rattle.sm_protocol.specs.Steps.{behind_call, ahead_of_call, tried_more, call_number, number_after_try, served_try, call_lost, entry_added, posted, ended}
 use Rattle.sm_protocol.specs.Happens.{started}
 use Rattle.sm_protocol.specs.Laws.{IsReached}

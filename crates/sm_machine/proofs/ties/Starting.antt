@@ -1,7 +1,7 @@
 -- A start of a plan: what its streams declare comes out of the pool, one stream after another.
 use Rattle.std.proofs.Common.{◌≡◌, ◌≤◌, ◌<◌, ◌+◌, ℕ, zero, suc, true, false, refl, sym, ap, ◌∙◌, arith, inl, inr, subst, None, List, length}
 use Rattle.std.specs.Prelude.{not, if◌then◌else◌}
-use Rattle.std.proofs.lemmas.Bool.{cases_eq, cases_lt, and_parts, lt-ltb}
+use Rattle.std.proofs.lemmas.Bool.{cases_eq, cases_lt, and_parts}
 use Rattle.std.proofs.lemmas.List.Elements.{All-get_or}
 use Rattle.sm_placement.specs.Sums.{sum_below}
 use Rattle.sm_placement.specs.Setup.{Setup}
@@ -26,7 +26,7 @@ use Rattle.sm_verifier.specs.Peak.{IsPeak}
 use Rattle.sm_verifier.specs.Stream.{no_stream, stream_at, hold_before}
 use Rattle.sm_verifier.specs.Within.{AreWithin}
 use Rattle.sm_verifier.proofs.WithinPool.{admitted_within}
-use Rattle.sm_protocol.specs.State.{State, Start, fresh, no_mark, no_start, plan_at, stream_count, signal_count, progress_of, is_begun, is_running, hold_of_stream, hold_at_progress, held, pool}
+use Rattle.sm_protocol.specs.State.{State, Start, fresh, no_start, plan_at, progress_of, is_begun, is_running, hold_of_stream, held, pool}
 use Rattle.sm_protocol.specs.Happens.{started}
 use Rattle.sm_protocol.specs.Laws.{IsReached, IsCheckedPlan}
 use Rattle.sm_protocol.proofs.Invariant.{IsKept}
@@ -34,7 +34,8 @@ use Rattle.sm_protocol.proofs.Keeping.{begun, is_begun_true}
 use Rattle.sm_protocol.proofs.Trials.{IsBegun}
 use Rattle.sm_protocol.proofs.Pools.{pool_within}
 use Rattle.sm_protocol.proofs.Starts.{length_push, get_push_old, get_push_new, held_starts, start_keeps}
-use Rattle.sm_machine.specs.Tied.{IsTied, declares, pool_left}
+use Rattle.sm_verifier.specs.FirstHolding.{declared_rights}
+use Rattle.sm_machine.specs.Tied.{IsTied, pool_left}
 use Rattle.sm_machine.proofs.ties.Before.{kept}
 use Rattle.sm_machine.proofs.ties.Carrying.{none_counted, no_rights_hold, joins_here}
 use Rattle.sm_machine.proofs.ties.Wholes.{pool_whole, pool_known, is_pool}
@@ -48,10 +49,10 @@ front_of_sum n (suc m) f l = elim (cases_eq n m) [
   | inr e ↦ let i = front_of_sum n m f (omega arith) in omega arith
 ]
 
-module _ (h : Hold) (streams : List StreamModel) (enough : AreWithin h streams) (ordered : (i : ℕ) → i < length streams → IsOrdered (declares streams i)) where
+module _ (h : Hold) (streams : List StreamModel) (enough : AreWithin h streams) (ordered : (i : ℕ) → i < length streams → IsOrdered (declared_rights streams i)) where
   short_at : (n : ℕ) → n < length streams → ((r : Right) → count (pool_left h streams n) r + sum_below n (λ i. count (declared streams i) r) ≡ count h r) →
-      first_short (pool_left h streams n) (declares streams n) ≡ None
-  short_at n l counts = covered_not_short (pool_left h streams n) (declares streams n) (ordered n l) (covers_by_count (pool_left h streams n) (hold_of (declares streams n)) (λ r.
+      first_short (pool_left h streams n) (declared_rights streams n) ≡ None
+  short_at n l counts = covered_not_short (pool_left h streams n) (declared_rights streams n) (ordered n l) (covers_by_count (pool_left h streams n) (hold_of (declared_rights streams n)) (λ r.
       let a = counts r in
       let b : sum_below (length streams) (λ i. count (declared streams i) r) ≤ count h r = enough r in
       let c = front_of_sum n (length streams) (λ i. count (declared streams i) r) l in
@@ -62,25 +63,25 @@ module _ (h : Hold) (streams : List StreamModel) (enough : AreWithin h streams) 
   left_counts zero l r = omega arith
   left_counts (suc n) l r =
       let before = left_counts n (omega arith) r in
-      let c = minus_count (pool_left h streams n) (declares streams n) (ordered n (omega arith)) (short_at n (omega arith) (left_counts n (omega arith))) r in
+      let c = minus_count (pool_left h streams n) (declared_rights streams n) (ordered n (omega arith)) (short_at n (omega arith) (left_counts n (omega arith))) r in
       omega arith
 
   -- the pool has what the next stream declares
-  pub enough_left : (n : ℕ) → n < length streams → first_short (pool_left h streams n) (declares streams n) ≡ None
+  pub enough_left : (n : ℕ) → n < length streams → first_short (pool_left h streams n) (declared_rights streams n) ≡ None
   enough_left n l = short_at n l (left_counts n (omega arith))
 
   left_known : (shards servers : ℕ) → IsKnownHold shards servers h → (n : ℕ) → n ≤ length streams → IsKnownHold shards servers (pool_left h streams n)
   left_known shards servers b zero l = b
-  left_known shards servers b (suc n) l = below_minus shards servers (pool_left h streams n) (declares streams n) (ordered n (omega arith)) (left_known shards servers b n (omega arith))
+  left_known shards servers b (suc n) l = below_minus shards servers (pool_left h streams n) (declared_rights streams n) (ordered n (omega arith)) (left_known shards servers b n (omega arith))
 
 -- ---- a plan that starts
 
--- What a pool's fill asks for, of a grant that is empty: the pool has what the stream declares, the grant has the room, and
+-- What a pool's fill asks for, of a grant that is empty: the pool has what the stream declares, the grant has the capacity, and
 -- has just that then.
 pub record CanFill (free : Hold) (g : HoldModel) (p : Rights) : Type 0 where
   pub enough : first_short free p ≡ None
   pub fits : CanJoin (hold_of g.rights) (hold_of p)
-  pub room : HasCapacity g p
+  pub capacity : HasCapacity g p
   pub given : plus (hold_of g.rights) p ≡ hold_of p
 
 module _ (setup : Setup) (w : State) (reached : IsReached setup w) (plan : PlanModel) (checked : IsCheckedPlan w.sizes plan) (admitted : IsAdmitted w.sizes w.place (pool w) plan) where
@@ -93,7 +94,7 @@ module _ (setup : Setup) (w : State) (reached : IsReached setup w) (plan : PlanM
   abbrev place : ℕ
   place = length w.plans
 
-  parcels_ordered : (i : ℕ) → i < length plan.streams → IsOrderedParcel (declares plan.streams i)
+  parcels_ordered : (i : ℕ) → i < length plan.streams → IsOrderedParcel (declared_rights plan.streams i)
   parcels_ordered i l = All-get_or (λ (s : StreamModel). IsOrderedParcel s.holds) plan.streams i no_stream l checked.parts.parcels.streams
 
   within : AreWithin (pool w) plan.streams
@@ -101,13 +102,13 @@ module _ (setup : Setup) (w : State) (reached : IsReached setup w) (plan : PlanM
 
   -- each stream in its turn can take what it declares from the pool into an empty grant for its peak
   pub can_fill : (n : ℕ) → n < length plan.streams → (g : HoldModel) → g.rights ≡ no_rights → (m : ℕ) → IsPeak (stream_at w.sizes plan n) m → m ≤ g.capacity →
-      CanFill (pool_left (pool w) plan.streams n) g (declares plan.streams n)
-  can_fill n l g empty m room enough =
-      let p = declares plan.streams n in
+      CanFill (pool_left (pool w) plan.streams n) g (declared_rights plan.streams n)
+  can_fill n l g empty m peak enough =
+      let p = declared_rights plan.streams n in
       let o = parcels_ordered n l in
       let nothing : hold_of g.rights ≡ no_hold = ap hold_of empty ∙ no_rights_hold in
       let given : plus (hold_of g.rights) p ≡ hold_of p = ap (λ h. plus h p) nothing ∙ plus_none p o.ordered in
-      let listed = room.bound 0 (omega arith) in
+      let listed = peak.bound 0 (omega arith) in
       let fits : CanJoin no_hold (hold_of p) = joins_here setup w reached (record { plan = 0; stream = 0 }) no_hold (hold_of p) (λ r.
       let a : sum_below (length plan.streams) (λ i. count (declared plan.streams i) r) ≤ count (pool w) r = within r in
       let b = front_of_sum n (length plan.streams) (λ i. count (declared plan.streams i) r) l in
@@ -117,7 +118,7 @@ module _ (setup : Setup) (w : State) (reached : IsReached setup w) (plan : PlanM
       record {
         enough = enough_left (pool w) plan.streams within (λ i k. (parcels_ordered i k).ordered) n l;
         fits = subst (λ h. CanJoin h (hold_of p)) (sym nothing) fits;
-        room = capacity_to_put g p listed.0 (subst IsOrdered (sym empty) (record { cells = tt; crowns = tt; room = tt; spare = tt })) (subst IsPositive (sym empty) (record { room = tt; spare = tt }))
+        capacity = capacity_to_put g p listed.0 (subst IsOrdered (sym empty) (record { cells = tt; crowns = tt; room = tt; spare = tt })) (subst IsPositive (sym empty) (record { room = tt; spare = tt }))
             o.ordered listed.1.ordered listed.1.positive (listed.1.hold ∙ sym given) (let k = listed.2 in omega arith);
         given = given;
       }
@@ -144,7 +145,7 @@ module _ (setup : Setup) (w : State) (reached : IsReached setup w) (plan : PlanM
   -- A plan that starts: the grants of its streams have what these declare, nothing of its signals is under way, and the
   -- others stand.
   pub tied_started : (p : Hold) (g c new_g new_c : ℕ → ℕ → Hold) → IsTied w p g c →
-      ((k i : ℕ) → k < length w.plans → new_g k i ≡ g k i) → ((i : ℕ) → i < length plan.streams → new_g (length w.plans) i ≡ hold_of (declares plan.streams i)) →
+      ((k i : ℕ) → k < length w.plans → new_g k i ≡ g k i) → ((i : ℕ) → i < length plan.streams → new_g (length w.plans) i ≡ hold_of (declared_rights plan.streams i)) →
       ((k q : ℕ) → k < length w.plans → new_c k q ≡ c k q) → ((q : ℕ) → q < length plan.signals → new_c (length w.plans) q ≡ no_hold) →
       IsTied (started w plan) (pool_left p plan.streams (length plan.streams)) new_g new_c
   tied_started p g c new_g new_c t old_g own_g old_c own_c = record {

@@ -2,8 +2,7 @@
 use Rattle.std.proofs.Common.{◌≡◌, ◌≤◌, ◌∙◌, ℕ, false, List, length, sym, ap, subst, arith}
 use Rattle.sm_placement.specs.Setup.{Setup}
 use Rattle.sm_placement.specs.Layout.{place_of}
-use Rattle.sm_machine.specs.Opening.{AreDownBelow}
-use Rattle.sm_machine.proofs.Rows.{none_down, all_down}
+use Rattle.sm_machine.proofs.Rows.{AreDownBelow, none_down, all_down}
 use Rattle.sm_machine.proofs.opening.down_of.Goals as goal
 
 pub loop-number-init : goal.loop-number-init
