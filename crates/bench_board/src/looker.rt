@@ -23,6 +23,7 @@ pub(crate) struct Looker {
 }
 
 impl Looker {
+    /// Nothing was looked at yet.
     pub fn new(alloc: Global) -> Result<Looker, AllocError> {
         Ok(Looker {
             plain: PlainWords::new(alloc)?,

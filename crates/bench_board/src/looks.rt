@@ -35,6 +35,7 @@ fn words_of(alloc: Global) -> Result<Vec<AtomicU64>, AllocError>
 }
 
 impl PlainWords {
+    /// A word for each shard, which holds its number.
     pub fn new(alloc: Global) -> Result<PlainWords, AllocError> {
         let words = words_of(alloc)?;
         Ok(PlainWords { words })

@@ -39,10 +39,12 @@ impl Measured {
         self.batches = self.batches.saturating_add(other.batches);
     }
 
+    /// How long each look of the fastest batch took.
     pub fn look_picoseconds(&self) -> u128 {
         picoseconds(self.look)
     }
 
+    /// How long each load of the fastest batch took.
     pub fn load_picoseconds(&self) -> u128 {
         picoseconds(self.load)
     }

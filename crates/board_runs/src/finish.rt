@@ -8,16 +8,19 @@ pub struct Finish {
 }
 
 impl Finish {
+    /// The streams have not come to rest yet.
     pub(crate) fn new() -> Finish {
         Finish {
             reached: AtomicU64::new(0),
         }
     }
 
+    /// The streams have come to rest.
     pub(crate) fn reach(&self) {
         self.reached.store(1, Ordering::SeqCst);
     }
 
+    /// Whether the streams have come to rest.
     pub fn is_reached(&self) -> bool {
         self.reached.load(Ordering::SeqCst) == 1
     }

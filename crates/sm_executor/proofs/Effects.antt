@@ -32,9 +32,13 @@ use Rattle.sm_protocol.specs.declared.event.RefillFault.{RefillFault}
 use Rattle.sm_machine.specs.declared.answer.Answer.{Answer}
 use Rattle.sm_machine.specs.declared.answer.Answer.TheVariants as said
 use Rattle.sm_machine.specs.Requested.{played_by}
+use Rattle.sm_machine.specs.Played.{played_of}
+use Rattle.sm_machine.specs.declared.step.Step.{Step}
+use Rattle.sm_machine.specs.declared.step.Step.TheVariants as taken
 use Rattle.sm_machine.specs.Losses.{event_over}
 use Rattle.sm_protocol.proofs.Cases.{IsBefore, answer_to, parcel_taken}
 use Rattle.sm_executor.specs.Counting.{is_step, is_executed, is_refused, executes, refuses, Counts}
+use Rattle.sm_executor.specs.Stepping.{is_waiting}
 use Rattle.sm_executor.specs.Tied.{IsQuiet, Publishes}
 
 -- nothing was recorded, and nothing has changed
@@ -292,3 +296,13 @@ made_over w v id passage answer known e = subst (λ (o : Outcome × State). Made
     by_passage Through = step_made w id Through known
     by_passage LostBefore = step_made w id LostBefore known
     by_passage LostAfter = step_made w id LostAfter known
+
+-- a step that waits for a signal is not counted
+pub waiting_uncounted : (step : Step) (ended : Bool) (old new : ℕ) → is_waiting step ≡ true → Counts ended (played_of step) old new → new ≡ old
+waiting_uncounted (taken.Blocked signal) ended old new e counts = counts
+waiting_uncounted taken.Moved ended old new e counts = absurd (cc)
+waiting_uncounted taken.Done ended old new e counts = absurd (cc)
+waiting_uncounted taken.Halted ended old new e counts = absurd (cc)
+waiting_uncounted taken.Unknown ended old new e counts = absurd (cc)
+waiting_uncounted taken.Lost ended old new e counts = absurd (cc)
+waiting_uncounted taken.Spent ended old new e counts = absurd (cc)

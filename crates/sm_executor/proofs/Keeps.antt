@@ -1,24 +1,22 @@
 -- The words stay tied to the machine, and the books are its counts.
-use Rattle.std.proofs.Common.{◌≡◌, ◌≢◌, ◌<◌, ℕ, suc, ◌+◌, ◌-◌, ◌≤◌, Bool, true, false, refl, sym, ap, ◌∙◌, inl, inr, subst, arith, cond, List, [], ◌∷◌, ◌++◌, length, Option, Some, get_or, length-append}
-use Rattle.std.specs.Prelude.{zero, count_by, reverse, IsSomeAnd, slice_get}
-use Rattle.std.proofs.lemmas.List.{append_assoc, append-nil, length-reverse, reverse-reverse, reverse-append}
-use Rattle.std.proofs.Math.Seq.{get_or-append_seam}
+use Rattle.std.proofs.Common.{◌≡◌, ◌<◌, ℕ, suc, ◌+◌, ◌≤◌, Bool, true, false, refl, sym, ap, ◌∙◌, inl, inr, subst, arith, cond, List, [], ◌∷◌, ◌++◌, length, Some, length-append}
+use Rattle.std.specs.Prelude.{zero, count_by, slice_get}
+use Rattle.std.proofs.lemmas.List.{append_assoc, append-nil}
 use Rattle.std.proofs.lemmas.List.Sums.{sum_by-append}
 use Rattle.sm_placement.specs.declared.entry.Entry.{Entry}
 use Rattle.sm_placement.specs.Sums.{bit}
 use Rattle.sm_placement.specs.Place.{entry_at}
-use Rattle.sm_placement.proofs.Sums.{put-here, put-apart}
 use Rattle.sm_map.specs.Entry.{IsInRange}
-use Rattle.sm_map.specs.History.{newest, Follows, opened_at, entries_of_shard}
-use Rattle.sm_map.specs.Models.{WordsModel, PublisherModel, history}
-use Rattle.sm_map.proofs.Histories.{after_store}
+use Rattle.sm_map.specs.History.{newest, opened_at, entries_of_shard}
+use Rattle.sm_map.specs.Models.{WordsModel, PublisherModel}
 use Rattle.sm_protocol.specs.declared.event.Played.{Played}
 use Rattle.sm_protocol.specs.declared.event.Logged.{Logged}
 use Rattle.sm_protocol.specs.State.{State}
 use Rattle.sm_protocol.specs.Steps.{Answered}
 use Rattle.sm_executor.specs.Counting.{is_step, is_executed, is_refused, IsBooked, Counts}
 use Rattle.sm_executor.specs.Closed.{HasMorePlans}
-use Rattle.sm_executor.specs.Tied.{IsPublished, IsMapOf, IsQuiet, Publishes, IsBehind}
+use Rattle.sm_executor.specs.Tied.{IsPublished, IsMapOf, IsQuiet, IsBehind}
+use Rattle.sm_executor.specs.Views.{recorded_more}
 use Rattle.sm_executor.proofs.Effects.{Asked, Made, Uncounted}
 
 -- ---- the books
@@ -96,49 +94,6 @@ tied_quiet words opened old new p q k = record {
       ∙ (λ j. Some (let e : Entry = record { server = sym q.listed j s; version = sym q.version j s } in e));
 }
 
--- the publisher with one more entry stored
-abbrev pub with_store : PublisherModel → ℕ → Entry → PublisherModel
-with_store p s e = record p { stores = (s, e) ∷ p.stores }
-
--- what is published and stored leaves them tied
-pub tied_stored : (words : WordsModel) (opened old new : State) (p : PublisherModel) (s : ℕ) → Publishes old new s → IsPublished words opened old p →
-    IsPublished words opened new (with_store p s (entry_at new.place s))
-tied_stored words opened old new p s q k = record {
-  words_are = k.words_are;
-  shards = k.shards ∙ sym (ap (λ c. c.shards) q.sizes);
-  servers = k.servers ∙ sym (ap (λ c. c.servers) q.sizes);
-  stores = q.entries ∙ ap (λ l. (s, entry_at new.place s) ∷ l) k.stores;
-  newest_is = λ t l. after_store p.words.opening p.stores s t (entry_at new.place s) (λ es. newest es ≡ Some (entry_at new.place t))
-      (λ e. ap (λ n. Some (entry_at new.place n)) e)
-      (λ n. k.newest_is t (subst (λ c. t < c.shards) q.sizes l)
-      ∙ (λ j. Some (let e : Entry = record { server = sym (other_listed t n) j; version = sym (other_version t n) j } in e)));
-}
-  where
-    other_listed : (t : ℕ) → s ≢ t → new.place.listed t ≡ old.place.listed t
-    other_listed t n = ap (λ f. f t) q.listed ∙ put-apart old.place.listed s (new.place.listed s) t (λ e. n (sym e))
-
-    other_version : (t : ℕ) → s ≢ t → new.place.version t ≡ old.place.version t
-    other_version t n = ap (λ f. f t) q.version ∙ put-apart old.place.version s (suc (old.place.version s)) t (λ e. n (sym e))
-
--- what a store asks of the entry
-pub follows : (words : WordsModel) (opened old new : State) (p : PublisherModel) (s : ℕ) → Publishes old new s → IsPublished words opened old p → Follows (history p s) (entry_at new.place s)
-follows words opened old new p s q k =
-    subst (λ o. IsSomeAnd o (λ last. new.place.version s ≡ last.version + 1)) (sym (k.newest_is s q.known))
-    (let e : new.place.version s ≡ suc (old.place.version s) = ap (λ f. f s) q.version ∙ put-here old.place.version s (suc (old.place.version s)) s refl in omega arith)
-
--- ---- the entry that was added last
-
-reverse_one : {X : Type 0} (xs : List X) (x : X) (rest : List X) → reverse xs ≡ x ∷ rest → xs ≡ reverse rest ++ x ∷ []
-reverse_one xs x rest e = sym (reverse-reverse xs) ∙ ap reverse e ∙ reverse-append (x ∷ []) rest
-
-pub last_is : {X : Type 0} (xs : List X) (x d : X) (rest : List X) → reverse xs ≡ x ∷ rest → get_or xs (length rest) d ≡ x
-last_is xs x d rest e =
-    subst (λ n. get_or xs n d ≡ x) (length-reverse rest)
-    (ap (λ l. get_or l (length (reverse rest)) d) (reverse_one xs x rest e) ∙ get_or-append_seam (reverse rest) x [] d)
-
-pub longer_by_one : {X : Type 0} (xs : List X) (x : X) (rest : List X) → reverse xs ≡ x ∷ rest → length xs ≡ length rest + 1
-longer_by_one xs x rest e = let n : length xs ≡ suc (length rest) = sym (length-reverse xs) ∙ ap length e in omega arith
-
 -- ---- events
 
 -- the words are tied and the books count, behind an event
@@ -165,15 +120,11 @@ asked_kept words opened old new p a b c answer (inr n) t k = record {
       subst (λ x. IsBooked opened new a (b + bit (is_executed x)) (c + bit (is_refused x))) n.answer_is (subst (λ x. IsBooked opened new x (b + bit (is_executed n.line.answer)) (c + bit (is_refused n.line.answer))) z m);
 }
 
--- how many events the one state has recorded more
-abbrev pub more_of : State → State → ℕ
-more_of old new = length new.log - length old.log
-
 -- the log is no shorter after a step, the book of steps rises with it, and so does the runner's count
 pub record IsStepped (ended : Bool) (words : WordsModel) (opened old new : State) (p : PublisherModel) (a b c : ℕ) (answer : Played) : Type 0 where
   pub longer : length old.log ≤ length new.log
-  pub counted : IsBooked opened new (a + more_of old new) b c
-  pub counts : (n : ℕ) → Counts ended answer n (n + more_of old new)
+  pub counted : IsBooked opened new (a + recorded_more old new) b c
+  pub counts : (n : ℕ) → Counts ended answer n (n + recorded_more old new)
   pub behind : ((s : ℕ) → s < new.sizes.shards → IsInRange new.sizes.servers (entry_at new.place s)) → IsBehind words opened new p
 
 -- by a step the books and the runner's count rise as the log does; the words are one event behind at most
@@ -181,25 +132,25 @@ pub stepped : (ended : Bool) (words : WordsModel) (opened old new : State) (p : 
     IsStepped ended words opened old new p a b c answer
 stepped ended words opened old new p a b c answer (inl u) t k =
     let l : length new.log ≡ length old.log = ap (λ (w : State). length w.log) u.same in
-    let m : more_of old new ≡ 0 = omega arith in
+    let m : recorded_more old new ≡ 0 = omega arith in
     record {
       longer = omega arith;
       counted = subst (λ n. IsBooked opened new n b c) (omega arith) (counted_same opened old new a b c (ap (λ (w : State). w.log) u.same) k);
-      counts = λ n. let z : n ≡ n + more_of old new = omega arith in subst (Counts ended answer n) z (u.counts n);
+      counts = λ n. let z : n ≡ n + recorded_more old new = omega arith in subst (Counts ended answer n) z (u.counts n);
       behind = λ r. record { before = old; tied = t; in_range = r; event = inl (record { sizes = ap (λ (w : State). w.sizes) u.same; entries = ap (λ (w : State). w.entries) u.same; listed = ap (λ (w : State). w.place.listed) u.same; version = ap (λ (w : State). w.place.version) u.same }) };
     }
 stepped ended words opened old new p a b c answer (inr x) t k =
     let l : length new.log ≡ length old.log + 1 = ap length x.log ∙ length-append old.log (x.line ∷ []) in
-    let m : more_of old new ≡ 1 = omega arith in
+    let m : recorded_more old new ≡ 1 = omega arith in
     record {
       longer = omega arith;
       counted =
           let y = counted_more opened old new x.line a b c x.log k in
-          let e : a + bit (is_step x.line.event) ≡ a + more_of old new = ap (λ z. a + bit z) x.step ∙ (omega arith) in
+          let e : a + bit (is_step x.line.event) ≡ a + recorded_more old new = ap (λ z. a + bit z) x.step ∙ (omega arith) in
           let f : b + bit (is_executed x.line.answer) ≡ b = ap (λ z. b + bit z) x.executed ∙ (omega arith) in
           let g : c + bit (is_refused x.line.answer) ≡ c = ap (λ z. c + bit z) x.refused ∙ (omega arith) in
           subst (λ n. IsBooked opened new n b c) e (subst (λ n. IsBooked opened new (a + bit (is_step x.line.event)) n c) f (subst (IsBooked opened new (a + bit (is_step x.line.event)) (b + bit (is_executed x.line.answer))) g y));
-      counts = λ n. let z : n + 1 ≡ n + more_of old new = omega arith in subst (Counts ended answer n) z (x.counts n);
+      counts = λ n. let z : n + 1 ≡ n + recorded_more old new = omega arith in subst (Counts ended answer n) z (x.counts n);
       behind = λ r. record { before = old; tied = t; in_range = r; event = x.map };
     }
 
@@ -225,6 +176,3 @@ flag_kept words opened old new p a b c flag e t k = record {
   tied = tied_quiet words opened old new p (record { sizes = ap (λ (w : State). w.sizes) e; entries = ap (λ (w : State). w.entries) e; listed = ap (λ (w : State). w.place.listed) e; version = ap (λ (w : State). w.place.version) e }) t;
   counted = counted_same opened old new a b c (ap (λ (w : State). w.log) e) k;
 }
-
-pub some_is : {X : Type 0} (x y : X) (o : Option X) → o ≡ Some x → o ≡ Some y → x ≡ y
-some_is x y o e f = let g : Some x ≡ Some y = sym e ∙ f in cc

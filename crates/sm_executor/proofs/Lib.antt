@@ -7,4 +7,5 @@ pub mod PlanCount
 pub mod MachineSent
 pub mod BoardSent
 pub mod CapturedSent
-pub mod Sureness
+pub mod SureSteps
+pub mod WhyNotClosed

@@ -207,3 +207,15 @@ all_done w e k l =
           | inl same ↦ subst (λ j. length (unfinished_in w j (stream_count w j)) ≡ 0) (sym same) (omega arith)
           | inr other ↦ none n k (omega (arith, l, other)) (omega arith)
         ]
+
+-- and where all plans are done there are none
+pub none_left : (w : State) → AreDone w → length (unfinished_streams w) ≡ 0
+none_left w done = none (length w.plans) (omega arith)
+  where
+    none : (n : ℕ) → n ≤ length w.plans → length (unfinished_to w n) ≡ 0
+    none zero l = refl
+    none (suc n) l =
+        let a = length-append (unfinished_to w n) (unfinished_in w n (stream_count w n)) in
+        let b = none n (omega arith) in
+        let c = of_done w n (stream_count w n) (done n (omega arith)) in
+        omega arith

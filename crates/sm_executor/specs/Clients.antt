@@ -22,6 +22,7 @@ pub record ClientModel : Type 0 where
   pub asked : Option Asked
   pub caller : CallerModel
 
+-- a client that asks for this shard, with what it was answered and its caller
 abbrev pub asking : ℕ → Option Asked → CallerModel → ClientModel
 asking shard asked caller = record { shard = shard; asked = asked; caller = caller }
 

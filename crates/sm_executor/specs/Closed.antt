@@ -1,14 +1,15 @@
 -- What is so where a board is closed, and why one is not.
 use Rattle.std.specs.Prelude.{◌≡◌, ◌↔◌, ◌++◌, ◌∷◌, [], ℕ, zero, suc, true, List, length, map, sum, if◌then◌else◌}
+use Rattle.sm_placement.specs.Setup.{Setup}
 use Rattle.sm_reservation.specs.declared.stream_id.StreamId.{StreamId}
 use Rattle.sm_protocol.specs.State.{State, Start, stream_id, stream_count, is_begun}
-use Rattle.sm_protocol.specs.Laws.{AreDone}
+use Rattle.sm_protocol.specs.Laws.{AreDone, IsReached}
 use Rattle.sm_protocol.specs.Log.{IsInLog, IsAtEnds}
 use Rattle.sm_protocol.specs.declared.event.Logged.{Logged}
 use Rattle.sm_executor.specs.declared.closing.CloseFault.{CloseFault}
-use Rattle.sm_executor.specs.declared.closing.CloseFault.TheVariants.{NotDone}
+use Rattle.sm_executor.specs.declared.closing.CloseFault.TheVariants.{NotDone, BookDiffers}
 use Rattle.sm_executor.specs.Counting.{IsBooked}
-use Rattle.sm_executor.specs.Views.{EndedModel, CallerModel}
+use Rattle.sm_executor.specs.Views.{HeldModel, state_in, EndedModel, CallerModel}
 
 -- ---- the streams that have not made their ends
 
@@ -37,21 +38,39 @@ pub record GoesOn (opened now : State) : Type 0 where
   pub log : (since : List Logged) × (now.log ≡ opened.log ++ since)
   pub plans : HasMorePlans opened now
 
+-- A state of a board: events led to it, and it goes on from the opening.
+pub record IsBoardState (opened now : State) : Type 0 where
+  pub setup : Setup
+  pub reached : IsReached setup now
+  pub goes_on : GoesOn opened now
+
 -- ---- the account
 
 -- The books, from the opening to now, are the sums of what these ends and callers have counted.
 abbrev pub IsAccount : State → State → List EndedModel → List CallerModel → Type 0
 IsAccount opened now ended callers = IsBooked opened now (sum (map (λ e. e.counted) ended)) (sum (map (λ c. c.executed) callers)) (sum (map (λ c. c.refused) callers))
 
--- Every stream has made its end: the log has each stream's instructions in their order, each once, and then its end; the placement
--- is the end of the plans in the order of their starts, whatever the schedule was; and the log since the opening has as many steps,
--- executed and refused requests as these ends and callers have counted.
+-- Events led to this state, and every stream has made its end: the log has each stream's instructions in their order, each once, and
+-- then its end; the placement is the end of the plans in the order of their starts, whatever the schedule was; and the log since the
+-- opening has as many steps, executed and refused requests as these ends and callers have counted.
 pub record IsClosed (opened now : State) (ended : List EndedModel) (callers : List CallerModel) : Type 0 where
+  pub setup : Setup
+  pub reached : IsReached setup now
   pub goes_on : GoesOn opened now
   pub done : AreDone now
   pub in_log : (id : StreamId) → is_begun now id ≡ true → IsInLog now id
   pub at_ends : IsAtEnds now
   pub account : IsAccount opened now ended callers
+
+-- as many ends and callers are handed in as runners and callers were given out
+abbrev pub AreAllBack : HeldModel → ℕ → ℕ → Type 0
+AreAllBack h ended callers = (ended ≡ h.runners) × (callers ≡ h.callers)
+
+-- why what lies behind the lock is not closed with so many ends and callers: a stream has not made its end; or each has, and not all
+-- runners and callers are back
+abbrev pub StaysOpenFor : HeldModel → ℕ → ℕ → CloseFault → Type 0
+StaysOpenFor h ended callers NotDone = ¬ AreDone (state_in h)
+StaysOpenFor h ended callers BookDiffers = AreDone (state_in h) × ¬ AreAllBack h ended callers
 
 -- what a contract sees of a board that is not closed: why, what came back, and which streams have not made their ends
 pub record NotClosedModel : Type 0 where
@@ -60,9 +79,9 @@ pub record NotClosedModel : Type 0 where
   pub callers : List CallerModel
   pub positions : List (StreamId × ℕ)
 
--- The streams named are those of a state that goes on from the opening, and NotDone is told where there are some.
+-- The streams named are those that have not made their ends at a state of the board, and NotDone is told just where there are some.
 pub record IsNotClosed (opened : State) (fault : CloseFault) (positions : List (StreamId × ℕ)) : Type 0 where
   pub now : State
-  pub goes_on : GoesOn opened now
+  pub state : IsBoardState opened now
   pub named : positions ≡ unfinished_streams now
   pub not_done : (fault ≡ NotDone) ↔ ¬ (positions ≡ [])

@@ -27,12 +27,15 @@ is_refused played.NotOwner = true
 is_refused played.Unavailable = true
 is_refused _ = false
 
+-- how many steps a log has
 abbrev pub steps_recorded : List Logged → ℕ
 steps_recorded log = count_by (λ x. is_step x.event) log
 
+-- how many requests of a log were executed
 abbrev pub executed_in : List Logged → ℕ
 executed_in log = count_by (λ x. is_executed x.answer) log
 
+-- how many requests of a log were refused
 abbrev pub refused_in : List Logged → ℕ
 refused_in log = count_by (λ x. is_refused x.answer) log
 
@@ -53,11 +56,12 @@ Counts ended played.Lost old new = new ≡ old + 1
 Counts ended played.Done old new = new ≡ old + bit (not ended)
 Counts ended _ old new = new ≡ old
 
--- what the answer to a request adds to the counts of its caller
+-- what the answer to a request adds to the caller's count of requests that were executed
 abbrev pub executes : Answer → ℕ
 executes (Executed server) = 1
 executes _ = 0
 
+-- what it adds to the caller's count of requests that were refused
 abbrev pub refuses : Answer → ℕ
 refuses NotOwner = 1
 refuses Unavailable = 1

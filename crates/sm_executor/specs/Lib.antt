@@ -3,6 +3,7 @@ pub mod Counting
 pub mod Tied
 pub mod Views
 pub mod Closed
+pub mod Starting
 pub mod Stepping
 pub mod Ending
 pub mod CameBack

@@ -6,15 +6,19 @@ use Rattle.sm_placement.specs.Place.{Place}
 use Rattle.sm_map.specs.Models.{WordsModel, words_model}
 use Rattle.sm_protocol.specs.State.{State, opened}
 
+-- what stands for the words of a map where there is no board
 abbrev pub no_words : WordsModel
 no_words = words_model (record { words = 0; slots = 0; views_name = 0; atom = 0; block = 0; offset = 0; slot_names = [] }) 0 []
 
+-- what stands for a configuration where there is no board
 abbrev pub no_setup : Setup
 no_setup = record { servers = []; shards = [] }
 
+-- what stands for a placement where there is no board
 abbrev pub no_place : Place
 no_place = record { cells = λ s v. Absent; last = λ s v. 0; down = λ v. false; listed = λ s. None; version = λ s. 0; limit = 0 }
 
+-- what stands for the state of an opened board where there is none
 abbrev pub no_state : State
 no_state = opened (sizes_of no_setup) no_place 0
 
@@ -26,5 +30,6 @@ pub record Bases : Type 0 where
   pub executed : ℕ
   pub refused : ℕ
 
+-- a board that is opened with these
 abbrev pub bases : WordsModel → Setup → ℕ → ℕ → ℕ → Bases
 bases words setup steps executed refused = record { words = words; setup = setup; steps = steps; executed = executed; refused = refused }

@@ -13,6 +13,7 @@ pub record HeldModel : Type 0 where
   pub runners : ℕ
   pub callers : ℕ
 
+-- this machine, with so many runners and callers given out
 abbrev pub held_model : MachineModel → ℕ → ℕ → HeldModel
 held_model machine runners callers = record { machine = machine; runners = runners; callers = callers }
 
@@ -25,6 +26,7 @@ pub record RunnerModel : Type 0 where
   pub stream : StreamId
   pub steps : ℕ
 
+-- a runner of the stream, of which so many steps were recorded
 abbrev pub running : StreamId → ℕ → RunnerModel
 running stream steps = record { stream = stream; steps = steps }
 
@@ -42,13 +44,15 @@ pub record EndedModel : Type 0 where
   pub budget : ℕ
   pub counted : ℕ
 
+-- the end of the stream, with these counts
 abbrev pub finished : StreamId → ℕ → ℕ → ℕ → ℕ → EndedModel
 finished stream steps calls budget counted = record { stream = stream; steps = steps; calls = calls; budget = budget; counted = counted }
 
--- which streams these ends are of, and which these runners are
+-- which streams these ends are of
 abbrev pub streams_ended : List EndedModel → List StreamId
 streams_ended ended = map (λ e. e.stream) ended
 
+-- which streams these runners are of
 abbrev pub streams_run : List RunnerModel → List StreamId
 streams_run runners = map (λ r. r.stream) runners
 
@@ -66,5 +70,6 @@ pub record CallerModel : Type 0 where
   pub executed : ℕ
   pub refused : ℕ
 
+-- a caller that has seen this, with these counts
 abbrev pub calling : List (ℕ × Entry) → ℕ → ℕ → CallerModel
 calling seen executed refused = record { seen = seen; executed = executed; refused = refused }

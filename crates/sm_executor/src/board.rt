@@ -2,11 +2,12 @@
 //!
 //! Each method takes the lock, makes one call of what lies behind it, and lets go. A contract can't name what lies behind a lock, so it
 //! tells what the call does to the runner or the caller; what it does to the machine stands on the call that it makes.
-ghost use Rattle.std.specs.Prelude.{◌≡◌, ◌<◌, ◌≤◌, ◌+◌, ◌∷◌, [], length, IfOk, IfErr, IfSome, Bool, true, false, vec_capacity, ℕ};
+ghost use Rattle.std.specs.Prelude.{◌≡◌, ◌≢◌, ◌<◌, ◌≤◌, ◌+◌, ◌∷◌, [], length, IfOk, IfErr, IfSome, vec_capacity};
 ghost use Rattle.sm_placement.specs.Place.{entry_at};
 ghost use Rattle.sm_map.specs.Entry.{IsInRange};
 ghost use Rattle.sm_map.specs.History.{NoneNewer};
 ghost use Rattle.sm_protocol.specs.Steps.{Answered};
+ghost use Rattle.sm_protocol.specs.declared.event.BeginFault.TheVariants as fault;
 ghost use Rattle.sm_protocol.specs.Happens as happening;
 ghost use Rattle.sm_protocol.specs.Happens.{happens};
 ghost use Rattle.sm_machine.specs.Played.{played_of};
@@ -14,11 +15,12 @@ ghost use Rattle.sm_machine.specs.Restarted.{approval_of, restart_of};
 ghost use Rattle.sm_machine.specs.Losses.{refill_answer, is_lost_answer};
 ghost use Rattle.sm_placement.specs.Sums.{bit};
 ghost use Rattle.sm_executor.specs.Closed.{GoesOn};
-ghost use Rattle.sm_executor.specs.Counting.{Counts, executes, refuses};
+ghost use Rattle.sm_executor.specs.Counting.{executes, refuses};
 ghost use Rattle.sm_executor.specs.Ending.{HasEnded};
+ghost use Rattle.sm_executor.specs.Starting.{HasBegun, HasNotBegun};
 ghost use Rattle.sm_executor.specs.Stepping.{HasMadeStep, HasStepped, is_waiting};
 ghost use Rattle.sm_executor.specs.Tied.{HasStood};
-ghost use Rattle.sm_executor.specs.Views.{held_model, state_in, calling, AreRunners};
+ghost use Rattle.sm_executor.specs.Views.{held_model, state_in, calling};
 ghost use Rattle.sm_plan_code.specs.declared.limits.TheConstants.{MOST_CALLS};
 ghost use Rattle.sm_executor.specs.declared.unfinished.TheConstants.{MOST_UNFINISHED};
 
@@ -48,6 +50,8 @@ pub struct Board<A: Side, B: Side, C: Side, N: Naming> {
     pub(crate) positions: Vec<(StreamId, usize)>,
     ghost named: { words ≡ N.words },
     ghost configured: { config ≡ N.setup },
+    ghost shards: { length N.words.opening ≡ length N.setup.shards },
+    ghost servers: { N.words.servers ≡ length N.setup.servers },
     ghost roomy: { MOST_UNFINISHED ≤ vec_capacity positions },
 }
 
@@ -105,6 +109,7 @@ impl<A: Side, B: Side, C: Side, N: Naming> Board<A, B, C, N> {
         requires room { MOST_UNFINISHED ≤ vec_capacity positions }
         ensures { result.positions.items ≡ positions.items }
     {
+        held.goes_on();
         Board {
             held: Mutex::new(held),
             moved,
@@ -114,9 +119,11 @@ impl<A: Side, B: Side, C: Side, N: Naming> Board<A, B, C, N> {
         }
     }
 
-    /// The configuration of the board's machine.
+    /// The configuration of the board's machine, which has as many shards and servers as the board's map.
     pub fn config(&self) -> &Config
-        ensures { result.now ≡ N.setup }
+        ensures setup { result.now ≡ N.setup }
+        ensures shards { length N.words.opening ≡ length N.setup.shards }
+        ensures servers { N.words.servers ≡ length N.setup.servers }
     {
         &self.config
     }
@@ -130,10 +137,14 @@ impl<A: Side, B: Side, C: Side, N: Naming> Board<A, B, C, N> {
         checked: Checked,
     ) -> Result<Vec<Runner<A>>, (Checked, BeginFault)>
         requires { checked.setup ≡ N.setup }
-        ensures runners { IfOk result (λ runners. (plan : ℕ) × AreRunners plan (length checked.plan.streams) runners.items) }
+        ensures begun { IfOk result (λ runners. HasBegun N.opened checked.plan runners.items) }
+        ensures refused { IfErr result (λ e. e.1 ≢ fault.NoMemory → HasNotBegun N.opened checked.plan e.1) }
         ensures back { IfErr result (λ e. e.0 ≡ checked) }
     {
-        self.held.lock(rt).begin(alloc, checked)
+        let mut held = self.held.lock(rt);
+        held.goes_on();
+        held.machine().is_reached();
+        held.begin(alloc, checked)
     }
 
     /// The runner's end, where its stream has made it, with what the locked machine has of that stream. Else the runner comes back.
@@ -151,8 +162,7 @@ impl<A: Side, B: Side, C: Side, N: Naming> Board<A, B, C, N> {
     /// The runner's next step over a link, which is asked for the try of a call.
     pub fn step_over<R: Wait, L: Link>(&self, rt: &R, runner: &mut Runner<A>, link: &mut L) -> Step
         ensures stream { runner.new.stream ≡ runner.old.stream }
-        ensures counts { (ended : Bool) × Counts ended (played_of result) runner.old.steps runner.new.steps }
-        ensures over { HasStepped L.asked link.old link.new N.opened runner.old.stream (played_of result) }
+        ensures over { HasStepped L.asked link.old link.new N.opened runner.old runner.new (played_of result) }
         ensures lost { L.losses link.new ≡ L.losses link.old + bit (is_lost_answer (played_of result)) }
     {
         let step = self.held.lock(rt).make_step(&self.words, runner, link);
@@ -168,11 +178,10 @@ impl<A: Side, B: Side, C: Side, N: Naming> Board<A, B, C, N> {
     }
 
     /// The runner's next step, of which no call is lost.
-    #[tactic(auto, using(crate::proofs::Sureness::made_surely))]
+    #[tactic(auto, using(crate::proofs::SureSteps::made_surely))]
     pub fn step<R: Wait>(&self, rt: &R, runner: &mut Runner<A>) -> Step
         ensures stream { runner.new.stream ≡ runner.old.stream }
-        ensures counts { (ended : Bool) × Counts ended (played_of result) runner.old.steps runner.new.steps }
-        ensures made { HasMadeStep N.opened runner.old.stream (played_of result) }
+        ensures made { HasMadeStep N.opened runner.old runner.new (played_of result) }
     {
         self.step_over(rt, runner, &mut Sure)
     }
@@ -190,7 +199,7 @@ impl<A: Side, B: Side, C: Side, N: Naming> Board<A, B, C, N> {
         link: &mut L,
     ) -> Step
         ensures stream { runner.new.stream ≡ runner.old.stream }
-        ensures over { HasStepped L.asked link.old link.new N.opened runner.old.stream (played_of result) }
+        ensures over { HasStepped L.asked link.old link.new N.opened runner.old runner.new (played_of result) }
         ensures lost { L.losses link.new ≡ L.losses link.old + bit (is_lost_answer (played_of result)) }
     {
         let mut held = self.held.lock(rt);
@@ -269,6 +278,8 @@ impl<A: Side, B: Side, C: Side, N: Naming> Board<A, B, C, N> {
     pub fn hold<R: Wait>(&self, rt: &R) -> Guard<'_, A, B, C, N>
         ensures goes_on { GoesOn N.opened (state_in result) }
         ensures setup { result.machine.placement.setup ≡ N.setup }
+        ensures shards { length N.words.opening ≡ length N.setup.shards }
+        ensures servers { N.words.servers ≡ length N.setup.servers }
     {
         let held = self.held.lock(rt);
         held.goes_on();
@@ -284,6 +295,7 @@ impl<'b, A: Side, B: Side, C: Side, N: Naming> Guard<'b, A, B, C, N> {
         ensures state { state_in self.new ≡ (happens (state_in self.old) (happening.Approve server)).1 }
         ensures others { self.new ≡ held_model self.new.machine self.old.runners self.old.callers }
         ensures permit { IfOk result (λ permit. permit ≡ server) }
+        ensures setup { self.new.machine.placement.setup ≡ self.old.machine.placement.setup }
     {
         self.held.approve(server)
     }
@@ -294,6 +306,7 @@ impl<'b, A: Side, B: Side, C: Side, N: Naming> Guard<'b, A, B, C, N> {
         ensures state { state_in self.new ≡ (happens (state_in self.old) (happening.Done permit)).1 }
         ensures others { self.new ≡ held_model self.new.machine self.old.runners self.old.callers }
         ensures back { IfErr result (λ p. p ≡ permit) }
+        ensures setup { self.new.machine.placement.setup ≡ self.old.machine.placement.setup }
     {
         self.held.done(permit)
     }
@@ -305,6 +318,7 @@ impl<'b, A: Side, B: Side, C: Side, N: Naming> Guard<'b, A, B, C, N> {
         ensures state { state_in self.new ≡ (happens (state_in self.old) (happening.Refill runner.old.stream more)).1 }
         ensures others { self.new ≡ held_model self.new.machine self.old.runners self.old.callers }
         ensures runner { runner.new ≡ runner.old }
+        ensures setup { self.new.machine.placement.setup ≡ self.old.machine.placement.setup }
     {
         self.held.refill(runner, more)
     }

@@ -1,6 +1,6 @@
 //! Clients that ask at a board, each in a thread of its own, beside a run.
-ghost use Rattle.std.specs.Prelude.{◌≡◌, ◌≢◌, ◌<◌, [], None, IfOk, IfErr, IfSome, OnOk, All, length, map, vec_len};
-ghost use Rattle.sm_executor.specs.CameBack.{came_back, ends_back};
+ghost use Rattle.std.specs.Prelude.{◌≡◌, ◌≢◌, ◌<◌, [], None, IfOk, IfErr, IfSome, OnOk, All, length, map, true, vec_len};
+ghost use Rattle.sm_executor.specs.CameBack.{came_back, ends_back, runners_back, lacks_memory};
 ghost use Rattle.sm_executor.specs.Clients.{asking, AsksOnce, IsClient};
 ghost use Rattle.sm_executor.specs.Ending.{HasEnded};
 ghost use Rattle.sm_executor.specs.Views.{calling, streams_ended, streams_run};
@@ -207,6 +207,7 @@ pub fn run_beside<
     ensures at { IfOk result (λ ended. All (HasEnded N.opened) ended.items) }
     ensures back_at { IfErr result (λ fault. All (HasEnded N.opened) (ends_back fault)) }
     ensures back { IfErr result (λ fault. came_back fault ≡ vec_len runners) }
+    ensures memory { IfErr result (λ fault. lacks_memory fault ≡ true → runners_back fault ≡ runners.items) }
     ensures clients { length clients.new ≡ length clients.old }
     ensures asked { OnOk result (All (λ client. client.asked ≢ None) clients.new) }
 {

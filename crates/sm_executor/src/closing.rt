@@ -1,8 +1,10 @@
 //! How a board ends.
-ghost use Rattle.std.specs.Prelude.{◌≡◌, ◌+◌, IfOk, IfErr, OnErr, OnOk, length, map, sum, []};
+ghost use Rattle.std.specs.Prelude.{◌≡◌, ◌≤◌, ◌↔◌, IfOk, IfErr, IfSome, IfNone, IsTrue, OnOk, length, vec_capacity};
+ghost use Rattle.sm_protocol.specs.Laws.{AreDone};
 ghost use Rattle.sm_machine.specs.State.{state_of};
-ghost use Rattle.sm_executor.specs.Closed.{IsAccount, IsClosed, IsNotClosed, GoesOn};
+ghost use Rattle.sm_executor.specs.Closed.{unfinished_streams, AreAllBack, IsAccount, IsClosed, IsNotClosed, StaysOpenFor, GoesOn};
 ghost use Rattle.sm_executor.specs.Views.{state_in};
+ghost use Rattle.sm_executor.specs.declared.unfinished.TheConstants.{MOST_UNFINISHED};
 
 use crate::board::Board;
 use crate::caller::Caller;
@@ -71,24 +73,52 @@ impl<A: Side, B: Side, C: Side, N: Naming> NotClosed<A, B, C, N> {
     }
 }
 
+/// What a board is made of that is not closed, with all that was handed in, and why it is not.
+pub(crate) struct Back<A: Side, B: Side, C: Side, N: Naming> {
+    held: Held<A, B, C, N>,
+    ended: Vec<Ended<A>>,
+    callers: Vec<Caller<B, C, N>>,
+    fault: CloseFault,
+}
+
 impl<A: Side, B: Side, C: Side, N: Naming> Held<A, B, C, N> {
-    /// The machine, where as many ends and callers are handed in as there were runners and callers: the books are then the sums of
-    /// what they have counted. Else all come back.
-    pub fn close(
-        self,
-        ended: Vec<Ended<A>>,
-        callers: Vec<Caller<B, C, N>>,
-    ) -> Result<Machine, (Held<A, B, C, N>, Vec<Ended<A>>, Vec<Caller<B, C, N>>)>
-        requires { (A.all ≡ A.parts) × (B.all ≡ B.parts) × (C.all ≡ C.parts) }
-        ensures machine { IfOk result (λ machine. machine ≡ self.machine) }
-        ensures counts { OnOk result ((length ended.items ≡ self.runners) × (length callers.items ≡ self.callers)) }
-        ensures account { OnOk result (IsAccount N.opened (state_in self) ended.items callers.items) }
-        ensures back { IfErr result (λ e. (e.0 ≡ self) × (e.1 ≡ ended) × (e.2 ≡ callers)) }
-        ensures differs { OnErr result (¬ ((length ended.items ≡ self.runners) × (length callers.items ≡ self.callers))) }
+    /// Whether so many ends and callers are all whose runners and callers were given out.
+    fn are_all_back(&self, ended: usize, callers: usize) -> bool
+        ensures { IsTrue result ↔ AreAllBack self.now ended callers }
     {
-        if ended.len() as u64 != self.runners || callers.len() as u64 != self.callers {
-            return Err((self, ended, callers));
+        ended as u64 == self.runners && callers as u64 == self.callers
+    }
+
+    /// Why it is not closed with so many ends and callers, if it isn't. The streams that have not made their ends are listed into a
+    /// list with room for them.
+    fn close_fault(
+        &self,
+        ended: usize,
+        callers: usize,
+        positions: &mut Vec<(StreamId, usize)>,
+    ) -> Option<CloseFault>
+        requires { MOST_UNFINISHED ≤ vec_capacity positions.old }
+        ensures some { IfSome result (StaysOpenFor self.now ended callers) }
+        ensures none { IfNone result (AreDone (state_in self.now) × AreAllBack self.now ended callers) }
+        ensures items { positions.new.items ≡ unfinished_streams (state_in self.now) }
+        ensures capacity { vec_capacity positions.new ≡ vec_capacity positions.old }
+    {
+        list_unfinished(&self.machine, positions);
+        if !positions.is_empty() {
+            Some(CloseFault::NotDone)
+        } else if self.are_all_back(ended, callers) {
+            None
+        } else {
+            Some(CloseFault::BookDiffers)
         }
+    }
+
+    /// The machine. The books are the sums of what all ends and callers have counted.
+    fn settle(self, ended: Vec<Ended<A>>, callers: Vec<Caller<B, C, N>>) -> Machine
+        requires { AreAllBack self (length ended.items) (length callers.items) }
+        ensures machine { result ≡ self.machine }
+        ensures account { IsAccount N.opened (state_in self) ended.items callers.items }
+    {
         let Held {
             machine,
             publisher: _,
@@ -107,7 +137,37 @@ impl<A: Side, B: Side, C: Side, N: Naming> Held<A, B, C, N> {
         steps.audit(&mut all_steps);
         executed.audit(&mut all_executed);
         refused.audit(&mut all_refused);
-        Ok(machine)
+        machine
+    }
+
+    /// The machine, where all streams have made their ends, and as many ends and callers are handed in as there were runners and
+    /// callers. Else all come back: NotDone where a stream has not made its end, and else BookDiffers. The streams that have not made
+    /// their ends are listed into a list with room for them.
+    pub fn close(
+        self,
+        ended: Vec<Ended<A>>,
+        callers: Vec<Caller<B, C, N>>,
+        positions: &mut Vec<(StreamId, usize)>,
+    ) -> Result<Machine, Back<A, B, C, N>>
+        requires { MOST_UNFINISHED ≤ vec_capacity positions.old }
+        ensures machine { IfOk result (λ machine. machine ≡ self.machine) }
+        ensures done { OnOk result (AreDone (state_in self)) }
+        ensures counts { OnOk result (AreAllBack self (length ended.items) (length callers.items)) }
+        ensures account { OnOk result (IsAccount N.opened (state_in self) ended.items callers.items) }
+        ensures why { IfErr result (λ back. StaysOpenFor self (length ended.items) (length callers.items) back.fault) }
+        ensures back { IfErr result (λ back. (back.held ≡ self) × (back.ended ≡ ended) × (back.callers ≡ callers)) }
+        ensures items { positions.new.items ≡ unfinished_streams (state_in self) }
+        ensures capacity { vec_capacity positions.new ≡ vec_capacity positions.old }
+    {
+        if let Some(fault) = self.close_fault(ended.len(), callers.len(), positions) {
+            return Err(Back {
+                held: self,
+                ended,
+                callers,
+                fault,
+            });
+        }
+        Ok(self.settle(ended, callers))
     }
 }
 
@@ -122,7 +182,6 @@ impl<A: Side, B: Side, C: Side, N: Naming> Board<A, B, C, N> {
         ended: Vec<Ended<A>>,
         callers: Vec<Caller<B, C, N>>,
     ) -> Result<Machine, NotClosed<A, B, C, N>>
-        requires { (A.all ≡ A.parts) × (B.all ≡ B.parts) × (C.all ≡ C.parts) }
         ensures closed { IfOk result (λ machine. IsClosed N.opened (state_of machine) ended.items callers.items) }
         ensures setup { IfOk result (λ machine. machine.placement.setup ≡ N.setup) }
         ensures back { IfErr result (λ e. (e.ended ≡ ended.items) × (e.callers ≡ callers.items)) }
@@ -139,23 +198,22 @@ impl<A: Side, B: Side, C: Side, N: Naming> Board<A, B, C, N> {
         held.goes_on();
         held.machine().is_reached();
         ends_are_reached();
-        list_unfinished(held.machine(), &mut positions);
-        if !positions.is_empty() {
-            return Err(NotClosed {
-                board: Board::again(held, moved, words, config, positions),
-                ended,
-                callers,
-                fault: CloseFault::NotDone,
-            });
-        }
-        match held.close(ended, callers) {
+        match held.close(ended, callers, &mut positions) {
             Ok(machine) => Ok(machine),
-            Err((held, ended, callers)) => Err(NotClosed {
-                board: Board::again(held, moved, words, config, positions),
-                ended,
-                callers,
-                fault: CloseFault::BookDiffers,
-            }),
+            Err(back) => {
+                let Back {
+                    held,
+                    ended,
+                    callers,
+                    fault,
+                } = back;
+                Err(NotClosed {
+                    board: Board::again(held, moved, words, config, positions),
+                    ended,
+                    callers,
+                    fault,
+                })
+            }
         }
     }
 

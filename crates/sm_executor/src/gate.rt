@@ -13,8 +13,10 @@ use std::sync::{Condvar, Mutex, Wait};
 /// `before` and `after` come once for each recorded step, and once for a last step that is Halted or Spent. A step that waits for
 /// a signal waits between the two.
 pub trait Gate {
+    /// Comes before a step of the stream.
     fn before<R: Wait>(&self, rt: &R, stream: StreamId, at: usize);
 
+    /// Comes after that step.
     fn after<R: Wait>(&self, rt: &R, stream: StreamId, at: usize);
 }
 
@@ -48,6 +50,7 @@ pub(crate) struct Starter {
 }
 
 impl Starter {
+    /// No thread has been told anything, and no stream has spent its allowance.
     pub fn new() -> Starter {
         Starter {
             start: Mutex::new(Start::Waits),

@@ -116,9 +116,9 @@ impl Ground {
         requires map { IsMapOf self.words (state_of machine) }
         requires setup { self.setup ≡ machine.placement.setup }
         requires names { (self.words ≡ N.words) × (self.setup ≡ N.setup) × (state_of machine ≡ N.opened) }
-        requires steps { (self.steps ≡ A.name) × (A.parts ≡ 2 ^ 62) × (A.all ≡ 2 ^ 62) }
-        requires executed { (self.executed ≡ B.name) × (B.parts ≡ 2 ^ 62) × (B.all ≡ 2 ^ 62) }
-        requires refused { (self.refused ≡ C.name) × (C.parts ≡ 2 ^ 62) × (C.all ≡ 2 ^ 62) }
+        requires steps { (self.steps ≡ A.name) × (A.parts ≡ 2 ^ 62) }
+        requires executed { (self.executed ≡ B.name) × (B.parts ≡ 2 ^ 62) }
+        requires refused { (self.refused ≡ C.name) × (C.parts ≡ 2 ^ 62) }
         ensures held { result.0 ≡ held_model machine 0 0 }
         ensures words { result.1 ≡ N.words }
         ensures config { result.2 ≡ N.setup }

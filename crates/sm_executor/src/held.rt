@@ -79,9 +79,9 @@ impl<A: Side, B: Side, C: Side, N: Naming> Model for Held<A, B, C, N> {
     ghost invariant = { λ h.
         IsPublished N.words N.opened (state_of h.machine) h.publisher
         × IsBooked N.opened (state_of h.machine) h.steps.total h.executed.total h.refused.total
-        × (h.free_steps.parts + h.runners ≡ A.all) × (h.free_steps.amount ≡ 0) × (A.all ≡ 2 ^ 62)
-        × (h.free_executed.parts + h.callers ≡ B.all) × (h.free_executed.amount ≡ 0) × (B.all ≡ 2 ^ 62)
-        × (h.free_refused.parts + h.callers ≡ C.all) × (h.free_refused.amount ≡ 0) × (C.all ≡ 2 ^ 62)
+        × (h.free_steps.parts + h.runners ≡ A.parts) × (h.free_steps.amount ≡ 0) × (A.parts ≡ 2 ^ 62)
+        × (h.free_executed.parts + h.callers ≡ B.parts) × (h.free_executed.amount ≡ 0) × (B.parts ≡ 2 ^ 62)
+        × (h.free_refused.parts + h.callers ≡ C.parts) × (h.free_refused.amount ≡ 0) × (C.parts ≡ 2 ^ 62)
         × (h.callers ≤ MOST_CALLERS)
         × (h.machine.placement.setup ≡ N.setup)
         × (h.runners ≤ MOST_STREAMS * length (state_of h.machine).plans)
@@ -140,9 +140,9 @@ impl<A: Side, B: Side, C: Side, N: Naming> Held<A, B, C, N> {
         requires opened { state_of machine ≡ N.opened }
         requires setup { machine.placement.setup ≡ N.setup }
         requires tied { IsPublished N.words N.opened N.opened publisher }
-        requires steps { (steps.name ≡ A.name) × (steps.parts ≡ A.parts) × (A.parts ≡ 2 ^ 62) × (A.all ≡ 2 ^ 62) }
-        requires executed { (executed.name ≡ B.name) × (executed.parts ≡ B.parts) × (B.parts ≡ 2 ^ 62) × (B.all ≡ 2 ^ 62) }
-        requires refused { (refused.name ≡ C.name) × (refused.parts ≡ C.parts) × (C.parts ≡ 2 ^ 62) × (C.all ≡ 2 ^ 62) }
+        requires steps { (steps.name ≡ A.name) × (steps.parts ≡ A.parts) × (A.parts ≡ 2 ^ 62) }
+        requires executed { (executed.name ≡ B.name) × (executed.parts ≡ B.parts) × (B.parts ≡ 2 ^ 62) }
+        requires refused { (refused.name ≡ C.name) × (refused.parts ≡ C.parts) × (C.parts ≡ 2 ^ 62) }
         ensures { result ≡ held_model machine 0 0 }
     {
         let (steps, free_steps) = steps.open::<A>();
@@ -163,10 +163,13 @@ impl<A: Side, B: Side, C: Side, N: Naming> Held<A, B, C, N> {
         }
     }
 
-    /// A law: the log and the list of plans have only grown since the opening, and the configuration is the board's.
+    /// A law: the log and the list of plans have only grown since the opening, and the configuration is the board's, which has as many
+    /// shards and servers as the words.
     pub fn goes_on(&self)
         ensures goes_on { GoesOn N.opened (state_in self.now) }
         ensures setup { self.now.machine.placement.setup ≡ N.setup }
+        ensures shards { length N.words.opening ≡ length N.setup.shards }
+        ensures servers { N.words.servers ≡ length N.setup.servers }
     {
         let _runners = self.runners;
     }
@@ -213,10 +216,10 @@ impl<A: Side, B: Side, C: Side, N: Naming> Held<A, B, C, N> {
     ) -> Step
         requires { words.now ≡ N.words }
         ensures stream { runner.new.stream ≡ runner.old.stream }
-        ensures counts { (ended : Bool) × Counts ended (played_of result) runner.old.steps runner.new.steps }
-        ensures over { HasStepped L.asked link.old link.new N.opened runner.old.stream (played_of result) }
+        ensures over { HasStepped L.asked link.old link.new N.opened runner.old runner.new (played_of result) }
         ensures lost { L.losses link.new ≡ L.losses link.old + bit (is_lost_answer (played_of result)) }
         ensures unasked { is_waiting result ≡ true → link.new ≡ link.old }
+        ensures waits { is_waiting result ≡ true → runner.new ≡ runner.old }
     {
         self.goes_on();
         self.machine.is_reached();
@@ -383,6 +386,7 @@ impl<A: Side, B: Side, C: Side, N: Naming> Held<A, B, C, N> {
         ensures state { state_in self.new ≡ (happens (state_in self.old) (happening.Approve server)).1 }
         ensures others { self.new ≡ held_model self.new.machine self.old.runners self.old.callers }
         ensures permit { IfOk result (λ permit. permit ≡ server) }
+        ensures setup { self.new.machine.placement.setup ≡ self.old.machine.placement.setup }
     {
         self.machine.approve(server)
     }
@@ -393,6 +397,7 @@ impl<A: Side, B: Side, C: Side, N: Naming> Held<A, B, C, N> {
         ensures state { state_in self.new ≡ (happens (state_in self.old) (happening.Done permit)).1 }
         ensures others { self.new ≡ held_model self.new.machine self.old.runners self.old.callers }
         ensures back { IfErr result (λ p. p ≡ permit) }
+        ensures setup { self.new.machine.placement.setup ≡ self.old.machine.placement.setup }
     {
         self.machine.done(permit)
     }
@@ -404,6 +409,7 @@ impl<A: Side, B: Side, C: Side, N: Naming> Held<A, B, C, N> {
         ensures state { state_in self.new ≡ (happens (state_in self.old) (happening.Refill runner.old.stream more)).1 }
         ensures others { self.new ≡ held_model self.new.machine self.old.runners self.old.callers }
         ensures runner { runner.new ≡ runner.old }
+        ensures setup { self.new.machine.placement.setup ≡ self.old.machine.placement.setup }
     {
         self.machine.refill(&mut runner.token, more)
     }

@@ -3,10 +3,10 @@
 //! The threads wait for each other before their first steps, so that no stream has stepped where one cannot be started. What a
 //! thread did to its runner is not told to who joins it: the locked machine says of each runner whether its stream has made its end,
 //! and the ends are compared with the streams that were noted before.
-ghost use Rattle.std.specs.Prelude.{◌≡◌, ◌≤◌, ◌+◌, All, IfOk, IfErr, length, map, [], true, vec_len, vec_capacity};
+ghost use Rattle.std.specs.Prelude.{◌≡◌, ◌≤◌, ◌+◌, All, IfOk, IfErr, length, map, [], true, false, vec_len, vec_capacity};
 ghost use Rattle.sm_executor.specs.Ending.{HasEnded};
 ghost use Rattle.sm_executor.specs.Views.{streams_ended, streams_run};
-ghost use Rattle.sm_executor.specs.CameBack.{came_back, ends_back};
+ghost use Rattle.sm_executor.specs.CameBack.{came_back, ends_back, runners_back, lacks_memory};
 
 use crate::board::Board;
 use crate::gate::{Gate, Starter, drive_own};
@@ -188,6 +188,7 @@ pub(crate) struct Lists<A: Side> {
 }
 
 impl<A: Side> Lists<A> {
+    /// The streams of these runners, and two empty lists with room for all of them.
     pub fn new(alloc: Global, runners: &[Runner<A>]) -> Result<Lists<A>, AllocError>
         ensures streams { IfOk result (λ lists. lists.streams.items ≡ streams_run runners.now) }
         ensures room { IfOk result (λ lists. (length runners.now ≤ vec_capacity lists.ended) × (length runners.now ≤ vec_capacity lists.left)) }
@@ -218,6 +219,7 @@ impl<A: Side> Lists<A> {
         ensures at { IfOk result (λ ended. All (HasEnded N.opened) ended.items) }
         ensures back_at { IfErr result (λ fault. All (HasEnded N.opened) (ends_back fault)) }
         ensures back { IfErr result (λ fault. came_back fault ≡ vec_len runners) }
+        ensures memory { IfErr result (λ fault. lacks_memory fault ≡ false) }
     {
         let Lists {
             streams,
@@ -270,6 +272,7 @@ pub fn run_over<
     ensures at { IfOk result (λ ended. All (HasEnded N.opened) ended.items) }
     ensures back_at { IfErr result (λ fault. All (HasEnded N.opened) (ends_back fault)) }
     ensures back { IfErr result (λ fault. came_back fault ≡ vec_len runners) }
+    ensures memory { IfErr result (λ fault. lacks_memory fault ≡ true → runners_back fault ≡ runners.items) }
 {
     let Ok(lists) = Lists::new(alloc, runners.as_slice()) else {
         return Err(RunFault::NoMemory(runners));
@@ -279,7 +282,8 @@ pub fn run_over<
 }
 
 /// Makes all steps of the runners' streams, each in a thread of its own. With Ok there is an end for each runner, in their order. With
-/// a fault as many runners and ends come back as there were runners. Each end tells what the machine had of its stream once that had ended.
+/// a fault as many runners and ends come back as there were runners, with NoMemory the runners as they were. Each end tells what the
+/// machine had of its stream once that had ended.
 pub fn run<
     A: Side + Send + Sync,
     B: Side + Send + Sync,
@@ -298,6 +302,7 @@ pub fn run<
     ensures at { IfOk result (λ ended. All (HasEnded N.opened) ended.items) }
     ensures back_at { IfErr result (λ fault. All (HasEnded N.opened) (ends_back fault)) }
     ensures back { IfErr result (λ fault. came_back fault ≡ vec_len runners) }
+    ensures memory { IfErr result (λ fault. lacks_memory fault ≡ true → runners_back fault ≡ runners.items) }
 {
     run_over::<A, B, C, N, Sure, R, G>(rt, alloc, board, runners, &[], gate)
 }

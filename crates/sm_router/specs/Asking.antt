@@ -1,6 +1,6 @@
 -- An ask: the hops that it makes at a desk, and what it is answered. Of a desk three things are known: what a caller may see of a
 -- shard, what a request may be answered, and what one that was passed on may be answered, each with the caller before and after.
-use Rattle.std.specs.Prelude.{◌≡◌, ◌≤◌, ◌⊎◌, ℕ, Option, Some, None, List, [], ◌∷◌, length}
+use Rattle.std.specs.Prelude.{◌≡◌, ◌≤◌, ◌<◌, ◌⊎◌, ℕ, Option, Some, None, List, [], ◌∷◌, length}
 use Rattle.sm_placement.specs.declared.entry.Entry.{Entry}
 use Rattle.sm_protocol.specs.Ticket.{Ticket}
 use Rattle.sm_machine.specs.declared.answer.Answer.{Answer}
@@ -62,9 +62,11 @@ LeadsTo looked arrived passed_on shard next old [] said new = IsEnd looked shard
 LeadsTo looked arrived passed_on shard next old (hop ∷ hops) said new =
     IsHop looked arrived passed_on shard next old hop × LeadsTo looked arrived passed_on shard (after_answer hop.said) hop.caller hops said new
 
--- An ask for a shard: it begins with a look, makes at most MOST_HOPS hops, and gives up after so many alone.
+-- An ask for a shard: it begins with a look and makes at most MOST_HOPS hops. TooManyHops comes after so many alone, and NotListed,
+-- which a look finds, after fewer.
 pub record HasAsked {C : Type 0} (looked : C → ℕ → Entry → C → Type 0) (arrived : C → ℕ → ℕ → Answer → C → Type 0) (passed_on : C → Ticket → Answer → C → Type 0) (shard : ℕ) (old : C) (said : Asked) (new : C) : Type 0 where
   pub hops : List (Hop C)
   pub few : length hops ≤ MOST_HOPS
   pub made : LeadsTo looked arrived passed_on shard Look old hops said new
   pub all : said ≡ asked.TooManyHops → length hops ≡ MOST_HOPS
+  pub none : said ≡ asked.NotListed → length hops < MOST_HOPS

@@ -1,8 +1,8 @@
 //! Ways to run what has begun on a board by threads, each of which has to come to the ends of all streams.
 ghost use Rattle.std.specs.Prelude.{◌≡◌, length};
 
-use super::clients::run_beside_clients;
-use super::gates::{Halting, Meeting};
+use super::clients::{run_behind_clients, run_beside_clients};
+use super::gates::{Counting, Halting, Meeting};
 use super::given::put;
 use super::links::{Loses, LosesEverySecond};
 use sm_executor::{
@@ -27,6 +27,8 @@ pub(crate) enum Course<'a> {
     Loses { first: bool, tries: u64 },
     /// Beside two clients, of which each asks for a shard of its own.
     BesideClients,
+    /// The same, and no stream steps before both have been answered. A thread of the run may be refused.
+    BehindClients(&'a HostRuntime),
 }
 
 /// The ends of a run that has to come to the ends of all streams.
@@ -66,13 +68,9 @@ fn joined<A: Side>(
     ended
 }
 
-/// Asserts that the gate was called so often before steps, and as often after them.
-fn assert_calls<A: Side, B: Side, C: Side, N: Naming>(
-    rt: &impl Abort,
-    gate: &Halting<'_, A, B, C, N>,
-    calls: u64,
-) {
-    let (before, after) = gate.calls();
+/// Asserts that a gate was called so often before steps, and as often after them.
+fn assert_calls(rt: &impl Abort, called: (u64, u64), calls: u64) {
+    let (before, after) = called;
     assert_eq!(rt; before, calls);
     assert_eq!(rt; after, calls);
 }
@@ -99,13 +97,17 @@ fn run_halted<
     match ran {
         Ok(ended) => {
             assert!(rt; number > 1);
-            assert_calls(rt, &gate, recorded);
+            assert_calls(rt, gate.calls(), recorded);
             ended
         }
         Err(RunFault::Halted { runners, ended }) => {
             assert!(rt; !runners.is_empty());
             assert!(rt; recorded >= number);
-            assert_calls(rt, &gate, recorded.saturating_add(runners.len() as u64));
+            assert_calls(
+                rt,
+                gate.calls(),
+                recorded.saturating_add(runners.len() as u64),
+            );
             board.resume(rt);
             joined(rt, ended, run_through(rt, alloc, board, runners, &Open))
         }
@@ -113,7 +115,8 @@ fn run_halted<
     }
 }
 
-/// The one stream loses its first call, and has then one try too few: the run ends by this, and goes on with one more.
+/// The one stream loses its first call, and has then one try too few: the run ends by this, and goes on with one more. Its gate is
+/// called round four recorded steps, and round the one that is Spent.
 fn run_spent<
     A: Side + Send + Sync,
     B: Side + Send + Sync,
@@ -128,9 +131,11 @@ fn run_spent<
         };
         assert_eq!(rt; board.step_over(rt, runner, &mut link), Step::Lost);
     }
-    match run(rt, alloc, board, runners, &Open) {
+    let gate = Counting::new();
+    match run(rt, alloc, board, runners, &gate) {
         Err(RunFault::Spent { mut runners, ended }) => {
             assert_eq!(rt; runners.len(), 1);
+            assert_calls(rt, gate.calls(), 5);
             for runner in runners.iter_mut() {
                 assert!(rt; board.hold(rt).refill(runner, 1).is_ok());
                 assert_eq!(rt; board.step(rt, runner), Step::Halted);
@@ -142,7 +147,8 @@ fn run_spent<
     }
 }
 
-/// Runs over a link for each stream that loses every second try. Each stream makes four calls, and tries so often.
+/// Runs over a link for each stream that loses every second try. Each stream makes four calls, and tries so often. The gate is called
+/// once round each recorded step, also of those that are lost.
 fn run_losing<
     A: Side + Send + Sync,
     B: Side + Send + Sync,
@@ -165,10 +171,13 @@ fn run_losing<
         };
         put(rt, &mut links, Mutex::new(link));
     }
-    let ended = match run_over(rt, alloc, board, runners, links.as_slice(), &Open) {
+    let gate = Counting::new();
+    let ended = match run_over(rt, alloc, board, runners, links.as_slice(), &gate) {
         Ok(ended) => ended,
         Err(_) => panic!(rt; "a run over links does not come to the ends of its streams"),
     };
+    let recorded = board.hold(rt).machine().log().len() as u64;
+    assert_calls(rt, gate.calls(), recorded);
     for link in &links {
         assert_eq!(rt; link.lock(rt).lost().saturating_add(4), tries);
     }
@@ -201,6 +210,9 @@ pub(crate) fn go<
         Course::Spent => run_spent(rt, alloc, board, runners),
         Course::Loses { first, tries } => run_losing(rt, alloc, board, runners, first, tries),
         Course::BesideClients => return run_beside_clients(rt, alloc, board, runners),
+        Course::BehindClients(host) => {
+            return run_behind_clients(rt, alloc, board, runners, host);
+        }
     };
     (ended, Vec::new(alloc))
 }

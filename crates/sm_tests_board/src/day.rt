@@ -154,8 +154,35 @@ fn step_to_ends<A: Side, B: Side, C: Side, N: Naming, R: Wait + Abort>(
     }
 }
 
+/// Asserts that a board whose streams have made their ends is not closed without one of its callers, nor without one of the ends. All come
+/// back.
+fn assert_differs<A: Side, B: Side, C: Side, N: Naming>(
+    rt: &impl Abort,
+    alloc: Global,
+    board: Board<A, B, C, N>,
+    ended: Vec<Ended<A>>,
+    mut callers: Vec<Caller<B, C, N>>,
+) -> (Board<A, B, C, N>, Vec<Ended<A>>, Vec<Caller<B, C, N>>)
+    requires { (A.all ≡ A.parts) × (B.all ≡ B.parts) × (C.all ≡ C.parts) }
+{
+    let Some(caller) = callers.pop() else {
+        panic!(rt; "a board has no caller");
+    };
+    let closed = board.close(ended, callers);
+    let fault = CloseFault::BookDiffers;
+    let (board, mut ended, mut callers) = assert_not_closed(rt, alloc, closed, fault, &[]);
+    put(rt, &mut callers, caller);
+    let Some(end) = ended.pop() else {
+        panic!(rt; "an end is lost");
+    };
+    let closed = board.close(ended, callers);
+    let (board, mut ended, callers) = assert_not_closed(rt, alloc, closed, fault, &[]);
+    put(rt, &mut ended, end);
+    (board, ended, callers)
+}
+
 /// A day: two plans run side by side to their ends, and the board is closed. It is not closed before their streams have made their
-/// ends, which it names, nor without one of its callers.
+/// ends, which it names, nor without one of its callers or ends.
 fn day<A: Side, B: Side, C: Side, N: Naming, R: Wait + Abort>(
     rt: &R,
     alloc: Global,
@@ -181,7 +208,7 @@ fn day<A: Side, B: Side, C: Side, N: Naming, R: Wait + Abort>(
     begin(rt, alloc, &board, &mut runners, second);
     step_each(rt, &board, runners.as_mut_slice(), Step::Moved);
     let closed = board.close(Vec::new(alloc), callers);
-    let (board, none, mut callers) = assert_not_closed(
+    let (board, none, callers) = assert_not_closed(
         rt,
         alloc,
         closed,
@@ -191,18 +218,7 @@ fn day<A: Side, B: Side, C: Side, N: Naming, R: Wait + Abort>(
     none.destroy_empty();
     step_to_ends(rt, &board, runners.as_mut_slice());
     let ended = ends(rt, alloc, &board, runners);
-    let Some(kept) = callers.pop() else {
-        panic!(rt; "a board has no caller");
-    };
-    let closed = board.close(ended, callers);
-    let (board, ended, mut callers) = assert_not_closed(
-        rt,
-        alloc,
-        closed,
-        CloseFault::BookDiffers,
-        &[],
-    );
-    put(rt, &mut callers, kept);
+    let (board, ended, callers) = assert_differs(rt, alloc, board, ended, callers);
     match board.close(ended, callers) {
         Ok(machine) => {
             assert_eq!(rt; machine.log().len(), 12);

@@ -1,4 +1,4 @@
-//! Gates of runs: one at which streams meet before their first steps, and one that halts the board and counts its calls.
+//! Gates of runs: at which streams meet, or wait for clients, before their first steps, and which count their calls, or halt the board.
 use sm_executor::{Board, Gate, Naming, Side};
 use sm_reservation::StreamId;
 use std::sync::Wait;
@@ -6,7 +6,7 @@ use std::sync::atomic::{AtomicU64, Ordering};
 use std::thread::sleep;
 use std::time::Duration;
 
-/// How many turns a stream waits for the others at most.
+/// How many turns a stream waits for others at most.
 const MOST_TURNS: u32 = 10_000;
 
 /// How long a turn is in microseconds, so that the others come in time on a busy machine too.
@@ -53,6 +53,87 @@ impl<'c> Gate for Meeting<'c> {
     }
 
     fn after<R: Wait>(&self, _rt: &R, _stream: StreamId, _at: usize) {}
+}
+
+/// Where streams wait before their first steps until the board's log has so many events, which are of others then.
+#[derive(Drop)]
+pub(crate) struct Behind<'b, A: Side, B: Side, C: Side, N: Naming> {
+    board: &'b Board<A, B, C, N>,
+    clock: &'b HostRuntime,
+    events: usize,
+    gave_up: AtomicU64,
+}
+
+impl<'b, A: Side, B: Side, C: Side, N: Naming> Behind<'b, A, B, C, N> {
+    pub fn events(
+        board: &'b Board<A, B, C, N>,
+        clock: &'b HostRuntime,
+        events: usize,
+    ) -> Behind<'b, A, B, C, N> {
+        Behind {
+            board,
+            clock,
+            events,
+            gave_up: AtomicU64::new(0),
+        }
+    }
+
+    /// How many streams have waited for all turns.
+    pub fn gave_up(&self) -> u64 {
+        self.gave_up.load(Ordering::SeqCst)
+    }
+}
+
+impl<'b, A: Side, B: Side, C: Side, N: Naming> Gate for Behind<'b, A, B, C, N> {
+    fn before<R: Wait>(&self, rt: &R, _stream: StreamId, at: usize) {
+        if at != 0 {
+            return;
+        }
+        for _ in 0..MOST_TURNS {
+            let recorded = self.board.hold(rt).machine().log().len();
+            if recorded >= self.events {
+                return;
+            }
+            sleep(self.clock, Duration::from_micros(TURN));
+        }
+        self.gave_up.fetch_add(1, Ordering::SeqCst);
+    }
+
+    fn after<R: Wait>(&self, _rt: &R, _stream: StreamId, _at: usize) {}
+}
+
+/// Counts how often it was called before steps and after them.
+#[derive(Drop)]
+pub(crate) struct Counting {
+    before: AtomicU64,
+    after: AtomicU64,
+}
+
+impl Counting {
+    pub fn new() -> Counting {
+        Counting {
+            before: AtomicU64::new(0),
+            after: AtomicU64::new(0),
+        }
+    }
+
+    /// How often it was called before steps, and how often after them.
+    pub fn calls(&self) -> (u64, u64) {
+        (
+            self.before.load(Ordering::SeqCst),
+            self.after.load(Ordering::SeqCst),
+        )
+    }
+}
+
+impl Gate for Counting {
+    fn before<R: Wait>(&self, _rt: &R, _stream: StreamId, _at: usize) {
+        self.before.fetch_add(1, Ordering::SeqCst);
+    }
+
+    fn after<R: Wait>(&self, _rt: &R, _stream: StreamId, _at: usize) {
+        self.after.fetch_add(1, Ordering::SeqCst);
+    }
 }
 
 /// Halts a board behind the step of this number, counted from one. It counts how often it was called before steps and after them.

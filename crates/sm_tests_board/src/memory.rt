@@ -74,14 +74,15 @@ fn give_up<A: Side, B: Side, C: Side, N: Naming>(
     end(rt, alloc, machine, tokens_of(rt, tokens, runners), plans)
 }
 
-/// Asserts that the runners of both streams are there, and that neither stream has stepped.
-fn assert_none_stepped<A: Side, B: Side, C: Side, N: Naming, R: Wait + Abort>(
+/// Asserts that the runners of both streams are there, that neither stream has stepped, and that the log has so many other events.
+pub(crate) fn assert_none_stepped<A: Side, B: Side, C: Side, N: Naming, R: Wait + Abort>(
     rt: &R,
     board: &Board<A, B, C, N>,
     runners: &[Runner<A>],
+    events: usize,
 ) {
     let guard = board.hold(rt);
-    assert!(rt; guard.machine().log().is_empty());
+    assert_eq!(rt; guard.machine().log().len(), events);
     assert_eq!(rt; runners.len(), 2);
     for stream in 0..2u32 {
         assert!(rt; (stream as usize) < runners.len());
@@ -137,7 +138,7 @@ fn run_or_not<
         }
         Err(_) => panic!(rt; "a run is halted that nobody halts"),
     };
-    assert_none_stepped(rt, &board, runners.as_slice());
+    assert_none_stepped(rt, &board, runners.as_slice(), 0);
     give_up(rt, alloc, board, runners, tokens, 1)
 }
 

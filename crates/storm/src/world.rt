@@ -30,6 +30,7 @@ pub(crate) struct World {
 }
 
 impl World {
+    /// All three, for the plan of `SHAPE`.
     pub fn new(alloc: Global) -> Result<World, Fault> {
         let config = config_of(alloc, &SHAPE)?;
         let before = placement_before(alloc, &config, &SHAPE)?;

@@ -5,10 +5,10 @@ use Rattle.sm_protocol.specs.Steps.{Answered}
 use Rattle.sm_machine.specs.State.{state_of}
 use Rattle.sm_machine.specs.Played.{played_of}
 use Rattle.sm_executor.specs.Counting.{IsBooked, Counts}
-use Rattle.sm_executor.specs.Views.{RunnerModel, state_in}
+use Rattle.sm_executor.specs.Views.{RunnerModel, state_in, recorded_more}
 use Rattle.sm_executor.proofs.Effects.{Made, made_over, plans_made}
 use Rattle.sm_executor.proofs.Ranges.{in_range, known_shard}
-use Rattle.sm_executor.proofs.Keeps.{stepped, more_of, more_plans}
+use Rattle.sm_executor.proofs.Keeps.{stepped, more_plans}
 use Rattle.sm_executor.proofs.held.Held.step_over.Goals as goal
 
 pub overflow_sub-made : goal.overflow_sub-made
@@ -49,7 +49,7 @@ invariant_of-self g c =
     let a = ap length c.log-recorded.ensures in
     let b = ap length c.log.ensures in
     let t = c.add.ensures.total in
-    let e : c.add.new.self.total ≡ c.self.inside.steps.total + more_of w v = t ∙ (λ j. c.self.inside.steps.total + (b j - a j)) in
+    let e : c.add.new.self.total ≡ c.self.inside.steps.total + recorded_more w v = t ∙ (λ j. c.self.inside.steps.total + (b j - a j)) in
     (c.store_added.ensures, subst (λ n. IsBooked g.N.Naming.opened v n c.self.inside.executed.total c.self.inside.refused.total) (sym e) s.counted, i.2, i.3, i.4, i.5, i.6, i.7, i.8, i.9, i.10, i.11, c.step_over-step.ensures.setup ∙ i.12, subst (λ (l : List Start). c.self.inside.runners ≤ 64 * length l) (sym (plans_made (progress_of w id).done w v _ made)) i.13, more_plans g.N.Naming.opened w v (plans_made (progress_of w id).done w v _ made) i.14)
 
 pub returns-clause-counts : goal.returns-clause-counts
@@ -65,7 +65,7 @@ returns-clause-counts g c =
     let a = ap length c.log-recorded.ensures in
     let b = ap length c.log.ensures in
     let same : c.runner.inside.share.amount ≡ c.args.runner.now.steps = ap (λ (x : RunnerModel). x.steps) c.runner.view_is in
-    let e : c.add.new.share.amount ≡ c.args.runner.now.steps + more_of w v = c.add.ensures.amount ∙ (λ j. same j + (b j - a j)) in
+    let e : c.add.new.share.amount ≡ c.args.runner.now.steps + recorded_more w v = c.add.ensures.amount ∙ (λ j. same j + (b j - a j)) in
     let f : (progress_of w id).done ≡ (progress_of (state_in c.args.self.now) c.args.runner.now.stream).done = (λ j. (progress_of (state_in (c.self.view_is j)) (c.runner.view_is j).stream).done) in
     subst (λ x. Counts x (played_of c.step_over-step.result) c.args.runner.now.steps c.add.new.share.amount) f
     (subst (Counts (progress_of w id).done (played_of c.step_over-step.result) c.args.runner.now.steps) (sym e) (s.counts c.args.runner.now.steps))

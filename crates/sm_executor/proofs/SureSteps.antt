@@ -10,21 +10,20 @@ use Rattle.sm_protocol.specs.Steps.{Outcome, Answered}
 use Rattle.sm_protocol.specs.Happens.{happens}
 use Rattle.sm_machine.specs.Losses.{event_over, makes_try}
 use Rattle.sm_executor.specs.Stepping.{HasStepped, HasMadeStep}
+use Rattle.sm_executor.specs.Views.{RunnerModel}
 
 -- its step is the stream's next step
-pub made_surely : {L : Type 0} {old new : L} {opened : State} {id : StreamId} {answer : Played}
-    → HasStepped (λ (old : L) (id : StreamId) (number : ℕ) (passage : Passage) (new : L). passage ≡ Through) old new opened id answer → HasMadeStep opened id answer
-made_surely {L} {old} {new} {opened} {id} {answer} s = record {
+pub made_surely : {L : Type 0} {old new : L} {opened : State} {before after : RunnerModel} {answer : Played}
+    → HasStepped (λ (old : L) (id : StreamId) (number : ℕ) (passage : Passage) (new : L). passage ≡ Through) old new opened before after answer → HasMadeStep opened before after answer
+made_surely {L} {old} {new} {opened} {before} {after} {answer} s = record {
   now = s.now;
-  setup = s.setup;
-  reached = s.reached;
-  goes_on = s.goes_on;
-  event = subst (λ p. (happens s.now (event_over id p)).0 ≡ Answered answer) through (ap (λ (r : Outcome × State). r.0) s.over.event);
+  step = s.step;
+  event = subst (λ p. (happens s.now (event_over before.stream p)).0 ≡ Answered answer) through (ap (λ (r : Outcome × State). r.0) s.over.event);
 }
   where
-    by_try : (b : Bool) → makes_try s.now id ≡ b → s.over.passage ≡ Through
+    by_try : (b : Bool) → makes_try s.now before.stream ≡ b → s.over.passage ≡ Through
     by_try true e = s.over.tried e
     by_try false e = (s.over.untried e).1
 
     through : s.over.passage ≡ Through
-    through = by_try (makes_try s.now id) refl
+    through = by_try (makes_try s.now before.stream) refl
