@@ -1,7 +1,7 @@
 -- Lists over the numbers from 0 on, one number further.
-use Rattle.std.proofs.Common.{◌≡◌, ◌<◌, ◌+◌, ◌∙◌, ℕ, suc, Bool, true, false, List, [], ◌∷◌, ◌++◌, length, take, get_or, replicate, sym, ap, refl, arith, map, filter, append_assoc}
+use Rattle.std.proofs.Common.{◌≡◌, ◌+◌, ◌∙◌, ℕ, suc, Bool, true, false, List, [], ◌∷◌, ◌++◌, replicate, sym, ap, refl, arith, map, filter, append_assoc}
 use Rattle.std.specs.List.{range_with_len, flat_map}
-use Rattle.std.proofs.lemmas.List.{map-id, append-nil, map-append, take_more, length-replicate, get_or-replicate}
+use Rattle.std.proofs.lemmas.List.{map-id, append-nil, map-append, length-replicate, get_or-replicate}
 use Rattle.std.proofs.lemmas.List.Concat.{flat_map-append}
 use Rattle.std.proofs.lemmas.List.Elements.{filter-append}
 use Rattle.std.proofs.lemmas.List.FromFn.{map-range_with_len_more, fill_by_all}
@@ -34,10 +34,6 @@ behind_more before g t n e =
 pub behind_same : {A : Type 0} (before : List A) (g : ℕ → A) (t : ℕ → Bool) (n : ℕ) → t n ≡ false →
     before ++ map g (filter t (range_with_len 0 n)) ≡ before ++ map g (filter t (range_with_len 0 (n + 1)))
 behind_same before g t n e = ap (λ xs. before ++ map g xs) (sym (passed_same t n e))
-
--- lists put end to end: one more
-pub joined_more : {X A : Type 0} (f : X → List A) (xs : List X) (i : ℕ) (d : X) → i < length xs → flat_map f (take (i + 1) xs) ≡ flat_map f (take i xs) ++ f (get_or xs i d)
-joined_more f xs i d l = ap (flat_map f) (take_more xs i d l) ∙ flat_map-append f (take i xs) (get_or xs i d ∷ []) ∙ ap (λ ys. flat_map f (take i xs) ++ ys) (append-nil (f (get_or xs i d)))
 
 -- a list that is made from a function of the place, after a push
 pub pushed_more : {A : Type 0} (f : ℕ → A) (xs ys : List A) (n : ℕ) (y : A) → ys ≡ xs ++ y ∷ [] → y ≡ f n → xs ≡ map f (range_with_len 0 n) → ys ≡ map f (range_with_len 0 (n + 1))
@@ -72,8 +68,3 @@ passed_push xs ys t n e passes is = e ∙ ap (λ zs. zs ++ n ∷ []) is ∙ sym 
 -- a number that doesn't pass leaves those that pass as they are
 pub passed_kept : (xs : List ℕ) (t : ℕ → Bool) (n : ℕ) → t n ≡ false → xs ≡ filter t (range_with_len 0 n) → xs ≡ filter t (range_with_len 0 (n + 1))
 passed_kept xs t n fails is = is ∙ sym (passed_same t n fails)
-
--- lists put end to end, after one more of a list of numbers
-pub joined_push : {X A : Type 0} (f : X → List A) (numbers : List X) (i : ℕ) (k : X) (xs ys : List A) → i < length numbers → k ≡ get_or numbers i k → ys ≡ xs ++ f k → xs ≡ flat_map f (take i numbers) →
-    ys ≡ flat_map f (take (i + 1) numbers)
-joined_push f numbers i k xs ys l read e is = e ∙ ap (λ zs. zs ++ f k) is ∙ ap (λ z. flat_map f (take i numbers) ++ f z) read ∙ sym (joined_more f numbers i k l)

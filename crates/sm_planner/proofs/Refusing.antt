@@ -2,10 +2,9 @@
 use Rattle.std.proofs.Common.{◌≡◌, ◌<◌, ◌≤◌, ◌∙◌, ℕ, ltb, Option, Some, None, List, length, sym, ap, refl}
 use Rattle.std.specs.Prelude.{option_map}
 use Rattle.std.specs.Option.{option_or}
-use Rattle.std.proofs.lemmas.Bool.{lt-ltb, le-ltb, or_left, or_right, or_from}
-use Rattle.sm_plan_code.specs.declared.limits.TheConstants.{MOST_SIGNALS}
+use Rattle.std.proofs.lemmas.Bool.{lt-ltb, le-ltb, or_right, or_from}
+use Rattle.sm_plan_code.specs.declared.limits.TheConstants.{MOST_MOVES, MOST_SIGNALS}
 use Rattle.sm_planner.specs.declared.moving.Move.{Move}
-use Rattle.sm_planner.specs.declared.moving.TheConstants.{MOST_MOVES}
 use Rattle.sm_planner.specs.declared.moving.NoPlan.{NoPlan}
 use Rattle.sm_planner.specs.declared.moving.NoPlan.TheVariants.{NoRoom, Spread, TooMany}
 use Rattle.sm_planner.specs.Basis.{Basis, move_at}
@@ -27,14 +26,8 @@ module _ (b : Basis) (moves : List Move) (placed : List ℕ) (open_one : first_r
       ap (λ (x : Option NoPlan). option_or x (option_or (no_room moves placed) (option_or (no_spread b moves) (too_many b moves placed)))) open_one
       ∙ ap (λ (x : Option ℕ). option_or (option_map (λ i. NoRoom (move_at moves i).to) x) (option_or (no_spread b moves) (too_many b moves placed))) e
 
-  pub refused_spread : (shard : ℕ) → first_left moves placed ≡ None → first_too_close b moves ≡ Some shard → refusal b moves placed ≡ Some (Spread shard)
-  refused_spread shard e s = refused_later e ∙ ap (λ (x : Option ℕ). option_or (option_map Spread x) (too_many b moves placed)) s
-
   refused_last : first_left moves placed ≡ None → first_too_close b moves ≡ None → refusal b moves placed ≡ too_many b moves placed
   refused_last e s = refused_later e ∙ ap (λ (x : Option ℕ). option_or (option_map Spread x) (too_many b moves placed)) s
-
-  pub refused_moves : first_left moves placed ≡ None → first_too_close b moves ≡ None → MOST_MOVES < length moves → refusal b moves placed ≡ Some TooMany
-  refused_moves e s l = refused_last e s ∙ rw (or_left (ltb MOST_MOVES (length moves)) (ltb MOST_SIGNALS (length (signals_of b (in_placed_order moves placed)))) (lt-ltb MOST_MOVES (length moves) l)) refl
 
   -- where no move is left and no spread is broken, more signals than a plan has are too many
   pub refused_signals : first_left moves placed ≡ None → first_too_close b moves ≡ None → MOST_SIGNALS < length (signals_of b (in_placed_order moves placed)) → refusal b moves placed ≡ Some TooMany

@@ -18,10 +18,11 @@ abbrev pub is_next : Setup → List Move → List Bool → List ℕ → ℕ → 
 is_next setup moves marks room i =
     is_left marks i && nat_le (move_load setup (move_at moves i)) (slice_index room (move_at moves i).to)
 
--- the room once a move takes its load where it goes, and then frees it where it comes from
+-- the room of each server, where one has so much more
 abbrev pub room_freed : List ℕ → ℕ → ℕ → List ℕ
 room_freed room v amount = slice_set room v (slice_index room v + amount)
 
+-- the room of each server once a move takes its load where it goes, and then frees it where it comes from
 abbrev pub room_after : Setup → Move → List ℕ → List ℕ
 room_after setup m room =
     room_freed (slice_set room m.to (slice_index room m.to - move_load setup m)) m.from (move_load setup m)

@@ -15,6 +15,7 @@ pub record Basis : Type 0 where
   pub place : Place
   pub pool : Hold
 
+-- what a plan is made from, of these parts
 abbrev pub basis : Setup → Place → Hold → Basis
 basis setup place pool = record { setup = setup; place = place; pool = pool }
 
@@ -22,6 +23,7 @@ basis setup place pool = record { setup = setup; place = place; pool = pool }
 abbrev pub basis_of : PlacementModel → PoolModel → Basis
 basis_of placement pool = basis placement.setup (place_of placement) (pool_hold pool)
 
+-- what stands where the list has no such move
 abbrev pub no_move : Move
 no_move = record { shard = 0; from = 0; to = 0 }
 

@@ -8,9 +8,8 @@ use Rattle.sm_reservation.specs.Rights.{Rights}
 use Rattle.sm_reservation.specs.Key.{IsOnce}
 use Rattle.sm_reservation.specs.InOrder.{in_order}
 use Rattle.sm_plan_code.specs.declared.instruction.Instr.{Instr}
-use Rattle.sm_plan_code.specs.declared.limits.TheConstants.{MOST_SIGNALS}
+use Rattle.sm_plan_code.specs.declared.limits.TheConstants.{MOST_MOVES, MOST_SIGNALS}
 use Rattle.sm_planner.specs.declared.moving.Move.{Move}
-use Rattle.sm_planner.specs.declared.moving.TheConstants.{MOST_MOVES}
 use Rattle.sm_planner.specs.declared.writing.Draft.{Draft}
 use Rattle.sm_planner.specs.Basis.{Basis, IsMoveOf, move_at}
 use Rattle.sm_planner.specs.Placing.{IsPlacing}
@@ -27,6 +26,7 @@ drafted_code p order signals k = waits_of signals k ++ (instructions p (move_at 
 abbrev pub paid_by : Basis → List Move → List ℕ → ℕ → ℕ
 paid_by b order numbers v = sum_by (λ k. if (move_at order k).to == v then from_pool b order k else 0) numbers
 
+-- the same as the room that a stream declares of the server
 abbrev pub room_by : Basis → List Move → List ℕ → ℕ → Room
 room_by b order numbers v = record { server = v; amount = paid_by b order numbers v }
 

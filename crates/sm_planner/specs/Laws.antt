@@ -70,6 +70,7 @@ pub record AnswersOnce (b : Basis) (moves : List Move) : Type 0 where
   pub one_reason : (why other : NoPlan) → IsRefused b moves why → IsRefused b moves other → why ≡ other
   pub not_both : (plan : PlanModel) (why : NoPlan) → IsPlanOf b moves plan → IsRefused b moves why → ⊥
 
+-- so the rule answers all moves, at each placement and pool
 abbrev pub RuleAnswersOnce : Type 0
 RuleAnswersOnce = (b : Basis) (moves : List Move) → AnswersOnce b moves
 
@@ -78,6 +79,7 @@ pub record IsDrained (b : Basis) (v : ℕ) (plan : PlanModel) : Type 0 where
   pub empty : (s : ℕ) → s < (sizes_of b.setup).shards → (end_of (sizes_of b.setup) plan b.place).cells s v ≡ cell.Absent
   pub usable : (leads : ℕ → Lead) (numbers : ℕ → ℕ) → IsSetup b.setup → IsScene (sizes_of b.setup) b.place leads numbers b.pool → IsUsable b plan
 
+-- so it is of the rule's plan of a drain's moves
 abbrev pub DrainsEmpty : Type 0
 DrainsEmpty = (b : Basis) (v : ℕ) (moves : List Move) (plan : PlanModel) →
     v < (sizes_of b.setup).servers → AreLeaving b v (sizes_of b.setup).shards moves → IsPlanOf b moves plan → IsDrained b v plan

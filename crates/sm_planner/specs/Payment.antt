@@ -41,6 +41,7 @@ stream_of k = k % MOST_STREAMS
 abbrev pub Handed : Type 0
 Handed = code.Handed
 
+-- the k-th placed move pays with room of the j-th
 abbrev pub handed : ℕ → ℕ → Handed
 handed k j = record { payer = k; source = j }
 

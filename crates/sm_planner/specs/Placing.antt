@@ -7,10 +7,11 @@ use Rattle.sm_placement.specs.Setup.{Setup}
 use Rattle.sm_planner.specs.declared.moving.Move.{Move}
 use Rattle.sm_planner.specs.Basis.{Basis, move_at, move_load}
 
--- how much room of a server a move takes, and how much it frees there
+-- how much room of a server a move takes
 abbrev pub taken_by : Setup → ℕ → Move → ℕ
 taken_by setup v m = if m.to == v then move_load setup m else 0
 
+-- how much room of a server a move frees
 abbrev pub freed_by : Setup → ℕ → Move → ℕ
 freed_by setup v m = if m.from == v then move_load setup m else 0
 
@@ -21,6 +22,7 @@ room_left b moves placed v =
     + sum_by (λ i. freed_by b.setup v (move_at moves i)) placed
     - sum_by (λ i. taken_by b.setup v (move_at moves i)) placed
 
+-- the move at this place of the list is among those that are placed
 abbrev pub is_placed : List ℕ → ℕ → Bool
 is_placed placed i = list_any (λ j. j == i) placed
 

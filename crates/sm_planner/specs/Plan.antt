@@ -29,7 +29,7 @@ abbrev pub publication : Option ℕ → ℕ → List Instr
 publication None s = []
 publication (Some v) s = Publish s ∷ []
 
--- a primary is handed over
+-- a primary is handed over, in the five steps of a handover (SM 2021); the fourth is left out where no server is listed
 abbrev pub handing_over : Option ℕ → Move → List Instr
 handing_over listed m =
     PrepareAdd m.shard m.to m.from ∷ PrepareDrop m.shard m.from m.to ∷ Add m.shard m.to role.Primary
@@ -39,9 +39,11 @@ handing_over listed m =
 abbrev pub copying : Move → List Instr
 copying m = Add m.shard m.to role.Secondary ∷ Drop m.shard m.from ∷ []
 
+-- how a move is made: a primary is handed over, and a secondary added and dropped
 abbrev pub instructions : Place → Move → List Instr
 instructions p m = if is_primary (left_cell p m) then handing_over (p.listed m.shard) m else copying m
 
+-- what the signal of this number hands on
 abbrev pub signal_at : List Handed → ℕ → Handed
 signal_at signals q = slice_index_or signals q (handed 0 0)
 
@@ -49,9 +51,11 @@ signal_at signals q = slice_index_or signals q (handed 0 0)
 abbrev pub waits_of : List Handed → ℕ → List Instr
 waits_of signals k = map Wait (filter (λ q. (signal_at signals q).payer == k) (range_with_len 0 (length signals)))
 
+-- the k-th placed move posts the signals that carry room which it freed
 abbrev pub posts_of : List Handed → ℕ → List Instr
 posts_of signals k = map Signal (filter (λ q. (signal_at signals q).source == k) (range_with_len 0 (length signals)))
 
+-- the code of the k-th placed move: its waits, its instructions, its posts
 abbrev pub move_code : Basis → List Move → ℕ → List Instr
 move_code b order k =
     waits_of (signals_of b order) k ++ (instructions b.place (move_at order k) ++ posts_of (signals_of b order) k)
@@ -62,12 +66,13 @@ move_code b order k =
 abbrev pub moves_of : List Move → ℕ → List ℕ
 moves_of order i = filter (λ k. stream_of k == i) (range_with_len 0 (length order))
 
--- the rights to cells, and the crown, that a move needs
+-- the rights to cells that a move needs: to the new cell, and for a secondary to the old one too
 abbrev pub cells_needed : Place → Move → List CellRight
 cells_needed p m =
     record { shard = m.shard; server = m.to; state = Absent }
     ∷ (if is_primary (left_cell p m) then [] else record { shard = m.shard; server = m.from; state = Secondary } ∷ [])
 
+-- a primary's move needs the crown of its shard, and a secondary's none
 abbrev pub crowns_of : Place → Move → List Crown
 crowns_of p m =
     if is_primary (left_cell p m) then record { shard = m.shard; lead = At m.from; listed = p.listed m.shard } ∷ [] else []
@@ -76,6 +81,7 @@ crowns_of p m =
 abbrev pub room_paid : Basis → List Move → ℕ → ℕ → ℕ
 room_paid b order i v = sum_by (λ k. if (move_at order k).to == v then from_pool b order k else 0) (moves_of order i)
 
+-- what the moves of a stream pay from the pool's room, server by server
 abbrev pub rooms_of : Basis → List Move → ℕ → List Room
 rooms_of b order i = map (λ v. record { server = v; amount = room_paid b order i v }) (range_with_len 0 (sizes_of b.setup).servers)
 
@@ -90,6 +96,7 @@ holds_of b order i = in_order (record {
 
 -- ---- streams and signals
 
+-- the code of a stream: that of each of its moves, in the order in which they are placed
 abbrev pub stream_code : Basis → List Move → ℕ → List Instr
 stream_code b order i = flat_map (move_code b order) (moves_of order i)
 
@@ -115,6 +122,7 @@ handed_parcel b order h = record {
   spare = [];
 }
 
+-- the plan of moves that are placed in this order; its budget is the sum of its streams' budgets
 abbrev pub planned : Basis → List Move → PlanModel
 planned b order = record {
   budget = sum_by (λ s. s.budget) (streams_of b order);

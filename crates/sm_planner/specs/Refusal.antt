@@ -5,9 +5,8 @@ use Rattle.sm_server.specs.Cell.{is_absent}
 use Rattle.sm_placement.specs.Opening.{first_below}
 use Rattle.sm_placement.specs.Place.{Place}
 use Rattle.sm_plan_code.specs.Plan.{PlanModel}
-use Rattle.sm_plan_code.specs.declared.limits.TheConstants.{MOST_SIGNALS}
+use Rattle.sm_plan_code.specs.declared.limits.TheConstants.{MOST_MOVES, MOST_SIGNALS}
 use Rattle.sm_planner.specs.declared.moving.Move.{Move}
-use Rattle.sm_planner.specs.declared.moving.TheConstants.{MOST_MOVES}
 use Rattle.sm_planner.specs.declared.moving.NoPlan.{NoPlan}
 use Rattle.sm_planner.specs.declared.moving.NoPlan.TheVariants.{NoMemory, NotThere, Held, ServerDown, NoRoom, Spread, TooMany}
 use Rattle.sm_planner.specs.Basis.{Basis, move_at, left_cell, is_replica}
@@ -38,13 +37,15 @@ abbrev pub first_held : Basis → List Move → Option NoPlan
 first_held b moves =
     option_map (λ i. Held (move_at moves i).shard (move_at moves i).to) (first_below (length moves) (is_closed b moves))
 
--- the first move with a server that is down: the one that it leaves, or else the one to which it goes
+-- of a move with a server that is down: the server that it leaves, if that is down, or else the one to which it goes
 abbrev pub end_down : Place → Move → ℕ
 end_down p m = if p.down m.from then m.from else m.to
 
+-- the first move with a server that is down
 abbrev pub first_down : Place → List Move → Option NoPlan
 first_down p moves = option_map (λ m. ServerDown (end_down p m)) (find (λ m. p.down m.from || p.down m.to) moves)
 
+-- why a move alone is refused: the first reason that any of the moves gives, and the first move that gives it
 abbrev pub first_refused : Basis → List Move → Option NoPlan
 first_refused b moves = option_or (first_not_there b.place moves) (option_or (first_held b moves) (first_down b.place moves))
 
@@ -54,6 +55,7 @@ first_refused b moves = option_or (first_not_there b.place moves) (option_or (fi
 abbrev pub no_room : List Move → List ℕ → Option NoPlan
 no_room moves placed = option_map (λ i. NoRoom (move_at moves i).to) (first_left moves placed)
 
+-- the lowest shard that is moved and whose replicas would then lie in too few regions
 abbrev pub no_spread : Basis → List Move → Option NoPlan
 no_spread b moves = option_map Spread (first_too_close b moves)
 

@@ -27,9 +27,11 @@ pub record IsGiven (b : Basis) (order : List Move) (h : Handed) : Type 0 where
   pub source : h.source < h.payer
   pub amount : 0 < from_move b order h.payer h.source
 
+-- what stands where there is no such placed move
 abbrev pub no_stretch : Placed
 no_stretch = record { wanted = no_move; load = 0; pool = 0; takes_from = 0; frees_from = 0 }
 
+-- the k-th placed move, with its stretches
 abbrev pub placed_at : List Placed → ℕ → Placed
 placed_at placed k = slice_index_or placed k no_stretch
 
@@ -37,5 +39,6 @@ placed_at placed k = slice_index_or placed k no_stretch
 abbrev pub is_paid_by : List Placed → ℕ → ℕ → Bool
 is_paid_by placed k j = nat_lt 0 (paid_from (placed_at placed k) (placed_at placed j)) && not (stream_of k == stream_of j)
 
+-- the signals that hand room on to the k-th placed move
 abbrev pub handed_to : List Placed → ℕ → List Handed
 handed_to placed k = map (handed k) (filter (is_paid_by placed k) (range_with_len 0 k))

@@ -3,9 +3,6 @@ use sm_server::{ServerId, ShardId};
 use std::alloc::AllocError;
 use thiserror::Error;
 
-/// How many moves are planned at once at most.
-pub const MOST_MOVES: usize = 4_096;
-
 /// A replica of a shard that is to go from one server to another.
 #[derive(Clone, Copy, Debug, PartialEq, Eq)]
 pub struct Move {

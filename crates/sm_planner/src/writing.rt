@@ -5,6 +5,7 @@ ghost use Rattle.sm_placement.specs.Layout.{place_of};
 ghost use Rattle.sm_reservation.specs.InOrder.{in_order};
 ghost use Rattle.sm_reservation.specs.Key.{IsOnce};
 ghost use Rattle.sm_reservation.specs.Lists.{rights_of};
+ghost use Rattle.sm_plan_code.specs.declared.limits.TheConstants.{MOST_MOVES};
 ghost use Rattle.sm_plan_code.specs.Instr.{is_call};
 ghost use Rattle.sm_plan_code.specs.Parts.{parts_of};
 ghost use Rattle.sm_plan_code.specs.Plan.{IsPlan};
@@ -16,10 +17,10 @@ ghost use Rattle.sm_planner.specs.Draft.{IsDraft, ArePayments, drafted_code, roo
 
 use crate::held::is_primary;
 use crate::marks::Amounts;
-use crate::moving::{MOST_MOVES, Move, NoPlan};
+use crate::moving::{Move, NoPlan};
 use crate::payment::{Handed, Placed};
 use sm_placement::{Lead, Placement};
-use sm_plan_code::{Instr, MOST_SIGNALS, MOST_STREAMS, Parts, Plan, Stream, is_call};
+use sm_plan_code::{Instr, MOST_MOVES, MOST_SIGNALS, MOST_STREAMS, Parts, Plan, Stream, is_call};
 use sm_reservation::{CellRight, Crown, Lists, Parcel, ParcelFault, PlainCell, Pool, Room};
 use sm_server::{Role, ServerId};
 use std::alloc::{AllocError, Global};

@@ -2,6 +2,7 @@
 use super::handover::TO_THE_END;
 use super::plans::{S_TO_A, S_TO_B, T_TO_A, empty_plan, handover_plan};
 use super::run::{Run, open_in};
+use super::same::is_same;
 use super::worlds::{World, assert_loads};
 use sm_machine::{BeginFault, Step};
 use sm_reservation::Key;
@@ -74,18 +75,26 @@ fn two_plans_run_side_by_side(rt: HostRuntime) {
     assert_loads(&rt, &run.close(), &[6, 4, 4]);
 }
 
-/// Shard s goes to b and back, by two plans; the first one's token answers Done while the second one runs.
+/// Shard s has gone to b, and is about to come back by a second plan.
+fn gone_to_b(rt: &impl Abort, alloc: Global) -> Run {
+    let mut run = open_in(rt, alloc, World::Base, 12);
+    run.must_begin(rt, alloc, handover_plan(alloc, World::Base, S_TO_B));
+    run.assert_steps(rt, 0, &TO_THE_END);
+    run.must_begin(rt, alloc, handover_plan(alloc, World::Base, S_TO_A));
+    run
+}
+
+/// The token of an ended stream answers Done while another plan runs, and the machine stays as one at which it was not used.
 #[test]
 fn an_ended_token_changes_nothing(rt: HostRuntime) {
     let alloc = rt.alloc();
-    let mut run = open_in(&rt, alloc, World::Base, 12);
-    run.must_begin(&rt, alloc, handover_plan(alloc, World::Base, S_TO_B));
-    run.assert_steps(&rt, 0, &TO_THE_END);
-    run.must_begin(&rt, alloc, handover_plan(alloc, World::Base, S_TO_A));
+    let mut run = gone_to_b(&rt, alloc);
+    let other = gone_to_b(&rt, alloc);
     run.assert_steps(&rt, 0, &[Step::Done]);
+    assert!(&rt; is_same(&run.machine, &other.machine));
     run.assert_recorded(&rt, 6);
-    assert_eq!(rt; run.course(&rt, 0), (5, 4, true));
     run.assert_steps(&rt, 1, &TO_THE_END);
+    let _placement = other.close();
     assert_loads(&rt, &run.close(), &[4, 6, 4]);
 }
 

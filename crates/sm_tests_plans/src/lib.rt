@@ -18,6 +18,8 @@ mod plans;
 #[cfg(test)]
 mod run;
 #[cfg(test)]
+mod same;
+#[cfg(test)]
 mod two_machines;
 #[cfg(test)]
 mod worlds;

@@ -1,6 +1,7 @@
 //! What one machine gave out, at another one.
 use super::plans::{S_TO_B, handover_plan};
 use super::run::{Outcome, Run, open_in, outcome_of, ticket_of};
+use super::same::is_same;
 use super::worlds::{World, server_id};
 use sm_machine::{Answer, Permit, Step, Ticket};
 use std::alloc::Global;
@@ -12,17 +13,20 @@ fn a_token_of_another_machine_is_unknown(rt: HostRuntime) {
     let alloc = rt.alloc();
     let mut run = open_in(&rt, alloc, World::Base, 8);
     let mut other = open_in(&rt, alloc, World::Base, 8);
+    let untouched = open_in(&rt, alloc, World::Base, 8);
     run.must_begin(&rt, alloc, handover_plan(alloc, World::Base, S_TO_B));
     assert_unknown(&rt, &mut run, &mut other);
+    assert!(&rt; is_same(&other.machine, &untouched.machine));
+    assert!(&rt; !is_same(&other.machine, &run.machine));
     let _placement = run.close();
     let _placement = other.close();
+    let _placement = untouched.close();
 }
 
-/// The first token of a machine is unknown to another one, which stays as it is.
+/// The first token of a machine is unknown to another one.
 fn assert_unknown(rt: &impl Abort, run: &mut Run, other: &mut Run) {
     assert!(rt; !run.tokens.is_empty());
     assert_eq!(rt; other.machine.step(&mut run.tokens[0]), Step::Unknown);
-    other.assert_recorded(rt, 0);
 }
 
 /// A machine that has made two steps of the handover, and passed a request on; with its ticket.

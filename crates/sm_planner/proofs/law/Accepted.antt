@@ -14,12 +14,11 @@ use Rattle.sm_verifier.specs.Admission.{AreUp}
 use Rattle.sm_planner.specs.declared.moving.Move.{Move}
 use Rattle.sm_planner.specs.Basis.{Basis, move_at, left_cell}
 use Rattle.sm_planner.specs.Payment.{Handed, from_move, stream_of, signals_of}
-use Rattle.sm_planner.specs.Plan.{signal_at, handed_parcel, publication, instructions, waits_of, posts_of, move_code, moves_of, stream, planned}
+use Rattle.sm_planner.specs.Plan.{signal_at, handed_parcel, publication, handing_over, instructions, waits_of, posts_of, move_code, moves_of, stream, planned}
 use Rattle.sm_planner.proofs.law.Gathered.{stands_below, all_both, all_picked, all_of_parts}
 use Rattle.sm_planner.proofs.law.Codes.{width}
 use Rattle.sm_planner.proofs.law.Signals.{IsHandedOn, are_handed_on}
 use Rattle.sm_planner.proofs.law.Sorting.{stood}
-use Rattle.sm_planner.proofs.law.Uses.{handing}
 use Rattle.sm_planner.proofs.law.Streams.{AreAllApart}
 use Rattle.sm_planner.proofs.law.Opened.{IsOpened}
 use Rattle.sm_planner.proofs.law.Declared.{ordered}
@@ -40,7 +39,7 @@ module _ (b : Basis) (order : List Move) (apart : AreAllApart b order) (opened :
   abbrev Up : Instr → Type 0
   Up i = IsUp b.place.down i
 
-  up_handing : (m : Move) → IsOpened b m → (o : Option ℕ) → AllByRecursion Up (handing o m)
+  up_handing : (m : Move) → IsOpened b m → (o : Option ℕ) → AllByRecursion Up (handing_over o m)
   up_handing m is o = (
     all_up b.place.down (PrepareAdd m.shard m.to m.from) is.to_up is.from_up,
     (

@@ -17,12 +17,11 @@ use Rattle.sm_plan_code.specs.Plan.{IsKnownCellRight, IsKnownCrown, IsKnownParce
 use Rattle.sm_planner.specs.declared.moving.Move.{Move}
 use Rattle.sm_planner.specs.Basis.{Basis, IsMoveOf, move_at, left_cell}
 use Rattle.sm_planner.specs.Payment.{Handed, stream_of, signals_of}
-use Rattle.sm_planner.specs.Plan.{signal_at, handed_parcel, instructions, waits_of, posts_of, move_code, moves_of, cells_needed, crowns_of, rooms_of, room_paid, holds_of, stream, planned}
+use Rattle.sm_planner.specs.Plan.{signal_at, handed_parcel, handing_over, instructions, waits_of, posts_of, move_code, moves_of, cells_needed, crowns_of, rooms_of, room_paid, holds_of, stream, planned}
 use Rattle.sm_planner.proofs.law.Gathered.{gathered, StandsIn, stands_below, all_both, all_picked, all_of_parts}
 use Rattle.sm_planner.proofs.law.Codes.{width}
 use Rattle.sm_planner.proofs.law.Signals.{IsHandedOn, are_handed_on}
 use Rattle.sm_planner.proofs.law.Sorting.{from_sorted, gathered_from, stands_mapped, stood}
-use Rattle.sm_planner.proofs.law.Uses.{handing}
 use Rattle.sm_planner.proofs.law.Declared.{needed_cases, crown_case}
 
 -- what holds of each element that stands in a list holds throughout the list
@@ -45,7 +44,7 @@ module _ (b : Basis) (order : List Move) (known : (k : ℕ) → k < length order
   abbrev IsFit : Instr → Type 0
   IsFit i = IsKnownInstr c.shards c.servers i
 
-  fits_handing : (m : Move) → IsMoveOf b.setup m → (o : Option ℕ) → AllByRecursion IsFit (handing o m)
+  fits_handing : (m : Move) → IsMoveOf b.setup m → (o : Option ℕ) → AllByRecursion IsFit (handing_over o m)
   fits_handing m is None = ((is.shard, is.to, is.from), ((is.shard, is.from, is.to), ((is.shard, is.to, tt), ((is.shard, is.from, tt), tt))))
   fits_handing m is (Some u) = ((is.shard, is.to, is.from), ((is.shard, is.from, is.to), ((is.shard, is.to, tt), ((is.shard, tt, tt), ((is.shard, is.from, tt), tt)))))
 

@@ -19,9 +19,6 @@ module _ (c : Sizes) (signals : ℕ → Rights) where
   leads_on [] ys h m g first rest = subst (λ (k : Hold). Leads k ys g) first rest
   leads_on (x ∷ xs) ys h m g first rest = (first.0, first.1, leads_on xs ys first.0 m g first.2 rest)
 
-  pub leads_one : (i : Instr) (h g : Hold) → after c signals i h ≡ Ok g → Leads h (i ∷ []) g
-  leads_one i h g made = (g, made, refl)
-
   hold_later : (i : Instr) (is : List Instr) (h g : Hold) → after c signals i h ≡ Ok g → (p : ℕ) → hold_at c signals (i ∷ is) h (suc p) ≡ hold_at c signals is g p
   hold_later i is h g made zero = ap (hold_or h) made
   hold_later i is h g made (suc p) = ap (hold_past c signals (slice_get is p)) (hold_later i is h g made p)

@@ -19,9 +19,8 @@ use Rattle.sm_plan_code.specs.declared.instruction.Instr.TheVariants.{PrepareAdd
 use Rattle.sm_plan_code.specs.After.{listed_of, is_not_listed, after}
 use Rattle.sm_planner.specs.declared.moving.Move.{Move}
 use Rattle.sm_planner.specs.Basis.{left_cell}
-use Rattle.sm_planner.specs.Plan.{publication, instructions}
+use Rattle.sm_planner.specs.Plan.{publication, handing_over, instructions}
 use Rattle.sm_planner.proofs.law.Leading.{Leads}
-use Rattle.sm_planner.proofs.law.Uses.{handing}
 
 -- ---- one instruction
 
@@ -154,7 +153,7 @@ module _ (c : Sizes) (signals : ℕ → Rights) (p : Place) (m : Move) (h : Hold
         },
       )
 
-  move_primary : is_primary (left_cell p m) ≡ true → (o : Option ℕ) → p.listed s ≡ o → Done (handing o m)
+  move_primary : is_primary (left_cell p m) ≡ true → (o : Option ℕ) → p.listed s ≡ o → Done (handing_over o m)
   move_primary primary o is =
       let crown : h.crowns s ≡ Some (At m.from, o) = ready.crown primary ∙ ap (λ l. Some (At m.from, l)) is in
       let one : Hold = pay_room (with_cell (with_crown h s (Ready m.from m.to) o) s m.to None) m.to w in

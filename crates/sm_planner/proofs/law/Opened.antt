@@ -12,8 +12,7 @@ use Rattle.sm_server.specs.declared.call.Cell.TheVariants as cell
 use Rattle.sm_server.specs.Cell.{is_absent, is_primary, is_secondary}
 use Rattle.sm_placement.specs.Place.{Place}
 use Rattle.sm_placement.proofs.Searches.{first_none, none_mapped}
-use Rattle.sm_plan_code.specs.declared.limits.TheConstants.{MOST_SIGNALS}
-use Rattle.sm_planner.specs.declared.moving.TheConstants.{MOST_MOVES}
+use Rattle.sm_plan_code.specs.declared.limits.TheConstants.{MOST_MOVES, MOST_SIGNALS}
 use Rattle.sm_planner.specs.declared.moving.Move.{Move}
 use Rattle.sm_planner.specs.declared.moving.NoPlan.TheVariants.{NotThere, Held, ServerDown, NoRoom, TooMany}
 use Rattle.sm_placement.specs.Opening.{first_below}

@@ -1,11 +1,10 @@
 -- The signals of a plan: each goes from a move to one that is placed later, which waits for it.
-use Rattle.std.proofs.Common.{◌≡◌, ℕ, ◌<◌, true, Option, Some, None, List, [], ◌∷◌, ◌++◌, length, refl, arith, inl, inr}
+use Rattle.std.proofs.Common.{◌≡◌, ℕ, ◌<◌, true, Option, Some, None, List, ◌++◌, length, refl, arith, inl, inr}
 use Rattle.std.specs.Prelude.{◌==◌, filter, map}
 use Rattle.std.specs.List.{range_with_len, AllByRecursion}
 use Rattle.std.proofs.lemmas.Bool.{cases_Bool, eq-eqb, eqb-true}
 use Rattle.std.proofs.lemmas.List.Elements.{All-from_recursion, All-get_or}
 use Rattle.sm_server.specs.Cell.{is_primary}
-use Rattle.sm_placement.specs.Place.{Place}
 use Rattle.sm_plan_code.specs.declared.instruction.Instr.{Instr}
 use Rattle.sm_plan_code.specs.declared.instruction.Instr.TheVariants.{Signal, Wait}
 use Rattle.sm_planner.specs.declared.moving.Move.{Move}
@@ -34,15 +33,6 @@ are_handed_on b order = all_of_parts (IsHandedOn b order) (λ k. map (handed k) 
 -- so is the signal at each number
 pub is_handed_on : (b : Basis) (order : List Move) (q : ℕ) → q < length (signals_of b order) → IsHandedOn b order (signal_at (signals_of b order) q)
 is_handed_on b order q l = All-get_or (IsHandedOn b order) (signals_of b order) q (handed 0 0) l (All-from_recursion (IsHandedOn b order) (signals_of b order) (are_handed_on b order))
-
--- ---- what holds of each instruction of a move but its waits
-
-pub all_instructions : (P : Instr → Type 0) (p : Place) (m : Move) → ((i : Instr) → StandsIn i (instructions p m) → P i) → AllByRecursion P (instructions p m)
-all_instructions P p m each = go (instructions p m) each
-  where
-    go : (is : List Instr) → ((i : Instr) → StandsIn i is → P i) → AllByRecursion P is
-    go [] each = tt
-    go (i ∷ is) each = (each i (inl refl), go is (λ j s. each j (inr s)))
 
 -- the signal is posted by the move whose room it is
 pub posted_by_source : (b : Basis) (order : List Move) (q : ℕ) → q < length (signals_of b order) → StandsIn (Signal q) (move_code b order (signal_at (signals_of b order) q).source)

@@ -27,8 +27,7 @@ use Rattle.sm_planner.specs.Spread.{region_count, spread_of, has_after, is_too_c
 use Rattle.sm_planner.specs.Drain.{may_leave, may_take, first_stuck, drain_refusal, room_beside, leaving, AreLeaving}
 use Rattle.sm_planner.specs.Refusal.{is_open, is_closed, first_not_there, first_held, first_down, end_down, first_refused, in_placed_order, no_room, no_spread, too_many, refusal, IsPlanOf}
 use Rattle.sm_plan_code.specs.Plan.{PlanModel}
-use Rattle.sm_plan_code.specs.declared.limits.TheConstants.{MOST_SIGNALS}
-use Rattle.sm_planner.specs.declared.moving.TheConstants.{MOST_MOVES}
+use Rattle.sm_plan_code.specs.declared.limits.TheConstants.{MOST_MOVES, MOST_SIGNALS}
 use Rattle.sm_planner.specs.Payment.{Handed, from_move, stream_of, signals_of}
 use Rattle.sm_planner.specs.Plan.{signal_at, planned}
 use Rattle.sm_planner.proofs.law.Signals.{is_handed_on}

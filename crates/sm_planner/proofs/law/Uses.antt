@@ -11,8 +11,7 @@ use Rattle.sm_server.specs.Cell.{is_primary}
 use Rattle.sm_placement.specs.Sums.{sum_below}
 use Rattle.sm_placement.proofs.Sums.{same_sum, sum_apart, sum_one}
 use Rattle.sm_plan_code.specs.declared.instruction.Instr.{Instr}
-use Rattle.sm_plan_code.specs.declared.instruction.Instr.TheVariants.{PrepareAdd, PrepareDrop, Add, Drop, Signal, Wait}
-use Rattle.sm_server.specs.declared.call.Role.TheVariants as role
+use Rattle.sm_plan_code.specs.declared.instruction.Instr.TheVariants.{Signal, Wait}
 use Rattle.sm_plan_code.specs.Plan.{StreamModel, KnowsSignal, KnowsSignals}
 use Rattle.sm_verifier.specs.Stream.{no_stream}
 use Rattle.sm_verifier.specs.Order.{code_at}
@@ -21,7 +20,7 @@ use Rattle.sm_verifier.proofs.SumLemmas.{sum_by-below}
 use Rattle.sm_planner.specs.declared.moving.Move.{Move}
 use Rattle.sm_planner.specs.Basis.{Basis, move_at, left_cell}
 use Rattle.sm_planner.specs.Payment.{Handed, stream_of, signals_of}
-use Rattle.sm_planner.specs.Plan.{signal_at, handed_parcel, publication, instructions, waits_of, posts_of, move_code, moves_of, stream, planned}
+use Rattle.sm_planner.specs.Plan.{signal_at, handed_parcel, handing_over, instructions, waits_of, posts_of, move_code, moves_of, stream, planned}
 use Rattle.sm_planner.proofs.Ranges.{range_suc}
 use Rattle.sm_planner.proofs.law.Gathered.{gathered, gathered_own, gathered_other, stands_below, all_both, all_picked, all_of_parts}
 use Rattle.sm_planner.proofs.law.Sorting.{hit}
@@ -110,15 +109,11 @@ module _ (b : Basis) (order : List Move) (t : Instr → Bool) where
       let is : List Instr = instructions b.place (move_at order k) in
       count-append t (waits_of signals k) (is ++ posts_of signals k) ∙ ap (λ n. count_by t (waits_of signals k) + n) (count-append t is (posts_of signals k))
 
--- the instructions that hand a primary over
-abbrev pub handing : Option ℕ → Move → List Instr
-handing listed m = PrepareAdd m.shard m.to m.from ∷ PrepareDrop m.shard m.from m.to ∷ Add m.shard m.to role.Primary ∷ (publication listed m.shard ++ Drop m.shard m.from ∷ [])
-
-handing_posts : (q : ℕ) (listed : Option ℕ) (m : Move) → count_by (is_post q) (handing listed m) ≡ 0
+handing_posts : (q : ℕ) (listed : Option ℕ) (m : Move) → count_by (is_post q) (handing_over listed m) ≡ 0
 handing_posts q None m = refl
 handing_posts q (Some v) m = refl
 
-handing_waits : (q : ℕ) (listed : Option ℕ) (m : Move) → count_by (is_wait q) (handing listed m) ≡ 0
+handing_waits : (q : ℕ) (listed : Option ℕ) (m : Move) → count_by (is_wait q) (handing_over listed m) ≡ 0
 handing_waits q None m = refl
 handing_waits q (Some v) m = refl
 
@@ -220,7 +215,7 @@ module _ (b : Basis) (order : List Move) where
   abbrev Knows : Instr → Type 0
   Knows i = KnowsSignal (length (planned b order).signals) i
 
-  knows_handing : (listed : Option ℕ) (m : Move) → AllByRecursion Knows (handing listed m)
+  knows_handing : (listed : Option ℕ) (m : Move) → AllByRecursion Knows (handing_over listed m)
   knows_handing None m = (tt, (tt, (tt, (tt, tt))))
   knows_handing (Some v) m = (tt, (tt, (tt, (tt, (tt, tt)))))
 
