@@ -1,5 +1,5 @@
 -- What a JSON object without faults says.
-use Rattle.std.proofs.Common.{◌≡◌, ◌++◌, ◌<◌, ◌≤◌, ℕ, Bool, true, false, cond, List, [], ◌∷◌, length, min, Option, Some, None, is_some, option_and_then, option_map, unwrap_or, nat_le, refl, sym, subst, append_assoc, append-nil, arith, true≢false, All, IfSome}
+use Rattle.std.proofs.Common.{◌≡◌, ◌++◌, ◌<◌, ◌≤◌, ℕ, Bool, true, false, cond, List, [], ◌∷◌, length, get_or, min, Option, Some, None, is_some, option_and_then, option_map, unwrap_or, nat_le, refl, sym, subst, append_assoc, append-nil, arith, true≢false, All, IfSome}
 use Rattle.std.specs.List.{flat_map}
 use Rattle.std.specs.Str.{bytes_eq}
 use Rattle.std.proofs.lemmas.List.Elements.{All-nil, All-cons}
@@ -51,10 +51,18 @@ walked_front faults Q from before (d ∷ ds) h q =
     (walked_front faults Q from (before ++ d ∷ []) ds (nil_right (faults before d) (walked faults (before ++ d ∷ []) ds) h)
     (from before d (nil_left (faults before d) (walked faults (before ++ d ∷ []) ds) h) q))
 
+-- what holds of each value holds of all entries of a list
+pub all_entries : {T : Type 0} (P : T → Type 0) → ((x : T) → P x) → (xs : List T) → All P xs
+all_entries P h xs = λ i d below. h (get_or xs i d)
+
 -- ---- numbers
 
 pub up_to-le : (limit n : ℕ) → up_to limit n ≤ limit
 up_to-le limit n = grind (arith, nat_tests)
+
+-- a number within its limit is read as itself
+pub up_to_same : (limit n : ℕ) → n ≤ limit → up_to limit n ≡ n
+up_to_same limit n h = grind (arith, nat_tests)
 
 -- a number below a count is below it as it is read, which is 0 above the limit
 pub up_to_below : (limit n k : ℕ) → n < k → up_to limit n < k

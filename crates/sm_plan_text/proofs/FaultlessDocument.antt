@@ -2,6 +2,7 @@
 use Rattle.std.proofs.Common.{◌≡◌, ◌++◌, ◌+◌, ◌-◌, ◌<◌, ◌≤◌, ℕ, Bool, true, false, cond, ◌&&◌, ◌||◌, not, List, [], ◌∷◌, length, map, Option, Some, None, is_some, option_and_then, nat_le, refl, ap, sym, ◌∙◌, arith, le-leb, length-append, add-zero, All}
 use Rattle.std.specs.List.{flat_map, enumerate_from, filter_map, cons_option, list_any, list_all}
 use Rattle.std.specs.Str.{bytes_eq}
+use Rattle.std.proofs.lemmas.Bool.{and_from}
 use Rattle.std.proofs.lemmas.List.{map_push}
 use Rattle.std.proofs.lemmas.List.Concat.{flat_map-append}
 use Rattle.std.proofs.lemmas.List.Elements.{All-nil, All-cons, All-append, All-map, All-weaker, All-head, All-tail}
@@ -30,12 +31,8 @@ use Rattle.sm_plan_text.specs.Events as event_word_of
 use Rattle.sm_plan_text.specs.Events.{IsKnownEvent, event_word, event_table, event_faults, event_of, event_by, event_in}
 use Rattle.sm_plan_text.specs.Moves.{IsKnownMove, move_table, move_faults, move_in}
 use Rattle.sm_plan_text.proofs.ServerLemmas.{names_in_push}
-use Rattle.sm_plan_text.proofs.Faultless.{nil_left, nil_right, walked_entries, walked_front, up_to_below, number_in-le, number_is_read, text_passes, id_known, entries_within}
+use Rattle.sm_plan_text.proofs.Faultless.{nil_left, nil_right, all_entries, walked_entries, walked_front, up_to_below, number_in-le, number_is_read, text_passes, id_known, entries_within}
 use Rattle.sm_placement.proofs.SetupLemmas.{and_first, and_second}
-
-and_both : (a b : Bool) → a ≡ true → b ≡ true → (a && b) ≡ true
-and_both true b h k = k
-and_both false b h k = h
 
 not_true : (b : Bool) → not b ≡ true → b ≡ false
 not_true true h = sym h
@@ -83,7 +80,7 @@ server_good before d h =
     let is = new_name_is (names_in before) d (nil_left (row_faults d (one members.Name (new_name (names_in before)))) _ rows) in
     let rest = nil_right (row_faults d (one members.Name (new_name (names_in before)))) _ rows in
     let region : is_name (text_in members.Region d) ≡ true = text_passes members.Region is_name d (nil_left (row_faults d (one members.Region name)) _ rest) in
-    record { named = and_both (is_name (text_in members.Name d)) (is_name (text_in members.Region d)) is.0 region; new = is.1 }
+    record { named = and_from (is_name (text_in members.Name d)) (is_name (text_in members.Region d)) is.0 region; new = is.1 }
 
 -- servers without faults have names and regions that are good
 pub servers_named : (ds : List Data) → walked server_faults [] ds ≡ [] → list_all is_well_named_server (map server_in ds) ≡ true
@@ -92,10 +89,6 @@ servers_named ds h = all_rows is_well_named_server server_in ds (walked_entries 
 -- and no two of them have one name
 pub servers_distinct : (ds : List Data) → walked server_faults [] ds ≡ [] → IsDistinct ds
 servers_distinct ds h = distinct_all server_faults (λ before d none. (server_good before d none).new) ds h
-
-all_entries : (P : Data → Type 0) → ((d : Data) → P d) → (ds : List Data) → All P ds
-all_entries P h [] = All-nil P
-all_entries P h (d ∷ ds) = All-cons P d ds (h d) (all_entries P h ds)
 
 room_good : (d : Data) → is_good_server (server_in d) ≡ true
 room_good d =
@@ -187,10 +180,10 @@ numbers_good d cap =
     let load = number_in-le members.Load 4294967295 d in
     let want = number_in-le members.Want 1024 d in
     let spread = number_in-le members.Spread 1024 d in
-    and_both (nat_le (number_in members.Load 4294967295 d) 4294967295) _ (le-leb (number_in members.Load 4294967295 d) 4294967295 load)
-    (and_both (nat_le (number_in members.Want 1024 d) 1024) _ (le-leb (number_in members.Want 1024 d) 1024 want)
-    (and_both (nat_le (number_in members.Cap (cap_limit d) d) 1024) _ (le-leb (number_in members.Cap (cap_limit d) d) 1024 (omega arith))
-    (and_both (nat_le (number_in members.Spread 1024 d) 1024) _ (le-leb (number_in members.Spread 1024 d) 1024 spread)
+    and_from (nat_le (number_in members.Load 4294967295 d) 4294967295) _ (le-leb (number_in members.Load 4294967295 d) 4294967295 load)
+    (and_from (nat_le (number_in members.Want 1024 d) 1024) _ (le-leb (number_in members.Want 1024 d) 1024 want)
+    (and_from (nat_le (number_in members.Cap (cap_limit d) d) 1024) _ (le-leb (number_in members.Cap (cap_limit d) d) 1024 (omega arith))
+    (and_from (nat_le (number_in members.Spread 1024 d) 1024) _ (le-leb (number_in members.Spread 1024 d) 1024 spread)
     (le-leb (number_in members.Cap (cap_limit d) d) (number_in members.Want 1024 d) cap))))
 
 -- their numbers are within their limits, and each cap is within its want
@@ -241,10 +234,11 @@ word_known servers d word.Change h = tt
 word_known servers d word.PrepareAdd h = id_known members.Other servers d (nil_left (row_faults d (one members.Other (known servers))) _ h)
 word_known servers d word.PrepareDrop h = id_known members.Other servers d (nil_left (row_faults d (one members.Other (known servers))) _ h)
 
-abbrev IsWithin : ℕ → ℕ → NamedCall → Type 0
-IsWithin shards servers call = (call.0 < shards) × (call.1 < servers) × IsKnownCall servers call.2
+-- each id of a call is below its count
+abbrev pub IsKnownNamedCall : ℕ → ℕ → NamedCall → Type 0
+IsKnownNamedCall shards servers call = (call.0 < shards) × (call.1 < servers) × IsKnownCall servers call.2
 
-call_by_word : (shards servers : List (List ℕ)) (d : Data) (o : Option CallWord) → by_word members.Calls members.Call (call_table shards servers) d o ≡ [] → IsWithin (length shards) (length servers) (call_by shards servers d o)
+call_by_word : (shards servers : List (List ℕ)) (d : Data) (o : Option CallWord) → by_word members.Calls members.Call (call_table shards servers) d o ≡ [] → IsKnownNamedCall (length shards) (length servers) (call_by shards servers d o)
 call_by_word shards servers d None h =
     let some : (Shape members.Call ∷ []) ≡ [] = nil_right (cond (is_some (as_object d)) [] (Shape members.Calls ∷ [])) (Shape members.Call ∷ []) h in
     absurd (cc)
@@ -257,10 +251,10 @@ call_by_word shards servers d (Some w) h =
     )
 
 -- calls without faults are of known shards and servers, and name known servers
-pub calls_within : (shards servers : List (List ℕ)) (ds : List Data) → walked (call_faults shards servers) [] ds ≡ [] → All (λ call. (call.0 < length shards) × (call.1 < length servers) × IsKnownCall (length servers) call.2) (map (call_in shards servers) ds)
+pub calls_within : (shards servers : List (List ℕ)) (ds : List Data) → walked (call_faults shards servers) [] ds ≡ [] → All (IsKnownNamedCall (length shards) (length servers)) (map (call_in shards servers) ds)
 calls_within shards servers ds h =
-    All-map (IsWithin (length shards) (length servers)) (call_in shards servers) ds
-    (walked_entries (call_faults shards servers) (λ d. IsWithin (length shards) (length servers) (call_in shards servers d)) (λ before d none. call_by_word shards servers d (option_and_then call_word (text_found members.Call d)) none) [] ds h)
+    All-map (IsKnownNamedCall (length shards) (length servers)) (call_in shards servers) ds
+    (walked_entries (call_faults shards servers) (λ d. IsKnownNamedCall (length shards) (length servers) (call_in shards servers d)) (λ before d none. call_by_word shards servers d (option_and_then call_word (text_found members.Call d)) none) [] ds h)
 
 -- ---- moves
 

@@ -1,11 +1,11 @@
 -- A parcel without faults: no key stands twice, and each id and each number is within its limit.
-use Rattle.std.proofs.Common.{◌≡◌, ◌++◌, ◌<◌, ◌≤◌, ℕ, Bool, true, false, cond, ◌&&◌, ◌||◌, List, [], ◌∷◌, length, map, filter, get_or, Option, Some, None, is_some, option_and_then, option_map, unwrap_or, nat_lt, refl, ap, sym, ◌∙◌, subst, arith, true≢false, All}
+use Rattle.std.proofs.Common.{◌≡◌, ◌++◌, ◌+◌, ◌<◌, ◌≤◌, ℕ, Bool, true, false, cond, ◌&&◌, List, [], ◌∷◌, length, map, filter, get_or, Option, Some, None, is_some, option_and_then, option_map, unwrap_or, nat_lt, refl, ap, sym, ◌∙◌, subst, arith, true≢false, All}
 use Rattle.std.specs.List.{flat_map, list_any, count_by}
 use Rattle.std.specs.Str.{bytes_eq}
-use Rattle.std.proofs.lemmas.Bool.Decides.{nat_tests}
+use Rattle.std.proofs.lemmas.Bool.{or_parts}
 use Rattle.std.proofs.lemmas.Cmp.{nat_list_eq_equiv}
 use Rattle.std.proofs.lemmas.List.{length-map}
-use Rattle.std.proofs.lemmas.List.Elements.{All-nil, All-cons, All-map, All-head, All-tail, All-weaker, All-filter}
+use Rattle.std.proofs.lemmas.List.Elements.{All-map, All-head, All-tail, All-weaker, All-filter}
 use Rattle.std.proofs.lemmas.List.Quantifiers.{position-Some}
 use Rattle.std.proofs.lemmas.List.Sorted.{All-permutation, length_permutation}
 use Rattle.std.proofs.lemmas.List.Sums.{length-filter, count_by-le-length}
@@ -22,6 +22,7 @@ use Rattle.sm_reservation.specs.Key.{key_of_cell, key_of_crown, key_of_room, key
 use Rattle.sm_reservation.specs.InOrder.{sorted}
 use Rattle.sm_reservation.proofs.Places.{same_trans, same_is}
 use Rattle.sm_reservation.proofs.SortedRows.{sorted_permutes}
+use Rattle.sm_plan_code.specs.declared.limits.TheConstants.{MOST_AMOUNT, MOST_NUMBER}
 use Rattle.sm_plan_code.specs.Plan.{IsSmallParcel, IsKnownCellRight, IsKnownLead, IsKnownCrown, IsKnownParcel}
 use Rattle.sm_plan_text.specs.declared.fault.TextFault.{TextFault}
 use Rattle.sm_plan_text.specs.declared.fault.TextFault.TheVariants.{Shape}
@@ -30,20 +31,11 @@ use Rattle.sm_plan_text.specs.declared.member.Member.TheVariants as members
 use Rattle.sm_plan_text.specs.Parcels.{LeadWord}
 use Rattle.sm_plan_text.specs.Parcels as word
 use Rattle.sm_plan_text.specs.Members.{text_of}
-use Rattle.sm_plan_text.specs.Faults.{noted, lower_fault}
 use Rattle.sm_plan_text.specs.Values.{found, text_found, number_named, number_in, id_of, id_named, id_in, entries_in}
 use Rattle.sm_plan_text.specs.Tables.{one, maybe, known, known_or_null, list, keyed, name_fault, found_faults, row_faults, object_faults, own_faults, by_word, texts_found, is_same_key, has_double_key, double_faults, walked}
 use Rattle.sm_plan_text.specs.Parcels.{right_table, right_faults, right_in, lead_word, lead_table, crown_table, crown_faults, lead_worded, crown_by, crown_in, room_table, room_faults, room_in, spare_table, spare_faults, spare_in, parcel_table, parcel_faults, parcel_lists_in, HaveIds, parcel_in}
-use Rattle.sm_plan_text.proofs.Faultless.{none_noted, nil_left, nil_right, if_nil, walked_entries, number_in-le, id_known, id_within, optional_within}
+use Rattle.sm_plan_text.proofs.Faultless.{nil_left, nil_right, if_nil, all_entries, walked_entries, up_to_same, number_in-le, id_known, id_within, optional_within}
 use Rattle.sm_plan_text.proofs.KeyLemmas.{keyed_faults}
-
--- where nothing is answered no fault was added
-pub none_added : (best : Option TextFault) (faults : List TextFault) → noted best faults ≡ None → faults ≡ []
-none_added None faults h = none_noted faults h
-none_added (Some best) [] h = refl
-none_added (Some best) (fault ∷ faults) h =
-    let some : (lower_fault (Some best) fault ∷ faults) ≡ [] = none_noted (lower_fault (Some best) fault ∷ faults) h in
-    absurd (cc)
 
 -- ---- references that have one id have one text
 
@@ -85,8 +77,8 @@ reference_named names m d h =
     let it = naming m names (found m d) h in
     record { said = it.said; number = it.number; stands = it.stands; is = it.is; id = it.id }
 
-id_is : (k n : ℕ) → n < k → k ≤ 4294967296 → id_of n ≡ n
-id_is k n h few = grind (arith, nat_tests)
+id_is : (k n : ℕ) → n < k → k ≤ MOST_NUMBER + 1 → id_of n ≡ n
+id_is k n h few = up_to_same MOST_NUMBER n (omega arith)
 
 one_text : (names : List (List ℕ)) (s t : List ℕ) (n : ℕ) → number_named names s ≡ Some n → number_named names t ≡ Some n → bytes_eq s t ≡ true
 one_text names s t n a b =
@@ -95,7 +87,7 @@ one_text names s t n a b =
     let is_t : bytes_eq t name ≡ true = (position-Some (λ x. bytes_eq t x) names n [] b).1 in
     nat_list_eq_equiv.congr s name t is_s ∙ nat_list_eq_equiv.symm name t ∙ is_t
 
-same_text : (names : List (List ℕ)) (m : Member) (d e : Data) → length names ≤ 4294967296 → (a : IsNamed names m d) → (b : IsNamed names m e) → id_in names m d ≡ id_in names m e → bytes_eq a.said b.said ≡ true
+same_text : (names : List (List ℕ)) (m : Member) (d e : Data) → length names ≤ MOST_NUMBER + 1 → (a : IsNamed names m d) → (b : IsNamed names m e) → id_in names m d ≡ id_in names m e → bytes_eq a.said b.said ≡ true
 same_text names m d e few a b h =
     let a_number : id_of a.number ≡ a.number = id_is (length names) a.number (position-Some (λ x. bytes_eq a.said x) names a.number [] a.is).0 few in
     let b_number : id_of b.number ≡ b.number = id_is (length names) b.number (position-Some (λ x. bytes_eq b.said x) names b.number [] b.is).0 few in
@@ -122,14 +114,10 @@ two_keys m n d e s t u v is_s is_t is_u is_v h k =
 -- ---- a key that stands once in the text stands once among the rights
 
 module _ {T : Type 0} (key_of : T → ℕ × ℕ) (make : Data → T) (key : List Member) (P : Data → Type 0) (apart : (d e : Data) → P d → P e → key_of (make d) ≡ key_of (make e) → is_same_key (texts_found key d) (texts_found key e) ≡ true) where
-  or_none : (a b : Bool) → (a || b) ≡ false → (a ≡ false) × (b ≡ false)
-  or_none true b h = absurd (true≢false h)
-  or_none false b h = (refl, h)
-
   none_at : (k : ℕ × ℕ) (d : Data) → P d → same (key_of (make d)) k ≡ true → (ds : List Data) → All P ds → list_any (is_same_key (texts_found key d)) (map (texts_found key) ds) ≡ false → count_by (λ x. same (key_of x) k) (map make ds) ≡ 0
   none_at k d p at [] all h = refl
   none_at k d p at (e ∷ es) all h =
-      let parts = or_none (is_same_key (texts_found key d) (texts_found key e)) (list_any (is_same_key (texts_found key d)) (map (texts_found key) es)) h in
+      let parts = or_parts (is_same_key (texts_found key d) (texts_found key e)) (list_any (is_same_key (texts_found key d)) (map (texts_found key) es)) h in
       with_test (same (key_of (make e)) k) refl parts.0 (none_at k d p at es (All-tail P e es all) parts.1)
     where
       with_test : (b : Bool) → same (key_of (make e)) k ≡ b → is_same_key (texts_found key d) (texts_found key e) ≡ false → count_by (λ x. same (key_of x) k) (map make es) ≡ 0 → count_by (λ x. same (key_of x) k) (map make (e ∷ es)) ≡ 0
@@ -140,7 +128,7 @@ module _ {T : Type 0} (key_of : T → ℕ × ℕ) (make : Data → T) (key : Lis
   once_at : (k : ℕ × ℕ) (ds : List Data) → All P ds → has_double_key (map (texts_found key) ds) ≡ false → count_by (λ x. same (key_of x) k) (map make ds) ≤ 1
   once_at k [] all h = omega arith
   once_at k (d ∷ ds) all h =
-      let parts = or_none (list_any (is_same_key (texts_found key d)) (map (texts_found key) ds)) (has_double_key (map (texts_found key) ds)) h in
+      let parts = or_parts (list_any (is_same_key (texts_found key d)) (map (texts_found key) ds)) (has_double_key (map (texts_found key) ds)) h in
       with_test (same (key_of (make d)) k) refl parts.0 (once_at k ds (All-tail P d ds all) parts.1)
     where
       with_test : (b : Bool) → same (key_of (make d)) k ≡ b → list_any (is_same_key (texts_found key d)) (map (texts_found key) ds) ≡ false → count_by (λ x. same (key_of x) k) (map make ds) ≤ 1 → count_by (λ x. same (key_of x) k) (map make (d ∷ ds)) ≤ 1
@@ -267,13 +255,13 @@ faultless parent shards servers d h =
 
 -- ---- keys of rights
 
-same_reference : (names : List (List ℕ)) (m : Member) (d e : Data) → length names ≤ 4294967296 → row_faults d (one m (known names)) ≡ [] → row_faults e (one m (known names)) ≡ [] → id_in names m d ≡ id_in names m e → is_same_key (texts_found (m ∷ []) d) (texts_found (m ∷ []) e) ≡ true
+same_reference : (names : List (List ℕ)) (m : Member) (d e : Data) → length names ≤ MOST_NUMBER + 1 → row_faults d (one m (known names)) ≡ [] → row_faults e (one m (known names)) ≡ [] → id_in names m d ≡ id_in names m e → is_same_key (texts_found (m ∷ []) d) (texts_found (m ∷ []) e) ≡ true
 same_reference names m d e few a b h =
     let x = reference_named names m d a in
     let y = reference_named names m e b in
     one_key m d e x.said y.said x.stands y.stands (same_text names m d e few x y h)
 
-same_right : (shards servers : List (List ℕ)) (d e : Data) → length shards ≤ 4294967296 → length servers ≤ 4294967296 → IsRight shards servers d → IsRight shards servers e → key_of_cell (right_in shards servers d) ≡ key_of_cell (right_in shards servers e) → is_same_key (texts_found (members.Shard ∷ members.Server ∷ []) d) (texts_found (members.Shard ∷ members.Server ∷ []) e) ≡ true
+same_right : (shards servers : List (List ℕ)) (d e : Data) → length shards ≤ MOST_NUMBER + 1 → length servers ≤ MOST_NUMBER + 1 → IsRight shards servers d → IsRight shards servers e → key_of_cell (right_in shards servers d) ≡ key_of_cell (right_in shards servers e) → is_same_key (texts_found (members.Shard ∷ members.Server ∷ []) d) (texts_found (members.Shard ∷ members.Server ∷ []) e) ≡ true
 same_right shards servers d e few_shards few_servers a b h =
     let s = reference_named shards members.Shard d a.shard in
     let t = reference_named shards members.Shard e b.shard in
@@ -323,10 +311,6 @@ kept_length p xs h =
     let within = count_by-le-length p xs in
     omega (arith, kept, within, h)
 
-each_entry : (P : Data → Type 0) → ((d : Data) → P d) → (ds : List Data) → All P ds
-each_entry P h [] = All-nil P
-each_entry P h (d ∷ ds) = All-cons P d ds (h d) (each_entry P h ds)
-
 -- each id in a parcel without faults is below its count
 pub parcel_fits : (parent : Member) (shards servers : List (List ℕ)) (d : Data) → parcel_faults parent shards servers [] d ≡ [] → IsKnownParcel (length shards) (length servers) (parcel_in shards servers d)
 parcel_fits parent shards servers d h =
@@ -355,10 +339,10 @@ parcel_is_small parent shards servers d h =
       crowns = sorted_length key_of_crown (crown_in shards servers) (entries_in members.Crowns d) is.crown_list.count;
       room = kept_length (λ x. nat_lt 0 x.amount) room (sorted_length key_of_room (room_in servers) (entries_in members.Room d) is.room_list.count);
       spare = kept_length (λ x. nat_lt 0 x.amount) spare (sorted_length key_of_spare (spare_in shards) (entries_in members.Spare d) is.spare_list.count);
-      room_amounts = All-filter (λ x. nat_lt 0 x.amount) (λ x. x.amount ≤ 4294967295) room
-          (all_sorted key_of_room (λ x. x.amount ≤ 4294967295) (room_in servers) (entries_in members.Room d)
-          (each_entry (λ e. number_in members.Amount 4294967295 e ≤ 4294967295) (number_in-le members.Amount 4294967295) (entries_in members.Room d)));
-      spare_amounts = All-filter (λ x. nat_lt 0 x.amount) (λ x. x.amount ≤ 4294967295) spare
-          (all_sorted key_of_spare (λ x. x.amount ≤ 4294967295) (spare_in shards) (entries_in members.Spare d)
-          (each_entry (λ e. number_in members.Amount 4294967295 e ≤ 4294967295) (number_in-le members.Amount 4294967295) (entries_in members.Spare d)));
+      room_amounts = All-filter (λ x. nat_lt 0 x.amount) (λ x. x.amount ≤ MOST_AMOUNT) room
+          (all_sorted key_of_room (λ x. x.amount ≤ MOST_AMOUNT) (room_in servers) (entries_in members.Room d)
+          (all_entries (λ e. number_in members.Amount MOST_AMOUNT e ≤ MOST_AMOUNT) (number_in-le members.Amount MOST_AMOUNT) (entries_in members.Room d)));
+      spare_amounts = All-filter (λ x. nat_lt 0 x.amount) (λ x. x.amount ≤ MOST_AMOUNT) spare
+          (all_sorted key_of_spare (λ x. x.amount ≤ MOST_AMOUNT) (spare_in shards) (entries_in members.Spare d)
+          (all_entries (λ e. number_in members.Amount MOST_AMOUNT e ≤ MOST_AMOUNT) (number_in-le members.Amount MOST_AMOUNT) (entries_in members.Spare d)));
     }

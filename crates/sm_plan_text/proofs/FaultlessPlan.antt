@@ -63,7 +63,8 @@ index_kept_at m count (Some d) h = index_kept_of m count (as_number d) h
 signal_known : (m : Member) (count : ℕ) (d : Data) → row_faults d (one m (below count)) ≡ [] → number_below count m d < count
 signal_known m count d h = up_to_below 4294967295 (under count (unwrap_or (option_and_then whole_number_of (found m d)) 0)) count (index_kept_at m count (found m d) h)
 
-abbrev IsGoodInstr : ℕ → ℕ → ℕ → Instr → Type 0
+-- an instruction fits, and knows its signal
+abbrev pub IsGoodInstr : ℕ → ℕ → ℕ → Instr → Type 0
 IsGoodInstr shards servers signals i = IsKnownInstr shards servers i × KnowsSignal signals i
 
 module _ (shards servers : List (List ℕ)) (signals : ℕ) (d : Data) where

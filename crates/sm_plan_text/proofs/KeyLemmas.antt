@@ -2,6 +2,7 @@
 use Rattle.std.proofs.Common.{◌≡◌, ◌++◌, ◌+◌, ◌<◌, ℕ, Bool, true, false, cond, ◌&&◌, ◌||◌, List, [], ◌∷◌, length, drop, get_or, map, Option, Some, None, option_map, unwrap_or, Bor, refl, ap, sym, ◌∙◌, append_assoc, subst, true≢false}
 use Rattle.std.specs.List.{list_any}
 use Rattle.std.specs.Str.{bytes_eq}
+use Rattle.std.proofs.lemmas.Bool.{or_right}
 use Rattle.std.proofs.lemmas.Cmp.{nat_list_eq_equiv}
 use Rattle.std.specs.Cmp.Lexicographic.{pointwise}
 use Rattle.std.proofs.lemmas.List.{map_push, drop_more, length-map}
@@ -72,10 +73,6 @@ double_more (k ∷ keys) more h =
     ap (λ b. b || has_double_key (keys ++ more)) (list_any-append (is_same_key k) keys more) ∙
     or_more (list_any (is_same_key k) keys) (has_double_key keys) (list_any (is_same_key k) more) (has_double_key (keys ++ more)) h (double_more keys more)
 
-or_true : (b : Bool) → (b || true) ≡ true
-or_true true = refl
-or_true false = refl
-
 -- ---- texts that stand in a value
 
 -- keys as their Rust values compare them
@@ -107,7 +104,7 @@ module _ {K : Type 0} (texts : K → Texts) where
     held_again keys key rest h =
         ap has_double_key (sym (append_assoc (held keys) (Some (texts key) ∷ []) rest)) ∙
         double_more (held keys ++ Some (texts key) ∷ []) rest
-        (double_push (held keys) (Some (texts key)) ∙ ap (λ b. has_double_key (held keys) || b) (sym (held_any key keys) ∙ h) ∙ or_true (has_double_key (held keys)))
+        (double_push (held keys) (Some (texts key)) ∙ ap (λ b. has_double_key (held keys) || b) (sym (held_any key keys) ∙ h) ∙ or_right (has_double_key (held keys)) true refl)
 
     -- the keys that a set holds, once it has a new one
     pub held_push : (keys : List K) (key : K) (rest : List (Option Texts)) → list_any (eq key) keys ≡ false → held (insert_key eq keys key) ++ rest ≡ held keys ++ Some (texts key) ∷ rest

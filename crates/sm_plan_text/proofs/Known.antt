@@ -1,15 +1,15 @@
 -- A document without faults: its servers and shards are a configuration, and each id is below its count.
-use Rattle.std.proofs.Common.{◌≡◌, ◌++◌, ◌<◌, ◌≤◌, ℕ, Bool, true, false, cond, ◌&&◌, ◌||◌, not, List, [], length, get_or, map, Option, Some, None, option_map, unwrap_or, nat_lt, refl, ap, sym, ◌∙◌, subst, arith, All, IfSome}
+use Rattle.std.proofs.Common.{◌≡◌, ◌++◌, ◌<◌, ◌≤◌, ℕ, Bool, true, false, cond, ◌||◌, not, List, [], length, get_or, map, Option, Some, None, option_map, unwrap_or, nat_lt, refl, ap, sym, ◌∙◌, subst, arith, All, IfSome}
 use Rattle.std.specs.List.{flat_map}
 use Rattle.std.proofs.lemmas.List.{length-map}
 use Rattle.std.proofs.lemmas.List.Elements.{All-map}
+use Rattle.std.proofs.lemmas.Bool.{and_from, or_from}
 use Rattle.std.proofs.lemmas.Bool.Decides.{nat_tests}
 use Rattle.serde_json.specs.Data.{Data}
 use Rattle.sm_placement.specs.declared.config.ConfigFault.TheVariants.{TooMany, BadName, DoubleName, BadNumber}
 use Rattle.sm_placement.specs.Names.{has_double}
 use Rattle.sm_placement.specs.Setup.{Setup, is_too_large, has_good_names, has_doubled_name, has_good_numbers}
 use Rattle.sm_placement.specs.Config.{config_fault}
-use Rattle.sm_placement.specs.Rows.{IsKnownCall}
 use Rattle.sm_plan_code.specs.Plan.{IsKnownPlan}
 use Rattle.sm_plan_text.specs.declared.fault.TextFault.{TextFault}
 use Rattle.sm_plan_text.specs.declared.member.Member.TheVariants as members
@@ -18,7 +18,7 @@ use Rattle.sm_plan_text.specs.Values.{found, text_in, entries_in, list_in, names
 use Rattle.sm_plan_text.specs.Tables.{one, maybe, whole, known, object, list, known_list, row_faults, object_faults, own_faults, walked}
 use Rattle.sm_plan_text.specs.Servers.{server_faults, server_in}
 use Rattle.sm_plan_text.specs.Shards.{shard_faults, shard_in, listed_in, cells_in}
-use Rattle.sm_plan_text.specs.Calls.{NamedCall, call_faults, call_in}
+use Rattle.sm_plan_text.specs.Calls.{call_faults, call_in}
 use Rattle.sm_plan_text.specs.Parcels.{HaveIds}
 use Rattle.sm_plan_text.specs.Plans.{faults_within, plan_faults, plan_in}
 use Rattle.sm_plan_text.specs.Events.{IsKnownEvent, event_faults, event_in}
@@ -27,7 +27,7 @@ use Rattle.sm_plan_text.specs.Documents.{document_table, document_faults, server
 use Rattle.sm_plan_text.proofs.Faultless.{nil_left, nil_right, walked_entries, entries_within, optional_within, names_known, id_within, number_in-le, number_or-le}
 use Rattle.sm_plan_text.proofs.FaultlessPlan.{plan_good}
 use Rattle.sm_plan_text.proofs.ShardLemmas.{cell_count_is}
-use Rattle.sm_plan_text.proofs.FaultlessDocument.{IsDistinct, servers_named, servers_distinct, servers_good, down_within, names_of_rows, names_of_shard_rows, shards_named, shards_distinct, shards_good, cell_count_within, cells_within, calls_within, moves_within, events_within}
+use Rattle.sm_plan_text.proofs.FaultlessDocument.{IsDistinct, IsKnownNamedCall, servers_named, servers_distinct, servers_good, down_within, names_of_rows, names_of_shard_rows, shards_named, shards_distinct, shards_good, cell_count_within, cells_within, calls_within, moves_within, events_within}
 
 -- the parts of a document without faults have none
 record IsFaultless (d : Data) : Type 0 where
@@ -97,14 +97,6 @@ no_fault false true true numbers l n d k = absurd (cc)
 no_fault false false doubled numbers l n d k = absurd (cc)
 no_fault true names doubled numbers l n d k = absurd (cc)
 
-both_true : (a b : Bool) → a ≡ true → b ≡ true → (a && b) ≡ true
-both_true true b h k = k
-both_true false b h k = h
-
-both_false : (a b : Bool) → a ≡ false → b ≡ false → (a || b) ≡ false
-both_false true b h k = h
-both_false false b h k = k
-
 not_large : (a b : ℕ) → a ≤ 1024 → b ≤ 4096 → (nat_lt 1024 a || nat_lt 4096 b) ≡ false
 not_large a b h k = grind (arith, nat_tests)
 
@@ -117,11 +109,11 @@ setup_is_good d h =
     (not_large (length (map server_in (servers_in d))) (length (map shard_in (shards_in d)))
     (subst (λ n. n ≤ 1024) (sym (length-map (servers_in d) server_in)) parts.server_count)
     (subst (λ n. n ≤ 4096) (sym (length-map (shards_in d) shard_in)) parts.shard_count))
-    (both_true _ _ (servers_named (servers_in d) parts.servers) (shards_named (server_names_in d) (shards_in d) parts.shards))
-    (both_false _ _
+    (and_from _ _ (servers_named (servers_in d) parts.servers) (shards_named (server_names_in d) (shards_in d) parts.shards))
+    (or_from _ _
     (ap has_double (names_of_rows (servers_in d)) ∙ (servers_distinct (servers_in d) parts.servers).single)
     (ap has_double (names_of_shard_rows (shards_in d)) ∙ (shards_distinct (server_names_in d) (shards_in d) parts.shards).single))
-    (both_true _ _ (servers_good (servers_in d)) (shards_good (server_names_in d) (shards_in d) parts.shards))
+    (and_from _ _ (servers_good (servers_in d)) (shards_good (server_names_in d) (shards_in d) parts.shards))
 
 -- ---- ids
 
@@ -146,9 +138,6 @@ each_where_there P f (Some ds) h = h
 counted_where_there : {A : Type 0} (limit : ℕ) (f : Data → A) (o : Option (List Data)) → length (unwrap_or o []) ≤ limit → IfSome (option_map (map f) o) (λ xs. length xs ≤ limit)
 counted_where_there limit f None h = tt
 counted_where_there limit f (Some ds) h = subst (λ n. n ≤ limit) (sym (length-map ds f)) h
-
-abbrev AreWithin : ℕ → ℕ → List NamedCall → Type 0
-AreWithin shards servers calls = All (λ call. (call.0 < shards) × (call.1 < servers) × IsKnownCall servers call.2) calls
 
 -- ---- plans
 
@@ -181,9 +170,9 @@ document_is_known d h =
       listed = subst (λ n. All (λ entry. IfSome entry (λ server. server < n)) (map (listed_in (server_names_in d)) (shards_in d))) servers
           (All-map (λ entry. IfSome entry (λ server. server < length (server_names_in d))) (listed_in (server_names_in d)) (shards_in d) (λ k e below. id_within (server_names_in d) members.Listed (get_or (shards_in d) k e)));
       down = subst (λ n. All (λ server. server < n) (rows_in d).down) (sym (length-map (servers_in d) server_in)) (down_within (servers_in d));
-      calls = each_where_there (λ call. (call.0 < length (map shard_in (shards_in d))) × (call.1 < length (map server_in (servers_in d))) × IsKnownCall (length (map server_in (servers_in d))) call.2) (call_in (shard_names_in d) (server_names_in d)) (list_in members.Calls d)
-          (subst (λ n. AreWithin (length (map shard_in (shards_in d))) n (map (call_in (shard_names_in d) (server_names_in d)) (entries_in members.Calls d))) servers
-          (subst (λ n. AreWithin n (length (server_names_in d)) (map (call_in (shard_names_in d) (server_names_in d)) (entries_in members.Calls d))) shards (calls_within (shard_names_in d) (server_names_in d) (entries_in members.Calls d) parts.calls)));
+      calls = each_where_there (IsKnownNamedCall (length (map shard_in (shards_in d))) (length (map server_in (servers_in d)))) (call_in (shard_names_in d) (server_names_in d)) (list_in members.Calls d)
+          (subst (λ n. All (IsKnownNamedCall (length (map shard_in (shards_in d))) n) (map (call_in (shard_names_in d) (server_names_in d)) (entries_in members.Calls d))) servers
+          (subst (λ n. All (IsKnownNamedCall n (length (server_names_in d))) (map (call_in (shard_names_in d) (server_names_in d)) (entries_in members.Calls d))) shards (calls_within (shard_names_in d) (server_names_in d) (entries_in members.Calls d) parts.calls)));
       plan = subst (λ n. IfSome (rows_in d).plan (IsKnownPlan (length (map shard_in (shards_in d))) n)) servers
           (subst (λ n. IfSome (rows_in d).plan (IsKnownPlan n (length (server_names_in d)))) shards (plan_fits (shard_names_in d) (server_names_in d) (found members.Plan d) (names_are_few d h) parts.plan));
       plans = each_where_there (IsKnownPlan (length (map shard_in (shards_in d))) (length (map server_in (servers_in d)))) (plan_in (shard_names_in d) (server_names_in d)) (list_in members.Plans d)

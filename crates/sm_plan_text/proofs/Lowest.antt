@@ -1,5 +1,6 @@
 -- What is answered of several faults is the first of the lowest number.
-use Rattle.std.proofs.Common.{◌≡◌, ◌++◌, ◌<◌, ◌≤◌, ℕ, Bool, true, false, cond, List, [], ◌∷◌, Option, Some, None, option_map, nat_lt, refl, ap, sym, ◌∙◌, append_assoc, append-nil, arith, All, MatchOption}
+use Rattle.std.proofs.Common.{◌≡◌, ◌++◌, ◌<◌, ◌≤◌, ℕ, Bool, List, [], ◌∷◌, Option, Some, None, option_map, nat_lt, refl, ap, sym, ◌∙◌, append_assoc, append-nil, arith, All, MatchOption}
+use Rattle.std.proofs.lemmas.Bool.{cond_both}
 use Rattle.std.proofs.lemmas.List.Elements.{All-nil, All-cons, All-append, All-push, All-weaker}
 use Rattle.std.proofs.lemmas.Bool.Decides.{nat_tests}
 use Rattle.sm_plan_text.specs.declared.fault.TextFault.{TextFault}
@@ -12,11 +13,6 @@ AllAbove n faults = All (λ other. n < number_of other) faults
 abbrev AllNotBelow : ℕ → List TextFault → Type 0
 AllNotBelow n faults = All (λ other. n ≤ number_of other) faults
 
--- a property of either value holds of the one that a test chooses
-by_test : {A : Type 0} (P : A → Type 0) (b : Bool) (x y : A) → (b ≡ true → P x) → (b ≡ false → P y) → P (cond b x y)
-by_test P true x y at_true at_false = at_true refl
-by_test P false x y at_true at_false = at_false refl
-
 above_before : (n m : ℕ) (before after : List TextFault) (best : TextFault) → n < number_of best → AllAbove (number_of best) before → AllNotBelow (number_of best) after → AllAbove n (before ++ best ∷ after)
 above_before n m before after best less above not_below =
     All-append (λ other. n < number_of other) before (best ∷ after)
@@ -28,7 +24,7 @@ going : (faults before after rest : List TextFault) (best : TextFault) → fault
 going faults before after [] best stands above not_below =
     record { before = before; after = after; stands = stands ∙ append-nil (before ++ best ∷ after); above = above; not_below = not_below }
 going faults before after (next ∷ rest) best stands above not_below =
-    by_test (λ chosen. MatchOption (noted (Some chosen) rest) (faults ≡ []) (IsFirstOfLowest faults)) (nat_lt (number_of next) (number_of best)) next best
+    cond_both (nat_lt (number_of next) (number_of best)) next best (λ chosen. MatchOption (noted (Some chosen) rest) (faults ≡ []) (IsFirstOfLowest faults))
     (λ test. going faults (before ++ best ∷ after) [] rest next (stands ∙ sym (append_assoc (before ++ best ∷ after) (next ∷ []) rest)) (above_before (number_of next) 0 before after best (grind (arith, nat_tests)) above not_below) (All-nil (λ other. number_of next ≤ number_of other)))
     (λ test. going faults before (after ++ next ∷ []) rest best (stands ∙ append_assoc before (best ∷ after) (next ∷ rest) ∙ sym (append_assoc before (best ∷ after ++ next ∷ []) rest ∙ ap (λ l. before ++ best ∷ l) (append_assoc after (next ∷ []) rest))) above (All-push (λ other. number_of best ≤ number_of other) after next not_below (grind (arith, nat_tests))))
 

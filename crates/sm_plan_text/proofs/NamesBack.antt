@@ -1,26 +1,23 @@
 -- Names that are written are read as the numbers of what they name.
 use Rattle.std.proofs.Common.{◌≡◌, ◌<◌, ◌≤◌, ◌++◌, ℕ, true, List, [], length, Some, option_map, unwrap_or, refl, ap, sym, ◌∙◌, arith}
 use Rattle.std.specs.Str.{bytes_eq}
-use Rattle.std.proofs.lemmas.Bool.Decides.{nat_tests}
 use Rattle.std.proofs.lemmas.Slice.Eq.{bytes_eq-Decides}
 use Rattle.sm_plan_text.specs.declared.fault.TextFault.{TextFault}
 use Rattle.sm_plan_text.specs.declared.member.Member.{Member}
 use Rattle.sm_plan_text.specs.Values.{id_of, id_named, number_named}
 use Rattle.sm_plan_text.specs.Tables.{name_fault}
 use Rattle.sm_plan_text.specs.PlanTexts.{name_at, name_data}
+use Rattle.sm_plan_text.proofs.Faultless.{up_to_same}
 
 -- each name leads back to its number
 pub record LeadBack (names : List (List ℕ)) : Type 0 where
   pub back : (n : ℕ) → n < length names → number_named names (name_at names n) ≡ Some n
   pub few : length names ≤ 4096
 
-id_is : (n : ℕ) → n ≤ 4096 → id_of n ≡ n
-id_is n h = grind (arith, nat_tests)
-
 -- the id that a written name is read as
 pub id_back : (names : List (List ℕ)) (n : ℕ) → LeadBack names → n < length names → id_named names (name_data names n) ≡ Some n
 id_back names n lead h =
-    ap (option_map id_of) (lead.back n h) ∙ ap (λ k. Some k) (id_is n (omega (arith, h, lead.few)))
+    ap (option_map id_of) (lead.back n h) ∙ ap (λ k. Some k) (up_to_same 4294967295 n (omega (arith, h, lead.few)))
 
 -- the same where a name that is missing is read as 0
 pub id_read : (names : List (List ℕ)) (n : ℕ) → LeadBack names → n < length names → unwrap_or (id_named names (name_data names n)) 0 ≡ n

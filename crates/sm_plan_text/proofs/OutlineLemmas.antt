@@ -22,8 +22,8 @@ use Rattle.sm_plan_text.specs.Members.{text_of}
 use Rattle.sm_plan_text.specs.declared.fault.TextFault.TheVariants.{Shape, TooMany}
 use Rattle.sm_plan_text.specs.declared.member.Member.{Member}
 use Rattle.sm_plan_text.specs.Documents.{document_table, shard_names_in, server_names_in}
-use Rattle.sm_plan_text.specs.declared.limits.TheConstants.{MOST_EVENTS, MOST_MOVES, MOST_ASKS}
-use Rattle.sm_plan_code.specs.declared.limits.TheConstants.{MOST_PLACES, MOST_PLANS}
+use Rattle.sm_plan_text.specs.declared.limits.TheConstants.{MOST_EVENTS, MOST_ASKS}
+use Rattle.sm_plan_code.specs.declared.limits.TheConstants.{MOST_MOVES, MOST_PLACES, MOST_PLANS}
 use Rattle.sm_placement.specs.declared.limits.TheConstants.{MOST_SERVERS, MOST_SHARDS}
 use Rattle.sm_plan_text.specs.Values.{found, entries, items_of, names_in}
 use Rattle.sm_plan_text.specs.Parcels.{HaveIds}

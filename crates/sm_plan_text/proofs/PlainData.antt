@@ -1,5 +1,6 @@
 -- What is written for a plan has no float, and does not nest deep.
-use Rattle.std.proofs.Common.{◌≡◌, ◌≤◌, ◌||◌, ℕ, suc, max, Bool, true, false, List, [], ◌∷◌, map, Option, Some, None, refl, arith}
+use Rattle.std.proofs.Common.{◌≡◌, ◌≤◌, ℕ, suc, max, Bool, true, false, List, [], ◌∷◌, map, Option, Some, None, refl, arith}
+use Rattle.std.proofs.lemmas.Bool.{or_from}
 use Rattle.serde_json.specs.Data.{Data, Items, Members, object, no_members, member, string, number, unsigned, depth, items_depth, members_depth}
 use Rattle.serde_json.specs.View.{items_of}
 use Rattle.serde_json.specs.Written.{has_float, items_have_float, members_have_float}
@@ -28,10 +29,6 @@ pub record ArePlain (n : ℕ) (ms : Members) : Type 0 where
   pub floats : members_have_float ms ≡ false
   pub levels : members_depth ms ≤ n
 
-either_false : (a b : Bool) → a ≡ false → b ≡ false → (a || b) ≡ false
-either_false true b h k = h
-either_false false b h k = k
-
 max_within : (a b n : ℕ) → a ≤ n → b ≤ n → max a b ≤ n
 max_within a b n h k = omega arith
 
@@ -40,7 +37,7 @@ none_plain n = record { floats = refl; levels = omega arith }
 
 and_plain : (n : ℕ) (k : List ℕ) (d : Data) (ms : Members) → IsPlain n d → ArePlain n ms → ArePlain n (member k d ms)
 and_plain n k d ms h rest = record {
-  floats = either_false (has_float d) (members_have_float ms) h.floats rest.floats;
+  floats = or_from (has_float d) (members_have_float ms) h.floats rest.floats;
   levels = max_within (depth d) (members_depth ms) n h.levels rest.levels;
 }
 
@@ -53,7 +50,7 @@ each_plain n f (x ∷ xs) h =
     let first : IsPlain n (f x) = h x in
     let rest : ArePlainItems n (items_of (map f xs)) = each_plain n f xs h in
     record {
-      floats = either_false (has_float (f x)) (items_have_float (items_of (map f xs))) first.floats rest.floats;
+      floats = or_from (has_float (f x)) (items_have_float (items_of (map f xs))) first.floats rest.floats;
       levels = max_within (depth (f x)) (items_depth (items_of (map f xs))) n first.levels rest.levels;
     }
 

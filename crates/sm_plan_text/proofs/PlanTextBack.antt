@@ -22,6 +22,7 @@ use Rattle.sm_reservation.specs.declared.right.Spare.{Spare}
 use Rattle.sm_reservation.specs.Rights.{Rights}
 use Rattle.sm_plan_code.specs.declared.instruction.Instr.{Instr}
 use Rattle.sm_plan_code.specs.declared.instruction.Instr.TheVariants as instr
+use Rattle.sm_plan_code.specs.declared.limits.TheConstants.{MOST_AMOUNT}
 use Rattle.sm_plan_code.specs.Plan.{StreamModel, PlanModel, IsSmallParcel, IsSmallStream, KnowsSignal, IsPlan, IsKnownPlan}
 use Rattle.sm_plan_text.specs.declared.member.Member.TheVariants as members
 use Rattle.sm_plan_text.specs.Reading.{read_plan}
@@ -127,14 +128,14 @@ module _ (shards servers : List (List ℕ)) (shard_names : AreTexts shards) (ser
   crown_readable (lead.Handing u v) x = handover_readable _ refl u v x
   crown_readable (lead.Handed u v) x = handover_readable _ refl u v x
 
-  room_readable : (x : Room) → x.amount ≤ 4294967295 → IsReadable (room_data servers x)
+  room_readable : (x : Room) → x.amount ≤ MOST_AMOUNT → IsReadable (room_data servers x)
   room_readable x h =
       object_readable _
       (and_member _ _ _ _ _ _ refl (whole_readable x.amount (omega (arith, h))) refl
       (and_member _ _ _ _ _ _ refl (server_readable x.server) refl
       (no_more _)))
 
-  spare_readable : (x : Spare) → x.amount ≤ 4294967295 → IsReadable (spare_data shards x)
+  spare_readable : (x : Spare) → x.amount ≤ MOST_AMOUNT → IsReadable (spare_data shards x)
   spare_readable x h =
       object_readable _
       (and_member _ _ _ _ _ _ refl (whole_readable x.amount (omega (arith, h))) refl
@@ -146,8 +147,8 @@ module _ (shards servers : List (List ℕ)) (shard_names : AreTexts shards) (ser
       object_readable _
       (and_member _ _ _ _ _ _ refl (list_readable (right_data shards servers) (λ x. Unit {0}) (λ x k. right_readable x) r.cells (always r.cells)) refl
       (and_member _ _ _ _ _ _ refl (list_readable (crown_data shards servers) (λ x. Unit {0}) (λ x k. crown_readable x.lead x) r.crowns (always r.crowns)) refl
-      (and_member _ _ _ _ _ _ refl (list_readable (room_data servers) (λ x. x.amount ≤ 4294967295) room_readable r.room h.room_amounts) refl
-      (and_member _ _ _ _ _ _ refl (list_readable (spare_data shards) (λ x. x.amount ≤ 4294967295) spare_readable r.spare h.spare_amounts) refl
+      (and_member _ _ _ _ _ _ refl (list_readable (room_data servers) (λ x. x.amount ≤ MOST_AMOUNT) room_readable r.room h.room_amounts) refl
+      (and_member _ _ _ _ _ _ refl (list_readable (spare_data shards) (λ x. x.amount ≤ MOST_AMOUNT) spare_readable r.spare h.spare_amounts) refl
       (no_more _)))))
 
   -- ---- instructions

@@ -11,32 +11,31 @@ use Rattle.sm_reservation.specs.declared.right.Crown.{Crown}
 use Rattle.sm_reservation.specs.declared.right.Room.{Room}
 use Rattle.sm_reservation.specs.declared.right.Spare.{Spare}
 use Rattle.sm_reservation.specs.Rights.{Rights}
-use Rattle.sm_reservation.specs.Rows.{before, Rises}
 use Rattle.sm_reservation.specs.Key.{key_of_cell, key_of_crown, key_of_room, key_of_spare, IsOrdered}
 use Rattle.sm_reservation.specs.InOrder.{in_order}
 use Rattle.sm_plan_code.specs.declared.instruction.Instr.{Instr}
+use Rattle.sm_plan_code.specs.declared.limits.TheConstants.{MOST_AMOUNT, MOST_RIGHTS}
 use Rattle.sm_plan_code.specs.Plan.{StreamModel, PlanModel, IsSmallParcel, IsSmallStream, IsSmallPlan, IsPlan, KnowsSignal, IsKnownCellRight, IsKnownCrown, IsKnownInstr, IsKnownParcel, IsKnownStream, IsKnownPlan}
 use Rattle.sm_plan_text.specs.declared.member.Member.{Member}
 use Rattle.sm_plan_text.specs.declared.member.Member.TheVariants as members
 use Rattle.sm_plan_text.specs.Values.{entries}
-use Rattle.sm_plan_text.specs.Tables.{keyed, value_faults, texts_found, is_same_key, walked}
+use Rattle.sm_plan_text.specs.Tables.{walked}
 use Rattle.sm_plan_text.specs.Parcels.{right_faults, right_in, crown_faults, crown_in, room_faults, room_in, spare_faults, spare_in, parcel_faults, parcel_in}
 use Rattle.sm_plan_text.specs.Instructions.{instr_faults, instr_in}
 use Rattle.sm_plan_text.specs.Plans.{stream_faults, stream_in, plan_faults, plan_in}
 use Rattle.sm_plan_text.specs.PlanTexts.{saying, whole_data, list_data, right_data, crown_data, room_data, spare_data, parcel_data, instr_data, stream_data, plan_data, has_retries}
+use Rattle.sm_plan_text.proofs.Faultless.{up_to_same}
+use Rattle.sm_plan_text.proofs.FaultlessPlan.{IsGoodInstr}
 use Rattle.sm_plan_text.proofs.NamesBack.{LeadBack, no_faults, three}
 use Rattle.sm_plan_text.proofs.InstrsBack.{instr_no_fault, instr_back}
-use Rattle.sm_plan_text.proofs.ListsBack.{entries_back, number_no_fault, number_read, list_no_fault, walk_no_fault, list_read, keys_no_fault}
-use Rattle.sm_plan_text.proofs.RightsBack.{right_no_fault, right_back, crown_no_fault, crown_back, room_no_fault, room_back, spare_no_fault, spare_back, cells_differ, crowns_differ, rooms_differ, spares_differ}
+use Rattle.sm_plan_text.proofs.ListsBack.{entries_back, number_no_fault, list_no_fault, mapped_within, walk_no_fault, list_read, keyed_no_fault}
+use Rattle.sm_plan_text.proofs.RightsBack.{IsRoomWithin, IsSpareWithin, right_no_fault, right_back, crown_no_fault, crown_back, room_no_fault, room_back, spare_no_fault, spare_back, cells_differ, crowns_differ, rooms_differ, spares_differ}
 
 four : {A B C D E : Type 0} (f : A → B → C → D → E) (a e : A) (b g : B) (c h : C) (d i : D) → a ≡ e → b ≡ g → c ≡ h → d ≡ i → f a b c d ≡ f e g h i
 four f a e b g c h d i p q r s = rw (p, q, r, s) refl
 
 All-both : {T : Type 0} (P Q : T → Type 0) (xs : List T) → All P xs → All Q xs → All (λ x. P x × Q x) xs
 All-both P Q xs h k = λ i d lt. (h i d lt, k i d lt)
-
-mapped_within : {T : Type 0} (f : T → Data) (xs : List T) (n : ℕ) → length xs ≤ n → length (map f xs) ≤ n
-mapped_within f xs n h = subst (λ k. k ≤ n) (sym (length-map xs f)) h
 
 -- ---- parcels
 
@@ -45,40 +44,29 @@ pub record IsPlaced (r : Rights) : Type 0 where
   pub ordered : IsOrdered r
   pub same : in_order r ≡ r
 
-keyed_no_fault : {T : Type 0} (m : Member) (key : List Member) (key_of : T → ℕ × ℕ) (f : T → Data) (P : T → Type 0) → ((x y : T) → P x → P y → before (key_of x) (key_of y) ≡ true → is_same_key (texts_found key (f x)) (texts_found key (f y)) ≡ false)
-    → (xs : List T) → length xs ≤ 4096 → All P xs → Rises key_of xs → value_faults m (keyed 4096 key) (list_data (map f xs)) ≡ []
-keyed_no_fault m key key_of f P differ xs few h rises = no_faults _ _ (list_no_fault m 4096 (map f xs) (mapped_within f xs 4096 few)) (keys_no_fault m key key_of f P differ xs h rises)
-
--- the room, and the spare replicas, of a parcel that fits and is small
-abbrev IsPeak : ℕ → Room → Type 0
-IsPeak servers x = (x.server < servers) × (x.amount ≤ 4294967295)
-
-abbrev IsSpare : ℕ → Spare → Type 0
-IsSpare shards x = (x.shard < shards) × (x.amount ≤ 4294967295)
-
 pub parcel_no_fault : (parent : Member) (shards servers : List (List ℕ)) → LeadBack shards → LeadBack servers → (earlier : List Data) (r : Rights) → IsKnownParcel (length shards) (length servers) r → IsSmallParcel r → IsPlaced r → parcel_faults parent shards servers earlier (parcel_data shards servers r) ≡ []
 parcel_no_fault parent shards servers a b earlier r fits small placed =
-    let room : All (IsPeak (length servers)) r.room = All-both (λ x. x.server < length servers) (λ x. x.amount ≤ 4294967295) r.room fits.room small.room_amounts in
-    let spare : All (IsSpare (length shards)) r.spare = All-both (λ x. x.shard < length shards) (λ x. x.amount ≤ 4294967295) r.spare fits.spare small.spare_amounts in
+    let room : All (IsRoomWithin (length servers)) r.room = All-both (λ x. x.server < length servers) (λ x. x.amount ≤ MOST_AMOUNT) r.room fits.room small.room_amounts in
+    let spare : All (IsSpareWithin (length shards)) r.spare = All-both (λ x. x.shard < length shards) (λ x. x.amount ≤ MOST_AMOUNT) r.spare fits.spare small.spare_amounts in
     no_faults _ _ (no_faults _ _ (no_faults _ _ (no_faults _ _
-    (no_faults _ _ (keyed_no_fault members.Cells (members.Shard ∷ members.Server ∷ []) key_of_cell (right_data shards servers) (IsKnownCellRight (length shards) (length servers)) (cells_differ shards servers a b) r.cells small.cells fits.cells placed.ordered.cells)
-    (no_faults _ _ (keyed_no_fault members.Crowns (members.Shard ∷ []) key_of_crown (crown_data shards servers) (IsKnownCrown (length shards) (length servers)) (crowns_differ shards servers a) r.crowns small.crowns fits.crowns placed.ordered.crowns)
-    (no_faults _ _ (keyed_no_fault members.Room (members.Server ∷ []) key_of_room (room_data servers) (IsPeak (length servers)) (rooms_differ servers b) r.room small.room room placed.ordered.room)
-    (no_faults _ _ (keyed_no_fault members.Spare (members.Shard ∷ []) key_of_spare (spare_data shards) (IsSpare (length shards)) (spares_differ shards a) r.spare small.spare spare placed.ordered.spare) refl))))
+    (no_faults _ _ (keyed_no_fault members.Cells MOST_RIGHTS (members.Shard ∷ members.Server ∷ []) key_of_cell (right_data shards servers) (IsKnownCellRight (length shards) (length servers)) (cells_differ shards servers a b) r.cells small.cells fits.cells placed.ordered.cells)
+    (no_faults _ _ (keyed_no_fault members.Crowns MOST_RIGHTS (members.Shard ∷ []) key_of_crown (crown_data shards servers) (IsKnownCrown (length shards) (length servers)) (crowns_differ shards servers a) r.crowns small.crowns fits.crowns placed.ordered.crowns)
+    (no_faults _ _ (keyed_no_fault members.Room MOST_RIGHTS (members.Server ∷ []) key_of_room (room_data servers) (IsRoomWithin (length servers)) (rooms_differ servers b) r.room small.room room placed.ordered.room)
+    (no_faults _ _ (keyed_no_fault members.Spare MOST_RIGHTS (members.Shard ∷ []) key_of_spare (spare_data shards) (IsSpareWithin (length shards)) (spares_differ shards a) r.spare small.spare spare placed.ordered.spare) refl))))
     (walk_no_fault (right_data shards servers) (right_faults shards servers) (IsKnownCellRight (length shards) (length servers)) (right_no_fault shards servers a b) r.cells fits.cells))
     (walk_no_fault (crown_data shards servers) (crown_faults shards servers) (IsKnownCrown (length shards) (length servers)) (crown_no_fault shards servers a b) r.crowns fits.crowns))
-    (walk_no_fault (room_data servers) (room_faults servers) (IsPeak (length servers)) (room_no_fault servers b) r.room room))
-    (walk_no_fault (spare_data shards) (spare_faults shards) (IsSpare (length shards)) (spare_no_fault shards a) r.spare spare)
+    (walk_no_fault (room_data servers) (room_faults servers) (IsRoomWithin (length servers)) (room_no_fault servers b) r.room room))
+    (walk_no_fault (spare_data shards) (spare_faults shards) (IsSpareWithin (length shards)) (spare_no_fault shards a) r.spare spare)
 
 pub parcel_back : (shards servers : List (List ℕ)) → LeadBack shards → LeadBack servers → (r : Rights) → IsKnownParcel (length shards) (length servers) r → IsSmallParcel r → IsPlaced r → parcel_in shards servers (parcel_data shards servers r) ≡ r
 parcel_back shards servers a b r fits small placed =
-    let room : All (IsPeak (length servers)) r.room = All-both (λ x. x.server < length servers) (λ x. x.amount ≤ 4294967295) r.room fits.room small.room_amounts in
-    let spare : All (IsSpare (length shards)) r.spare = All-both (λ x. x.shard < length shards) (λ x. x.amount ≤ 4294967295) r.spare fits.spare small.spare_amounts in
+    let room : All (IsRoomWithin (length servers)) r.room = All-both (λ x. x.server < length servers) (λ x. x.amount ≤ MOST_AMOUNT) r.room fits.room small.room_amounts in
+    let spare : All (IsSpareWithin (length shards)) r.spare = All-both (λ x. x.shard < length shards) (λ x. x.amount ≤ MOST_AMOUNT) r.spare fits.spare small.spare_amounts in
     ap in_order (four (λ (cells : List CellRight) (crowns : List Crown) (room : List Room) (spare : List Spare). record { cells = cells; crowns = crowns; room = room; spare = spare }) _ _ _ _ _ _ _ _
     (list_read (right_data shards servers) (right_in shards servers) (IsKnownCellRight (length shards) (length servers)) (right_back shards servers a b) r.cells fits.cells)
     (list_read (crown_data shards servers) (crown_in shards servers) (IsKnownCrown (length shards) (length servers)) (crown_back shards servers a b) r.crowns fits.crowns)
-    (list_read (room_data servers) (room_in servers) (IsPeak (length servers)) (room_back servers b) r.room room)
-    (list_read (spare_data shards) (spare_in shards) (IsSpare (length shards)) (spare_back shards a) r.spare spare))
+    (list_read (room_data servers) (room_in servers) (IsRoomWithin (length servers)) (room_back servers b) r.room room)
+    (list_read (spare_data shards) (spare_in shards) (IsSpareWithin (length shards)) (spare_back shards a) r.spare spare))
     ∙ placed.same
 
 -- ---- streams
@@ -91,21 +79,17 @@ pub record IsWritable (shard_count server_count signal_count : ℕ) (with_retrie
   pub placed : IsPlaced s.holds
   pub retries : with_retries ≡ false → s.retries ≡ 0
 
--- an instruction that fits and knows its signal
-abbrev IsKnown : ℕ → ℕ → ℕ → Instr → Type 0
-IsKnown shards servers signals i = IsKnownInstr shards servers i × KnowsSignal signals i
-
-code_known : (shards servers signals : ℕ) (retries : Bool) (s : StreamModel) → IsWritable shards servers signals retries s → All (IsKnown shards servers signals) s.code
+code_known : (shards servers signals : ℕ) (retries : Bool) (s : StreamModel) → IsWritable shards servers signals retries s → All (IsGoodInstr shards servers signals) s.code
 code_known shards servers signals retries s h = All-both (IsKnownInstr shards servers) (KnowsSignal signals) s.code h.fits.code h.signals
 
 code_no_fault : (shards servers : List (List ℕ)) → LeadBack shards → LeadBack servers → (signals : ℕ) (retries : Bool) (s : StreamModel) → IsWritable (length shards) (length servers) signals retries s → walked (instr_faults shards servers signals) [] (entries (items_of (map (instr_data shards servers) s.code))) ≡ []
 code_no_fault shards servers a b signals retries s h =
-    walk_no_fault (instr_data shards servers) (instr_faults shards servers signals) (IsKnown (length shards) (length servers) signals)
+    walk_no_fault (instr_data shards servers) (instr_faults shards servers signals) (IsGoodInstr (length shards) (length servers) signals)
     (λ earlier i known. instr_no_fault shards servers signals i a b known.0 known.1) s.code (code_known (length shards) (length servers) signals retries s h)
 
 code_back : (shards servers : List (List ℕ)) → LeadBack shards → LeadBack servers → (signals : ℕ) → signals ≤ 256 → (retries : Bool) (s : StreamModel) → IsWritable (length shards) (length servers) signals retries s → map (instr_in shards servers signals) (entries (items_of (map (instr_data shards servers) s.code))) ≡ s.code
 code_back shards servers a b signals few retries s h =
-    list_read (instr_data shards servers) (instr_in shards servers signals) (IsKnown (length shards) (length servers) signals)
+    list_read (instr_data shards servers) (instr_in shards servers signals) (IsGoodInstr (length shards) (length servers) signals)
     (λ i known. instr_back shards servers signals i few a b known.0 known.1) s.code (code_known (length shards) (length servers) signals retries s h)
 
 pub stream_no_fault : (shards servers : List (List ℕ)) → LeadBack shards → LeadBack servers → (signals : ℕ) (retries : Bool) (earlier : List Data) (s : StreamModel) → IsWritable (length shards) (length servers) signals retries s → stream_faults shards servers signals retries earlier (stream_data shards servers retries s) ≡ []
@@ -129,11 +113,11 @@ stream budget retries holds code = record { budget = budget; retries = retries; 
 pub stream_back : (shards servers : List (List ℕ)) → LeadBack shards → LeadBack servers → (signals : ℕ) → signals ≤ 256 → (retries : Bool) (s : StreamModel) → IsWritable (length shards) (length servers) signals retries s → stream_in shards servers signals retries (stream_data shards servers retries s) ≡ s
 stream_back shards servers a b signals few true s h =
     four stream _ _ _ _ _ _ _ _
-    (number_read 262144 s.budget h.small.budget) (number_read 262144 s.retries h.small.retries)
+    (up_to_same 262144 s.budget h.small.budget) (up_to_same 262144 s.retries h.small.retries)
     (parcel_back shards servers a b s.holds h.fits.holds h.small.holds h.placed) (code_back shards servers a b signals few true s h)
 stream_back shards servers a b signals few false s h =
     four stream _ _ _ _ _ _ _ _
-    (number_read 262144 s.budget h.small.budget) (sym (h.retries refl))
+    (up_to_same 262144 s.budget h.small.budget) (sym (h.retries refl))
     (parcel_back shards servers a b s.holds h.fits.holds h.small.holds h.placed) (code_back shards servers a b signals few false s h)
 
 -- ---- plans
@@ -188,12 +172,12 @@ plan budget streams signals = record { budget = budget; streams = streams; signa
 plan_read_back : (shards servers : List (List ℕ)) → LeadBack shards → LeadBack servers → (retries : Bool) (p : PlanModel) → IsSmallPlan p → All (IsWritableParcel (length shards) (length servers)) p.signals → All (IsWritable (length shards) (length servers) (signals_read shards servers p) retries) p.streams → plan_in shards servers (plan_as shards servers retries p) ≡ p
 plan_read_back shards servers a b true p small parcels streams =
     three plan _ _ _ _ _ _
-    (number_read 262144 p.budget small.budget)
+    (up_to_same 262144 p.budget small.budget)
     (streams_back shards servers a b true p small streams)
     (list_read (parcel_data shards servers) (parcel_in shards servers) (IsWritableParcel (length shards) (length servers)) (λ r h. parcel_back shards servers a b r h.fits h.small h.placed) p.signals parcels)
 plan_read_back shards servers a b false p small parcels streams =
     three plan _ _ _ _ _ _
-    (number_read 262144 p.budget small.budget)
+    (up_to_same 262144 p.budget small.budget)
     (streams_back shards servers a b false p small streams)
     (list_read (parcel_data shards servers) (parcel_in shards servers) (IsWritableParcel (length shards) (length servers)) (λ r h. parcel_back shards servers a b r h.fits h.small h.placed) p.signals parcels)
 

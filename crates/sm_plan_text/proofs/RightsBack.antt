@@ -13,14 +13,16 @@ use Rattle.sm_reservation.specs.declared.right.Room.{Room}
 use Rattle.sm_reservation.specs.declared.right.Spare.{Spare}
 use Rattle.sm_reservation.specs.Rows.{before}
 use Rattle.sm_reservation.specs.Key.{key_of_cell, key_of_crown, key_of_room, key_of_spare}
+use Rattle.sm_plan_code.specs.declared.limits.TheConstants.{MOST_AMOUNT}
 use Rattle.sm_plan_code.specs.Plan.{IsKnownCellRight, IsKnownLead, IsKnownCrown}
 use Rattle.sm_plan_text.specs.declared.member.Member.TheVariants as members
 use Rattle.sm_plan_text.specs.Values.{id_named}
 use Rattle.sm_plan_text.specs.Tables.{known_or_null, text_fault, value_faults, texts_found, is_same_key}
 use Rattle.sm_plan_text.specs.Parcels.{plain_named, right_faults, right_in, crown_faults, crown_in, room_faults, room_in, spare_faults, spare_in}
 use Rattle.sm_plan_text.specs.PlanTexts.{name_at, plain_text, listed_data, right_data, crown_by_lead, crown_data, room_data, spare_data}
+use Rattle.sm_plan_text.proofs.Faultless.{up_to_same}
 use Rattle.sm_plan_text.proofs.NamesBack.{LeadBack, id_back, id_read, named, same_number, no_faults, both, three}
-use Rattle.sm_plan_text.proofs.ListsBack.{number_no_fault, number_read}
+use Rattle.sm_plan_text.proofs.ListsBack.{number_no_fault}
 
 -- ---- rights to cells
 
@@ -89,21 +91,29 @@ crown_back shards servers a b x (h, k, j) = crown_read shards servers a b x.shar
 
 -- ---- room and spare replicas
 
+-- room of a known server, within its limit
+abbrev pub IsRoomWithin : ℕ → Room → Type 0
+IsRoomWithin servers x = (x.server < servers) × (x.amount ≤ MOST_AMOUNT)
+
+-- spare replicas of a known shard, within their limit
+abbrev pub IsSpareWithin : ℕ → Spare → Type 0
+IsSpareWithin shards x = (x.shard < shards) × (x.amount ≤ MOST_AMOUNT)
+
 -- room of a known server, within its limit, has no fault as it is written
-pub room_no_fault : (servers : List (List ℕ)) → LeadBack servers → (earlier : List Data) (x : Room) → (x.server < length servers) × (x.amount ≤ 4294967295) → room_faults servers earlier (room_data servers x) ≡ []
-room_no_fault servers b earlier x h = no_faults _ _ (named members.Server servers x.server b h.0) (no_faults _ _ (number_no_fault members.Amount 4294967295 x.amount h.1) refl)
+pub room_no_fault : (servers : List (List ℕ)) → LeadBack servers → (earlier : List Data) (x : Room) → IsRoomWithin (length servers) x → room_faults servers earlier (room_data servers x) ≡ []
+room_no_fault servers b earlier x h = no_faults _ _ (named members.Server servers x.server b h.0) (no_faults _ _ (number_no_fault members.Amount MOST_AMOUNT x.amount h.1) refl)
 
 -- and it is read as itself
-pub room_back : (servers : List (List ℕ)) → LeadBack servers → (x : Room) → (x.server < length servers) × (x.amount ≤ 4294967295) → room_in servers (room_data servers x) ≡ x
-room_back servers b x h = both (λ (v amount : ℕ). record { server = v; amount = amount }) _ _ _ _ (id_read servers x.server b h.0) (number_read 4294967295 x.amount h.1)
+pub room_back : (servers : List (List ℕ)) → LeadBack servers → (x : Room) → IsRoomWithin (length servers) x → room_in servers (room_data servers x) ≡ x
+room_back servers b x h = both (λ (v amount : ℕ). record { server = v; amount = amount }) _ _ _ _ (id_read servers x.server b h.0) (up_to_same MOST_AMOUNT x.amount h.1)
 
 -- spare replicas of a known shard, within their limit, have no fault as they are written
-pub spare_no_fault : (shards : List (List ℕ)) → LeadBack shards → (earlier : List Data) (x : Spare) → (x.shard < length shards) × (x.amount ≤ 4294967295) → spare_faults shards earlier (spare_data shards x) ≡ []
-spare_no_fault shards a earlier x h = no_faults _ _ (named members.Shard shards x.shard a h.0) (no_faults _ _ (number_no_fault members.Amount 4294967295 x.amount h.1) refl)
+pub spare_no_fault : (shards : List (List ℕ)) → LeadBack shards → (earlier : List Data) (x : Spare) → IsSpareWithin (length shards) x → spare_faults shards earlier (spare_data shards x) ≡ []
+spare_no_fault shards a earlier x h = no_faults _ _ (named members.Shard shards x.shard a h.0) (no_faults _ _ (number_no_fault members.Amount MOST_AMOUNT x.amount h.1) refl)
 
 -- and they are read as themselves
-pub spare_back : (shards : List (List ℕ)) → LeadBack shards → (x : Spare) → (x.shard < length shards) × (x.amount ≤ 4294967295) → spare_in shards (spare_data shards x) ≡ x
-spare_back shards a x h = both (λ (s amount : ℕ). record { shard = s; amount = amount }) _ _ _ _ (id_read shards x.shard a h.0) (number_read 4294967295 x.amount h.1)
+pub spare_back : (shards : List (List ℕ)) → LeadBack shards → (x : Spare) → IsSpareWithin (length shards) x → spare_in shards (spare_data shards x) ≡ x
+spare_back shards a x h = both (λ (s amount : ℕ). record { shard = s; amount = amount }) _ _ _ _ (id_read shards x.shard a h.0) (up_to_same MOST_AMOUNT x.amount h.1)
 
 -- ---- keys
 
@@ -139,11 +149,11 @@ crowns_differ shards servers a x y h k rises =
     ∙ one_text shards a x.shard y.shard h.0 k.0 rises _ refl
 
 -- so is room of two servers
-pub rooms_differ : (servers : List (List ℕ)) → LeadBack servers → (x y : Room) → (x.server < length servers) × (x.amount ≤ 4294967295) → (y.server < length servers) × (y.amount ≤ 4294967295) → before (key_of_room x) (key_of_room y) ≡ true
+pub rooms_differ : (servers : List (List ℕ)) → LeadBack servers → (x y : Room) → IsRoomWithin (length servers) x → IsRoomWithin (length servers) y → before (key_of_room x) (key_of_room y) ≡ true
     → is_same_key (texts_found (members.Server ∷ []) (room_data servers x)) (texts_found (members.Server ∷ []) (room_data servers y)) ≡ false
 rooms_differ servers b x y h k rises = one_text servers b x.server y.server h.0 k.0 rises _ refl
 
 -- and so are spare replicas of two shards
-pub spares_differ : (shards : List (List ℕ)) → LeadBack shards → (x y : Spare) → (x.shard < length shards) × (x.amount ≤ 4294967295) → (y.shard < length shards) × (y.amount ≤ 4294967295) → before (key_of_spare x) (key_of_spare y) ≡ true
+pub spares_differ : (shards : List (List ℕ)) → LeadBack shards → (x y : Spare) → IsSpareWithin (length shards) x → IsSpareWithin (length shards) y → before (key_of_spare x) (key_of_spare y) ≡ true
     → is_same_key (texts_found (members.Shard ∷ []) (spare_data shards x)) (texts_found (members.Shard ∷ []) (spare_data shards y)) ≡ false
 spares_differ shards a x y h k rises = one_text shards a x.shard y.shard h.0 k.0 rises _ refl

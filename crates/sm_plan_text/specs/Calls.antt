@@ -18,6 +18,7 @@ pub data CallWord : Type 0 where
   PrepareAdd : CallWord
   PrepareDrop : CallWord
 
+-- the call that a word says
 abbrev pub call_word : List ℕ → Option CallWord
 call_word text =
     if bytes_eq text (codes "add") then Some Add
@@ -35,12 +36,15 @@ word_table servers Change = one From role ∷ one To role ∷ []
 word_table servers PrepareAdd = one Other (known servers) ∷ one Number (whole MOST_NUMBER) ∷ []
 word_table servers PrepareDrop = one Other (known servers) ∷ one Number (whole MOST_NUMBER) ∷ []
 
+-- the members that a call has beside its word
 abbrev pub call_table : List (List ℕ) → List (List ℕ) → CallWord → List Row
 call_table shards servers w = one Shard (known shards) ∷ one Server (known servers) ∷ word_table servers w
 
+-- the faults of a call, whatever stands before it in the list
 abbrev pub call_faults : List (List ℕ) → List (List ℕ) → List Data → Data → List TextFault
 call_faults shards servers before d = worded_faults Calls CallMember call_word (call_table shards servers) d
 
+-- the call that an object says by its word
 abbrev pub call_worded : List (List ℕ) → Data → CallWord → Call
 call_worded servers d Add = call.Add (role_in Role d)
 call_worded servers d Drop = call.Drop
@@ -52,9 +56,11 @@ call_worded servers d PrepareDrop = call.PrepareDrop (id_in servers Other d) (nu
 abbrev pub NamedCall : Type 0
 NamedCall = ℕ × ℕ × Call
 
+-- a call of the list by its word; without a listed word, what stands for it in a document that is refused
 abbrev pub call_by : List (List ℕ) → List (List ℕ) → Data → Option CallWord → NamedCall
 call_by shards servers d None = (0, 0, call.Drop)
 call_by shards servers d (Some w) = (id_in shards Shard d, id_in servers Server d, call_worded servers d w)
 
+-- a call of the list, as its object says it
 abbrev pub call_in : List (List ℕ) → List (List ℕ) → Data → NamedCall
 call_in shards servers d = call_by shards servers d (option_and_then call_word (text_found CallMember d))

@@ -17,8 +17,8 @@ use Rattle.sm_plan_text.specs.declared.event.EventText.{EventText}
 use Rattle.sm_plan_text.specs.Events.{IsKnownEvent, event_faults, event_in}
 use Rattle.sm_plan_text.specs.declared.moves.MoveText.{MoveText}
 use Rattle.sm_plan_text.specs.Moves.{IsKnownMove, move_faults, move_in}
-use Rattle.sm_plan_text.specs.declared.limits.TheConstants.{MOST_EVENTS, MOST_MOVES, MOST_ASKS, LOG_PLACES}
-use Rattle.sm_plan_code.specs.declared.limits.TheConstants.{MOST_PLACES, MOST_PLANS}
+use Rattle.sm_plan_text.specs.declared.limits.TheConstants.{MOST_EVENTS, MOST_ASKS, LOG_PLACES}
+use Rattle.sm_plan_code.specs.declared.limits.TheConstants.{MOST_MOVES, MOST_PLACES, MOST_PLANS}
 use Rattle.sm_placement.specs.declared.limits.TheConstants.{MOST_SERVERS, MOST_SHARDS, MOST_CELLS}
 
 -- what a document says
@@ -37,6 +37,7 @@ pub record DocumentModel : Type 0 where
   pub drain : Option ℕ
   pub asks : List ℕ
 
+-- the members of a document, with the names of its shards and servers
 abbrev pub document_table : List (List ℕ) → List (List ℕ) → List Row
 document_table shards servers =
     one members.Limit (whole MOST_SERVERS) ∷
@@ -51,16 +52,19 @@ document_table shards servers =
     maybe members.Drain (known servers) ∷
     maybe members.Asks (known_list MOST_ASKS shards) ∷ []
 
+-- the entries of a document's list of servers
 abbrev pub servers_in : Data → List Data
 servers_in d = entries_in members.Servers d
 
+-- the entries of a document's list of shards
 abbrev pub shards_in : Data → List Data
 shards_in d = entries_in members.Shards d
 
--- the names of the servers, and of the shards
+-- the names of the servers
 abbrev pub server_names_in : Data → List (List ℕ)
 server_names_in d = names_in (servers_in d)
 
+-- the names of the shards
 abbrev pub shard_names_in : Data → List (List ℕ)
 shard_names_in d = names_in (shards_in d)
 
@@ -76,9 +80,11 @@ document_faults d =
     ++ walked (event_faults (shard_names_in d) (server_names_in d)) [] (entries_in members.Events d)
     ++ walked (move_faults (shard_names_in d) (server_names_in d)) [] (entries_in members.Moves d)
 
+-- the configuration that a document says
 abbrev pub setup_in : Data → Setup
 setup_in d = record { servers = map server_in (servers_in d); shards = map shard_in (shards_in d) }
 
+-- all that a document says
 abbrev pub rows_in : Data → DocumentModel
 rows_in d = record {
   setup = setup_in d;

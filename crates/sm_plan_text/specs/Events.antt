@@ -21,6 +21,7 @@ pub data EventWord : Type 0 where
   Refill : EventWord
   Begin : EventWord
 
+-- the event that a word says
 abbrev pub event_word : List ℕ → Option EventWord
 event_word text =
     if bytes_eq text (codes "step") then Some Step
@@ -44,6 +45,7 @@ event_table shards servers Lose = maybe Plan (whole MOST_NUMBER) ∷ one Stream 
 event_table shards servers Refill = maybe Plan (whole MOST_NUMBER) ∷ one Stream (whole MOST_NUMBER) ∷ one More (whole MOST_CALLS) ∷ []
 event_table shards servers Begin = one Plan (whole MOST_NUMBER) ∷ []
 
+-- the faults of an event, whatever stands before it in the list
 abbrev pub event_faults : List (List ℕ) → List (List ℕ) → List Data → Data → List TextFault
 event_faults shards servers before d = worded_faults Events EventMember event_word (event_table shards servers) d
 
@@ -51,9 +53,11 @@ event_faults shards servers before d = worded_faults Events EventMember event_wo
 abbrev pub plan_number_in : Data → ℕ
 plan_number_in d = number_or 0 Plan MOST_NUMBER d
 
+-- the stream that is meant, by its number in the plan
 abbrev pub stream_number_in : Data → ℕ
 stream_number_in d = number_in Stream MOST_NUMBER d
 
+-- the event that an object says by its word
 abbrev pub event_of : List (List ℕ) → List (List ℕ) → Data → EventWord → EventText
 event_of shards servers d Step = event.Step (plan_number_in d) (stream_number_in d)
 event_of shards servers d Request = event.Request (id_in shards Shard d) (id_in servers Server d)
@@ -64,10 +68,12 @@ event_of shards servers d Lose = event.Lose (plan_number_in d) (stream_number_in
 event_of shards servers d Refill = event.Refill (plan_number_in d) (stream_number_in d) (number_in More MOST_CALLS d)
 event_of shards servers d Begin = event.Begin (number_in Plan MOST_NUMBER d)
 
+-- an event of the list by its word; without a listed word, what stands for it in a document that is refused
 abbrev pub event_by : List (List ℕ) → List (List ℕ) → Data → Option EventWord → EventText
 event_by shards servers d None = event.Begin 0
 event_by shards servers d (Some w) = event_of shards servers d w
 
+-- an event of the list, as its object says it
 abbrev pub event_in : List (List ℕ) → List (List ℕ) → Data → EventText
 event_in shards servers d = event_by shards servers d (option_and_then event_word (text_found EventMember d))
 

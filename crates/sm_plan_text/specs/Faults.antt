@@ -3,6 +3,7 @@ use Rattle.std.specs.Prelude.{◌≡◌, ◌<◌, ◌≤◌, ℕ, List, [], ◌�
 use Rattle.sm_plan_text.specs.declared.fault.TextFault.{TextFault}
 use Rattle.sm_plan_text.specs.declared.fault.TextFault.TheVariants.{NoMemory, NotJson, Shape, UnknownName, TooMany, Number}
 
+-- the number of a fault, as its line says it: of several faults one of the lowest number is answered
 abbrev pub number_of : TextFault → ℕ
 number_of NoMemory = 1
 number_of NotJson = 2

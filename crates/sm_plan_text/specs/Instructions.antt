@@ -21,6 +21,7 @@ pub data InstrWord : Type 0 where
   Signal : InstrWord
   Wait : InstrWord
 
+-- the instruction that a word says
 abbrev pub instr_word : List ℕ → Option InstrWord
 instr_word text =
     if bytes_eq text (codes "prepare_add") then Some PrepareAdd
@@ -46,9 +47,11 @@ instr_table shards servers signals Unlist = one Shard (known shards) ∷ []
 instr_table shards servers signals Signal = one SignalMember (below signals) ∷ []
 instr_table shards servers signals Wait = one SignalMember (below signals) ∷ []
 
+-- the faults of an instruction in a plan with so many signals, whatever stands before it in the code
 abbrev pub instr_faults : List (List ℕ) → List (List ℕ) → ℕ → List Data → Data → List TextFault
 instr_faults shards servers signals before d = worded_faults Code Do instr_word (instr_table shards servers signals) d
 
+-- the instruction that an object says by its word
 abbrev pub instr_of : List (List ℕ) → List (List ℕ) → ℕ → Data → InstrWord → Instr
 instr_of shards servers signals d PrepareAdd = instr.PrepareAdd (id_in shards Shard d) (id_in servers Server d) (id_in servers Other d)
 instr_of shards servers signals d PrepareDrop = instr.PrepareDrop (id_in shards Shard d) (id_in servers Server d) (id_in servers Other d)
@@ -60,9 +63,11 @@ instr_of shards servers signals d Unlist = instr.Unlist (id_in shards Shard d)
 instr_of shards servers signals d Signal = instr.Signal (number_below signals SignalMember d)
 instr_of shards servers signals d Wait = instr.Wait (number_below signals SignalMember d)
 
+-- an instruction by its word; without a listed word, what stands for it in a plan that is refused
 abbrev pub instr_by : List (List ℕ) → List (List ℕ) → ℕ → Data → Option InstrWord → Instr
 instr_by shards servers signals d None = instr.Signal 0
 instr_by shards servers signals d (Some w) = instr_of shards servers signals d w
 
+-- an instruction, as its object says it
 abbrev pub instr_in : List (List ℕ) → List (List ℕ) → ℕ → Data → Instr
 instr_in shards servers signals d = instr_by shards servers signals d (option_and_then instr_word (text_found Do d))

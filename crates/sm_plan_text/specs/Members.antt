@@ -3,6 +3,7 @@ use Rattle.std.specs.Prelude.{ℕ, List, codes}
 use Rattle.sm_plan_text.specs.declared.member.Member.{Member}
 use Rattle.sm_plan_text.specs.declared.member.Member.TheVariants as members
 
+-- the name of a member in a document; of the document itself, what the line of a fault calls it
 abbrev pub text_of : Member → List ℕ
 text_of members.Document = codes "document"
 text_of members.Limit = codes "limit"

@@ -1,4 +1,5 @@
 -- What is read of a document whose longest lists are read as they come, and are empty in what is kept.
+-- Steps of the code's own way, which private functions' contracts cite: no reader of the public ones must believe them.
 use Rattle.std.specs.Prelude.{◌≡◌, ◌≤◌, ℕ, List, [], length, map, Option, Some, None, MatchOption}
 use Rattle.serde_json.specs.Data.{Data, array, object, Items, no_items, Members}
 use Rattle.serde_json.specs.Find.{get_member}
@@ -59,6 +60,7 @@ abbrev pub calls_of : Option Early → Option (EarlyList NamedCall)
 calls_of None = None
 calls_of (Some early) = early.calls
 
+-- the list of events that was read early, if there is one
 abbrev pub events_of : Option Early → Option (EarlyList EventText)
 events_of None = None
 events_of (Some early) = early.events

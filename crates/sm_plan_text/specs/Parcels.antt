@@ -1,5 +1,5 @@
 -- The parcels of a plan: what a signal carries, and what a stream holds at its start.
-use Rattle.std.specs.Prelude.{ℕ, ◌≤◌, List, [], ◌∷◌, ◌++◌, length, codes, map, Option, Some, None, option_and_then, unwrap_or, is_some, if◌then◌else◌}
+use Rattle.std.specs.Prelude.{ℕ, ◌+◌, ◌≤◌, List, [], ◌∷◌, ◌++◌, length, codes, map, Option, Some, None, option_and_then, unwrap_or, is_some, if◌then◌else◌}
 use Rattle.std.specs.Str.{bytes_eq}
 use Rattle.serde_json.specs.Data.{Data}
 use Rattle.sm_placement.specs.declared.lead.Lead.{Lead}
@@ -18,7 +18,7 @@ use Rattle.sm_plan_text.specs.declared.member.Member.TheVariants as members
 use Rattle.sm_plan_text.specs.Values.{text_found, number_in, id_in, entries_in}
 use Rattle.sm_plan_text.specs.Tables.{Row, one, maybe, whole, text, known, known_or_null, keyed, own_faults, worded_faults, walked}
 use Rattle.sm_plan_text.specs.Shards.{listed_in}
-use Rattle.sm_plan_code.specs.declared.limits.TheConstants.{MOST_AMOUNT, MOST_RIGHTS}
+use Rattle.sm_plan_code.specs.declared.limits.TheConstants.{MOST_AMOUNT, MOST_NUMBER, MOST_RIGHTS}
 
 -- ---- rights to cells
 
@@ -29,18 +29,22 @@ plain_named word =
     else if bytes_eq word (codes "secondary") then Some plain.Secondary
     else None
 
+-- the state of a cell right that a member says; Absent where it says none
 abbrev pub plain_in : Member → Data → PlainCell
 plain_in member d = unwrap_or (option_and_then plain_named (text_found member d)) plain.Absent
 
+-- the members of a cell right
 abbrev pub right_table : List (List ℕ) → List (List ℕ) → List Row
 right_table shards servers =
     one members.Shard (known shards) ∷
     one members.Server (known servers) ∷
     one members.State (text (λ s. is_some (plain_named s))) ∷ []
 
+-- the faults of a cell right, whatever stands before it in the list
 abbrev pub right_faults : List (List ℕ) → List (List ℕ) → List Data → Data → List TextFault
 right_faults shards servers before d = own_faults members.Cells (right_table shards servers) d
 
+-- a cell right, as its object says it
 abbrev pub right_in : List (List ℕ) → List (List ℕ) → Data → CellRight
 right_in shards servers d = record { shard = id_in shards members.Shard d; server = id_in servers members.Server d; state = plain_in members.State d }
 
@@ -54,6 +58,7 @@ pub data LeadWord : Type 0 where
   Handing : LeadWord
   Handed : LeadWord
 
+-- the lead that a word says
 abbrev pub lead_word : List ℕ → Option LeadWord
 lead_word s =
     if bytes_eq s (codes "gone") then Some Gone
@@ -71,12 +76,15 @@ lead_table servers Ready = one members.From (known servers) ∷ one members.To (
 lead_table servers Handing = one members.From (known servers) ∷ one members.To (known servers) ∷ []
 lead_table servers Handed = one members.From (known servers) ∷ one members.To (known servers) ∷ []
 
+-- the members that a crown has beside its word
 abbrev pub crown_table : List (List ℕ) → List (List ℕ) → LeadWord → List Row
 crown_table shards servers w = one members.Shard (known shards) ∷ maybe members.Listed (known_or_null servers) ∷ lead_table servers w
 
+-- the faults of a crown, whatever stands before it in the list
 abbrev pub crown_faults : List (List ℕ) → List (List ℕ) → List Data → Data → List TextFault
 crown_faults shards servers before d = worded_faults members.Crowns members.Lead lead_word (crown_table shards servers) d
 
+-- the lead that a crown's object says by its word
 abbrev pub lead_worded : List (List ℕ) → Data → LeadWord → Lead
 lead_worded servers d Gone = lead.Gone
 lead_worded servers d At = lead.At (id_in servers members.Server d)
@@ -84,30 +92,38 @@ lead_worded servers d Ready = lead.Ready (id_in servers members.From d) (id_in s
 lead_worded servers d Handing = lead.Handing (id_in servers members.From d) (id_in servers members.To d)
 lead_worded servers d Handed = lead.Handed (id_in servers members.From d) (id_in servers members.To d)
 
+-- a crown by its word; without a listed word, what stands for it in a plan that is refused
 abbrev pub crown_by : List (List ℕ) → List (List ℕ) → Data → Option LeadWord → Crown
 crown_by shards servers d None = record { shard = 0; lead = lead.Gone; listed = None }
 crown_by shards servers d (Some w) = record { shard = id_in shards members.Shard d; lead = lead_worded servers d w; listed = listed_in servers d }
 
+-- a crown, as its object says it
 abbrev pub crown_in : List (List ℕ) → List (List ℕ) → Data → Crown
 crown_in shards servers d = crown_by shards servers d (option_and_then lead_word (text_found members.Lead d))
 
 -- ---- room and spare replicas
 
+-- the members of an amount of room at a server
 abbrev pub room_table : List (List ℕ) → List Row
 room_table servers = one members.Server (known servers) ∷ one members.Amount (whole MOST_AMOUNT) ∷ []
 
+-- the faults of an amount of room, whatever stands before it in the list
 abbrev pub room_faults : List (List ℕ) → List Data → Data → List TextFault
 room_faults servers before d = own_faults members.Room (room_table servers) d
 
+-- an amount of room at a server, as its object says it
 abbrev pub room_in : List (List ℕ) → Data → Room
 room_in servers d = record { server = id_in servers members.Server d; amount = number_in members.Amount MOST_AMOUNT d }
 
+-- the members of an amount of spare replicas of a shard
 abbrev pub spare_table : List (List ℕ) → List Row
 spare_table shards = one members.Shard (known shards) ∷ one members.Amount (whole MOST_AMOUNT) ∷ []
 
+-- the faults of an amount of spare replicas, whatever stands before it in the list
 abbrev pub spare_faults : List (List ℕ) → List Data → Data → List TextFault
 spare_faults shards before d = own_faults members.Spare (spare_table shards) d
 
+-- an amount of spare replicas of a shard, as its object says it
 abbrev pub spare_in : List (List ℕ) → Data → Spare
 spare_in shards d = record { shard = id_in shards members.Shard d; amount = number_in members.Amount MOST_AMOUNT d }
 
@@ -141,8 +157,8 @@ parcel_lists_in shards servers d = record {
 
 -- so few shards and servers that the number of each is an id
 pub record HaveIds (shard_names server_names : List (List ℕ)) : Type 0 where
-  pub shards : length shard_names ≤ 4294967296
-  pub servers : length server_names ≤ 4294967296
+  pub shards : length shard_names ≤ MOST_NUMBER + 1
+  pub servers : length server_names ≤ MOST_NUMBER + 1
 
 -- the parcel: its rights in the order of their keys, without amounts of 0
 abbrev pub parcel_in : List (List ℕ) → List (List ℕ) → Data → Rights

@@ -38,9 +38,11 @@ members_saying (m ∷ ms) = member (text_of m.0) m.1 (members_saying ms)
 abbrev pub saying : List (Member × Data) → Data
 saying ms = object (members_saying ms)
 
+-- a whole number as a JSON value
 abbrev pub whole_data : ℕ → Data
 whole_data n = number (unsigned n)
 
+-- a list as a JSON value
 abbrev pub list_data : List Data → Data
 list_data ds = array (items_of ds)
 
@@ -59,6 +61,7 @@ scalars_put found (m ∷ ms) = scalars_put (put m.0.now (scalar_data m.1) found)
 abbrev pub name_at : List (List ℕ) → ℕ → List ℕ
 name_at names n = slice_index_or names n []
 
+-- the name of the object with a number, as a JSON value
 abbrev pub name_data : List (List ℕ) → ℕ → Data
 name_data names n = string (name_at names n)
 
@@ -67,10 +70,12 @@ abbrev pub listed_data : List (List ℕ) → Option ℕ → Data
 listed_data servers None = null
 listed_data servers (Some v) = name_data servers v
 
+-- the word of a replica's role
 abbrev pub role_text : Role → List ℕ
 role_text Primary = codes "primary"
 role_text Secondary = codes "secondary"
 
+-- the word of a cell right's state
 abbrev pub plain_text : PlainCell → List ℕ
 plain_text plain.Absent = codes "absent"
 plain_text plain.Secondary = codes "secondary"
@@ -85,6 +90,7 @@ lead_text (lead.Handed u v) = codes "handed"
 
 -- ---- rights
 
+-- what is written for a cell right
 abbrev pub right_data : List (List ℕ) → List (List ℕ) → CellRight → Data
 right_data shards servers x = saying (
     (Server, name_data servers x.server) ∷
@@ -115,15 +121,19 @@ crown_by_lead shards servers (lead.Ready u v) x = handover_data shards servers (
 crown_by_lead shards servers (lead.Handing u v) x = handover_data shards servers (codes "handing") u v x
 crown_by_lead shards servers (lead.Handed u v) x = handover_data shards servers (codes "handed") u v x
 
+-- what is written for a crown
 abbrev pub crown_data : List (List ℕ) → List (List ℕ) → Crown → Data
 crown_data shards servers x = crown_by_lead shards servers x.lead x
 
+-- what is written for an amount of room at a server
 abbrev pub room_data : List (List ℕ) → Room → Data
 room_data servers x = saying ((Amount, whole_data x.amount) ∷ (Server, name_data servers x.server) ∷ [])
 
+-- what is written for an amount of spare replicas of a shard
 abbrev pub spare_data : List (List ℕ) → Spare → Data
 spare_data shards x = saying ((Amount, whole_data x.amount) ∷ (Shard, name_data shards x.shard) ∷ [])
 
+-- what is written for a parcel: each of its four lists, empty ones too
 abbrev pub parcel_data : List (List ℕ) → List (List ℕ) → Rights → Data
 parcel_data shards servers r = saying (
     (Cells, list_data (map (right_data shards servers) r.cells)) ∷
@@ -154,6 +164,7 @@ entry_data shards word s = saying ((Do, string word) ∷ (Shard, name_data shard
 abbrev pub signal_data : List ℕ → ℕ → Data
 signal_data word k = saying ((Do, string word) ∷ (Signal, whole_data k) ∷ [])
 
+-- what is written for an instruction
 abbrev pub instr_data : List (List ℕ) → List (List ℕ) → Instr → Data
 instr_data shards servers (instr.PrepareAdd s v u) = prepare_data shards servers (codes "prepare_add") s v u
 instr_data shards servers (instr.PrepareDrop s u v) = prepare_data shards servers (codes "prepare_drop") s u v
@@ -194,6 +205,7 @@ stream_data shards servers retries s = saying (
 abbrev pub format_of : PlanModel → ℕ
 format_of p = if has_retries p then 2 else 1
 
+-- what is written for a plan, as a JSON value (RFC 8259)
 abbrev pub plan_data : List (List ℕ) → List (List ℕ) → PlanModel → Data
 plan_data shards servers p = saying (
     (Budget, whole_data p.budget) ∷

@@ -38,6 +38,7 @@ stream_faults shards servers signals retries before d =
     ++ faults_within (parcel_faults members.Holds shards servers []) (found members.Holds d)
     ++ walked (instr_faults shards servers signals) [] (entries_in members.Code d)
 
+-- a stream in a plan with so many signals, as its object says it; it has retries where the plan's format knows them
 abbrev pub stream_in : List (List ℕ) → List (List ℕ) → ℕ → Bool → Data → StreamModel
 stream_in shards servers signals retries d = record {
   budget = number_in members.Budget MOST_CALLS d;
@@ -48,6 +49,7 @@ stream_in shards servers signals retries d = record {
 
 -- ---- plans
 
+-- the members of a plan
 abbrev pub plan_table : List Row
 plan_table =
     maybe members.Format format ∷
@@ -55,6 +57,7 @@ plan_table =
     maybe members.Signals (list MOST_SIGNALS) ∷
     one members.Streams (list MOST_STREAMS) ∷ []
 
+-- how many signals a plan has
 abbrev pub signal_count_in : Data → ℕ
 signal_count_in d = length (entries_in members.Signals d)
 
@@ -65,6 +68,7 @@ plan_faults parent shards servers before d =
     ++ walked (parcel_faults members.Signals shards servers) [] (entries_in members.Signals d)
     ++ walked (stream_faults shards servers (signal_count_in d) (knows_retries d)) [] (entries_in members.Streams d)
 
+-- a plan, as its object says it
 abbrev pub plan_in : List (List ℕ) → List (List ℕ) → Data → PlanModel
 plan_in shards servers d = record {
   budget = number_in members.Budget MOST_CALLS d;

@@ -16,14 +16,16 @@ use Rattle.sm_plan_text.specs.Faults.{answered}
 use Rattle.sm_plan_text.specs.Plans.{plan_faults, plan_in}
 use Rattle.sm_plan_text.specs.Documents.{DocumentModel, document_faults, rows_in}
 
--- the JSON value that the bytes are in UTF-8
+-- the JSON value (RFC 8259) that the bytes are in UTF-8
 abbrev pub data_of : List ℕ → Option Data
 data_of bytes = if is_utf8 bytes then json.read bytes else None
 
+-- the fault that is answered, or what was read if there is none
 abbrev unless : {A : Type 0} → Option TextFault → A → Result A TextFault
 unless None read = Ok read
 unless (Some fault) read = Err fault
 
+-- what a JSON value is read as: a document, or the fault that is answered; NotJson if there is no value
 abbrev pub read_data : Option Data → Result DocumentModel TextFault
 read_data None = Err NotJson
 read_data (Some d) = unless (answered (document_faults d)) (rows_in d)
@@ -32,6 +34,7 @@ read_data (Some d) = unless (answered (document_faults d)) (rows_in d)
 abbrev pub read : List ℕ → Result DocumentModel TextFault
 read bytes = read_data (data_of bytes)
 
+-- what a JSON value is read as that is to be one plan, where shards and servers have these names
 abbrev pub read_plan_data : List (List ℕ) → List (List ℕ) → Option Data → Result PlanModel TextFault
 read_plan_data shards servers None = Err NotJson
 read_plan_data shards servers (Some d) = unless (answered (plan_faults members.Document shards servers [] d)) (plan_in shards servers d)

@@ -1,4 +1,5 @@
 -- The rules of the code as rows of a table, over the names that a scope has.
+-- Steps of the code's own way, which private functions' contracts cite: no reader of the public ones must believe them.
 use Rattle.std.specs.Prelude.{ℕ, Bool, false, ◌&&◌, not, List, [], ◌∷◌, Option, Some, None, is_some}
 use Rattle.serde_json.specs.Data.{Num}
 use Rattle.sm_placement.specs.Names.{is_name}
@@ -35,6 +36,7 @@ number_faults scope form.Format m n = format_fault m n
 number_faults scope _ m None = Shape m ∷ []
 number_faults scope _ m (Some n) = Number m ∷ []
 
+-- what a member of this form is to be
 abbrev pub want_of : Scope → Form → Want
 want_of scope (form.Whole limit) = whole limit
 want_of scope form.Flag = flag
@@ -56,10 +58,12 @@ want_of scope form.Signal = below scope.signals
 want_of scope form.Format = format
 want_of scope form.Object = object
 
+-- the member that a rule is of
 abbrev pub member_of : Rule → Member
 member_of (rule.One member form) = member
 member_of (rule.Maybe member form) = member
 
+-- a rule of the code, as a row of a table
 abbrev pub row_of : Scope → Rule → Row
 row_of scope (rule.One member form) = one member (want_of scope form)
 row_of scope (rule.Maybe member form) = maybe member (want_of scope form)

@@ -19,6 +19,7 @@ cap_limit d = min MOST_REPLICAS (unwrap_or (option_and_then whole_number_of (fou
 abbrev pub cell_count : List Data → ℕ
 cell_count shards = length (flat_map (entries_in Cells) shards)
 
+-- the members of a shard, whose name may not be one of those that are taken, and which has at most so many cells
 abbrev pub shard_table : List (List ℕ) → List (List ℕ) → ℕ → Data → List Row
 shard_table servers taken most_cells d =
     one Name (new_name taken) ∷
@@ -29,11 +30,13 @@ shard_table servers taken most_cells d =
     maybe Listed (known_or_null servers) ∷
     one Cells (list most_cells) ∷ []
 
+-- the members of a cell
 abbrev pub cell_table : List (List ℕ) → List Row
 cell_table servers =
     one Server (known servers) ∷
     one State role ∷ []
 
+-- the faults of a cell, whatever stands before it in the list
 abbrev pub cell_faults : List (List ℕ) → List Data → Data → List TextFault
 cell_faults servers before d = own_faults Cells (cell_table servers) d
 
@@ -47,6 +50,7 @@ faults_of_shard servers taken cells d =
 abbrev pub shard_faults : List (List ℕ) → List Data → Data → List TextFault
 shard_faults servers before d = faults_of_shard servers (names_in before) (cell_count before) d
 
+-- a shard of the configuration, as its object says it
 abbrev pub shard_in : Data → ShardRow
 shard_in d = record {
   name = text_in Name d;
@@ -60,11 +64,14 @@ shard_in d = record {
 abbrev pub listed_in : List (List ℕ) → Data → Option ℕ
 listed_in servers d = option_and_then (id_named servers) (found Listed d)
 
+-- a cell of the shard with this number, as its object says it
 abbrev pub named_cell : List (List ℕ) → ℕ → Data → NamedCell
 named_cell servers shard d = (shard, id_in servers Server d, cell_in (role_in State d))
 
+-- the cells of a shard, by its number in the list
 abbrev pub cells_of_shard : List (List ℕ) → ℕ × Data → List NamedCell
 cells_of_shard servers numbered = map (named_cell servers (id_of numbered.0)) (entries_in Cells numbered.1)
 
+-- the cells of all shards
 abbrev pub cells_in : List (List ℕ) → List Data → List NamedCell
 cells_in servers shards = flat_map (cells_of_shard servers) (enumerate_from 0 shards)

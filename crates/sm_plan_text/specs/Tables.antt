@@ -37,6 +37,7 @@ pub data Want : Type 0 where
   -- an object
   object : Want
 
+-- the text is one of these names
 abbrev pub is_among : List (List ℕ) → List ℕ → Bool
 is_among names s = list_any (bytes_eq s) names
 
@@ -70,29 +71,36 @@ one m want = record { member = m; optional = false; want = want }
 abbrev pub maybe : Member → Want → Row
 maybe m want = record { member = m; optional = true; want = want }
 
+-- the fault of a number that is not a whole one from 0 to a limit
 abbrev pub limit_fault : Member → ℕ → Option ℕ → List TextFault
 limit_fault m limit None = Number m ∷ []
 limit_fault m limit (Some n) = if nat_le n limit then [] else Number m ∷ []
 
+-- the fault of a value that is to be a whole number from 0 to a limit
 abbrev pub number_fault : Member → ℕ → Option Num → List TextFault
 number_fault m limit None = Shape m ∷ []
 number_fault m limit (Some n) = limit_fault m limit (as_u64 n)
 
+-- the fault of a value that is to be true or false
 abbrev pub flag_fault : Member → Option Bool → List TextFault
 flag_fault m None = Shape m ∷ []
 flag_fault m (Some b) = []
 
+-- the fault of a value that is to be a text that passes a test
 abbrev pub text_fault : Member → (List ℕ → Bool) → Option (List ℕ) → List TextFault
 text_fault m passes None = Shape m ∷ []
 text_fault m passes (Some s) = if passes s then [] else Shape m ∷ []
 
+-- the fault of a value that is to be a text that names one of these
 abbrev pub name_fault : Member → List (List ℕ) → Option (List ℕ) → List TextFault
 name_fault m names None = Shape m ∷ []
 name_fault m names (Some s) = if is_some (number_named names s) then [] else UnknownName m ∷ []
 
+-- the fault of a list of more entries than it may have
 abbrev pub count_faults : Member → ℕ → ℕ → List TextFault
 count_faults m limit count = if nat_le count limit then [] else TooMany m ∷ []
 
+-- the fault of a value that is to be a list of at most so many entries
 abbrev pub list_fault : Member → ℕ → Option Items → List TextFault
 list_fault m limit None = Shape m ∷ []
 list_fault m limit (Some ds) = count_faults m limit (length (entries ds))
@@ -106,11 +114,13 @@ abbrev pub texts_found : List Member → Data → Option (List (List ℕ))
 texts_found [] d = Some []
 texts_found (m ∷ ms) d = option_and_then (λ text. option_map (λ texts. text ∷ texts) (texts_found ms d)) (text_found m d)
 
+-- the texts are the same, and as many
 abbrev pub texts_eq : List (List ℕ) → List (List ℕ) → Bool
 texts_eq [] [] = true
 texts_eq (s ∷ ss) (t ∷ ts) = bytes_eq s t && texts_eq ss ts
 texts_eq _ _ = false
 
+-- both keys are there, and they are the same
 abbrev pub is_same_key : Option (List (List ℕ)) → Option (List (List ℕ)) → Bool
 is_same_key (Some s) (Some t) = texts_eq s t
 is_same_key _ _ = false
@@ -120,21 +130,26 @@ abbrev pub has_double_key : List (Option (List (List ℕ))) → Bool
 has_double_key [] = false
 has_double_key (key ∷ keys) = list_any (is_same_key key) keys || has_double_key keys
 
+-- the fault of a list of objects of which two have the same key
 abbrev pub double_faults : Member → List Member → List Data → List TextFault
 double_faults m key ds = if has_double_key (map (texts_found key) ds) then Shape m ∷ [] else []
 
+-- the fault of a number that is not a whole one from 0 on, or that is not below a count and so names nothing
 abbrev pub below_fault : Member → ℕ → Option ℕ → List TextFault
 below_fault m count None = Number m ∷ []
 below_fault m count (Some n) = if nat_lt n count then [] else UnknownName m ∷ []
 
+-- the fault of a value that is to be a whole number below a count
 abbrev pub index_fault : Member → ℕ → Option Num → List TextFault
 index_fault m count None = Shape m ∷ []
 index_fault m count (Some n) = below_fault m count (as_u64 n)
 
+-- the number is there, and is this one
 abbrev pub is_number : ℕ → Option ℕ → Bool
 is_number n None = false
 is_number n (Some k) = k == n
 
+-- the fault of a value that is to be the format of a plan
 abbrev pub format_fault : Member → Option Num → List TextFault
 format_fault m None = Shape m ∷ []
 format_fault m (Some n) = if is_number 1 (as_u64 n) || is_number 2 (as_u64 n) then [] else Number m ∷ []
@@ -153,6 +168,7 @@ value_faults m (below count) d = index_fault m count (as_number d)
 value_faults m format d = format_fault m (as_number d)
 value_faults m object d = if is_some (as_object d) then [] else Shape m ∷ []
 
+-- the faults of a member's value, or of a member that is missing and may not be
 abbrev pub found_faults : Row → Option Data → List TextFault
 found_faults row None = if row.optional then [] else Shape row.member ∷ []
 found_faults row (Some d) = value_faults row.member row.want d
@@ -166,9 +182,11 @@ abbrev pub keys_of : Members → List (List ℕ)
 keys_of no_members = []
 keys_of (member key d rest) = key ∷ keys_of rest
 
+-- an object has a member that is none of these
 abbrev pub has_unknown_member : List (List ℕ) → Members → Bool
 has_unknown_member names members = list_any (λ key. not (is_among names key)) (keys_of members)
 
+-- the fault of what stands in this member, which is to be an object without unknown members
 abbrev unknown_fault : Member → List (List ℕ) → Option Members → List TextFault
 unknown_fault parent names None = Shape parent ∷ []
 unknown_fault parent names (Some members) = if has_unknown_member names members then Shape parent ∷ [] else []
@@ -185,6 +203,7 @@ own_faults parent table d = object_faults parent (map (λ row. text_of row.membe
 abbrev pub unlisted_faults : Member → Member → Data → List TextFault
 unlisted_faults parent word d = (if is_some (as_object d) then [] else Shape parent ∷ []) ++ Shape word ∷ []
 
+-- the faults of the object itself by its word, or of one that has no listed word
 abbrev pub by_word : {W : Type 0} → Member → Member → (W → List Row) → Data → Option W → List TextFault
 by_word parent word table d None = unlisted_faults parent word d
 by_word parent word table d (Some w) = object_faults parent (text_of word ∷ map (λ row. text_of row.member) (table w)) d ++ flat_map (row_faults d) (table w)

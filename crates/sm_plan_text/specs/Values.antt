@@ -16,12 +16,15 @@ use Rattle.sm_plan_code.specs.declared.limits.TheConstants.{MOST_NUMBER}
 abbrev pub found : Member → Data → Option Data
 found member d = get (text_of member) d
 
+-- the text of a member, if it has one
 abbrev pub text_found : Member → Data → Option (List ℕ)
 text_found member d = option_and_then as_str (found member d)
 
+-- what a member says that is to be a text
 abbrev pub text_in : Member → Data → List ℕ
 text_in member d = unwrap_or (text_found member d) []
 
+-- what a member says that is to be true or false
 abbrev pub flag_in : Member → Data → Bool
 flag_in member d = unwrap_or (option_and_then as_bool (found member d)) false
 
@@ -37,9 +40,11 @@ under count n = if nat_lt n count then n else 0
 abbrev pub whole_number_of : Data → Option ℕ
 whole_number_of d = option_and_then as_u64 (as_number d)
 
+-- what a value says that is to be a whole number within its limit
 abbrev pub limited : ℕ → Data → ℕ
 limited limit d = up_to limit (unwrap_or (whole_number_of d) 0)
 
+-- what a member says that is to be a whole number within its limit
 abbrev pub number_in : Member → ℕ → Data → ℕ
 number_in member limit d = unwrap_or (option_map (limited limit) (found member d)) 0
 
@@ -52,6 +57,7 @@ abbrev pub entries : Items → List Data
 entries no_items = []
 entries (item d ds) = d ∷ entries ds
 
+-- the entries of a value that is a list, and none of another one
 abbrev pub items_of : Data → List Data
 items_of d = unwrap_or (option_map entries (as_array d)) []
 
@@ -87,6 +93,7 @@ number_below count member d = id_of (under count (unwrap_or (option_and_then who
 abbrev pub id_named : List (List ℕ) → Data → Option ℕ
 id_named names d = option_map id_of (option_and_then (number_named names) (as_str d))
 
+-- the id of the object that a member names
 abbrev pub id_in : List (List ℕ) → Member → Data → ℕ
 id_in names member d = unwrap_or (option_and_then (id_named names) (found member d)) 0
 
@@ -98,6 +105,7 @@ ids_in names member d = map (λ entry. unwrap_or (id_named names entry) 0) (entr
 abbrev pub role_named : List ℕ → Option Role
 role_named word = if bytes_eq word (codes "primary") then Some Primary else if bytes_eq word (codes "secondary") then Some Secondary else None
 
+-- the role that a member says; Secondary where it says none
 abbrev pub role_in : Member → Data → Role
 role_in member d = unwrap_or (option_and_then role_named (text_found member d)) Secondary
 
@@ -105,5 +113,6 @@ role_in member d = unwrap_or (option_and_then role_named (text_found member d)) 
 abbrev pub after_named : List ℕ → Option Bool
 after_named word = if bytes_eq word (codes "before") then Some false else if bytes_eq word (codes "after") then Some true else None
 
+-- whether a member says that a call is lost after it was made
 abbrev pub after_in : Member → Data → Bool
 after_in member d = unwrap_or (option_and_then after_named (text_found member d)) false

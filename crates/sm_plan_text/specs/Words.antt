@@ -33,7 +33,7 @@ pub use Rattle.sm_plan_text.specs.Parcels.{plain_named, right_table, right_in, l
 pub use Rattle.sm_plan_text.specs.Instructions.{instr_word, instr_table, instr_faults, instr_of, instr_in}
 pub use Rattle.sm_plan_text.specs.Plans.{faults_within, knows_retries, stream_table, stream_in, plan_faults, plan_in}
 pub use Rattle.sm_plan_text.specs.Rules.{row_of, HasIds}
-pub use Rattle.sm_plan_text.specs.Outlines.{IsKept, IsEarly, IsPartialOutline, IsOutlined, IsOutline, calls_of, events_of}
+pub use Rattle.sm_plan_text.specs.Outlines.{IsKept, IsEarly, IsPartialOutline, IsOutlined, IsOutline}
 pub use Rattle.sm_plan_text.specs.Work.{AreKept, IsWork, work_noted}
 pub use Rattle.sm_plan_text.specs.Documents.{document_table, document_faults, rows_in, IsDocument}
 pub use Rattle.sm_plan_text.specs.Opened.{opening_of}

@@ -1,5 +1,4 @@
-//! Where a text is read: a JSON value, the member that it stands in, and what it may name. A member of the value that is missing
-//! or not in its form stands for 0, false, or what is empty.
+//! Where a text is read. A member of a value that is missing or not in its form stands for 0, false, or what is empty.
 ghost use Rattle.std.specs.Prelude.{◌≡◌, [], option_map, option_and_then, map, false, IfOk, string_bytes};
 ghost use Rattle.sm_plan_text.specs.Words.{view, found, whole_number_of, text_in, role_named, role_in, after_named, flag_in, number_in, number_or, number_below, items_of, entries_in, id_of, id_named, id_in, plain_named};
 
@@ -18,6 +17,7 @@ pub struct Scope<'p> {
     pub retries: bool,
 }
 
+/// Where a text is read: a JSON value, the member that it stands in, and what it may name.
 #[derive(Clone, Copy)]
 pub struct Cursor<'p, 't> {
     pub alloc: Global,
@@ -27,6 +27,7 @@ pub struct Cursor<'p, 't> {
 }
 
 impl<'p, 't> Cursor<'p, 't> {
+    /// At a value in a member, over these names, outside a plan.
     pub fn new(
         alloc: Global,
         tree: &'p Tree<'t>,
@@ -196,6 +197,7 @@ pub fn items_of<'p, 't>(value: &'p Tree<'t>) -> &'p [Tree<'t>]
     items
 }
 
+/// The role that a word says.
 pub fn role_of(text: &str) -> Option<Role>
     ensures { result ≡ role_named text.now }
 {
@@ -206,6 +208,7 @@ pub fn role_of(text: &str) -> Option<Role>
     }
 }
 
+/// Whether a word says that a call is lost after it was made, or before.
 pub fn after_of(text: &str) -> Option<bool>
     ensures { result ≡ after_named text.now }
 {
@@ -216,6 +219,7 @@ pub fn after_of(text: &str) -> Option<bool>
     }
 }
 
+/// The state of a cell right that a word says.
 pub fn state_of(text: &str) -> Option<PlainCell>
     ensures { result ≡ plain_named text.now }
 {

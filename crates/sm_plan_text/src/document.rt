@@ -3,7 +3,7 @@ ghost use Rattle.std.specs.Prelude.{◌≡◌, ◌≢◌, [], Option, Some, None
 ghost use Rattle.sm_plan_text.specs.Words.{Data, view, noted, Scope, HasIds, row_of, id_named, setup_of, config_fault, sizes_of, place_of, IsSettled, opened_place, open_fault, opening_of, document_table, document_faults, rows_in, IsDocument, AreKept, IsWork, work_noted, IsOutlined, IsOutline, data_of, read_data, read, rows_of, rows_of_parts};
 
 use crate::cursor::id_named;
-use crate::limits::{DOWN_LIMIT, LOG_PLACES, MOST_EVENTS, MOST_MOVES};
+use crate::limits::{DOWN_LIMIT, LOG_PLACES, MOST_EVENTS};
 use crate::outline::{Early, Outline};
 use crate::rows::{Servers, Shards, read_servers, read_shards};
 use crate::{Cursor, Entry, EventText, Faults, Form, Member, MoveText, Names, Rule, TextFault};
@@ -11,7 +11,7 @@ use json_tree::{ReadFault, Scratch, Tree};
 use sm_placement::{
     Config, ConfigFault, MOST_SERVERS, MOST_SHARDS, OpenFault, Placement, Server, Shard,
 };
-use sm_plan_code::{MOST_PLACES, MOST_PLANS, Plan};
+use sm_plan_code::{MOST_MOVES, MOST_PLACES, MOST_PLANS, Plan};
 use sm_server::{Call, Cell, ServerId, ShardId};
 use std::alloc::{AllocError, Global};
 

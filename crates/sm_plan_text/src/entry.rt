@@ -6,6 +6,7 @@ use crate::outline::EarlyList;
 use crate::{Cursor, Faults, Member};
 use std::alloc::AllocError;
 
+/// One value that is read of a document: what stands in a member, or an entry of a list there.
 pub trait Entry: Drop {
     /// What it is, where nothing is wrong.
     ghost value: { Scope → Data → Self };
@@ -13,6 +14,7 @@ pub trait Entry: Drop {
     /// What is wrong with it where it stands in this member, or in a list there.
     ghost faults_of: { Scope → Member → Data → List TextFault };
 
+    /// Reads it where the cursor is, and notes what is wrong with it.
     fn read(cursor: &Cursor<'_, '_>, faults: &mut Faults) -> Result<Self, AllocError>
         ensures value { IfOk result (λ read. HasIds cursor.now.scope → faults.new.lowest ≡ None → read ≡ value cursor.now.scope (view cursor.now.tree.now)) }
         ensures faults { OnOk result (faults.new.lowest ≡ noted faults.old.lowest (faults_of cursor.now.scope cursor.now.member (view cursor.now.tree.now))) };

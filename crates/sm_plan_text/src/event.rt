@@ -10,7 +10,7 @@ use sm_plan_code::{MOST_CALLS, MOST_NUMBER};
 use sm_server::{ServerId, ShardId};
 use std::alloc::AllocError;
 
-/// What happens next. A plan is its cursor among the plans of the document, a stream its cursor in the plan.
+/// What happens next. A plan is its number among the plans of the document, a stream its number in the plan.
 #[derive(Clone, Copy, Debug, PartialEq, Eq)]
 pub enum EventText {
     /// A stream makes one step.

@@ -1,12 +1,13 @@
-//! The limits of a document's own lists and numbers. Those of configurations, placements and plans stand in their crates.
+//! The limits of a document's own lists and numbers, and of its depth. Those of configurations, placements and plans stand in their crates.
+use json_tree::MAX_DEPTH;
 use sm_placement::{MOST_LOAD, MOST_SERVERS};
 use sm_plan_code::MOST_AMOUNT;
 
+/// How deep arrays and objects may nest in a member of a document: a level less than in the document, which is an object itself.
+pub const MOST_DEPTH: usize = MAX_DEPTH - 1;
+
 /// How many calls, and how many events, a document has at most.
 pub const MOST_EVENTS: usize = 1_048_576;
-
-/// How many moves a document has at most.
-pub const MOST_MOVES: usize = 4_096;
 
 /// How many shards a document asks for at most.
 pub const MOST_ASKS: usize = 16;

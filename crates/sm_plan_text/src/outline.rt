@@ -6,9 +6,9 @@ ghost use Rattle.serde_json.specs.Data.{Data, Items, Members, array, put};
 ghost use Rattle.serde_json.specs.Read.{of_json, of_members, converted, read as read_text};
 
 use crate::cursor::{Scope, items_of};
-use crate::limits::MOST_EVENTS;
+use crate::limits::{MOST_DEPTH, MOST_EVENTS};
 use crate::{Cursor, Entry, EventText, Faults, Member, Names};
-use json_tree::{MAX_DEPTH, ReadFault, Reader, Scratch, Token, Tree, find_member, read_value};
+use json_tree::{ReadFault, Reader, Scratch, Token, Tree, find_member, read_value};
 use sm_server::{Call, ServerId, ShardId};
 use std::alloc::{AllocError, Global};
 
@@ -49,7 +49,7 @@ fn read_list<T: Entry>(
     member: Member,
     scope: Scope<'_>,
 ) -> Result<EarlyList<T>, ReadFault>
-    ensures ok { IfOk result (λ list. (ds : Items) × (converted of_json (value 126 reader.old) ≡ Some (array ds, reader.new))
+    ensures ok { IfOk result (λ list. (ds : Items) × (converted of_json (value MOST_DEPTH reader.old) ≡ Some (array ds, reader.new))
         × (list.faults.lowest ≡ answered (walked (λ _ entry. T.faults_of scope.entry member entry) [] (entries ds)))
         × (length (entries ds) ≤ MOST_EVENTS)
         × (HasIds scope.entry → list.faults.lowest ≡ None → list.values.items ≡ map (T.value scope.entry) (entries ds))) }
@@ -61,7 +61,7 @@ fn read_list<T: Entry>(
     let mut values = Vec::new(alloc);
     let mut faults = Faults { lowest: None };
     'entries: while !reader.take_end_array() {
-        let tree = read_value(alloc, reader, MAX_DEPTH - 2)?;
+        let tree = read_value(alloc, reader, MOST_DEPTH - 1)?;
         let cursor = Cursor {
             alloc,
             tree: &tree,
@@ -115,7 +115,7 @@ impl Early {
         reader: &mut Reader<'a>,
         name: &str,
     ) -> Result<Tree<'a>, ReadFault>
-        ensures ok { IfOk result (λ tree. (d : Data) × (converted of_json (value 126 reader.old) ≡ Some (d, reader.new))
+        ensures ok { IfOk result (λ tree. (d : Data) × (converted of_json (value MOST_DEPTH reader.old) ≡ Some (d, reader.new))
             × ((kept whole : Members) → IsEarly self.old kept whole → IsEarly self.new (put name.now (view tree) kept) (put name.now d whole))) }
         ensures shorter { OnOk result (length reader.new < length reader.old) }
     {
@@ -129,7 +129,7 @@ impl Early {
             "calls" => self.calls = Some(read_list(alloc, reader, Member::Calls, scope)?),
             "events" => self.events = Some(read_list(alloc, reader, Member::Events, scope)?),
             "servers" | "shards" => return Err(ReadFault::NotJson),
-            _ => return read_value(alloc, reader, MAX_DEPTH - 1),
+            _ => return read_value(alloc, reader, MOST_DEPTH),
         }
         Ok(Tree::Array(Vec::new(alloc)))
     }
@@ -154,14 +154,14 @@ impl<'a> PartialOutline<'a> {
         reader: &mut Reader<'a>,
         name: &'a str,
     ) -> Result<(), ReadFault>
-        ensures ok { OnOk result ((d : Data) × (converted of_json (value 126 reader.old) ≡ Some (d, reader.new))
+        ensures ok { OnOk result ((d : Data) × (converted of_json (value MOST_DEPTH reader.old) ≡ Some (d, reader.new))
             × ((whole : Members) → IsPartialOutline self.old whole → IsPartialOutline self.new (put name.now d whole))) }
         ensures shorter { OnOk result (length reader.new < length reader.old) }
     {
         self.find_names(alloc, name)?;
         let tree = match &mut self.early {
             Some(early) => early.read_member(alloc, reader, name)?,
-            None => read_value(alloc, reader, MAX_DEPTH - 1)?,
+            None => read_value(alloc, reader, MOST_DEPTH)?,
         };
         self.members
             .push((name, tree))
@@ -172,7 +172,7 @@ impl<'a> PartialOutline<'a> {
     /// Reads all members, to the end of the object.
     fn read_members(&mut self, alloc: Global, reader: &mut Reader<'a>) -> Result<(), ReadFault>
         ensures { OnOk result ((whole : Members) → IsPartialOutline self.old whole → (found : Members) × IsPartialOutline self.new found
-            × (converted (λ ms. of_members ms whole) (members (value 126) (length reader.old) reader.old) ≡ Some (found, reader.new))) }
+            × (converted (λ ms. of_members ms whole) (members (value MOST_DEPTH) (length reader.old) reader.old) ≡ Some (found, reader.new))) }
     {
         'members: while let Some(name) = reader.next_key()? {
             self.read_member(alloc, reader, name)?;

@@ -17,8 +17,7 @@ fn server_names(alloc: Global, config: &Config) -> Result<Names, AllocError>
 {
     let mut names = Names::new(alloc);
     for number in 0..config.server_count() {
-        let name = config.server(ServerId::new(number)).name.clone()?;
-        names.insert(name)?;
+        names.insert(config.server(ServerId::new(number)).name.clone()?)?;
     }
     Ok(names)
 }
@@ -30,8 +29,7 @@ fn shard_names(alloc: Global, config: &Config) -> Result<Names, AllocError>
 {
     let mut names = Names::new(alloc);
     for number in 0..config.shard_count() {
-        let name = config.shard(ShardId::new(number)).name.clone()?;
-        names.insert(name)?;
+        names.insert(config.shard(ShardId::new(number)).name.clone()?)?;
     }
     Ok(names)
 }

@@ -10,6 +10,7 @@ use crate::limits::MOST_ASKS;
 use crate::{Cursor, Faults, Member, Names, TextFault};
 use indexmap::IndexSet;
 use json_tree::Tree;
+use sm_placement::is_name;
 use sm_plan_code::MOST_RIGHTS;
 use std::alloc::{AllocError, Global};
 
@@ -76,16 +77,6 @@ impl Rule {
             Rule::One(member, _) | Rule::Maybe(member, _) => member,
         }
     }
-}
-
-/// 1 to 32 letters, digits, `-`, `.` or `_`.
-fn is_name(text: &str) -> bool
-    ensures { result ≡ is_name text.now }
-{
-    1 <= text.len()
-        && text.len() <= 32
-        && text.as_bytes().iter().all(|b| b.is_ascii_alphanumeric()
-            || matches!(*b, b'-' | b'.' | b'_'))
 }
 
 /// The text is of the form, which is one of texts.

@@ -4,7 +4,7 @@ ghost use Rattle.serde_json.specs.Data.{object, no_members};
 ghost use Rattle.serde_json.specs.View.{view};
 ghost use Rattle.sm_plan_text.specs.Words.{Data, Member, Setup, IsSetup, names_of_servers, names_of_shards, PlanModel, IsPlan, IsKnownPlan, IsKnownStream, IsKnownInstr, IsKnownParcel, IsKnownCrown, IsKnownCellRight, read_plan};
 ghost use Rattle.sm_plan_text.specs.declared.member.Member.TheVariants as members;
-ghost use Rattle.sm_plan_text.specs.PlanTexts.{name_data, scalar_data, scalars_put, list_data, role_text, plain_text, lead_text, right_data, crown_data, room_data, spare_data, parcel_data, step_data, instr_data, stream_data, has_retries, plan_data, plan_text, IsReadBack};
+ghost use Rattle.sm_plan_text.specs.PlanTexts.{name_data, scalar_data, scalars_put, list_data, role_text, plain_text, lead_text, right_data, crown_data, room_data, spare_data, parcel_data, step_data, signal_data, instr_data, stream_data, has_retries, plan_data, plan_text, IsReadBack};
 
 use self::Scalar::{Null, Number, Text};
 use serde_json::{Map, Value, json, put};
@@ -79,6 +79,13 @@ impl<'c> Writer<'c> {
         let server = ("server", self.server(server));
         let shard = ("shard", self.shard(shard));
         self.object(&[("do", Text(word)), server, shard, (key, more)])
+    }
+
+    /// An instruction of a signal.
+    fn signal(&self, word: &str, signal: u32) -> Result<Value, AllocError>
+        ensures { IfOk result (λ value. view value ≡ signal_data word.now signal) }
+    {
+        self.object(&[("do", Text(word)), ("signal", Number(u64::from(signal)))])
     }
 
     /// A list.
@@ -249,14 +256,8 @@ impl PlanPart for Instr {
             Instr::Unlist { shard } => {
                 writer.object(&[("do", Text("unlist")), ("shard", writer.shard(shard))])
             }
-            Instr::Signal { signal } => {
-                let signal = Number(u64::from(signal));
-                writer.object(&[("do", Text("signal")), ("signal", signal)])
-            }
-            Instr::Wait { signal } => {
-                let signal = Number(u64::from(signal));
-                writer.object(&[("do", Text("wait")), ("signal", signal)])
-            }
+            Instr::Signal { signal } => writer.signal("signal", signal),
+            Instr::Wait { signal } => writer.signal("wait", signal),
         }
     }
 }
