@@ -1,5 +1,9 @@
 """Documents with faults, and what the built program answers: see scripts/check-faults."""
+import copy
+import functools
+import itertools
 import json
+import operator
 import os
 import subprocess
 import sys
@@ -8,8 +12,18 @@ from concurrent.futures import ThreadPoolExecutor
 from fault_cases import DOCUMENTS, FILES, cases_of
 
 program = sys.argv[2]
-# What each command answers to a document that is read, but has nothing for the command.
-LACKS = {"calls": "bad input: 3 Shape calls\n", "check": "bad input: 3 Shape plan\n"}
+# What each command answers to a document that is read, but has nothing for the command, or too much.
+LACKS = {
+    "calls": ["bad input: 3 Shape calls\n"],
+    "check": ["bad input: 3 Shape plan\n"],
+    "play": ["bad input: 3 Shape plans\n", "bad input: 3 Shape events\n"],
+    "plan": ["bad input: 3 Shape moves\n", "bad input: 3 Shape drain\n"],
+    "run": ["bad input: 3 Shape plan\n"],
+}
+# The commands to which all documents are given; those of the files are given to all commands.
+COMMANDS = ["calls", "check"]
+# The lists that name each other's entries, or are read in another way behind them.
+ORDERED = ["servers", "shards", "calls", "events"]
 
 
 def members_of(text):
@@ -51,6 +65,98 @@ def in_other_orders(case):
         other = "{" + ",".join(it[1] for it in sorted(members or [], key=key)) + "}"
         if members and other != text.decode(errors="replace"):
             yield f"{where}, {order}", other.encode(), answer
+
+
+def in_all_orders(text):
+    """A document with these four lists in each of their orders, and its other members between them or behind."""
+    members = members_of(text)
+    lists, others = [it for it in members if it[0] in ORDERED], [it for it in members if it[0] not in ORDERED]
+    if sorted(it[0] for it in lists) != sorted(ORDERED) or not others:
+        sys.exit(f"no document with {ORDERED} and others")
+    for order in itertools.permutations(lists):
+        between = [it for pair in itertools.zip_longest(order, others) for it in pair if it]
+        for place, turned in [("between", between), ("behind", [*order, *others])]:
+            yield f"{', '.join(it[0] for it in order)}, others {place}", "{" + ",".join(it[1] for it in turned) + "}"
+
+
+def every_member(*pairs):
+    """The document with each member, but for its plans, and with new texts in the place of the first old ones."""
+    whole = json.loads((DOCUMENTS / "every-member.json").read_text())
+    text = json.dumps({name: value for name, value in whole.items() if name not in ("plan", "plans")})
+    for old, new in pairs:
+        if old not in text:
+            sys.exit(f"{old} is not in every-member.json")
+        text = text.replace(old, new, 1)
+    return text
+
+
+# Documents that are given in all these orders. Of faults in several lists one is answered in each: that of the lowest number, of one number the
+# first in the order of the table.
+CALL_OF_NONE = '"call": "drop", "shard": "t", "server": "a"', '"call": "drop", "shard": "t", "server": "q"'
+IN_ALL_ORDERS = [
+    ([], None),
+    ([('"ticket": 2', '"ticket": -1')], "6 Number ticket"),
+    ([CALL_OF_NONE, ('"event": "request", "shard": "s"', '"event": "request", "shard": "q"')], "4 UnknownName server"),
+    ([CALL_OF_NONE, ('"when": "before"', '"when": "behind"')], "3 Shape when"),
+    ([('"room": 4', '"room": -4'), ('"event": "request", "shard": "s"', '"event": "request", "shard": "q"')], "4 UnknownName shard"),
+]
+
+
+def ordered():
+    """These documents in all orders."""
+    for pairs, answer in IN_ALL_ORDERS:
+        for where, text in in_all_orders(every_member(*pairs)):
+            yield f"{answer or 'no fault'}: {where}", text.encode(), answer
+
+
+def printed_by(command, text):
+    """What the program prints, and its status."""
+    run = subprocess.run([program, command], input=text, stdout=subprocess.PIPE)
+    return run.stdout.decode(), run.returncode
+
+
+def unequal():
+    """The orders of a faultless document in which it is answered otherwise than as it stands."""
+    text = every_member()
+    for command in ("calls", "play"):
+        wanted = printed_by(command, text.encode())
+        if wanted[0].startswith("bad input: ") or wanted[1] != 0:
+            yield f"every-member.json without plans: {command} prints {wanted[0][:80]!r}, status {wanted[1]}"
+        for where, turned in in_all_orders(text):
+            if printed_by(command, turned.encode()) != wanted:
+                yield f"{where}: {command} prints something else than of the document as it stands"
+
+
+def member_paths(value, path=()):
+    """The paths of all members of all objects in a value."""
+    inner = value.items() if isinstance(value, dict) else enumerate(value) if isinstance(value, list) else ()
+    for key, it in inner:
+        if isinstance(value, dict):
+            yield (*path, key)
+        yield from member_paths(it, (*path, key))
+
+
+def twice(whole, path, first, last):
+    """A document whose member at this path stands at the front of its object with one value, and at its end with another."""
+    document = copy.deepcopy(whole)
+    *above, member = path
+    holder = functools.reduce(operator.getitem, above, document)
+    others = {name: value for name, value in holder.items() if name != member}
+    holder.clear()
+    holder.update({"(first)": first} | others | {member: last})
+    return json.dumps(document).replace('"(first)"', json.dumps(member), 1).encode()
+
+
+def doubled():
+    """Each member of each object twice. A list in a list is the value of none, so the answer shows that the last one counts."""
+    wrong = [[]]
+    for name in ("every-member.json", "bases/everything.json"):
+        whole = json.loads((DOCUMENTS / name).read_text())
+        for path in member_paths(whole):
+            right = functools.reduce(operator.getitem, path, whole)
+            where = f"{name}, {'.'.join(map(str, path))}"
+            yield f"{where} wrong, and then right", twice(whole, path, wrong, right), None
+            yield f"{where} right, and then wrong", twice(whole, path, right, wrong), f"3 Shape {path[-1]}"
 
 
 def behind_many():
@@ -158,34 +264,37 @@ def is_right(answer, command, printed, status):
     """The command printed the fault and nothing else; or, where there is none, it got past reading."""
     if answer is not None:
         return (printed, status) == (f"bad input: {answer}\n", 2)
-    return (printed, status) == (LACKS[command], 2) or (not printed.startswith("bad input: ") and status in (0, 1))
+    return (printed in LACKS[command] and status == 2) or (not printed.startswith("bad input: ") and status in (0, 1))
 
 
-def told(case):
+def told(case, commands=COMMANDS):
     """What is wrong with the program's answers to a case, if anything is."""
     where, text, answer = case
     if callable(text):
         text = text()
-    for command in LACKS:
-        run = subprocess.run([program, command], input=text, stdout=subprocess.PIPE)
-        printed = run.stdout.decode()
-        if not is_right(answer, command, printed, run.returncode):
+    for command in commands:
+        printed, status = printed_by(command, text)
+        if not is_right(answer, command, printed, status):
             wanted = answer or "no fault"
-            return f"{where}: {command} prints {printed[:80]!r}, status {run.returncode}, where {wanted} is wanted"
+            return f"{where}: {command} prints {printed[:80]!r}, status {status}, where {wanted} is wanted"
     return None
 
 
+def told_by_all(case):
+    return told(case, LACKS)
+
+
 written = [case for path in FILES for case in cases_of(path)]
-made = [*cut_and_nested(), *behind_many()]
-turned = [other for case in [*written, *behind_many()] for other in in_other_orders(case)]
+made = [*cut_and_nested(), *behind_many(), *doubled()]
+turned = [other for case in [*written, *behind_many()] for other in in_other_orders(case)] + [*ordered()]
 if not written or not made or not turned or not SIZES:
     sys.exit("faults: a table is empty")
 with ThreadPoolExecutor(os.cpu_count()) as workers:
-    answers = list(workers.map(told, written + made + turned))
+    answers = [*workers.map(told_by_all, written), *workers.map(told, made + turned)]
 # A large document takes over a gigabyte of memory.
 with ThreadPoolExecutor(2) as workers:
     answers += workers.map(told, SIZES)
-failed = [answer for answer in answers if answer is not None]
+failed = [answer for answer in answers if answer is not None] + [*unequal()]
 for line in failed[:20]:
     print(line)
 print(f"faults: {len(written)} of {len(FILES)} files, {len(made)} cut, nested or doubled, {len(turned)} in another order, {len(SIZES)} large, {len(failed)} failed")

@@ -1,9 +1,11 @@
 //! The report that a word of the command line asks for.
-ghost use Rattle.std.specs.Prelude.{◌≡◌, ◌<◌};
+ghost use Rattle.std.specs.Prelude.{◌≡◌, ◌<◌, ℕ, List, take};
 ghost use Rattle.std.specs.Io.KnownBytes.{Appends, Keeps};
 ghost use Rattle.sm_report.specs.Report.{Output};
 ghost use Rattle.sm_report.specs.Status.{code_of};
-ghost use Rattle.sm_command_line.specs.Reported.{IsReported};
+ghost use Rattle.sm_report.specs.Unmade.{unrun_text};
+ghost use Rattle.sm_report.specs.declared.unmade.Unrun.{Unrun};
+ghost use Rattle.sm_command_line.specs.Reported.{IsReported, IsWrittenFor};
 
 use crate::words::Word;
 use sm_report::{Status, report, report_run};
@@ -22,8 +24,15 @@ pub fn report_word<R: AllocGlobal + Threads + Wait + Sync, I: Read, W: Write>(
     ensures reported { code_of result < 3 → (output : Output)
         × IsReported word (I.remaining reader.old) output × (result ≡ output.status)
         × Appends (W.contents writer.old) (W.contents writer.new) output.text }
-    // Without memory nothing is written.
+    // Without memory, and after a read that fails, nothing is written.
     ensures memory { result ≡ Status.NoMemory → Keeps (W.contents writer.old) (W.contents writer.new) }
+    ensures read_fault { result ≡ Status.ReadFailed → Keeps (W.contents writer.old) (W.contents writer.new) }
+    // After a write that fails, a front of what would be written is.
+    ensures write_fault { result ≡ Status.WriteFailed → (text : List ℕ)
+        × IsWrittenFor word (I.remaining reader.old) text
+        × (k : ℕ) × Appends (W.contents writer.old) (W.contents writer.new) (take k text) }
+    // A thread is missed by a run alone, of whose plan it is then told that it was not run to its end.
+    ensures threads { result ≡ Status.NoThread → (word ≡ Word.Run) × (why : Unrun) × Appends (W.contents writer.old) (W.contents writer.new) (unrun_text why) }
 {
     match word {
         Word::Report(command) => report(rt.alloc(), command, reader, writer),

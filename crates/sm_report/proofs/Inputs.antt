@@ -24,7 +24,7 @@ too_long_read None most made long is =
 too_long_read (Some known) most made long is = (known, refl, long_read most known made long is)
 
 -- what is said of the report with which the reading ended is said of it in weaker words
-read_weaker : (early : Early) (P Q : Output → Type 0) → ((made : Output) → P made → Q made) → IfReadEnded early P → IfReadEnded early Q
+pub read_weaker : (early : Early) (P Q : Output → Type 0) → ((made : Output) → P made → Q made) → IfReadEnded early P → IfReadEnded early Q
 read_weaker NoMemory P Q weaker h = tt
 read_weaker ReadFailed P Q weaker h = tt
 read_weaker (Report made) P Q weaker h = weaker made h

@@ -1,6 +1,6 @@
 -- The stages of a report of events: each plan passes the check, and the plan of a document that has one begins.
 use Rattle.std.proofs.Common.{◌≡◌, ◌<◌, ◌≤◌, ◌∙◌, ◌+◌, ◌++◌, ℕ, zero, suc, Bool, false, List, [], ◌∷◌, Option, Some, None, Result, Err, length, map, take, drop, drop-cons, inl, inr, refl, sym, ap, subst, arith}
-use Rattle.std.specs.Prelude.{All, IfErr, IfSome, option_map, slice_index_or}
+use Rattle.std.specs.Prelude.{IfErr, IfSome, option_map, slice_index_or}
 use Rattle.std.specs.List.{remove}
 use Rattle.std.proofs.Math.Seq.{take-suc}
 use Rattle.std.proofs.lemmas.List.{map-append}
@@ -9,7 +9,7 @@ use Rattle.sm_machine.specs.Hand.{AreFor, hand_plan}
 use Rattle.sm_placement.specs.Setup.{Setup, Sizes, sizes_of}
 use Rattle.sm_placement.specs.Place.{Place}
 use Rattle.sm_plan_text.specs.declared.event.EventText.{EventText}
-use Rattle.sm_plan_code.specs.Plan.{PlanModel, IsKnownPlan}
+use Rattle.sm_plan_code.specs.Plan.{PlanModel}
 use Rattle.sm_verifier.specs.Plan.{IsSound}
 use Rattle.sm_report.specs.declared.early.Early.{Early}
 use Rattle.sm_report.specs.Early.{IfEnded, IfMade}
@@ -56,12 +56,6 @@ none_left [] zero l = refl
 none_left [] (suc k) l = refl
 none_left (x ∷ xs) zero l = absurd (omega arith)
 none_left (x ∷ xs) (suc k) l = none_left xs k (omega arith)
-
-pub all_taken : (plans : List PlanModel) (k : ℕ) → length plans ≤ k → take k plans ≡ plans
-all_taken [] zero l = refl
-all_taken [] (suc k) l = refl
-all_taken (x ∷ xs) zero l = absurd (omega arith)
-all_taken (x ∷ xs) (suc k) l = ap (λ ys. x ∷ ys) (all_taken xs k (omega arith))
 
 -- once all have passed, the report is what it is behind them
 pub all_passed : (c : Sizes) (many : Bool) (plans : List PlanModel) (k : ℕ) → length plans ≤ k →
@@ -139,14 +133,6 @@ played_at setup many front text events x y made is same scene = is ∙ ap (λ f.
 -- the scene of a machine that is opened for one configuration
 pub opened_at : (c d : Sizes) (p : Place) (log : ℕ) (plans told : List PlanModel) (x : Scene) → x ≡ opened_scene c p log plans → c ≡ d → plans ≡ told → x ≡ opened_scene d p log told
 opened_at c d p log plans told x is same listed = is ∙ ap (λ s. opened_scene s p log plans) same ∙ ap (opened_scene d p log) listed
-
--- one plan alone is known
-pub one_known : (shards servers : ℕ) (plan : PlanModel) (plans : List PlanModel) → plans ≡ plan ∷ [] → IsKnownPlan shards servers plan → All (IsKnownPlan shards servers) plans
-one_known shards servers plan plans is known = subst (All (IsKnownPlan shards servers)) (sym is) by_place
-  where
-    by_place : (k : ℕ) (d : PlanModel) → k < 1 → IsKnownPlan shards servers (slice_index_or (plan ∷ []) k d)
-    by_place zero d below = known
-    by_place (suc k) d below = absurd (omega arith)
 
 -- a document's plan is known where all are
 pub some_known : {A B : Type 0} (f : A → B) (P : B → Type 0) (o : Option A) (x : A) → o ≡ Some x → IfSome (option_map f o) P → P (f x)

@@ -1,40 +1,40 @@
 -- The stages of a report of a plan that is run, and what came of the run.
-use Rattle.std.proofs.Common.{◌≡◌, ◌≢◌, ◌<◌, ◌+◌, ◌∙◌, ◌++◌, None, append_assoc, drop, drop-cons, length-append, take, ℕ, zero, suc, Option, Result, Ok, Err, List, [], ◌∷◌, length, map, refl, sym, ap, subst, arith, inl, inr}
-use Rattle.std.specs.Prelude.{All, slice_index_or}
+use Rattle.std.proofs.Common.{◌≡◌, ◌≢◌, ◌<◌, ◌+◌, ◌∙◌, ◌++◌, None, append_assoc, drop, drop-cons, length-append, take, ℕ, zero, suc, Option, Result, Ok, Err, List, [], ◌∷◌, length, map, refl, sym, ap, subst, arith, inr}
+use Rattle.std.specs.Prelude.{All, IfErr, IfOk, OnOk, slice_index_or}
 use Rattle.std.specs.List.{range_with_len}
 use Rattle.std.proofs.lemmas.List.{append-nil, nil_from_length}
-use Rattle.sm_placement.specs.Setup.{Setup, Sizes, sizes_of}
+use Rattle.sm_placement.specs.Setup.{Setup, sizes_of}
 use Rattle.sm_placement.specs.Place.{Place}
 use Rattle.sm_reservation.specs.declared.stream_id.StreamId.{StreamId}
 use Rattle.sm_plan_code.specs.Plan.{PlanModel}
 use Rattle.sm_verifier.specs.Plan.{IsSound}
 use Rattle.sm_protocol.specs.declared.event.BeginFault.{BeginFault}
 use Rattle.sm_protocol.specs.declared.event.BeginFault.TheVariants.{NoMemory}
-use Rattle.sm_protocol.specs.declared.event.Played.TheVariants.{Begun}
 use Rattle.sm_protocol.specs.State.{State, Start, opened, no_start, plan_at, stream_count, stream_id}
-use Rattle.sm_protocol.specs.Steps.{Outcome, Answered}
-use Rattle.sm_protocol.specs.Happens.{happens, started, Begin}
+use Rattle.sm_protocol.specs.Steps.{Outcome}
+use Rattle.sm_protocol.specs.Happens.{started}
 use Rattle.sm_machine.specs.Starts.{AreTokens}
 use Rattle.sm_machine.specs.Started.{IsNotStarted}
 use Rattle.sm_executor.specs.Clients.{ClientModel, IsClient}
 use Rattle.sm_executor.specs.Closed.{HasMorePlans, IsClosed}
-use Rattle.sm_executor.specs.Views.{EndedModel, RunnerModel, running, AreRunners, streams_ended, streams_run}
+use Rattle.sm_executor.specs.Views.{CallerModel, EndedModel, RunnerModel, running, AreRunners, streams_ended, streams_run}
 use Rattle.sm_plan_text.specs.Documents.{DocumentModel}
 use Rattle.sm_report.specs.declared.early.Early.{Early}
 use Rattle.sm_report.specs.declared.early.Early.TheVariants as early
 use Rattle.sm_report.specs.declared.unmade.Unmade.{Unmade}
 use Rattle.sm_report.specs.declared.unmade.Unmade.TheVariants as unmade
 use Rattle.sm_report.specs.Checking.{accepted_line}
-use Rattle.sm_report.specs.Early.{IfEnded, IfReadEnded}
+use Rattle.sm_report.specs.Early.{IfReadEnded}
 use Rattle.sm_report.specs.Ending.{ending}
 use Rattle.sm_report.specs.Output.{IsReadAs}
 use Rattle.sm_report.specs.PlayLines.{not_begun_line}
 use Rattle.sm_report.specs.Report.{Output, done, refused}
 use Rattle.sm_report.specs.RunLines.{end_lines, client_line, client_lines}
 use Rattle.sm_report.specs.Running.{HasRun, WasRun, IsStartedForRun, IsRunReport, IsRunReportOf, first_streams}
-use Rattle.sm_report.specs.Stages.{Then, begun_or_refused, read_stage, start_stage, AtCheck, IsFaultReport}
+use Rattle.sm_report.specs.Stages.{begun_or_refused, read_stage, start_stage, AtCheck}
 use Rattle.sm_report.specs.Unmade.{IfUnmade, IfRan, IfReadRan}
 use Rattle.sm_report.proofs.Onward.{ends_there, goes_on, ended_weaker}
+use Rattle.sm_report.proofs.Inputs.{read_weaker}
 
 -- what is said of a report of a run is said of it in weaker words
 unmade_weaker : (why : Unmade) (P Q : Output → Type 0) → ((made : Output) → P made → Q made) → IfUnmade why P → IfUnmade why Q
@@ -44,24 +44,6 @@ unmade_weaker (unmade.Unrun why) P Q weaker h = tt
 pub ran_weaker : (result : Result Output Unmade) (P Q : Output → Type 0) → ((made : Output) → P made → Q made) → IfRan result P → IfRan result Q
 ran_weaker (Ok made) P Q weaker h = weaker made h
 ran_weaker (Err why) P Q weaker h = unmade_weaker why P Q weaker h
-
--- a report that ended at a stage, and one that went on after it
-pub run_stopped : {A : Type 0} (stage : Result A Output) (Next : A → Output → Type 0) (ended : Early) (result : Result Output Unmade) → result ≡ Err (unmade.Early ended)
-    → IfEnded ended (λ made. stage ≡ Err made) → IfRan result (Then stage Next)
-run_stopped stage Next ended result is ends =
-    subst (λ r. IfRan r (Then stage Next)) (sym is)
-    (ended_weaker ended (λ made. stage ≡ Err made) (Then stage Next) (λ made h. ends_there stage Next made h) ends)
-
-pub run_went_on : {A : Type 0} (stage : Result A Output) (Next : A → Output → Type 0) (found : A) (result : Result Output Unmade) → stage ≡ Ok found
-    → IfRan result (Next found) → IfRan result (Then stage Next)
-run_went_on stage Next found result is next = ran_weaker result (Next found) (Then stage Next) (λ made h. goes_on stage Next found made is h) next
-
--- a report that ended with a fault of the plan
-pub run_refused : (c : Sizes) (plan : PlanModel) (Next : Output → Type 0) (ended : Early) (result : Result Output Unmade) → result ≡ Err (unmade.Early ended)
-    → IfEnded ended (IsFaultReport c [] plan) → IfRan result (AtCheck c [] plan Next)
-run_refused c plan Next ended result is ends =
-    subst (λ r. IfRan r (AtCheck c [] plan Next)) (sym is)
-    (ended_weaker ended (IsFaultReport c [] plan) (AtCheck c [] plan Next) (λ made h. inl h) ends)
 
 -- one of a plan that passed the check, and then begins
 pub run_checked : (setup given : Setup) (p : Place) (log : ℕ) (plan checked : PlanModel) (asks told : List ℕ) (result : Result Output Unmade) → given ≡ setup → checked ≡ plan → told ≡ asks → IsSound (sizes_of given) plan
@@ -84,12 +66,6 @@ behind_reading (Err (unmade.Early early.NoMemory)) P Q weaker h = tt
 behind_reading (Err (unmade.Early early.ReadFailed)) P Q weaker h = tt
 behind_reading (Err (unmade.Early (early.Report made))) P Q weaker h = weaker made h
 behind_reading (Err (unmade.Unrun why)) P Q weaker h = tt
-
--- what is said of the report with which the reading ended is said of it in weaker words
-read_weaker : (ended : Early) (P Q : Output → Type 0) → ((made : Output) → P made → Q made) → IfReadEnded ended P → IfReadEnded ended Q
-read_weaker early.NoMemory P Q weaker h = tt
-read_weaker early.ReadFailed P Q weaker h = tt
-read_weaker (early.Report made) P Q weaker h = weaker made h
 
 -- a report that ends where the bytes are read
 pub run_unread : (most : ℕ) (left : Option (List ℕ)) (ended : Early) (result : Result Output Unmade) → result ≡ Err (unmade.Early ended)
@@ -129,15 +105,6 @@ streams_from plan k (suc n) (x ∷ xs) count each =
 streams_are : (n : ℕ) (runners : List RunnerModel) → AreRunners 0 n runners → streams_run runners ≡ first_streams n
 streams_are n runners are = streams_from 0 0 n runners are.count (λ i d below. are.each i d below ∙ ap (λ j. running (stream_id 0 j) 0) (let e : i ≡ 0 + i = omega arith in e))
 
--- clients that are of their asks from number i on, where that one is, are of them from the next one on
-pub ask_kept : (i : ℕ) (clients : List ClientModel) (asks : List ℕ) (client : ClientModel) (ask : ℕ) → i < length clients → i < length asks → client ≡ slice_index_or clients i client → ask ≡ slice_index_or asks i ask
-    → client.shard ≡ ask → shards_of (drop (i + 1) clients) ≡ drop (i + 1) asks → shards_of (drop i clients) ≡ drop i asks
-ask_kept i clients asks client ask below within is_client is_ask same rest =
-    let one : suc i ≡ i + 1 = omega arith in
-    let here : drop i clients ≡ client ∷ drop (i + 1) clients = drop-cons clients i client below ∙ ap (λ x. x ∷ drop (suc i) clients) (sym is_client) ∙ ap (λ n. client ∷ drop n clients) one in
-    let there : drop i asks ≡ ask ∷ drop (i + 1) asks = drop-cons asks i ask within ∙ ap (λ x. x ∷ drop (suc i) asks) (sym is_ask) ∙ ap (λ n. ask ∷ drop n asks) one in
-    ap shards_of here ∙ ap (λ x. x ∷ shards_of (drop (i + 1) clients)) same ∙ ap (λ xs. ask ∷ xs) rest ∙ sym there
-
 -- what a slice of a list's front was written, in the list
 written_back : {X : Type 0} (n : ℕ) (xs rest : List X) → length xs ≡ n → take n (xs ++ rest) ≡ xs
 written_back zero [] rest e = refl
@@ -160,6 +127,19 @@ nothing_more begun now more one alone =
     let count : length now.plans ≡ length begun.plans + length more.0 = ap length more.1 ∙ length-append begun.plans more.0 in
     let none : more.0 ≡ [] = nil_from_length more.0 (omega (arith, count, one, alone)) in
     more.1 ∙ ap (λ (ps : List Start). begun.plans ++ ps) none ∙ append-nil begun.plans
+
+-- the callers of clients
+abbrev pub callers_of : List ClientModel → List CallerModel
+callers_of clients = map (λ client. client.caller) clients
+
+-- the report of the machine of a board that is closed, at which one plan has begun
+pub is_told : (begun now : State) (setup given : Setup) (ended : List EndedModel) (callers : List CallerModel) (accepted asked : List ℕ) (result : Result Output Unmade)
+    → given ≡ setup → IsClosed begun now ended callers → OnOk result (length now.plans ≡ 1)
+    → IfOk result (λ made. made ≡ done (accepted ++ end_lines now 0 ++ asked ++ ending given now.place)) → IfErr result (λ why. IfUnmade why (λ made. ⊥))
+    → IfRan result (λ made. (x : State) × IsClosed begun x ended callers × (length x.plans ≡ 1) × (made ≡ done (accepted ++ end_lines x 0 ++ asked ++ ending setup x.place)))
+is_told begun now setup given ended callers accepted asked (Ok made) same closed alone text none = (now, closed, alone, text ∙ ap (λ (s : Setup). done (accepted ++ end_lines now 0 ++ asked ++ ending s now.place)) same)
+is_told begun now setup given ended callers accepted asked (Err why) same closed alone text none =
+    unmade_weaker why (λ made. ⊥) (λ made. (x : State) × IsClosed begun x ended callers × (length x.plans ≡ 1) × (made ≡ done (accepted ++ end_lines x 0 ++ asked ++ ending setup x.place))) (λ made never. absurd never) none
 
 -- with these ends and clients the board is closed at a state at which one plan has begun, and these lines are told of it
 abbrev pub IsTold : State → Setup → List EndedModel → List ClientModel → List ℕ → List ℕ → Output → Type 0
@@ -187,14 +167,7 @@ was_run begun setup asks ended clients accepted asked result one ran shards ways
 
 -- ---- the plan's start
 
--- the report of a plan that has begun
-pub start_went_on : (setup : Setup) (w begun : State) (plan : PlanModel) (n : ℕ) (asks : List ℕ) (result : Result Output Unmade) → (happens w (Begin plan)).0 ≡ Answered (Begun n)
-    → begun ≡ (happens w (Begin plan)).1 → IfRan result (WasRun begun setup asks) → IfRan result (IsStartedForRun w setup plan asks)
-start_went_on setup w begun plan n asks result answer is h =
-    run_went_on (start_stage setup w plan) (λ b. WasRun b setup asks) (happens w (Begin plan)).1 result
-    (ap (λ (o : Outcome). begun_or_refused setup o (happens w (Begin plan)).1) answer) (subst (λ b. IfRan result (WasRun b setup asks)) is h)
-
--- of one that has not
+-- the report of a plan that has not begun
 pub start_refused : (setup : Setup) (w : State) (plan : PlanModel) (fault : BeginFault) (asks : List ℕ) (why : Unmade) → (fault ≢ NoMemory → IsNotStarted w plan fault)
     → IfUnmade why (λ made. (fault ≢ NoMemory) × (made ≡ refused (not_begun_line setup fault))) → IfUnmade why (IsStartedForRun w setup plan asks)
 start_refused setup w plan fault asks why is h =

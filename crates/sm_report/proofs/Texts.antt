@@ -1,6 +1,5 @@
 -- Texts that grow by a line for each number of a range, or for each call of a list.
-use Rattle.std.proofs.Common.{◌≡◌, ◌≤◌, ◌<◌, ◌+◌, ◌-◌, ◌∙◌, ℕ, suc, List, ◌∷◌, ◌++◌, append_assoc, ap, sym, arith}
-use Rattle.std.proofs.lemmas.List.{append-nil}
+use Rattle.std.proofs.Common.{◌≡◌, ◌<◌, ◌+◌, ◌-◌, ◌∙◌, ℕ, suc, List, ◌∷◌, ◌++◌, append_assoc, ap, sym, arith}
 use Rattle.std.specs.List.{flat_map, range_with_len}
 
 range_head : (i n : ℕ) → i < n → range_with_len i (n - i) ≡ i ∷ range_with_len (i + 1) (n - (i + 1))
@@ -16,10 +15,3 @@ text_of_next f out next text i n h added so_far =
     ∙ append_assoc out (f i) (flat_map f (range_with_len (i + 1) (n - (i + 1))))
     ∙ sym (ap (λ (ns : List ℕ). out ++ flat_map f ns) (range_head i n h))
     ∙ so_far
-
--- nothing is left
-pub text_at_end : (f : ℕ → List ℕ) (out text : List ℕ) (i n : ℕ) → n ≤ i
-    → out ++ flat_map f (range_with_len i (n - i)) ≡ text → out ≡ text
-text_at_end f out text i n h so_far =
-    let e : n - i ≡ 0 = omega arith in
-    sym (append-nil out) ∙ sym (ap (λ (k : ℕ). out ++ flat_map f (range_with_len i k)) e) ∙ so_far

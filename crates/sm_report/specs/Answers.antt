@@ -13,9 +13,11 @@ use Rattle.sm_report.specs.Lines.{line}
 abbrev pub IsKnownNamed : Setup → NamedCall → Type 0
 IsKnownNamed setup named = (named.0 < length setup.shards) × (named.1 < length setup.servers) × IsKnownCall (length setup.servers) named.2
 
+-- what a call makes of a placement, or why it is refused there
 abbrev pub result_of : Sizes → Place → NamedCall → Result Place Refusal
 result_of c p named = called c p named.0 named.1 named.2
 
+-- the placement that a call led to; where it was refused, the one before it
 abbrev place_in : Place → Result Place Refusal → Place
 place_in p (Ok next) = next
 place_in p (Err why) = p
@@ -24,6 +26,7 @@ place_in p (Err why) = p
 abbrev pub place_after : Sizes → Place → NamedCall → Place
 place_after c p named = place_in p (result_of c p named)
 
+-- why a call was refused, where it was
 abbrev refusal_in : Result Place Refusal → Option Refusal
 refusal_in (Ok next) = None
 refusal_in (Err why) = Some why
@@ -45,6 +48,7 @@ refusal_number NotHeld = 3
 refusal_number WrongRole = 4
 refusal_number NoRoom = 5
 
+-- the name of a refusal, as the line of an answer has it
 abbrev pub refusal_name : Refusal → List ℕ
 refusal_name Down = codes "Down"
 refusal_name AlreadyHeld = codes "AlreadyHeld"
@@ -52,6 +56,7 @@ refusal_name NotHeld = codes "NotHeld"
 refusal_name WrongRole = codes "WrongRole"
 refusal_name NoRoom = codes "NoRoom"
 
+-- the answer to the call of this number: it was made, or it was refused
 abbrev pub answer_line : ℕ → Option Refusal → List ℕ
 answer_line i None = line (codes "call " ∷ decimal i ∷ codes ": ok" ∷ [])
 answer_line i (Some why) = line (codes "call " ∷ decimal i ∷ codes ": refused " ∷ decimal (refusal_number why) ∷ codes " " ∷ refusal_name why ∷ [])

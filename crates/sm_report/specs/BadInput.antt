@@ -5,9 +5,11 @@ use Rattle.sm_plan_text.specs.declared.fault.TextFault.TheVariants.{NoMemory, No
 use Rattle.sm_plan_text.specs.Members.{text_of}
 use Rattle.sm_report.specs.Lines.{line}
 
+-- the line of a fault that lies in no member
 abbrev pub bad_input_line : List ℕ → List ℕ
 bad_input_line what = line (codes "bad input: " ∷ what ∷ [])
 
+-- the line of a fault, with the member that it lies in
 abbrev pub bad_member_line : List ℕ → List ℕ → List ℕ
 bad_member_line what member = line (codes "bad input: " ∷ what ∷ codes " " ∷ member ∷ [])
 

@@ -22,6 +22,7 @@ IfReadEnded NoMemory Is = Unit {0}
 IfReadEnded ReadFailed Is = Unit {0}
 IfReadEnded (Report made) Is = Is made
 
+-- the same of all stages, with the one that reads: where a read failed, there is no report either
 abbrev pub IfReadMade : Result Output Early → (Output → Type 0) → Type 0
 IfReadMade (Ok made) Is = Is made
 IfReadMade (Err early) Is = IfReadEnded early Is

@@ -6,15 +6,19 @@ use Rattle.sm_placement.specs.Setup.{Setup}
 use Rattle.sm_report.specs.Lines.{line}
 use Rattle.sm_report.specs.Ending.{server_name, shard_name}
 
+-- the line of a fault that lies in no single shard or server
 abbrev pub refusal_line : List ℕ → List ℕ
 refusal_line what = line (codes "placement refused: " ∷ what ∷ [])
 
+-- the line of a fault of a shard
 abbrev pub shard_refusal_line : List ℕ → List ℕ → List ℕ
 shard_refusal_line what shard = line (codes "placement refused: " ∷ what ∷ codes " shard " ∷ shard ∷ [])
 
+-- the line of a fault of a server
 abbrev pub server_refusal_line : List ℕ → List ℕ → List ℕ
 server_refusal_line what server = line (codes "placement refused: " ∷ what ∷ codes " server " ∷ server ∷ [])
 
+-- the line of a cell that is named twice
 abbrev pub double_cell_line : List ℕ → List ℕ → List ℕ
 double_cell_line shard server = line (codes "placement refused: 4 DoubleCell shard " ∷ shard ∷ codes " server " ∷ server ∷ [])
 

@@ -28,9 +28,11 @@ calls_output setup p calls = done (answer_lines (sizes_of setup) p 0 calls ++ en
 abbrev pub IsCalled : DocumentModel → List NamedCall → Place → Output → Type 0
 IsCalled d calls p output = output ≡ calls_output d.setup p calls
 
+-- the calls of a document: its placement is opened before they are made, or the report says why it is not
 abbrev pub IsOpenedForCalls : DocumentModel → List NamedCall → Output → Type 0
 IsOpenedForCalls d calls = Then (placement_stage d) (IsCalled d calls)
 
+-- what `calls` reports of a document: it has to have calls, and then they are made at its placement
 abbrev pub IsCallsReport : DocumentModel → Output → Type 0
 IsCallsReport d = Then (member_stage member.Calls d.calls) (IsOpenedForCalls d)
 
@@ -44,9 +46,11 @@ IsAcceptedReport plan output = output ≡ done (accepted_line plan)
 abbrev pub IsPlanReport : Setup → PlanModel → Place → Output → Type 0
 IsPlanReport setup plan p = AtCheck (sizes_of setup) [] plan (AtStart setup p plan (IsAcceptedReport plan))
 
+-- the plan of a document: its placement is opened before the plan is checked, or the report says why it is not
 abbrev pub IsOpenedForCheck : DocumentModel → PlanModel → Output → Type 0
 IsOpenedForCheck d plan = Then (placement_stage d) (IsPlanReport d.setup plan)
 
+-- what `check` reports of a document: it has to have a plan, and then the plan is checked at its placement
 abbrev pub IsCheckReport : DocumentModel → Output → Type 0
 IsCheckReport d = Then (member_stage member.Plan d.plan) (IsOpenedForCheck d)
 
@@ -84,15 +88,19 @@ IsLoggedForPlay d events p _ =
     AtChecks (sizes_of d.setup) (has_list d.plans) 0 (plans_of d.plan d.plans)
     (IsBegunForPlay d.setup d.plan d.plans events (opened_scene (sizes_of d.setup) p d.log (plans_of d.plan d.plans)))
 
+-- the events of a document at its placement: the log has to have a place for each server that is down
 abbrev pub IsPlacedForPlay : DocumentModel → List EventText → Place → Output → Type 0
 IsPlacedForPlay d events p = Then (log_stage d p) (IsLoggedForPlay d events p)
 
+-- the events of a document: its placement is opened before they are played, or the report says why it is not
 abbrev pub IsOpenedForPlay : DocumentModel → List EventText → Output → Type 0
 IsOpenedForPlay d events = Then (placement_stage d) (IsPlacedForPlay d events)
 
+-- a document that has not both a plan and a list of plans: it has to have events
 abbrev pub IsAloneForPlay : DocumentModel → Unit {0} → Output → Type 0
 IsAloneForPlay d _ = Then (member_stage member.Events d.events) (IsOpenedForPlay d)
 
+-- what `play` reports of a document: it may not have both a plan and a list of plans, and then its events are played
 abbrev pub IsPlayReport : DocumentModel → Output → Type 0
 IsPlayReport d = Then (alone_stage d.plan d.plans) (IsAloneForPlay d)
 
@@ -102,17 +110,21 @@ IsPlayReport d = Then (alone_stage d.plan d.plans) (IsAloneForPlay d)
 abbrev pub IsLoggedForPlan : DocumentModel → Aim → Place → Unit {0} → Output → Type 0
 IsLoggedForPlan d aim p _ = IsAnswered d.setup (opened_basis d.setup p d.log) aim
 
+-- a plan is made for a document at its placement: the log has to have a place for each server that is down
 abbrev pub IsPlacedForPlan : DocumentModel → Aim → Place → Output → Type 0
 IsPlacedForPlan d aim p = Then (log_stage d p) (IsLoggedForPlan d aim p)
 
+-- a plan is made for a document: its placement is opened before that, or the report says why it is not
 abbrev pub IsOpenedForPlan : DocumentModel → Aim → Output → Type 0
 IsOpenedForPlan d aim = Then (placement_stage d) (IsPlacedForPlan d aim)
 
+-- what `plan` reports of a document: it has to have moves or a server to empty, and then a plan is made for that
 abbrev pub IsPlanningReport : DocumentModel → Output → Type 0
 IsPlanningReport d = Then (aim_stage d.moves d.drain) (IsOpenedForPlan d)
 
 -- ---- all commands
 
+-- what a command reports of a document that was read
 abbrev pub IsDocumentReport : Command → DocumentModel → Output → Type 0
 IsDocumentReport Calls d = IsCallsReport d
 IsDocumentReport Check d = IsCheckReport d

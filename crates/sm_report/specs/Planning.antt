@@ -75,15 +75,19 @@ IsRefusedFor b (Emptying server) = IsDrainRefused b server
 abbrev pub made_line : Setup → PlanModel → List ℕ
 made_line setup plan = line (plan_text (names_of_shards setup) (names_of_servers setup) plan ∷ [])
 
+-- the line of a reason that lies in no single shard or server
 abbrev pub no_plan_line_of : List ℕ → List ℕ
 no_plan_line_of what = line (codes "no plan: " ∷ what ∷ [])
 
+-- the line of a reason that lies in a shard at a server
 abbrev pub no_cell_line : List ℕ → List ℕ → List ℕ → List ℕ
 no_cell_line what shard server = line (codes "no plan: " ∷ what ∷ codes " shard " ∷ shard ∷ codes " server " ∷ server ∷ [])
 
+-- the line of a reason that lies in a server
 abbrev pub no_server_line : List ℕ → List ℕ → List ℕ
 no_server_line what server = line (codes "no plan: " ∷ what ∷ codes " server " ∷ server ∷ [])
 
+-- the line of a reason that lies in a shard
 abbrev pub no_shard_line : List ℕ → List ℕ → List ℕ
 no_shard_line what shard = line (codes "no plan: " ∷ what ∷ codes " shard " ∷ shard ∷ [])
 

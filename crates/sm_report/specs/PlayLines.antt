@@ -36,21 +36,27 @@ stream_text false place i = codes "stream " ++ decimal i
 
 -- ---- answers
 
+-- an answer that is told by words alone
 abbrev pub word_line : List ℕ → List ℕ
 word_line word = line (word ∷ [])
 
+-- the stream waits for a signal that is not posted
 abbrev pub blocked_line : ℕ → List ℕ
 blocked_line signal = line (codes "blocked on signal " ∷ decimal signal ∷ [])
 
+-- a server has executed the request
 abbrev pub executed_line : List ℕ → List ℕ
 executed_line server = line (codes "executed at " ∷ server ∷ [])
 
+-- the request was passed on to a server: the handover's number, and the place of the pass in the log
 abbrev pub passed_line : List ℕ → ℕ → ℕ → List ℕ
 passed_line server number place = line (codes "passed to " ∷ server ∷ codes " number " ∷ decimal number ∷ codes " ticket " ∷ decimal place ∷ [])
 
+-- no restart: a stream that has not made its end has the server in its code
 abbrev pub engaged_line : List ℕ → List ℕ
 engaged_line stream = line (codes "denied 2 Engaged " ∷ stream ∷ [])
 
+-- no restart: a shard is live at the server, and no spare replica of it is free
 abbrev pub shard_cap_line : List ℕ → List ℕ
 shard_cap_line shard = line (codes "denied 4 ShardCap shard " ∷ shard ∷ [])
 
@@ -62,14 +68,17 @@ denied_line setup many places denied.GlobalCap = word_line (codes "denied 3 Glob
 denied_line setup many places (denied.ShardCap s) = shard_cap_line (shard_name setup s)
 denied_line setup many places denied.LogFull = word_line (codes "denied 5 LogFull")
 
+-- why a stream may not make so many tries more
 abbrev pub refill_line : RefillFault → List ℕ
 refill_line refill_fault.Ended = word_line (codes "refill refused 1 Ended")
 refill_line refill_fault.TooMany = word_line (codes "refill refused 2 TooMany")
 refill_line refill_fault.LogFull = word_line (codes "refill refused 3 LogFull")
 
+-- the plan has begun: so many calls stand in its codes, and it has so many streams
 abbrev pub begun_counts_line : ℕ → ℕ → List ℕ
 begun_counts_line calls streams = line (codes "begun: calls " ∷ decimal calls ∷ codes " streams " ∷ decimal streams ∷ [])
 
+-- the plan has begun
 abbrev pub begun_line : PlanModel → List ℕ
 begun_line plan = begun_counts_line (call_count plan) (length plan.streams)
 
@@ -119,9 +128,11 @@ event_lines setup many x i (e ∷ es) = outcome_line setup many i (event_turn x 
 
 -- ---- the streams after the events
 
+-- a stream has not made its end: how many instructions it has made, and how many its code has
 abbrev pub stream_at_line : List ℕ → ℕ → ℕ → List ℕ
 stream_at_line stream at length = line (stream ∷ codes ": at " ∷ decimal at ∷ codes " of " ∷ decimal length ∷ [])
 
+-- a stream has made its end
 abbrev pub stream_done_line : List ℕ → List ℕ
 stream_done_line stream = line (stream ∷ codes ": done" ∷ [])
 
@@ -137,6 +148,7 @@ progress_line many place w id = progress_line_of (stream_text many place id.stre
 abbrev pub progress_lines : Bool → ℕ → State → ℕ → List ℕ
 progress_lines many place w number = flat_map (λ i. progress_line many place w (stream_id number i)) (range_with_len 0 (stream_count w number))
 
+-- no event has begun the plan at this place of the document
 abbrev pub waiting_line : ℕ → List ℕ
 waiting_line place = line (codes "plan " ∷ decimal place ∷ codes ": not begun" ∷ [])
 

@@ -17,6 +17,7 @@ use Rattle.sm_protocol.specs.State.{State, opened, stream_id, is_begun}
 use Rattle.sm_protocol.specs.Steps.{Outcome, Answered}
 use Rattle.sm_protocol.specs.Happens.{Happening, Step, Lose, Refill, Arrive, PassOn, Approve, Done, Begin, happens}
 
+-- What events are played at: the state of the protocol, and which plans of the document have begun.
 pub record Scene : Type 0 where
   pub state : State
   -- the plans by their places in the document, None once they have begun
@@ -34,6 +35,7 @@ opened_scene c p log plans = record { state = opened c p log; waiting = map (λ 
 abbrev pub start_number : List ℕ → ℕ → Option ℕ
 start_number places place = position (λ begun. begun == place) places
 
+-- the stream, if it has begun
 abbrev pub if_begun : State → StreamId → Option StreamId
 if_begun w id = if is_begun w id then Some id else None
 

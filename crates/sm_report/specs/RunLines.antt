@@ -30,6 +30,7 @@ end_lines w number = flat_map (λ i. end_line w (stream_id number i)) (range_wit
 
 -- ---- asks
 
+-- the ask in front of its answer
 abbrev pub ask_front : ℕ → List ℕ
 ask_front i = codes "ask " ++ decimal i ++ codes ": "
 
@@ -41,6 +42,7 @@ asked_line setup asked.Unavailable = word_line (codes "unavailable")
 asked_line setup asked.TooManyHops = word_line (codes "too many hops")
 asked_line setup asked.LogFull = word_line (codes "log full")
 
+-- the line of an ask that was answered
 abbrev pub ask_line : Setup → ℕ → Asked → List ℕ
 ask_line setup i answer = ask_front i ++ asked_line setup answer
 

@@ -56,12 +56,15 @@ IsStartedForRun opened setup plan asks = Then (start_stage setup opened plan) (�
 abbrev pub IsLoggedForRun : DocumentModel → PlanModel → Place → Unit {0} → Output → Type 0
 IsLoggedForRun d plan p _ = AtCheck (sizes_of d.setup) [] plan (IsStartedForRun (opened (sizes_of d.setup) p d.log) d.setup plan d.asks)
 
+-- the plan of a document at its placement: the log has to have a place for each server that is down
 abbrev pub IsPlacedForRun : DocumentModel → PlanModel → Place → Output → Type 0
 IsPlacedForRun d plan p = Then (log_stage d p) (IsLoggedForRun d plan p)
 
+-- the plan of a document: its placement is opened before the plan is run, or the report says why it is not
 abbrev pub IsOpenedForRun : DocumentModel → PlanModel → Output → Type 0
 IsOpenedForRun d plan = Then (placement_stage d) (IsPlacedForRun d plan)
 
+-- what `run` reports of a document: it has to have a plan, and then the plan is run at its placement
 abbrev pub IsRunReport : DocumentModel → Output → Type 0
 IsRunReport d = Then (member_stage member.Plan d.plan) (IsOpenedForRun d)
 

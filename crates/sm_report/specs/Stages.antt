@@ -42,6 +42,7 @@ Then (Err ending) Next output = output ≡ ending
 
 -- ---- stages that are functions of what came before
 
+-- the document that was read, or the report of what is wrong with the bytes
 abbrev pub read_or_bad : Result DocumentModel TextFault → Result DocumentModel Output
 read_or_bad (Ok d) = Ok d
 read_or_bad (Err fault) = Err (bad_input (text_fault_line fault))
@@ -60,6 +61,7 @@ abbrev pub alone_stage : Option PlanModel → Option (List PlanModel) → Result
 alone_stage (Some plan) (Some plans) = Err (bad_input (text_fault_line (Shape members.Plans)))
 alone_stage _ _ = Ok tt
 
+-- the placement of the document, or the report of why it is not opened
 abbrev pub opened_or_refused : DocumentModel → Option OpenFault → Result Place Output
 opened_or_refused d None = Ok (opened_place (opening_of d))
 opened_or_refused d (Some fault) = Err (refused (open_fault_line d.setup fault))
@@ -68,6 +70,7 @@ opened_or_refused d (Some fault) = Err (refused (open_fault_line d.setup fault))
 abbrev pub placement_stage : DocumentModel → Result Place Output
 placement_stage d = opened_or_refused d (open_fault (sizes_of d.setup) (opening_of d))
 
+-- the line of a log that has fewer places than servers are down
 abbrev pub log_refused_line : List ℕ
 log_refused_line = line (codes "log refused: 2 LogFull" ∷ [])
 
@@ -75,6 +78,7 @@ log_refused_line = line (codes "log refused: 2 LogFull" ∷ [])
 abbrev pub log_stage : DocumentModel → Place → Result (Unit {0}) Output
 log_stage d p = if nat_lt d.log (down_count (sizes_of d.setup) p) then Err (refused log_refused_line) else Ok tt
 
+-- what the start of a plan led to, or the report of why the plan does not start
 abbrev pub begun_or_refused : {A : Type 0} → Setup → Outcome → A → Result A Output
 begun_or_refused setup (Answered (NotBegun why)) x = Err (refused (not_begun_line setup why))
 begun_or_refused setup _ x = Ok x

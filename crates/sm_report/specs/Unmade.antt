@@ -33,6 +33,7 @@ abbrev pub IfReadUnmade : Unmade → (Output → Type 0) → Type 0
 IfReadUnmade (unmade.Early early) Is = IfReadEnded early Is
 IfReadUnmade (unmade.Unrun why) Is = Unit {0}
 
+-- the same of all stages, with the one that reads: where a read failed, there is no report either
 abbrev pub IfReadRan : Result Output Unmade → (Output → Type 0) → Type 0
 IfReadRan (Ok made) Is = Is made
 IfReadRan (Err why) Is = IfReadUnmade why Is

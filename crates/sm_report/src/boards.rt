@@ -1,5 +1,5 @@
 //! A plan on a board: it begins on a machine, its streams run beside asks on a board over it, and the board is closed.
-ghost use Rattle.std.specs.Prelude.{◌≡◌, ◌≢◌, ◌≤◌, ◌<◌, ◌^◌, ◌++◌, [], ℕ, All, IfErr, IfOk, OnOk, length, map, string_bytes, true, vec_len, vec_capacity};
+ghost use Rattle.std.specs.Prelude.{◌≡◌, ◌≢◌, ◌≤◌, ◌<◌, ◌^◌, ◌++◌, [], All, IfErr, IfOk, OnOk, length, map, string_bytes, true, vec_len, vec_capacity};
 ghost use Rattle.sm_machine.specs.Starts.{AreTokens};
 ghost use Rattle.sm_machine.specs.State.{state_of};
 ghost use Rattle.sm_executor.specs.Clients.{IsClient};
@@ -28,7 +28,7 @@ use sm_machine::{BeginFault, Machine, Permit, StreamToken};
 use sm_placement::Config;
 use sm_server::ShardId;
 use sm_verifier::Checked;
-use std::alloc::{AllocError, Global};
+use std::alloc::Global;
 use std::marker::Brand;
 use std::sync::Wait;
 use std::thread::Threads;

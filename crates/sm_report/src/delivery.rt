@@ -1,5 +1,5 @@
 //! A text, to a writer.
-ghost use Rattle.std.specs.Prelude.{◌≡◌, ◌≤◌, ℕ, length, take, true};
+ghost use Rattle.std.specs.Prelude.{◌≡◌, ℕ, take, true};
 ghost use Rattle.std.specs.Io.KnownBytes.{Appends};
 
 use std::io::Write;

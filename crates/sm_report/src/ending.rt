@@ -1,5 +1,5 @@
 //! The lines of a placement at the end of a report.
-ghost use Rattle.std.specs.Prelude.{◌≡◌, ◌++◌, ◌<◌, OnOk, string_bytes, length, map};
+ghost use Rattle.std.specs.Prelude.{◌≡◌, ◌++◌, ◌<◌, OnOk, string_bytes, length};
 ghost use Rattle.sm_placement.specs.Layout.{place_of};
 ghost use Rattle.sm_report.specs.Ending.{server_line, shard_line, cell_lines, server_lines, all_shard_lines, ending, replica_line, handover_line, cell_line, state_word, listed_name};
 

@@ -1,6 +1,5 @@
 //! The lines of a plan that is made, and of why there is none.
-ghost use Rattle.std.specs.Prelude.{◌≡◌, ◌++◌, OnOk, length, string_bytes};
-ghost use Rattle.sm_plan_code.specs.Plan.{IsKnownPlan};
+ghost use Rattle.std.specs.Prelude.{◌≡◌, ◌++◌, OnOk, string_bytes};
 ghost use Rattle.sm_report.specs.Planning.{no_plan_line_of, no_cell_line, no_server_line, no_shard_line, no_plan_line};
 
 use crate::names::{server_name, shard_name};

@@ -1,17 +1,16 @@
 //! The report of a plan that is made for a document.
-ghost use Rattle.std.specs.Prelude.{◌≡◌, ◌≢◌, ◌≤◌, ◌<◌, All, Err, IfErr, IfOk, Ok, Some, length, map, option_map};
+ghost use Rattle.std.specs.Prelude.{◌≡◌, ◌≢◌, ◌≤◌, ◌<◌, Err, IfErr, IfOk, Ok, Some, map};
 ghost use Rattle.sm_placement.specs.Setup.{sizes_of};
 ghost use Rattle.sm_placement.specs.Place.{down_count};
 ghost use Rattle.sm_placement.specs.Layout.{place_of};
 ghost use Rattle.sm_placement.specs.Lead.{IsSettled};
-ghost use Rattle.sm_plan_code.specs.Plan.{IsKnownPlan};
 ghost use Rattle.sm_plan_text.specs.Documents.{IsDocument};
 ghost use Rattle.sm_plan_text.specs.Reading.{rows_of};
 ghost use Rattle.sm_protocol.specs.State.{opened};
 ghost use Rattle.sm_machine.specs.State.{state_of};
 ghost use Rattle.sm_report.specs.Early.{IfEnded, IfMade};
-ghost use Rattle.sm_report.specs.Planning.{move_of, aim_of, aim_stage, IsAimOf, basis_at, opened_basis, IsPlanFor, IsRefusedFor, IsAnswered, made_line, no_plan_line};
-ghost use Rattle.sm_report.specs.Report.{bad_input, refused, done};
+ghost use Rattle.sm_report.specs.Planning.{move_of, aim_of, aim_stage, IsAimOf, basis_at, IsPlanFor, IsRefusedFor, IsAnswered};
+ghost use Rattle.sm_report.specs.Report.{bad_input, refused};
 ghost use Rattle.sm_report.specs.BadInput.{text_fault_line};
 ghost use Rattle.sm_report.specs.Output.{IsLoggedForPlan, IsPlacedForPlan, IsOpenedForPlan, IsPlanningReport};
 ghost use Rattle.sm_plan_code.specs.declared.limits.TheConstants.{MOST_PLACES};

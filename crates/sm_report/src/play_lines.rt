@@ -2,7 +2,7 @@
 ghost use Rattle.std.specs.Prelude.{◌≡◌, ◌++◌, [], OnOk, string_bytes, slice_index_or};
 ghost use Rattle.sm_report.specs.PlayLines.{plan_front, stream_text, word_line, blocked_line, executed_line, passed_line, engaged_line, shard_cap_line, denied_line, refill_line, begun_counts_line, not_begun_line, event_front, stream_at_line, stream_done_line, waiting_line};
 
-use crate::names::{server_name, shard_name};
+use crate::names::shard_name;
 use crate::verdict::push_holding;
 use sm_placement::Config;
 use sm_protocol::{BeginFault, RefillFault};

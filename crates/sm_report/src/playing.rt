@@ -2,7 +2,7 @@
 ghost use Rattle.std.specs.Prelude.{◌≡◌, ◌≢◌, ◌<◌, ◌++◌, All, OnOk, length, string_bytes, true};
 ghost use Rattle.sm_plan_text.specs.Events.{IsKnownEvent};
 ghost use Rattle.sm_protocol.specs.declared.event.Played.TheVariants as played;
-ghost use Rattle.sm_protocol.specs.State.{is_begun, plan_at, progress_of};
+ghost use Rattle.sm_protocol.specs.State.{is_begun, progress_of};
 ghost use Rattle.sm_machine.specs.State.{state_of};
 ghost use Rattle.sm_report.specs.Playing.{event_turn, scene_after};
 ghost use Rattle.sm_report.specs.PlayLines.{begun_line, played_line, outcome_line, event_lines, stream_text, progress_line_of, progress_lines, plan_lines, all_plan_lines};
@@ -91,7 +91,7 @@ fn play_event(
     }
 }
 
-/// Plays events one after the other, and adds their lines.
+/// Plays events one after the other, and adds their lines and those of the plans after them.
 pub fn play_events(
     alloc: Global,
     out: &mut String,
@@ -103,15 +103,14 @@ pub fn play_events(
     requires ready { IsSetUp player.old }
     requires setup { player.old.director.placement.setup ≡ config.now }
     requires known { All (IsKnownEvent (length config.now.shards) (length config.now.servers)) events.now }
-    ensures lines { OnOk result (string_bytes out.new ≡ string_bytes out.old ++ event_lines config.now many (scene_of player.old) 0 events.now) }
+    ensures text { OnOk result (string_bytes out.new ≡ string_bytes out.old ++ event_lines config.now many (scene_of player.old) 0 events.now ++ all_plan_lines many (scene_after events.now (scene_of player.old))) }
     ensures scene { OnOk result (scene_of player.new ≡ scene_after events.now (scene_of player.old)) }
     ensures setup { OnOk result (player.new.director.placement.setup ≡ player.old.director.placement.setup) }
-    ensures ready { OnOk result (IsSetUp player.new) }
 {
     for (i, event) in events.iter().enumerate() {
         play_event(alloc, out, config, many, player, i, *event)?;
     }
-    Ok(())
+    push_plans(out, many, player)
 }
 
 /// Adds the line of how far a stream has come, whose plan is at this place and whose code has this length.
@@ -176,7 +175,7 @@ fn push_plan(out: &mut String, many: bool, player: &Player, place: usize) -> Res
 }
 
 /// Adds the lines of all plans.
-pub fn push_plans(out: &mut String, many: bool, player: &Player) -> Result<(), AllocError>
+fn push_plans(out: &mut String, many: bool, player: &Player) -> Result<(), AllocError>
     requires { IsSetUp player.now }
     ensures { OnOk result (string_bytes out.new ≡ string_bytes out.old ++ all_plan_lines many (scene_of player.now)) }
 {

@@ -1,5 +1,5 @@
 //! The report of a document's events.
-ghost use Rattle.std.specs.Prelude.{◌≡◌, ◌≤◌, ◌++◌, All, Err, IfErr, IfOk, Ok, OnOk, Some, [], ◌∷◌, length, map, string_bytes, false};
+ghost use Rattle.std.specs.Prelude.{◌≡◌, ◌≤◌, All, Err, IfErr, IfOk, Ok, OnOk, Some, [], ◌∷◌, length, map, string_bytes, false};
 ghost use Rattle.sm_placement.specs.Setup.{sizes_of};
 ghost use Rattle.sm_placement.specs.Place.{down_count};
 ghost use Rattle.sm_placement.specs.Layout.{place_of};
@@ -13,11 +13,11 @@ ghost use Rattle.sm_machine.specs.Hand.{AreFor, hand_plan};
 ghost use Rattle.sm_report.specs.Checking.{accepted_line};
 ghost use Rattle.sm_report.specs.Early.{IfEnded, IfMade};
 ghost use Rattle.sm_report.specs.Player.{scene_of, IsSetUp};
-ghost use Rattle.sm_report.specs.Playing.{opened_scene, scene_after};
-ghost use Rattle.sm_report.specs.PlayLines.{plan_front, event_lines, all_plan_lines};
+ghost use Rattle.sm_report.specs.Playing.{opened_scene};
+ghost use Rattle.sm_report.specs.PlayLines.{plan_front};
 ghost use Rattle.sm_report.specs.Report.{Output};
 ghost use Rattle.sm_report.specs.Stages.{AtChecks, IsFaultReport, Then, begin_stage};
-ghost use Rattle.sm_report.specs.Output.{played_output, IsBegunForPlay, IsLoggedForPlay, IsPlacedForPlay, IsOpenedForPlay, IsAloneForPlay, IsPlayReport, IsPlayedOutput};
+ghost use Rattle.sm_report.specs.Output.{played_output, IsLoggedForPlay, IsPlacedForPlay, IsOpenedForPlay, IsAloneForPlay, IsPlayReport, IsPlayedOutput};
 ghost use Rattle.sm_plan_code.specs.declared.limits.TheConstants.{MOST_PLACES};
 
 use crate::early::Early;
@@ -25,7 +25,7 @@ use crate::ending::push_ending;
 use crate::made::Made;
 use crate::play_lines::push_plan_front;
 use crate::player::Player;
-use crate::playing::{play_events, push_plans};
+use crate::playing::play_events;
 use crate::stages::{alone, checked, has_log, member, placement};
 use crate::verdict::push_accepted;
 use sm_placement::{Config, Placement};
@@ -99,26 +99,6 @@ fn open_player(
     Ok(Player::open(alloc, placement, log, waiting)?)
 }
 
-/// Plays the events, and adds their lines and those of the plans after them.
-fn play_all(
-    alloc: Global,
-    text: &mut String,
-    config: &Config,
-    many: bool,
-    player: &mut Player,
-    events: &[EventText],
-) -> Result<(), AllocError>
-    requires ready { IsSetUp player.old }
-    requires setup { player.old.director.placement.setup ≡ config.now }
-    requires known { All (IsKnownEvent (length config.now.shards) (length config.now.servers)) events.now }
-    ensures text { OnOk result (string_bytes text.new ≡ string_bytes text.old ++ event_lines config.now many (scene_of player.old) 0 events.now ++ all_plan_lines many (scene_after events.now (scene_of player.old))) }
-    ensures scene { OnOk result (scene_of player.new ≡ scene_after events.now (scene_of player.old)) }
-    ensures setup { OnOk result (player.new.director.placement.setup ≡ player.old.director.placement.setup) }
-{
-    play_events(alloc, text, config, many, player, events)?;
-    push_plans(text, many, player)
-}
-
 /// The report of events that a player plays, behind a front.
 fn report_played(
     alloc: Global,
@@ -134,7 +114,7 @@ fn report_played(
     ensures { IfOk result (λ made. made ≡ played_output config.now many (string_bytes front) events.now (scene_of player)) }
 {
     let mut text = front;
-    let told = play_all(alloc, &mut text, config, many, &mut player, events);
+    let told = play_events(alloc, &mut text, config, many, &mut player, events);
     let placement = player.close();
     told?;
     push_ending(&mut text, &placement)?;

@@ -13,8 +13,7 @@ pub enum Status {
     BadInput,
     /// Memory ran out. Nothing was written.
     NoMemory,
-    /// A thread could not be started, and the report says so. No report of a document's calls or of its plan's check ends
-    /// so.
+    /// A thread could not be started, and the report says so. Only `report_run` ends so.
     NoThread,
     /// A read failed, or the document did not come to an end. Nothing was written.
     ReadFailed,

@@ -67,10 +67,23 @@ fn word_of(rt: &HostRuntime) -> Result<Word, Status> {
     }
 }
 
+/// What is told on standard error of a report that was not made or not written whole. Of all others the report itself says how they ended.
+fn told_of(status: Status) -> Option<&'static str> {
+    match status {
+        Status::NoMemory => Some("error: out of memory"),
+        Status::ReadFailed => Some("error: standard input could not be read to its end"),
+        Status::WriteFailed => Some("error: standard output could not be written"),
+        Status::Done | Status::Refused | Status::BadInput | Status::NoThread => None,
+    }
+}
+
 fn main(rt: HostRuntime) -> ExitCode {
     let status = match word_of(&rt) {
         Ok(word) => report_word(&rt, word, &mut rt.reader(), &mut io::writer(&rt)),
         Err(status) => status,
     };
+    if let Some(text) = told_of(status) {
+        let _ = rt.eprintln(text);
+    }
     ExitCode::from(status.code())
 }
