@@ -12,8 +12,8 @@ build:
 run:
 	@scripts/try-smplan calls < examples/placement.json
 
-# (first what takes seconds; the gate leaves the program that it has proved and run beside its crate; the wrong versions that the specification
-# names are tried always, the others while there is time, so that CI ends within its limit)
+# (first what takes seconds; the gate leaves the program that it has proved and run beside its crate; the wrong versions of tests/must-fail
+# are tried always, the others while there is time, so that CI ends within its limit)
 BEGUN := $(shell date +%s)
 test:
 	scripts/check-layout
