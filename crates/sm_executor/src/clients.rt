@@ -1,5 +1,5 @@
 //! Clients that ask at a board, each in a thread of its own, beside a run.
-ghost use Rattle.std.specs.Prelude.{◌≡◌, ◌≢◌, ◌<◌, [], None, IfOk, IfErr, IfSome, OnOk, All, length, map, true, vec_len};
+ghost use Rattle.std.specs.Prelude.{◌≡◌, ◌≢◌, ◌<◌, [], None, IfOk, IfErr, OnOk, All, length, true, vec_len};
 ghost use Rattle.sm_executor.specs.CameBack.{came_back, ends_back, runners_back, lacks_memory};
 ghost use Rattle.sm_executor.specs.Clients.{asking, AsksOnce, IsClient};
 ghost use Rattle.sm_executor.specs.Ending.{HasEnded};

@@ -2,7 +2,7 @@
 //!
 //! Each method is one event at most, and changes the machine just as the machine's own call does. The books rise with the log,
 //! and what a step publishes is stored in the words before the method returns.
-ghost use Rattle.std.specs.Prelude.{◌≡◌, ◌≢◌, OnOk, OnErr, ◌<◌, ◌≤◌, ◌+◌, ◌*◌, ◌^◌, ◌++◌, ◌∷◌, [], length, map, IfOk, IfErr, IfSome, IfNone, Bool, true, false, vec_len, vec_capacity};
+ghost use Rattle.std.specs.Prelude.{◌≡◌, ◌≢◌, OnOk, OnErr, ◌<◌, ◌≤◌, ◌+◌, ◌*◌, ◌^◌, ◌++◌, ◌∷◌, [], length, map, IfOk, IfErr, IfSome, IfNone, true, false, vec_len, vec_capacity};
 ghost use Rattle.sm_placement.specs.Place.{entry_at};
 ghost use Rattle.sm_map.specs.History.{NoneNewer};
 ghost use Rattle.sm_protocol.specs.State.{progress_of, is_running};

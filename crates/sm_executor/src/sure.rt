@@ -1,8 +1,6 @@
 //! A link that loses nothing.
-ghost use Rattle.std.specs.Prelude.{◌≡◌, ◌+◌, ◌^◌, ◌-◌};
-ghost use Rattle.sm_placement.specs.Sums.{bit};
+ghost use Rattle.std.specs.Prelude.{◌≡◌, ◌-◌};
 ghost use Rattle.sm_protocol.specs.declared.event.Passage.TheVariants.{Through};
-ghost use Rattle.sm_machine.specs.Losses.{is_lost};
 
 use sm_machine::Link;
 use sm_protocol::Passage;

@@ -3,7 +3,7 @@
 //! The threads wait for each other before their first steps, so that no stream has stepped where one cannot be started. What a
 //! thread did to its runner is not told to who joins it: the locked machine says of each runner whether its stream has made its end,
 //! and the ends are compared with the streams that were noted before.
-ghost use Rattle.std.specs.Prelude.{◌≡◌, ◌≤◌, ◌+◌, All, IfOk, IfErr, length, map, [], true, false, vec_len, vec_capacity};
+ghost use Rattle.std.specs.Prelude.{◌≡◌, ◌≤◌, ◌+◌, All, IfOk, IfErr, length, [], true, false, vec_len, vec_capacity};
 ghost use Rattle.sm_executor.specs.Ending.{HasEnded};
 ghost use Rattle.sm_executor.specs.Views.{streams_ended, streams_run};
 ghost use Rattle.sm_executor.specs.CameBack.{came_back, ends_back, runners_back, lacks_memory};

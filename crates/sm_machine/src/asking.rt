@@ -1,5 +1,4 @@
 //! Requests: a server's answer, which is recorded.
-ghost use Rattle.std.specs.Prelude.{◌≡◌};
 ghost use Rattle.sm_machine.specs.State.{whole_of, state_of};
 ghost use Rattle.sm_machine.specs.Working.{IsWorking};
 ghost use Rattle.sm_machine.specs.Requested.{IsRequest, IsAsked};

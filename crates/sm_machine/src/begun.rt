@@ -1,11 +1,9 @@
 //! A plan that was begun.
-ghost use Rattle.std.specs.Prelude.{◌≡◌, ◌<◌, ◌≤◌, ◌^◌, ◌+◌, ◌-◌, ◌==◌, ℕ, count_by, not, is_some, IfSome, Some, None, true, false, length, slice_get, slice_index_or};
+ghost use Rattle.std.specs.Prelude.{◌≡◌, ◌<◌, ◌≤◌, ◌^◌, ◌+◌, ◌-◌, ◌==◌, count_by, not, is_some, IfSome, Some, None, true, false, length, slice_get, slice_index_or};
 ghost use Rattle.sm_reservation.specs.Hold.{minus, plus};
 ghost use Rattle.sm_reservation.specs.HoldOf.{hold_of};
-ghost use Rattle.sm_reservation.specs.Capacity.{HasCapacity, HasCapacityAfter};
 ghost use Rattle.sm_reservation.specs.CanJoin.{CanJoin};
 ghost use Rattle.sm_reservation.specs.Short.{first_short};
-ghost use Rattle.sm_reservation.specs.Change.{portion_rights};
 ghost use Rattle.sm_reservation.specs.Rights.{no_rights};
 ghost use Rattle.sm_verifier.specs.Stream.{no_stream};
 ghost use Rattle.sm_verifier.specs.Step.{parcels_of};
@@ -13,14 +11,14 @@ ghost use Rattle.sm_placement.specs.Setup.{sizes_of};
 ghost use Rattle.sm_plan_code.specs.Instr.{shard_of, IsOwn};
 ghost use Rattle.sm_plan_code.specs.Table.{exchange_of};
 ghost use Rattle.std.specs.List.{list_any};
-ghost use Rattle.sm_protocol.specs.State.{fresh, is_no_call};
+ghost use Rattle.sm_protocol.specs.State.{is_no_call};
 ghost use Rattle.sm_protocol.specs.Happens.{is_mentioned};
 ghost use Rattle.sm_machine.specs.Servers.{AreMentionedBy};
 ghost use Rattle.sm_machine.specs.Trade.{CanTrade, IsTradedBy};
 ghost use Rattle.sm_reservation.specs.Pool.{pool_hold, SameSize};
 ghost use Rattle.sm_machine.specs.Tied.{pool_left};
 ghost use Rattle.sm_machine.specs.Starts.{CanFillAll, AreFilled};
-ghost use Rattle.sm_machine.specs.Course.{hold_in, rights_in, capacity_in, HasCapacityIn, HasCapacityAfterIn, IsCourse, IsGrantInOrder};
+ghost use Rattle.sm_machine.specs.Course.{hold_in, rights_in, capacity_in, HasCapacityIn, IsCourse, IsGrantInOrder};
 ghost use Rattle.sm_machine.specs.Begun.{course_at, carried_at, with_course, with_carried, IsBegunParts};
 
 use crate::places::count_no_calls;

@@ -1,12 +1,11 @@
 #![tactic(auto, unfolding(crate::specs::State::whole_of))]
 //! The fields of a machine, read and written one at a time.
-ghost use Rattle.std.specs.Prelude.{◌≡◌, ◌<◌, ◌≤◌, ◌+◌, ◌-◌, ◌^◌, ◌∷◌, ◌==◌, if◌then◌else◌, ℕ, suc, not, is_some, Some, None, Ok, IsOk, OnOk, IfOk, OnErr, IfErr, IfSome, [], replicate, reverse, vec_capacity, true, false, length, slice_index_or};
+ghost use Rattle.std.specs.Prelude.{◌≡◌, ◌<◌, ◌≤◌, ◌-◌, ◌^◌, ◌∷◌, ◌==◌, if◌then◌else◌, suc, not, is_some, Some, None, Ok, IsOk, OnOk, IfErr, [], replicate, reverse, vec_capacity, true, false, length, slice_index_or};
 ghost use Rattle.std.specs.Option.{ForSome};
 ghost use Rattle.sm_placement.specs.Sums.{put, put2};
 ghost use Rattle.sm_placement.specs.Rows.{IsKnownCall};
 ghost use Rattle.sm_placement.specs.Place.{called_numbered, publish};
 ghost use Rattle.sm_plan_code.specs.declared.limits.TheConstants.{MOST_NUMBER, MOST_PLANS};
-ghost use Rattle.sm_plan_code.specs.Instr.{shard_of, IsOwn};
 ghost use Rattle.sm_plan_code.specs.Table.{exchange_of};
 ghost use Rattle.sm_protocol.specs.State.{is_begun, progress_of, next_instruction, allowance, plan_at, stream_count, signal_count, parcel_at, set_progress, recorded};
 ghost use Rattle.sm_reservation.specs.Hold.{minus, plus};

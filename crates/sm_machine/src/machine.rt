@@ -21,7 +21,7 @@ ghost use Rattle.sm_machine.specs.Played.{played_of};
 ghost use Rattle.sm_protocol.specs.declared.event.BeginFault.TheVariants as fault;
 ghost use Rattle.sm_protocol.specs.declared.event.Played.TheVariants as played;
 ghost use Rattle.sm_machine.specs.Starts.{AreTokens};
-ghost use Rattle.sm_machine.specs.Started.{IsStarted, IsNotStarted};
+ghost use Rattle.sm_machine.specs.Started.{IsNotStarted};
 ghost use Rattle.sm_machine.specs.Requested.{played_by, tickets_in};
 ghost use Rattle.sm_machine.specs.Restarted.{restart_of, approval_of};
 ghost use Rattle.sm_protocol.specs.Happens.{engaged};

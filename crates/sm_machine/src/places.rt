@@ -1,5 +1,5 @@
 //! The places of the log that a plan takes.
-ghost use Rattle.std.specs.Prelude.{◌≡◌, ◌≤◌, ◌+◌, ◌*◌, length, count_by, sum_by};
+ghost use Rattle.std.specs.Prelude.{◌≡◌, ◌≤◌, ◌+◌, ◌*◌, length, count_by};
 ghost use Rattle.sm_protocol.specs.State.{is_no_call, places_of};
 ghost use Rattle.sm_plan_code.specs.declared.limits.TheConstants.{MOST_ALLOWANCE, MOST_INSTRUCTIONS, MOST_STREAMS};
 

@@ -8,7 +8,7 @@ ghost use Rattle.sm_protocol.specs.Laws.{NamesKnown, AsksNoLoss, IsReached, AreC
 ghost use Rattle.sm_protocol.specs.Safe.{IsSafe, SomeCanStep, SomeCanStepOrSpent};
 ghost use Rattle.sm_protocol.specs.Steps.{Answered, Refused};
 ghost use Rattle.sm_machine.specs.State.{state_of};
-ghost use Rattle.sm_machine.specs.Hand.{AreFor, AreLeft, HasHandRoom, IsSameHand, IsTurn, game_of, hand_of};
+ghost use Rattle.sm_machine.specs.Hand.{AreFor, AreLeft, HasHandRoom, IsSameHand, IsTurn, game_of};
 ghost use Rattle.sm_plan_code.specs.declared.limits.TheConstants.{MOST_CALLS};
 
 use crate::answer::{is_spent, split};

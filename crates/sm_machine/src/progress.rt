@@ -1,6 +1,5 @@
 //! How far a stream has come.
-ghost use Rattle.std.specs.Prelude.{◌≡◌, ◌<◌, ◌^◌, ◌+◌, ◌-◌, ℕ, true, false};
-ghost use Rattle.sm_placement.specs.Sums.{bit};
+ghost use Rattle.std.specs.Prelude.{◌≡◌, ◌<◌, ◌^◌, ◌+◌, ◌-◌, true, false};
 ghost use Rattle.sm_protocol.specs.State.{fresh};
 ghost use Rattle.sm_protocol.specs.Steps.{tried_more, behind_call};
 

@@ -1,5 +1,5 @@
 //! Refills: a stream may make more tries.
-ghost use Rattle.std.specs.Prelude.{◌≡◌, ◌<◌, ◌≤◌, ◌+◌, ◌-◌, ◌^◌, Some, None, true, false, length};
+ghost use Rattle.std.specs.Prelude.{◌≡◌, ◌<◌, ◌≤◌, ◌+◌, ◌-◌, ◌^◌, Some, None, true, length};
 ghost use Rattle.sm_protocol.specs.State.{is_begun, progress_of, free_places};
 ghost use Rattle.sm_protocol.specs.Happens.{refill_fault, refilled};
 ghost use Rattle.sm_protocol.specs.Happens as happening;

@@ -1,5 +1,5 @@
 //! Restarts of servers: their approvals and their ends, which are recorded.
-ghost use Rattle.std.specs.Prelude.{◌≡◌, ◌<◌, ◌≤◌, None, true};
+ghost use Rattle.std.specs.Prelude.{◌≡◌, ◌<◌, None, true};
 ghost use Rattle.sm_task_controller.specs.Decision.{denial};
 ghost use Rattle.sm_protocol.specs.Happens.{engaged};
 ghost use Rattle.sm_machine.specs.State.{whole_of, state_of};

@@ -4,7 +4,7 @@ ghost use Rattle.sm_plan_code.specs.Instr.{is_call};
 ghost use Rattle.sm_plan_code.specs.declared.instruction.Instr.TheVariants as instr;
 ghost use Rattle.sm_protocol.specs.declared.event.Passage.{Passage};
 ghost use Rattle.sm_protocol.specs.State.{progress_of, allowance};
-ghost use Rattle.sm_protocol.specs.Steps.{step, call_to_make, Answered};
+ghost use Rattle.sm_protocol.specs.Steps.{step, call_to_make};
 ghost use Rattle.sm_machine.specs.State.{whole_of, state_of};
 ghost use Rattle.sm_machine.specs.Working.{IsWorking, IsAt, IsStepped};
 ghost use Rattle.sm_machine.specs.Played.{played_of};

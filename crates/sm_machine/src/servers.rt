@@ -1,5 +1,5 @@
 //! The servers that streams' codes mention, made once.
-ghost use Rattle.std.specs.Prelude.{◌≡◌, IfOk, OnOk, length};
+ghost use Rattle.std.specs.Prelude.{◌≡◌, IfOk, OnOk};
 ghost use Rattle.sm_machine.specs.Servers.{is_in, AreMentioned, AreMentionedBy, HasGrownBy, HasGrownByCode};
 
 use sm_plan_code::{Instr, Stream, names};

@@ -1,5 +1,5 @@
 //! Starts of plans.
-ghost use Rattle.std.specs.Prelude.{◌≡◌, ◌≢◌, nat_lt, ◌≤◌, ◌<◌, ◌+◌, ◌^◌, ℕ, [], Some, None, OnOk, IfOk, OnErr, IfErr, length, vec_capacity};
+ghost use Rattle.std.specs.Prelude.{◌≡◌, ◌≢◌, nat_lt, ◌≤◌, ◌<◌, ◌+◌, [], Some, None, IfOk, OnErr, IfErr, length, vec_capacity};
 ghost use Rattle.sm_plan_code.specs.declared.limits.TheConstants.{MOST_PLANS, MOST_STREAMS};
 ghost use Rattle.sm_protocol.specs.State.{places_of};
 ghost use Rattle.sm_protocol.specs.declared.event.BeginFault.TheVariants as fault;

@@ -1,17 +1,11 @@
 //! Steps that are no calls.
-ghost use Rattle.std.specs.Prelude.{◌≡◌, ◌<◌, ◌≤◌, ◌+◌, ◌-◌, ◌^◌, ◌==◌, if◌then◌else◌, ℕ, Some, None, Ok, IfSome, true, false, length};
-ghost use Rattle.std.specs.Option.{ForSome};
-ghost use Rattle.sm_placement.specs.Sums.{put, put2};
-ghost use Rattle.sm_placement.specs.Rows.{IsKnownCall};
+ghost use Rattle.std.specs.Prelude.{◌≡◌, ◌<◌, None};
+ghost use Rattle.sm_placement.specs.Sums.{put2};
 ghost use Rattle.sm_reservation.specs.Hold.{minus, plus};
-ghost use Rattle.sm_reservation.specs.HoldOf.{hold_of};
-ghost use Rattle.sm_reservation.specs.CanJoin.{CanJoin};
-ghost use Rattle.sm_reservation.specs.Short.{first_short};
-ghost use Rattle.sm_reservation.specs.Pool.{IsKnownHold};
 ghost use Rattle.sm_plan_code.specs.declared.instruction.Instr.TheVariants as instr;
-ghost use Rattle.sm_protocol.specs.State.{is_begun, progress_of, signal_count, parcel_at};
-ghost use Rattle.sm_protocol.specs.Steps.{entry_added, posted, awaited, ended};
-ghost use Rattle.sm_machine.specs.Course.{hold_in, rights_in, capacity_in, HasCapacityIn};
+ghost use Rattle.sm_protocol.specs.State.{parcel_at};
+ghost use Rattle.sm_protocol.specs.Steps.{entry_added, posted};
+ghost use Rattle.sm_machine.specs.Course.{hold_in, rights_in, capacity_in};
 ghost use Rattle.sm_machine.specs.State.{whole_of, state_of, grant_of, with_state};
 ghost use Rattle.sm_machine.specs.Ready.{IsReadyToGo, IsReadyToPublish, IsReadyToPost, IsReadyToTake, IsReadyToEnd};
 ghost use Rattle.sm_machine.specs.Steps.{went_on, taken, ended_whole};

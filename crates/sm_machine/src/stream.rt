@@ -1,8 +1,8 @@
 //! A stream that was begun: how far it has come, and what it holds.
-ghost use Rattle.std.specs.Prelude.{◌≡◌, ◌<◌, ℕ, Some, None, true, false, Ok, IsOk, IfSome, length};
+ghost use Rattle.std.specs.Prelude.{◌≡◌, ◌<◌, Some, None, true, false, Ok, IfSome, length};
 ghost use Rattle.sm_reservation.specs.Hold.{minus, plus};
 ghost use Rattle.sm_reservation.specs.HoldOf.{hold_of};
-ghost use Rattle.sm_reservation.specs.Capacity.{HasCapacity, HasCapacityAfter};
+ghost use Rattle.sm_reservation.specs.Capacity.{HasCapacity};
 ghost use Rattle.sm_reservation.specs.CanJoin.{CanJoin};
 ghost use Rattle.sm_reservation.specs.Short.{first_short};
 ghost use Rattle.sm_reservation.specs.Change.{portion_rights};

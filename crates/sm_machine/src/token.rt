@@ -1,6 +1,5 @@
 //! Tokens of streams.
 ghost use Rattle.std.specs.Prelude.{◌≡◌};
-ghost use Rattle.sm_protocol.specs.State.{stream_id};
 
 use sm_reservation::StreamId;
 use std::marker::Model;

@@ -1,5 +1,5 @@
 //! Tries of calls.
-ghost use Rattle.std.specs.Prelude.{◌≡◌, ◌<◌, ◌≤◌, ◌+◌, ◌-◌, ◌^◌, ◌==◌, if◌then◌else◌, ℕ, Some, None, Ok, IfSome, true, false, length};
+ghost use Rattle.std.specs.Prelude.{◌≡◌, ◌<◌, ◌+◌, ◌-◌, ◌^◌, ◌==◌, if◌then◌else◌, ℕ, Some, None, Ok, IfSome, true, false};
 ghost use Rattle.sm_placement.specs.Sums.{put2};
 ghost use Rattle.sm_placement.specs.Place.{called_numbered};
 ghost use Rattle.sm_plan_code.specs.Instr.{shard_of, IsOwn};

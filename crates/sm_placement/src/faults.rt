@@ -1,6 +1,5 @@
 //! What is wrong with a table's cells, listings, loads and live replicas.
 ghost use Rattle.std.specs.Prelude.{◌≡◌, ◌<◌, ℕ, length, Some, None};
-ghost use Rattle.sm_server.specs.Cell.{is_primary};
 ghost use Rattle.sm_placement.specs.Setup.{sizes_of};
 ghost use Rattle.sm_placement.specs.Layout.{entries_of};
 ghost use Rattle.sm_placement.specs.Grid.{cells_of, down_of};

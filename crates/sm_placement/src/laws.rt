@@ -1,6 +1,6 @@
 //! What is proved of every placement, for those who reason about one: functions with nothing in them, whose contracts
 //! are the laws.
-ghost use Rattle.std.specs.Prelude.{◌≡◌, ◌<◌, ◌≤◌, ◌^◌, ◌↔◌, ℕ, length, Ok};
+ghost use Rattle.std.specs.Prelude.{◌≡◌, ◌<◌, ◌≤◌, ◌^◌, ◌↔◌, ℕ, Ok};
 ghost use Rattle.sm_placement.specs.Setup.{Setup, IsSetup, Sizes, sizes_of};
 ghost use Rattle.sm_placement.specs.Place.{Place, load_at, answer_at, IsAllowed, NumberedAsCalled, LooksAtNoLasts, LiveMoves};
 ghost use Rattle.sm_placement.specs.Lead.{LeadWhereDescribed, ServingByLead};

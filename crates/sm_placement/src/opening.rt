@@ -6,7 +6,7 @@ ghost use Rattle.sm_placement.specs.Setup.{sizes_of};
 ghost use Rattle.sm_placement.specs.Sums.{bit, first_from};
 ghost use Rattle.sm_placement.specs.Layout.{grid_of, entries_of, place_of};
 ghost use Rattle.sm_placement.specs.Grid.{cells_of, lasts_of, down_of};
-ghost use Rattle.sm_placement.specs.Opening.{is_of, is_unknown, is_unknown_cell, AreKnown, IsNamedOnce, is_double, first_below, double_of, is_handing, lead_cells, put_all, cell_named, opened_place, has_bad_lead, first_fault, list_faults, standing_faults, open_fault, unpublished};
+ghost use Rattle.sm_placement.specs.Opening.{is_of, is_unknown, is_unknown_cell, AreKnown, IsNamedOnce, first_below, double_of, is_handing, lead_cells, put_all, cell_named, opened_place, has_bad_lead, first_fault, list_faults, standing_faults, open_fault, unpublished};
 
 use crate::config::Config;
 use crate::faults;

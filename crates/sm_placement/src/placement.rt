@@ -1,5 +1,5 @@
 //! Where the replicas stand, and the calls that move them.
-ghost use Rattle.std.specs.Prelude.{◌≡◌, ◌<◌, ◌≤◌, ◌^◌, ◌↔◌, length, IsTrue, All};
+ghost use Rattle.std.specs.Prelude.{◌≡◌, ◌<◌, ◌≤◌, ◌↔◌, length, IsTrue, All};
 ghost use Rattle.sm_placement.specs.declared.limits.TheConstants.{MOST_SERVERS, VERSIONS_END};
 
 use crate::config::Config;
@@ -66,7 +66,7 @@ fn are_low(versions: &[u64]) -> bool
 }
 
 impl Placement {
-    ghost use Rattle.std.specs.Prelude.{◌≤◌, ◌^◌, ◌-◌, ◌&&◌, ◌↔◌, ℕ, true, false, IsTrue, IfSome, IfOk, OnOk, OnErr, IfErr, Ok, Err};
+    ghost use Rattle.std.specs.Prelude.{◌≤◌, ◌-◌, ◌&&◌, ◌↔◌, true, false, IsTrue, IfSome, IfOk, OnOk, OnErr, IfErr, Ok, Err};
     ghost use Rattle.sm_server.specs.Cell.{is_forwarding};
     ghost use Rattle.sm_placement.specs.Setup.{sizes_of};
     ghost use Rattle.sm_placement.specs.Rows.{IsKnownCall, serves, serving_in, serving_of};

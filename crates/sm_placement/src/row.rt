@@ -1,5 +1,5 @@
 //! One shard's cells, by server: who serves it, who is live, and how many.
-ghost use Rattle.std.specs.Prelude.{◌≡◌, ◌≢◌, ◌<◌, ◌≤◌, ◌+◌, ◌*◌, ◌&&◌, ℕ, false, not, length, slice_set};
+ghost use Rattle.std.specs.Prelude.{◌≡◌, ◌<◌, ◌≤◌, ◌+◌, ◌*◌, ◌&&◌, false, not, length, slice_set};
 ghost use Rattle.sm_server.specs.Cell.{is_forwarding};
 ghost use Rattle.sm_placement.specs.Sums.{put, bit};
 ghost use Rattle.sm_placement.specs.Rows.{IsKnownCell, forwards, serves, is_live, live_in};

@@ -1,11 +1,11 @@
 //! The cells of a configuration, one after another, with running totals.
-ghost use Rattle.std.specs.Prelude.{◌≡◌, ◌<◌, ◌≤◌, ◌+◌, ◌*◌, ◌^◌, ◌&&◌, false, not, length, replicate, slice_set, IfOk};
+ghost use Rattle.std.specs.Prelude.{◌≡◌, ◌<◌, ◌≤◌, ◌+◌, ◌*◌, ◌^◌, ◌&&◌, false, not, length, replicate, IfOk};
 ghost use Rattle.sm_server.specs.Cell.{is_forwarding};
 ghost use Rattle.sm_placement.specs.Sums.{put};
 ghost use Rattle.sm_placement.specs.Rows.{IsKnownCell};
 ghost use Rattle.sm_placement.specs.Place.{weight};
 ghost use Rattle.sm_placement.specs.Layout.{grid_of, entries_of};
-ghost use Rattle.sm_placement.specs.Counts.{counts_in, AreLives};
+ghost use Rattle.sm_placement.specs.Counts.{AreLives};
 ghost use Rattle.sm_placement.specs.declared.limits.TheConstants.{MOST_SERVERS};
 
 use crate::cells::{Cells, Row};

@@ -1,5 +1,5 @@
 //! What an instruction exchanges: its line of the table of rights, as a change of what is held.
-ghost use Rattle.std.specs.Prelude.{◌≡◌, ◌<◌, ◌^◌, ℕ, None, Some, IfOk, IfErr, OnOk, IfSome, Ok, Err, length};
+ghost use Rattle.std.specs.Prelude.{◌≡◌, ◌<◌, ℕ, None, Some, IfOk, IfErr, IfSome, Ok, Err, length};
 ghost use Rattle.sm_placement.specs.Setup.{Sizes, sizes_of};
 ghost use Rattle.sm_reservation.specs.Rights.{Rights};
 ghost use Rattle.sm_reservation.specs.Hold.{minus, plus};
@@ -9,7 +9,7 @@ ghost use Rattle.sm_reservation.specs.Change.{portion_rights};
 ghost use Rattle.sm_reservation.specs.Short.{first_short};
 ghost use Rattle.sm_plan_code.specs.Instr.{shard_of, IsOwn};
 ghost use Rattle.sm_plan_code.specs.After.{after, line_of, to_list, lead_held, listed_of, prepare_add_line, prepare_drop_line, add_secondary_line, add_primary_line, drop_held_line, drop_led_line, to_primary_line, to_secondary_line, publish_line, unlist_line};
-ghost use Rattle.sm_plan_code.specs.Table.{portion, cell, crown, room, held_crown, exchanged, exchange_of, needs_of, gives_of, no_exchange, IsSmallPortion, prepare_add_exchange, prepare_drop_exchange, add_secondary_exchange, add_primary_exchange, drop_held_exchange, drop_led_exchange, to_primary_exchange, to_secondary_exchange, publish_exchange, unlist_exchange};
+ghost use Rattle.sm_plan_code.specs.Table.{portion, cell, crown, room, held_crown, exchanged, exchange_of, no_exchange, IsSmallPortion, prepare_add_exchange, prepare_drop_exchange, add_secondary_exchange, add_primary_exchange, drop_held_exchange, drop_led_exchange, to_primary_exchange, to_secondary_exchange, publish_exchange, unlist_exchange};
 
 use crate::{Instr, Why};
 use sm_placement::{Config, Lead};

@@ -1,8 +1,8 @@
 //! Rows put in order, and rows of one key found among them.
-ghost use Rattle.std.specs.Prelude.{◌≡◌, ◌&&◌, ◌<◌, ◌^◌, filter, nat_lt, IfOk};
+ghost use Rattle.std.specs.Prelude.{◌≡◌, ◌<◌, ◌^◌, filter, nat_lt, IfOk};
 ghost use Rattle.std.specs.List.{AllByRecursion};
 ghost use Rattle.std.specs.List.Sorted.{IsPermutation};
-ghost use Rattle.sm_reservation.specs.Rows.{same, Climbs, first_twin};
+ghost use Rattle.sm_reservation.specs.Rows.{Climbs, first_twin};
 
 use crate::rows::{Amount, Row, is_same};
 use std::alloc::{AllocError, Global};

@@ -1,5 +1,4 @@
 //! The kinds of rights, and their keys.
-ghost use Rattle.std.specs.Prelude.{ℕ};
 
 use crate::rows::{Amount, Row};
 use sm_placement::Lead;

@@ -1,6 +1,5 @@
 //! A plan that is run beside clients that ask.
-ghost use Rattle.std.specs.Prelude.{◌≡◌, [], length};
-ghost use Rattle.sm_executor.specs.Views.{calling};
+ghost use Rattle.std.specs.Prelude.{◌≡◌, length};
 
 use super::courses::{Course, run_through};
 use super::gates::Behind;

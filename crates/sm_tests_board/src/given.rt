@@ -1,5 +1,5 @@
 //! What a board gives out, and events that are made with it, one by one.
-ghost use Rattle.std.specs.Prelude.{◌≡◌, ◌≤◌, ◌<◌, IfOk, IsTrue, length};
+ghost use Rattle.std.specs.Prelude.{◌≡◌, ◌<◌, IsTrue, length};
 
 use super::answers::{answered, played_of, ticket_place};
 use super::links::Loses;

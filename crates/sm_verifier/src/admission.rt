@@ -1,10 +1,9 @@
 //! Whether a plan may start.
-ghost use Rattle.std.specs.Prelude.{◌≡◌, ◌≤◌, All, OnOk, OnErr, IfErr, length};
+ghost use Rattle.std.specs.Prelude.{◌≡◌, OnOk, OnErr, IfErr};
 ghost use Rattle.sm_placement.specs.Setup.{sizes_of};
 ghost use Rattle.sm_placement.specs.Layout.{place_of};
 ghost use Rattle.sm_reservation.specs.declared.right.Key.{Key};
 ghost use Rattle.sm_reservation.specs.Pool.{pool_hold, true_rights, HasSize};
-ghost use Rattle.sm_plan_code.specs.Plan.{IsKnownStream, IsSmallStream};
 ghost use Rattle.sm_verifier.specs.Admission.{AreFree, AreTrue, IsAdmitted, IsHolding, IsIn};
 
 use crate::Checked;

@@ -1,5 +1,5 @@
 //! What streams declare: looked up in their parcels, and added up.
-ghost use Rattle.std.specs.Prelude.{◌≡◌, ◌≤◌, ◌<◌, ◌^◌, All, is_some, length};
+ghost use Rattle.std.specs.Prelude.{◌≡◌, ◌≤◌, ◌^◌, All, is_some, length};
 ghost use Rattle.std.specs.List.{list_any};
 ghost use Rattle.sm_reservation.specs.HoldOf.{hold_of};
 ghost use Rattle.sm_plan_code.specs.Plan.{IsSmallStream, IsSmallParcel};

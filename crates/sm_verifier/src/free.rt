@@ -1,7 +1,6 @@
 //! Declared rights that are not free.
-ghost use Rattle.std.specs.Prelude.{◌≡◌, ℕ, take, IfSome, IfNone};
+ghost use Rattle.std.specs.Prelude.{◌≡◌, ℕ, IfSome, IfNone};
 ghost use Rattle.sm_reservation.specs.declared.right.Key.{Key};
-ghost use Rattle.sm_reservation.specs.Rights.{Rights};
 ghost use Rattle.sm_reservation.specs.Pool.{pool_hold};
 ghost use Rattle.sm_verifier.specs.Finding.{is_free_cell, is_free_crown, first_cell, first_crown, IsFree};
 ghost use Rattle.sm_verifier.specs.Admission.{IsFreeAt, AreFree, IsLowestKey, IsFirst};

@@ -1,5 +1,5 @@
 //! The map on one thread, and with one thread that stores while two look.
-ghost use Rattle.std.specs.Prelude.{◌≡◌, ◌+◌, ◌<◌, ◌≤◌, Some, IfOk, IsSomeAnd, length};
+ghost use Rattle.std.specs.Prelude.{◌≡◌, ◌+◌, ◌<◌, Some, IfOk, IsSomeAnd, length};
 ghost use Rattle.std.specs.Thread.{IsSync};
 ghost use Rattle.sm_map.specs.History.{newest};
 ghost use Rattle.sm_map.specs.Models.{history};
