@@ -23,47 +23,32 @@ pub struct ServerCall {
 pub const fn call_of(instr: &Instr, number: u64) -> Option<ServerCall>
     ensures { result ≡ call_of instr.now number }
 {
-    match *instr {
+    let (shard, server, call) = match *instr {
         Instr::PrepareAdd {
             shard,
             server,
             owner,
-        } => Some(ServerCall {
-            shard,
-            server,
-            call: Call::PrepareAdd { owner, number },
-        }),
+        } => (shard, server, Call::PrepareAdd { owner, number }),
         Instr::PrepareDrop {
             shard,
             server,
             new_owner,
-        } => Some(ServerCall {
-            shard,
-            server,
-            call: Call::PrepareDrop { new_owner, number },
-        }),
+        } => (shard, server, Call::PrepareDrop { new_owner, number }),
         Instr::Add {
             shard,
             server,
             role,
-        } => Some(ServerCall {
-            shard,
-            server,
-            call: Call::Add(role),
-        }),
-        Instr::Drop { shard, server } => Some(ServerCall {
-            shard,
-            server,
-            call: Call::Drop,
-        }),
-        Instr::Change { shard, server, to } => Some(ServerCall {
-            shard,
-            server,
-            call: change_to(to),
-        }),
+        } => (shard, server, Call::Add(role)),
+        Instr::Drop { shard, server } => (shard, server, Call::Drop),
+        Instr::Change { shard, server, to } => (shard, server, change_to(to)),
         Instr::Publish { .. } | Instr::Unlist { .. } | Instr::Signal { .. } | Instr::Wait { .. } =>
-            { None }
-    }
+            return None,
+    };
+    Some(ServerCall {
+        shard,
+        server,
+        call,
+    })
 }
 
 /// The call that changes a replica from the other role to this one.
