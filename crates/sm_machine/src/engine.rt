@@ -103,7 +103,7 @@ impl Engine {
         requires numbers { rooms.numbers.items ≡ replicate (length placement.setup.shards) 0 }
         requires journal { rooms.journal ≡ record { log = []; room = room } }
         requires unfinished { rooms.unfinished.items ≡ [] }
-        requires places { MOST_PLANS ≤ vec_capacity rooms.unfinished }
+        requires plans { MOST_PLANS ≤ vec_capacity rooms.unfinished }
         ensures { whole_of result ≡ opened_whole placement.setup (place_of placement) room }
     {
         let mut placement = placement;

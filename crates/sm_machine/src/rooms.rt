@@ -46,7 +46,7 @@ impl Rooms {
         ensures numbers { IfOk result (λ rooms. rooms.numbers.items ≡ replicate (length placement.now.setup.shards) 0) }
         ensures journal { IfOk result (λ rooms. rooms.journal ≡ record { log = []; room = room }) }
         ensures unfinished { IfOk result (λ rooms. rooms.unfinished.items ≡ []) }
-        ensures places { IfOk result (λ rooms. MOST_PLANS ≤ vec_capacity rooms.unfinished) }
+        ensures plans { IfOk result (λ rooms. MOST_PLANS ≤ vec_capacity rooms.unfinished) }
     {
         let shards = placement.config().shard_count();
         Ok(Rooms {
