@@ -5,9 +5,10 @@ ghost use Rattle.clap.specs.Walk.{texts};
 ghost use Rattle.sm_command_line.specs.CommandLine.{command_named, word_named, asked_for, first_words, program, Tells, TellsKind};
 
 use clap::error::ErrorKind;
-use clap::{Command as Parser, Error};
+use clap::{Command as Parser, Error as ParserError};
 use sm_report::Command;
 use std::alloc::{AllocError, Global};
+use thiserror::Error;
 
 /// What the words after the program's name ask for.
 #[derive(Clone, Copy, Debug, PartialEq, Eq)]
@@ -17,12 +18,16 @@ pub enum Word {
 }
 
 /// Why the words ask for nothing.
-#[derive(Debug, Drop)]
+#[derive(Debug, Drop, Error)]
 pub enum LineFault {
+    /// Memory was short.
+    #[error("out of memory")]
     NoMemory,
     /// Help was asked for.
+    #[error("{text}")]
     Help { text: String },
     /// The words are no command line of the program.
+    #[error("{text}")]
     Bad { text: String },
 }
 
@@ -65,7 +70,7 @@ fn parser<'a>(alloc: Global) -> Result<Parser<'a>, AllocError>
 }
 
 /// What an error of the command line tells.
-fn fault_in(alloc: Global, error: &Error) -> LineFault
+fn fault_in(alloc: Global, error: &ParserError) -> LineFault
     ensures { TellsKind result (kind_of error.now) }
 {
     let Ok(text) = error.to_string(alloc) else {

@@ -17,13 +17,16 @@ use sm_machine::Machine;
 use sm_protocol::ends_are_reached;
 use sm_reservation::StreamId;
 use std::marker::Model;
+use thiserror::Error;
 
 /// Why a board is not closed.
-#[derive(Clone, Copy, Debug, PartialEq, Eq)]
+#[derive(Clone, Copy, Debug, PartialEq, Eq, Error)]
 pub enum CloseFault {
     /// A stream has not made its end.
+    #[error("a stream has not made its end")]
     NotDone,
     /// Not as many ends or callers are handed in as the board has given runners and callers out.
+    #[error("the board has given out more or fewer runners or callers than have come back")]
     BookDiffers,
 }
 

@@ -26,15 +26,15 @@ pub enum OpenFault {
     TooMany,
     #[error("a shard or server is not in the configuration")]
     UnknownName,
-    #[error("a cell is named twice")]
+    #[error("the cell of {shard} at {server} is named twice")]
     DoubleCell { shard: ShardId, server: ServerId },
-    #[error("a shard has two primaries, or a handover is under way")]
+    #[error("{shard} has two primaries, or a handover is under way")]
     BadLead { shard: ShardId },
-    #[error("a shard's listed server is not its primary")]
+    #[error("the listed server of {shard} is not its primary")]
     BadListing { shard: ShardId },
-    #[error("a server's load is above its room")]
+    #[error("the load of {server} is above its room")]
     OverRoom { server: ServerId },
-    #[error("a shard has fewer live replicas than its floor")]
+    #[error("{shard} has fewer live replicas than its floor")]
     Short { shard: ShardId },
     #[error("more servers are down than the limit")]
     TooManyDown,

@@ -21,7 +21,7 @@ pub enum NoPlan {
     #[error("out of memory")]
     NoMemory,
     /// The server has no primary or secondary of the shard.
-    #[error("the server has no replica of the shard")]
+    #[error("{server} has no replica of {shard}")]
     NotThere {
         /// The shard.
         shard: ShardId,
@@ -29,7 +29,7 @@ pub enum NoPlan {
         server: ServerId,
     },
     /// The cell is not absent, or a right that is needed is not free.
-    #[error("the server has a part of the shard, or a right is taken")]
+    #[error("{server} has a part of {shard}, or a right is taken")]
     Held {
         /// The shard.
         shard: ShardId,
@@ -37,25 +37,25 @@ pub enum NoPlan {
         server: ServerId,
     },
     /// The server is down.
-    #[error("a server of the moves is down")]
+    #[error("{server} is down")]
     ServerDown {
         /// The server.
         server: ServerId,
     },
     /// The server never has room for the load that is to come.
-    #[error("a server has too little room")]
+    #[error("{server} has too little room")]
     NoRoom {
         /// The server.
         server: ServerId,
     },
     /// No server may take the shard.
-    #[error("no server may take a shard")]
+    #[error("no server may take {shard}")]
     NoPlace {
         /// The shard.
         shard: ShardId,
     },
     /// The shard's replicas would lie in too few regions.
-    #[error("a shard would lie in too few regions")]
+    #[error("{shard} would lie in too few regions")]
     Spread {
         /// The shard.
         shard: ShardId,

@@ -95,7 +95,7 @@ pub enum BeginFault {
     #[error("memory was short")]
     NoMemory,
     /// Something holds the plan up.
-    #[error("something holds the plan up")]
+    #[error("{0}")]
     Holding(Holding),
     /// The log has fewer free places than the plan needs.
     #[error("the log has fewer free places than the plan needs")]

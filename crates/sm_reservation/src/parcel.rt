@@ -37,7 +37,7 @@ pub enum ParcelFault {
     #[error("out of memory")]
     NoMemory,
     /// A key stands twice.
-    #[error("a key stands twice")]
+    #[error("{key} stands twice")]
     Double {
         /// The lowest such key.
         key: Key,

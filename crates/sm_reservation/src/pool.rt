@@ -30,7 +30,7 @@ pub enum TakeFault {
     #[error("out of memory")]
     NoMemory,
     /// There is too little of a key.
-    #[error("too little of a key in the pool")]
+    #[error("the pool is short of {0}")]
     Short(Short),
 }
 

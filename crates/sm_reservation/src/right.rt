@@ -3,6 +3,8 @@
 use crate::rows::{Amount, Row};
 use sm_placement::Lead;
 use sm_server::{ServerId, ShardId};
+use std::fmt;
+use thiserror::Error;
 
 /// A cell with no part in its shard's lead: there are rights to such cells alone.
 #[derive(Clone, Copy, Debug, PartialEq, Eq)]
@@ -80,10 +82,23 @@ pub enum Key {
     },
 }
 
+/// What the right is of, as an error text names it.
+impl fmt::Display for Key {
+    fn fmt<W: fmt::Write>(&self, f: &mut fmt::Formatter<W>) -> fmt::Result {
+        match self {
+            Key::CellRight { shard, server } => write!(f, "the cell of {shard} at {server}"),
+            Key::Crown { shard } => write!(f, "the crown of {shard}"),
+            Key::Room { server } => write!(f, "room of {server}"),
+            Key::Spare { shard } => write!(f, "spare replicas of {shard}"),
+        }
+    }
+}
+
 /// A key of which there was too little.
 ///
 /// A cell right or a crown that is absent or in another state has `had` 0 and `asked` 1.
-#[derive(Clone, Copy, Debug, PartialEq, Eq)]
+#[derive(Clone, Copy, Debug, PartialEq, Eq, Error)]
+#[error("{key}: {had} there, and {asked} asked for")]
 pub struct Short {
     /// The key.
     pub key: Key,

@@ -1,6 +1,7 @@
 //! The ids of servers: their positions in the configuration.
 ghost use Rattle.std.specs.Prelude.{◌≡◌};
 
+use std::fmt;
 use std::marker::Model;
 
 /// A server, by its position in the configuration.
@@ -32,5 +33,16 @@ impl ServerId {
         ensures { result ≡ self }
     {
         self.number
+    }
+}
+
+/// As an error text names it: `server 3`.
+impl fmt::Display for ServerId {
+    ghost use Rattle.std.specs.Prelude.{◌++◌, codes, decimal, Some};
+
+    ghost output = { λ id. Some (codes "server " ++ decimal id) };
+
+    fn fmt<W: fmt::Write>(&self, f: &mut fmt::Formatter<W>) -> fmt::Result {
+        write!(f, "server {}", self.number)
     }
 }

@@ -1,6 +1,7 @@
 //! The ids of shards: their positions in the configuration.
 ghost use Rattle.std.specs.Prelude.{◌≡◌};
 
+use std::fmt;
 use std::marker::Model;
 
 /// A shard, by its position in the configuration.
@@ -32,5 +33,16 @@ impl ShardId {
         ensures { result ≡ self }
     {
         self.number
+    }
+}
+
+/// As an error text names it: `shard 3`.
+impl fmt::Display for ShardId {
+    ghost use Rattle.std.specs.Prelude.{◌++◌, codes, decimal, Some};
+
+    ghost output = { λ id. Some (codes "shard " ++ decimal id) };
+
+    fn fmt<W: fmt::Write>(&self, f: &mut fmt::Formatter<W>) -> fmt::Result {
+        write!(f, "shard {}", self.number)
     }
 }

@@ -22,7 +22,7 @@ pub enum Denied {
     #[error("the server is down already")]
     AlreadyDown,
     /// An unfinished stream names it in its code.
-    #[error("an unfinished stream engages the server")]
+    #[error("{stream} engages the server, and is not finished")]
     Engaged {
         /// The lowest such stream.
         stream: StreamId,
@@ -31,7 +31,7 @@ pub enum Denied {
     #[error("as many servers are down as may be down at once")]
     GlobalCap,
     /// A shard is live at the server and has no spare replica that is free.
-    #[error("a shard of the server has no spare replica that is free")]
+    #[error("{shard} is live at the server, and no spare replica of it is free")]
     ShardCap {
         /// The lowest such shard.
         shard: ShardId,

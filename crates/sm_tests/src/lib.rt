@@ -8,4 +8,6 @@ mod plan_code;
 #[cfg(test)]
 mod task_controller;
 #[cfg(test)]
+mod texts;
+#[cfg(test)]
 mod verifier;

@@ -21,19 +21,19 @@ use thiserror::Error;
 #[derive(Clone, Copy, Debug, PartialEq, Eq, Error)]
 pub enum Holding {
     /// A stream declares a cell right or a crown that is not true of the placement.
-    #[error("a declared right is not true of the placement")]
+    #[error("{key} is declared, and is not so in the placement")]
     Untrue {
         /// Its key.
         key: Key,
     },
     /// A stream declares a cell right or a crown that is not in the pool, or that an earlier stream declares.
-    #[error("a declared right is taken")]
+    #[error("{key} is declared, and is taken")]
     Taken {
         /// Its key.
         key: Key,
     },
     /// The streams declare more room of a server than the pool has.
-    #[error("too little room: {declared} is declared, and {free} is free")]
+    #[error("{declared} of the room of {server} is declared, and {free} is free")]
     ShortRoom {
         /// The server.
         server: ServerId,
@@ -43,7 +43,7 @@ pub enum Holding {
         declared: u64,
     },
     /// The streams declare more spare replicas of a shard than the pool has.
-    #[error("too few spare replicas: {declared} are declared, and {free} are free")]
+    #[error("{declared} spare replicas of {shard} are declared, and {free} are free")]
     ShortSpare {
         /// The shard.
         shard: ShardId,
@@ -53,7 +53,7 @@ pub enum Holding {
         declared: u64,
     },
     /// An instruction mentions a server that is down.
-    #[error("a server of the plan is down")]
+    #[error("{server} is down, and the plan mentions it")]
     ServerDown {
         /// The server.
         server: ServerId,
