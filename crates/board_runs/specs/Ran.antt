@@ -13,6 +13,10 @@ use Rattle.sm_executor.specs.Views.{EndedModel, CallerModel}
 abbrev pub IsClosedAt : State → Place → Type 0
 IsClosedAt opened p = (now : State) × (ended : List EndedModel) × (callers : List CallerModel) × IsClosed opened now ended callers × (p ≡ now.place)
 
+-- the plan begins at this state, and makes it that one
+abbrev pub BeginsAs : State → PlanModel → State → Type 0
+BeginsAs w plan v = ((happens w (Begin plan)).0 ≡ Answered (Begun (length w.plans))) × (v ≡ (happens w (Begin plan)).1)
+
 -- the plan begins at this state, and a board that is opened then is closed at this placement
 abbrev pub HasRunTo : State → PlanModel → Place → Type 0
 HasRunTo w plan p = ((happens w (Begin plan)).0 ≡ Answered (Begun (length w.plans))) × IsClosedAt (happens w (Begin plan)).1 p

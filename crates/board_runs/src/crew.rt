@@ -1,5 +1,5 @@
 //! The places of those who work beside the streams of a run.
-ghost use Rattle.std.specs.Prelude.{◌≡◌, ◌≤◌, ◌+◌, [], length, vec_len, vec_capacity};
+ghost use Rattle.std.specs.Prelude.{◌≡◌, ◌≤◌, ◌+◌, [], vec_len, vec_capacity};
 
 use crate::finish::Finish;
 use crate::worker::Worker;
@@ -14,15 +14,10 @@ use std::sync::Wait;
 pub(crate) struct Seat<B: Side, C: Side, N: Naming> {
     caller: Caller<B, C, N>,
     left: Option<Permit>,
-    ghost shards: { length N.words.opening ≡ length N.setup.shards },
-    ghost servers: { N.words.servers ≡ length N.setup.servers },
 }
 
 impl<B: Side, C: Side, N: Naming> Seat<B, C, N> {
-    fn new(caller: Caller<B, C, N>) -> Seat<B, C, N>
-        requires shards { length N.words.opening ≡ length N.setup.shards }
-        requires servers { N.words.servers ≡ length N.setup.servers }
-    {
+    fn new(caller: Caller<B, C, N>) -> Seat<B, C, N> {
         Seat { caller, left: None }
     }
 
@@ -66,8 +61,6 @@ fn add_seats<A: Side, B: Side, C: Side, N: Naming, R: Wait>(
 )
     requires none { seats.old.items ≡ [] }
     requires room { count ≤ vec_capacity seats.old }
-    requires shards { length N.words.opening ≡ length N.setup.shards }
-    requires servers { N.words.servers ≡ length N.setup.servers }
     ensures { vec_len seats.new ≤ count }
 {
     for _ in 0..count {
@@ -87,8 +80,6 @@ impl<B: Side, C: Side, N: Naming> Crew<B, C, N> {
         count: usize,
     ) -> Result<Self, Vec<Permit>>
         requires room { vec_len permits + count ≤ vec_capacity permits }
-        requires shards { length N.words.opening ≡ length N.setup.shards }
-        requires servers { N.words.servers ≡ length N.setup.servers }
     {
         let Ok(mut seats) = Vec::with_capacity(alloc, count) else {
             return Err(permits);

@@ -1,5 +1,5 @@
 //! Who works beside the streams of a run: those who ask, and who restarts servers.
-ghost use Rattle.std.specs.Prelude.{◌≡◌, ◌<◌, IfSome, length};
+ghost use Rattle.std.specs.Prelude.{◌<◌, IfSome};
 
 use crate::gusts::scattered;
 use crate::world::{RESTED, RESTING};
@@ -52,9 +52,7 @@ fn ask_often<A: Side, B: Side, C: Side, N: Naming, R: Wait>(
     board: &Board<A, B, C, N>,
     caller: &mut Caller<B, C, N>,
     seed: u64,
-)
-    requires { length N.words.opening ≡ length N.setup.shards }
-{
+) {
     let shards = board.config().shard_count();
     let mut number = seed;
     for _ in 0..ASKS {
@@ -114,9 +112,7 @@ fn restart_two<A: Side, B: Side, C: Side, N: Naming, R: Wait>(
     number: u64,
     made: &AtomicU64,
     others: &AtomicU64,
-) -> Option<Permit>
-    requires { N.words.servers ≡ length N.setup.servers }
-{
+) -> Option<Permit> {
     let servers = board.config().server_count();
     let rested = RESTED + (number % RESTING) as u32;
     if rested < servers {
@@ -137,9 +133,7 @@ fn restart_all<A: Side, B: Side, C: Side, N: Naming, R: Wait>(
     seed: u64,
     made: &AtomicU64,
     others: &AtomicU64,
-) -> Option<Permit>
-    requires { N.words.servers ≡ length N.setup.servers }
-{
+) -> Option<Permit> {
     for round in 0..RESTARTS {
         let number = scattered(seed.wrapping_add(round));
         if let Some(permit) = restart_two(rt, board, number, made, others) {

@@ -1,13 +1,17 @@
--- The words of the map are those of the machine's configuration.
-use Rattle.std.proofs.Common.{◌∙◌, length, ap, sym}
-use Rattle.sm_placement.specs.Setup.{Setup, Sizes}
-use Rattle.sm_machine.proofs.HandPlays.{sizes_are}
+-- The machine that a run is prepared with is the one on which its plan has begun.
+use Rattle.std.proofs.Common.{◌≡◌, ◌∙◌, IfOk, ap, subst}
+use Rattle.sm_placement.specs.Setup.{Setup}
+use Rattle.sm_placement.specs.Layout.{place_of}
+use Rattle.sm_machine.specs.Machine.{MachineModel}
+use Rattle.sm_machine.specs.State.{state_of}
+use Rattle.board_runs.specs.Ran.{IsClosedAt}
 use Rattle.board_runs.proofs.run.run_begun.Goals as goal
 
-pub run_on_ground-requires-clause-shards : goal.run_on_ground-requires-clause-shards
-run_on_ground-requires-clause-shards g c κs within =
-    c.in-Ok.ensures.map.shards ∙ ap (λ (s : Sizes). s.shards) (sizes_are c.args.machine) ∙ sym (ap (λ (s : Setup). length s.shards) c.in-Ok.ensures.setup)
+pub returns-in-Ok-clause-setup : goal.returns-in-Ok-clause-setup
+returns-in-Ok-clause-setup g c =
+    let same = c.in-Ok.prepared.setup ∙ ap (λ (m : MachineModel). m.placement.setup) c.in-Ok.ensures.prepared in
+    subst (λ (s : Setup). IfOk c.run_on_ground.result (λ ended. ended.setup ≡ s)) same c.run_on_ground.ensures.setup
 
-pub run_on_ground-requires-clause-servers : goal.run_on_ground-requires-clause-servers
-run_on_ground-requires-clause-servers g c κs within =
-    c.in-Ok.ensures.map.servers ∙ ap (λ (s : Sizes). s.servers) (sizes_are c.args.machine) ∙ sym (ap (λ (s : Setup). length s.servers) c.in-Ok.ensures.setup)
+pub returns-in-Ok-clause-closed : goal.returns-in-Ok-clause-closed
+returns-in-Ok-clause-closed g c =
+    subst (λ (m : MachineModel). IfOk c.run_on_ground.result (λ ended. IsClosedAt (state_of m) (place_of ended))) c.in-Ok.ensures.prepared c.run_on_ground.ensures.closed

@@ -1,7 +1,7 @@
 -- Configurations that compare as equal are equal.
 use Rattle.std.proofs.Common.{◌∙◌, sym}
 use Rattle.sm_placement.proofs.SameLemmas.{true_where_equal}
-use Rattle.board_runs.proofs.run.is_for.Goals as goal
+use Rattle.board_runs.proofs.begun.is_for.Goals as goal
 
 pub returns : goal.returns
 returns c same =

@@ -1,0 +1,119 @@
+//! A board on which streams run, beside those who work at it.
+ghost use Rattle.std.specs.Prelude.{◌≡◌, ◌≤◌, ◌+◌, ◌^◌, IfOk, vec_len, vec_capacity};
+ghost use Rattle.sm_placement.specs.Layout.{place_of};
+ghost use Rattle.sm_machine.specs.State.{state_of};
+ghost use Rattle.board_runs.specs.Ran.{IsClosedAt};
+
+use crate::begun::{Begun, Prepared};
+use crate::crew::Crew;
+use crate::fault::Fault;
+use crate::streams::Streams;
+use sm_executor::{Board, Naming, NotClosed, Side};
+use sm_machine::{Permit, StreamToken};
+use sm_placement::Placement;
+use std::alloc::Global;
+use std::sync::Wait;
+
+/// A board that is open, with its streams and the seats of those who work beside them. It can be neither copied nor dropped.
+pub(crate) struct Stage<A: Side, B: Side, C: Side, N: Naming> {
+    /// The board.
+    pub board: Board<A, B, C, N>,
+    /// The streams that run on the board.
+    pub streams: Streams<A>,
+    /// The seats of those who work beside the streams.
+    pub crew: Crew<B, C, N>,
+}
+
+/// The placement of a board that is not closed, which is given up with all that it and its machine have given out.
+fn given_up<A: Side, B: Side, C: Side, N: Naming>(
+    alloc: Global,
+    refused: NotClosed<A, B, C, N>,
+    tokens: Vec<StreamToken>,
+    permits: Vec<Permit>,
+) -> Placement
+    ensures { result.setup ≡ N.setup }
+{
+    let (board, ended, callers) = refused.back();
+    let machine = board.give_up(ended, callers);
+    machine.give_up(tokens, permits, Vec::new(alloc))
+}
+
+impl<A: Side, B: Side, C: Side, N: Naming> Stage<A, B, C, N> {
+    /// A board with its streams, and so many seats at it.
+    fn with_seats<R: Wait>(
+        rt: &R,
+        alloc: Global,
+        board: Board<A, B, C, N>,
+        streams: Streams<A>,
+        permits: Vec<Permit>,
+        seats: usize,
+    ) -> Result<Self, Fault>
+        requires { vec_len permits + seats ≤ vec_capacity permits }
+    {
+        match Crew::new(rt, alloc, &board, permits, seats) {
+            Ok(crew) => Ok(Stage {
+                board,
+                streams,
+                crew,
+            }),
+            Err(permits) => {
+                let (ended, tokens) = streams.into_parts();
+                let machine = board.give_up(ended, Vec::new(alloc));
+                machine.give_up(tokens, permits, Vec::new(alloc));
+                Err(Fault::NoMemory)
+            }
+        }
+    }
+
+    /// Opens a board over a machine on which a plan has begun, under the names of its ground.
+    pub fn open<R: Wait>(rt: &R, alloc: Global, prepared: Prepared) -> Result<Self, Fault>
+        requires names { (prepared.base.words ≡ N.words) × (prepared.base.setup ≡ N.setup) × (state_of prepared.begun.machine ≡ N.opened) }
+        requires steps { (prepared.base.steps ≡ A.name) × (A.parts ≡ 2 ^ 62) × (A.all ≡ 2 ^ 62) }
+        requires executed { (prepared.base.executed ≡ B.name) × (B.parts ≡ 2 ^ 62) × (B.all ≡ 2 ^ 62) }
+        requires refused { (prepared.base.refused ≡ C.name) × (C.parts ≡ 2 ^ 62) × (C.all ≡ 2 ^ 62) }
+    {
+        let Prepared {
+            begun,
+            base,
+            room,
+            seats,
+        } = prepared;
+        let Begun {
+            machine,
+            permits,
+            tokens,
+        } = begun;
+        match Board::<A, B, C, N>::open_begun(alloc, machine, base, tokens) {
+            Ok((board, runners)) => {
+                let streams = Streams::new(alloc, runners, room);
+                Stage::with_seats(rt, alloc, board, streams, permits, seats)
+            }
+            Err((machine, _base, tokens, _error)) => {
+                room.destroy_empty();
+                machine.give_up(tokens, permits, Vec::new(alloc));
+                Err(Fault::NoMemory)
+            }
+        }
+    }
+
+    /// Closes the board with all that it and its machine have given out.
+    pub fn close(self, alloc: Global) -> Result<Placement, Fault>
+        ensures setup { IfOk result (λ placement. placement.setup ≡ N.setup) }
+        ensures closed { IfOk result (λ placement. IsClosedAt N.opened (place_of placement)) }
+    {
+        let Stage {
+            board,
+            streams,
+            crew,
+        } = self;
+        let (ended, tokens) = streams.into_parts();
+        let (callers, permits) = crew.into_parts();
+        match board.close(ended, callers) {
+            Ok(machine) => Ok(machine.give_up(tokens, permits, Vec::new(alloc))),
+            Err(refused) => {
+                given_up(alloc, refused, tokens, permits);
+                Err(Fault::NotClosed)
+            }
+        }
+    }
+}
