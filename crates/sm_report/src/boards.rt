@@ -17,6 +17,7 @@ ghost use Rattle.sm_report.specs.Running.{HasRun, WasRun, IsStartedForRun};
 ghost use Rattle.sm_report.specs.Unmade.{IfUnmade, IfRan};
 ghost use Rattle.sm_plan_code.specs.declared.limits.TheConstants.{MOST_STREAMS};
 
+use crate::begun::Begun;
 use crate::early::Early;
 use crate::ending::push_ending;
 use crate::given::{Given, keep_ends, keep_fault, keep_runners, take_callers};
@@ -305,36 +306,27 @@ fn report_on_ground<
     C: Side + Send + Sync,
     N: Naming + Send + Sync,
     R: Threads + Wait + Sync,
->(
-    rt: &R,
-    alloc: Global,
-    machine: Machine,
-    permits: Vec<Permit>,
-    ground: Ground,
-    tokens: Vec<StreamToken>,
-    accepted: String,
-    asks: &[ShardId],
-) -> Result<Made, Unmade>
-    requires map { IsMapOf ground.words (state_of machine) }
-    requires setup { ground.setup ≡ machine.placement.setup }
-    requires names { (ground.words ≡ N.words) × (ground.setup ≡ N.setup) × (state_of machine ≡ N.opened) }
+>(rt: &R, alloc: Global, begun: Begun, ground: Ground, asks: &[ShardId]) -> Result<Made, Unmade>
+    requires map { IsMapOf ground.words (state_of begun.machine) }
+    requires setup { ground.setup ≡ begun.machine.placement.setup }
+    requires names { (ground.words ≡ N.words) × (ground.setup ≡ N.setup) × (state_of begun.machine ≡ N.opened) }
     requires steps { (ground.steps ≡ A.name) × (A.parts ≡ 2 ^ 62) × (A.all ≡ 2 ^ 62) }
     requires executed { (ground.executed ≡ B.name) × (B.parts ≡ 2 ^ 62) × (B.all ≡ 2 ^ 62) }
     requires refused { (ground.refused ≡ C.name) × (C.parts ≡ 2 ^ 62) × (C.all ≡ 2 ^ 62) }
-    requires one { length (state_of machine).plans ≡ 1 }
-    requires tokens { AreTokens 0 (stream_count (state_of machine) 0) tokens.items }
-    requires few { length tokens.items ≤ MOST_STREAMS }
-    requires accepted { string_bytes accepted ≡ accepted_line (plan_at (state_of machine) 0) }
+    requires one { length (state_of begun.machine).plans ≡ 1 }
+    requires tokens { AreTokens 0 (stream_count (state_of begun.machine) 0) begun.tokens.items }
+    requires few { length begun.tokens.items ≤ MOST_STREAMS }
+    requires accepted { string_bytes begun.accepted ≡ accepted_line (plan_at (state_of begun.machine) 0) }
     requires known { All (λ shard. shard < length N.words.opening) asks.now }
     ensures { IfRan result (WasRun N.opened N.setup asks.now) }
 {
-    let given = match Given::with_room(alloc, tokens.len(), asks.len()) {
-        Ok(given) => given,
-        Err(error) => {
-            machine.give_up(tokens, permits, Vec::new(alloc));
-            return Err(Unmade::from(error));
-        }
-    };
+    let (begun, given) = begun.with_room(alloc, asks.len())?;
+    let Begun {
+        machine,
+        permits,
+        tokens,
+        accepted,
+    } = begun;
     match Board::<A, B, C, N>::open_begun(alloc, machine, ground, tokens) {
         Ok((board, runners)) => {
             report_given(rt, alloc, board, given, permits, runners, accepted, asks)
@@ -351,26 +343,23 @@ fn report_on_ground<
 fn report_on_board<R: Threads + Wait + Sync>(
     rt: &R,
     alloc: Global,
-    machine: Machine,
-    permits: Vec<Permit>,
-    tokens: Vec<StreamToken>,
-    accepted: String,
+    begun: Begun,
     asks: &[ShardId],
 ) -> Result<Made, Unmade>
-    requires one { length (state_of machine).plans ≡ 1 }
-    requires tokens { AreTokens 0 (stream_count (state_of machine) 0) tokens.items }
-    requires accepted { string_bytes accepted ≡ accepted_line (plan_at (state_of machine) 0) }
-    requires known { All (λ shard. shard < length machine.placement.setup.shards) asks.now }
-    ensures { IfRan result (WasRun (state_of machine) machine.placement.setup asks.now) }
+    requires one { length (state_of begun.machine).plans ≡ 1 }
+    requires tokens { AreTokens 0 (stream_count (state_of begun.machine) 0) begun.tokens.items }
+    requires accepted { string_bytes begun.accepted ≡ accepted_line (plan_at (state_of begun.machine) 0) }
+    requires known { All (λ shard. shard < length begun.machine.placement.setup.shards) asks.now }
+    ensures { IfRan result (WasRun (state_of begun.machine) begun.machine.placement.setup asks.now) }
 {
     // (a plan has 64 streams at most)
-    machine.is_reached();
-    match Ground::new(alloc, &machine) {
-        Ok(ground) => report_on_ground::<Brand, Brand, Brand, Brand, R>(
-            rt, alloc, machine, permits, ground, tokens, accepted, asks,
-        ),
+    begun.machine.is_reached();
+    match Ground::new(alloc, &begun.machine) {
+        Ok(ground) => {
+            report_on_ground::<Brand, Brand, Brand, Brand, R>(rt, alloc, begun, ground, asks)
+        }
         Err(error) => {
-            machine.give_up(tokens, permits, Vec::new(alloc));
+            begun.give_up(alloc);
             Err(Unmade::from(error))
         }
     }
@@ -394,7 +383,15 @@ pub fn report_started<R: Threads + Wait + Sync>(
     ensures { IfRan result (IsStartedForRun (state_of machine) machine.placement.setup checked.plan asks.now) }
 {
     match machine.begin(alloc, checked) {
-        Ok(tokens) => report_on_board(rt, alloc, machine, permits, tokens, accepted, asks),
+        Ok(tokens) => {
+            let begun = Begun {
+                machine,
+                permits,
+                tokens,
+                accepted,
+            };
+            report_on_board(rt, alloc, begun, asks)
+        }
         Err((_back, fault)) => {
             let why = not_begun(alloc, machine.config(), fault);
             machine.give_up(Vec::new(alloc), permits, Vec::new(alloc));

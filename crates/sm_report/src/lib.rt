@@ -3,6 +3,7 @@
 
 mod answers;
 mod bad_input;
+mod begun;
 mod boards;
 mod calls;
 mod checks;

@@ -8,13 +8,13 @@ use Rattle.sm_report.proofs.boards.report_on_board.Goals as goal
 
 pub report_on_ground-requires-clause-known : goal.report_on_ground-requires-clause-known
 report_on_ground-requires-clause-known g c κs within =
-    let shards : length c.in-Ok.ground.words.opening ≡ length c.args.machine.placement.setup.shards =
-    c.in-Ok.ensures.map.shards ∙ ap (λ (s : Sizes). s.shards) (sizes_are c.args.machine) in
+    let shards : length c.in-Ok.ground.words.opening ≡ length c.args.begun.machine.placement.setup.shards =
+    c.in-Ok.ensures.map.shards ∙ ap (λ (s : Sizes). s.shards) (sizes_are c.args.begun.machine) in
     λ k d below. let known = c.requires.known k d below in omega (arith, shards, known)
 
 pub report_on_ground-requires-clause-few : goal.report_on_ground-requires-clause-few
 report_on_ground-requires-clause-few g c =
-    let w = state_of c.args.machine in
+    let w = state_of c.args.begun.machine in
     let r = c.is_reached.ensures in
     let count = c.requires.tokens.count in
     let one = c.requires.one in

@@ -22,4 +22,4 @@ abbrev pub ghosts-report_on_ground-C-Ledger : goal.ghosts-report_on_ground-C-Led
 ghosts-report_on_ground-C-Ledger g a = record { name = a.ground.refused; parts = 2 ^ 62 }
 
 abbrev pub ghosts-report_on_ground-N-Naming : goal.ghosts-report_on_ground-N-Naming
-ghosts-report_on_ground-N-Naming g a = record { words = a.ground.words; setup = a.ground.setup; opened = state_of a.machine }
+ghosts-report_on_ground-N-Naming g a = record { words = a.ground.words; setup = a.ground.setup; opened = state_of a.begun.machine }
