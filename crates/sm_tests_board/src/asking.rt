@@ -1,11 +1,10 @@
 //! Asks at a desk that answers as it is told to.
-ghost use Rattle.std.specs.Prelude.{◌≡◌, length};
+ghost use Rattle.std.specs.Prelude.{◌≡◌};
 
-use super::boards::{Scene, on_new_board};
 use super::given::{server_of, shard_of};
 use super::map_and_asks::assert_steps;
-use super::plans::s_to_b;
-use super::played::plans_of;
+use super::plans::{plan_of, s_to_b};
+use super::scenes::{Scene, placement_after};
 use sm_executor::{Board, Caller, Naming, Runner, Side};
 use sm_machine::{Answer, Step, Ticket};
 use sm_placement::Entry;
@@ -39,20 +38,26 @@ struct ToldDesk {
     lists: bool,
 }
 
+/// How many looks, direct requests and passed ones an ask makes.
+#[derive(Clone, Copy, PartialEq, Eq)]
+struct Counts {
+    looks: u32,
+    arrivals: u32,
+    passes: u32,
+}
+
 /// What was asked of a desk, with its first three answers, of which the last one stays, and the ticket that it has.
 struct Asking {
     answers: [Said; 3],
     ticket: Option<Ticket>,
-    looks: u32,
-    arrivals: u32,
-    passes: u32,
+    counts: Counts,
 }
 
 impl Asking {
     /// What the next request is answered.
     fn next(&mut self) -> Said {
         let [first, second, last] = self.answers;
-        match self.arrivals.saturating_add(self.passes) {
+        match self.counts.arrivals.saturating_add(self.counts.passes) {
             0 => first,
             1 => second,
             _ => last,
@@ -96,7 +101,7 @@ impl Desk for ToldDesk {
     ghost passed_on = { λ _ _ _ _ _. ⊤ };
 
     fn look(&self, caller: &mut Asking, _shard: ShardId) -> Entry {
-        caller.looks = caller.looks.saturating_add(1);
+        caller.counts.looks = caller.counts.looks.saturating_add(1);
         let server = if self.lists { Some(the_server()) } else { None };
         Entry { server, version: 0 }
     }
@@ -109,13 +114,13 @@ impl Desk for ToldDesk {
         _server: ServerId,
     ) -> Answer {
         let said = caller.next();
-        caller.arrivals = caller.arrivals.saturating_add(1);
+        caller.counts.arrivals = caller.counts.arrivals.saturating_add(1);
         caller.answer(said)
     }
 
     fn pass_on<R: Wait>(&self, _rt: &R, caller: &mut Asking, ticket: Ticket) -> Answer {
         let said = caller.next();
-        caller.passes = caller.passes.saturating_add(1);
+        caller.counts.passes = caller.counts.passes.saturating_add(1);
         match said {
             Said::Passed => Answer::Passed(ticket),
             Said::Unknown => Answer::Unknown(ticket),
@@ -128,16 +133,13 @@ impl Desk for ToldDesk {
     }
 }
 
-/// What a desk lists and says, what an ask is answered, how many looks, direct requests and passed ones it makes, and whether the desk
-/// has the ticket afterwards.
+/// What a desk lists and says, what an ask is answered, what it makes, and whether the desk has the ticket afterwards.
 #[derive(Drop)]
 struct Case {
     lists: bool,
     answers: [Said; 3],
     asked: Asked,
-    looks: u32,
-    arrivals: u32,
-    passes: u32,
+    counts: Counts,
     keeps: bool,
 }
 
@@ -147,9 +149,11 @@ const fn without_ticket(answers: [Said; 3], asked: Asked, requests: u32) -> Case
         lists: true,
         answers,
         asked,
-        looks: requests,
-        arrivals: requests,
-        passes: 0,
+        counts: Counts {
+            looks: requests,
+            arrivals: requests,
+            passes: 0,
+        },
         keeps: true,
     }
 }
@@ -160,9 +164,11 @@ const fn with_ticket(answers: [Said; 3], asked: Asked, looks: u32, passes: u32) 
         lists: true,
         answers,
         asked,
-        looks,
-        arrivals: looks,
-        passes,
+        counts: Counts {
+            looks,
+            arrivals: looks,
+            passes,
+        },
         keeps: false,
     }
 }
@@ -180,9 +186,11 @@ const fn cases_without_ticket() -> [Case; 4] {
         lists: false,
         answers: [Said::Executed, Said::Executed, Said::Executed],
         asked: Asked::NotListed,
-        looks: 1,
-        arrivals: 0,
-        passes: 0,
+        counts: Counts {
+            looks: 1,
+            arrivals: 0,
+            passes: 0,
+        },
         keeps: true,
     };
     let not_owner = [Said::NotOwner, Said::NotOwner, Said::NotOwner];
@@ -220,10 +228,7 @@ fn ticket<A: Side, B: Side, C: Side, N: Naming, R: Wait + Abort>(
     rt: &R,
     board: &Board<A, B, C, N>,
     caller: &mut Caller<B, C, N>,
-) -> Ticket
-    requires shards { length N.words.opening ≡ length N.setup.shards }
-    requires servers { N.words.servers ≡ length N.setup.servers }
-{
+) -> Ticket {
     let shard = shard_of(rt, board, ShardId::new(0));
     let server = server_of(rt, board, ServerId::new(0));
     match board.arrive(rt, caller, shard, server) {
@@ -237,28 +242,24 @@ fn assert_asked<R: Wait + Abort>(rt: &R, case: &Case, ticket: Ticket) {
     let mut asking = Asking {
         answers: case.answers,
         ticket: Some(ticket),
-        looks: 0,
-        arrivals: 0,
-        passes: 0,
+        counts: Counts {
+            looks: 0,
+            arrivals: 0,
+            passes: 0,
+        },
     };
     let desk = ToldDesk { lists: case.lists };
     let asked = ask(rt, &desk, &mut asking, ShardId::new(0));
     let Asking {
         answers: _,
         ticket,
-        looks,
-        arrivals,
-        passes,
+        counts,
     } = asking;
     let keeps = ticket.is_some();
     if let Some(ticket) = ticket {
         ticket.abandon();
     }
-    assert_eq!(rt; asked, case.asked);
-    assert_eq!(rt; looks, case.looks);
-    assert_eq!(rt; arrivals, case.arrivals);
-    assert_eq!(rt; passes, case.passes);
-    assert_eq!(rt; keeps, case.keeps);
+    assert!(rt; asked == case.asked && counts == case.counts && keeps == case.keeps);
 }
 
 /// Two steps of the handover of s are made on a board, so that requests for it are passed on; with their tickets asks are made at a desk
@@ -268,10 +269,7 @@ pub(crate) fn asks<A: Side, B: Side, C: Side, N: Naming, R: Wait + Abort>(
     board: &Board<A, B, C, N>,
     runners: &mut [Runner<A>],
     caller: &mut Caller<B, C, N>,
-)
-    requires shards { length N.words.opening ≡ length N.setup.shards }
-    requires servers { N.words.servers ≡ length N.setup.servers }
-{
+) {
     assert!(rt; !runners.is_empty());
     assert_steps(rt, board, &mut runners[0], 2, Step::Moved);
     for case in &cases_without_ticket() {
@@ -287,6 +285,6 @@ pub(crate) fn asks<A: Side, B: Side, C: Side, N: Naming, R: Wait + Abort>(
 #[test]
 fn an_ask_looks_follows_and_spends_its_tickets(rt: HostRuntime) {
     let alloc = rt.alloc();
-    let plans = plans_of(&rt, alloc, &[s_to_b(0)]);
-    let _placement = on_new_board(&rt, alloc, plans, 32, Scene::ToldDesk);
+    let plan = plan_of(alloc, &s_to_b(0));
+    let _placement = placement_after(&rt, alloc, plan, 32, Scene::ToldDesk);
 }

@@ -1,74 +1,201 @@
-//! Boards on which scenes are played, on one thread.
-ghost use Rattle.std.specs.Prelude.{◌≡◌, ◌^◌, length};
+//! Boards: how one is opened for what is done with it, how a plan begins there, and how it ends.
+ghost use Rattle.std.specs.Prelude.{◌≡◌, ◌^◌, IsTrue};
 ghost use Rattle.sm_machine.specs.State.{state_of};
 ghost use Rattle.sm_executor.specs.Tied.{IsMapOf};
 
-use super::asking::asks;
-use super::events::{Turn, begun};
-use super::given::{Given, put};
-use super::map_and_asks::map_and_asks;
+use super::begun_boards::{halt_by_unknown, run_both};
+use super::courses::Course;
+use super::day::day;
+use super::given::{put, put_all};
+use super::memory::{Attempt, begin_or_not};
+use super::runs::run_checked;
+use super::scenes::{Scene, play_scene};
 use super::worlds::placement;
-use sm_executor::{Board, Caller, Ground, Naming, Runner, Side};
-use sm_machine::{Machine, StreamToken};
-use sm_placement::Placement;
+use sm_executor::{Board, Caller, Ended, Ground, Naming, Runner, Side};
+use sm_machine::{Machine, Permit, StreamToken, Ticket};
+use sm_placement::{Config, Placement};
 use sm_verifier::Checked;
 use std::alloc::Global;
 use std::marker::Brand;
 use std::process::Abort;
 use std::sync::Wait;
+use std::thread::Threads;
+
+/// The placement that is left, and how many events the log has.
+pub(crate) type End = (Placement, usize);
 
 /// What is done with a board.
-#[derive(Clone, Copy)]
-pub(crate) enum Scene<'a> {
-    /// The events are made, with these answers, and leave this log.
-    Turns { turns: &'a [Turn], log: &'a [Turn] },
-    /// The map is looked at and asks are made while the first plan is run.
-    MapAndAsks,
-    /// Asks are made at a desk that answers as it is told to.
-    ToldDesk,
+pub(crate) enum Deed<'a> {
+    /// A scene is played in which these plans may begin, on one thread.
+    Play {
+        plans: Vec<Option<Checked>>,
+        scene: Scene<'a>,
+    },
+    /// A plan is run.
+    Run {
+        checked: Checked,
+        course: Course<'a>,
+    },
+    /// Two plans are run side by side, step by step.
+    Day {
+        first: Checked,
+        second: Checked,
+    },
+    /// A plan begins, where there is memory for it.
+    BeginOrNot(Attempt),
+    /// The streams of two plans that had begun are run to their ends.
+    RunBoth,
+    /// The second of two streams, which the board's machine has not begun, is run, and the board is halted.
+    RunUnknown,
 }
 
-/// The machine's log is this one.
-pub(crate) fn assert_log(rt: &impl Abort, machine: &Machine, log: &[Turn]) {
-    let made = machine.log();
-    assert_eq!(rt; made.len(), log.len());
-    for at in 0..log.len() {
-        assert!(rt; at < made.len());
-        let (event, answer) = log[at];
-        assert_eq!(rt; made[at].event, event, "place {at} of the log");
-        assert_eq!(rt; made[at].answer, answer, "place {at} of the log");
+/// A machine over the worked placement, with so many places of the log, or none.
+pub(crate) fn machine_or_not(rt: &impl Abort, alloc: Global, log_room: u32) -> Option<Machine> {
+    let Ok(placement) = placement(alloc) else {
+        return None;
+    };
+    assert!(rt; placement.settled());
+    match Machine::open(alloc, placement, log_room) {
+        Ok((machine, permits)) => {
+            assert!(rt; permits.is_empty());
+            permits.destroy_empty();
+            Some(machine)
+        }
+        Err(_) => None,
     }
 }
 
-/// Makes events one by one, and asserts their answers and the log that they leave.
-fn make_all<A: Side, B: Side, C: Side, N: Naming, R: Wait + Abort>(
+/// A machine over the worked placement, for which there has to be memory.
+pub(crate) fn machine(rt: &impl Abort, alloc: Global, log_room: u32) -> Machine {
+    machine_or_not(rt, alloc, log_room).expect(rt, "there is no memory for a machine")
+}
+
+/// Does a deed with a board that has given out these runners, and ends the board.
+fn act<
+    A: Side + Send + Sync,
+    B: Side + Send + Sync,
+    C: Side + Send + Sync,
+    N: Naming + Send + Sync,
+    R: Threads + Wait + Sync + Print + Abort,
+>(rt: &R, alloc: Global, board: Board<A, B, C, N>, runners: Vec<Runner<A>>, deed: Deed<'_>) -> End {
+    match deed {
+        Deed::Play { plans, scene } => play_scene(rt, alloc, board, runners, plans, scene),
+        Deed::Run { checked, course } => run_checked(rt, alloc, board, runners, checked, course),
+        Deed::Day { first, second } => day(rt, alloc, board, runners, first, second),
+        Deed::BeginOrNot(attempt) => begin_or_not(rt, alloc, board, runners, attempt),
+        Deed::RunBoth => run_both(rt, alloc, board, runners),
+        Deed::RunUnknown => halt_by_unknown(rt, alloc, board, runners),
+    }
+}
+
+/// Opens a board over a machine and acts on it. Where there are tokens of two streams at most, of plans that have begun on the machine,
+/// the board gives out runners for them. Where there is no memory for a board without them, the machine and the deed come back.
+fn on_ground<
+    'a,
+    A: Side + Send + Sync,
+    B: Side + Send + Sync,
+    C: Side + Send + Sync,
+    N: Naming + Send + Sync,
+    R: Threads + Wait + Sync + Print + Abort,
+>(
+    rt: &R,
+    alloc: Global,
+    machine: Machine,
+    ground: Ground,
+    tokens: Vec<StreamToken>,
+    deed: Deed<'a>,
+) -> Result<End, (Machine, Deed<'a>)>
+    requires map { IsMapOf ground.words (state_of machine) }
+    requires setup { ground.setup ≡ machine.placement.setup }
+    requires names { (ground.words ≡ N.words) × (ground.setup ≡ N.setup) × (state_of machine ≡ N.opened) }
+    requires steps { (ground.steps ≡ A.name) × (A.parts ≡ 2 ^ 62) × (A.all ≡ 2 ^ 62) }
+    requires executed { (ground.executed ≡ B.name) × (B.parts ≡ 2 ^ 62) × (B.all ≡ 2 ^ 62) }
+    requires refused { (ground.refused ≡ C.name) × (C.parts ≡ 2 ^ 62) × (C.all ≡ 2 ^ 62) }
+{
+    if tokens.is_empty() {
+        tokens.destroy_empty();
+        match Board::<A, B, C, N>::open(alloc, machine, ground) {
+            Ok(board) => Ok(act(rt, alloc, board, Vec::new(alloc), deed)),
+            Err((machine, _, _)) => Err((machine, deed)),
+        }
+    } else {
+        assert!(rt; tokens.len() <= 2 && machine.plan_count() >= 1);
+        match Board::<A, B, C, N>::open_begun(alloc, machine, ground, tokens) {
+            Ok((board, runners)) => Ok(act(rt, alloc, board, runners, deed)),
+            Err(_) => panic!(rt; "there is no memory for a board over plans that have begun"),
+        }
+    }
+}
+
+/// Acts on a new board over a machine, with runners for the streams of these tokens. Where there is no memory for a board without tokens,
+/// the machine and the deed come back.
+pub(crate) fn act_or_not<'a, R: Threads + Wait + Sync + Print + Abort>(
+    rt: &R,
+    alloc: Global,
+    machine: Machine,
+    tokens: Vec<StreamToken>,
+    deed: Deed<'a>,
+) -> Result<End, (Machine, Deed<'a>)> {
+    match Ground::new(alloc, &machine) {
+        Ok(ground) => on_ground::<Brand, Brand, Brand, Brand, R>(
+            rt, alloc, machine, ground, tokens, deed,
+        ),
+        Err(_) => {
+            assert!(rt; tokens.is_empty());
+            tokens.destroy_empty();
+            Err((machine, deed))
+        }
+    }
+}
+
+/// Acts on a new board over a machine, with runners for the streams of these tokens. There has to be memory for it.
+pub(crate) fn act_over<R: Threads + Wait + Sync + Print + Abort>(
+    rt: &R,
+    alloc: Global,
+    machine: Machine,
+    tokens: Vec<StreamToken>,
+    deed: Deed<'_>,
+) -> End {
+    match act_or_not(rt, alloc, machine, tokens, deed) {
+        Ok(end) => end,
+        Err(_) => panic!(rt; "there is no memory for a board"),
+    }
+}
+
+/// Acts on a new board over the worked placement, with so many places of the log.
+pub(crate) fn act_on_new<R: Threads + Wait + Sync + Print + Abort>(
+    rt: &R,
+    alloc: Global,
+    log_room: u32,
+    deed: Deed<'_>,
+) -> End {
+    let machine = machine(rt, alloc, log_room);
+    act_over(rt, alloc, machine, Vec::new(alloc), deed)
+}
+
+/// The plan was checked for the configuration.
+pub(crate) fn is_for(config: &Config, checked: &Checked) -> bool
+    ensures { IsTrue result → checked.now.setup ≡ config.now }
+{
+    checked.config() == config
+}
+
+/// A plan that has to begin begins on a board, and the runners of its streams come behind the others.
+pub(crate) fn begin<A: Side, B: Side, C: Side, N: Naming, R: Wait + Abort>(
     rt: &R,
     alloc: Global,
     board: &Board<A, B, C, N>,
-    given: &mut Given<A>,
-    caller: &mut Caller<B, C, N>,
-    turns: &[Turn],
-)
-    requires shards { length N.words.opening ≡ length N.setup.shards }
-    requires servers { N.words.servers ≡ length N.setup.servers }
-{
-    for (event, answer) in turns {
-        assert_eq!(rt; given.make(rt, alloc, board, caller, event), *answer);
+    runners: &mut Vec<Runner<A>>,
+    checked: Checked,
+) {
+    assert!(rt; is_for(board.config(), &checked));
+    match board.begin(rt, alloc, checked) {
+        Ok(begun) => put_all(rt, runners, begun),
+        Err(_) => panic!(rt; "a plan does not begin"),
     }
 }
 
-/// A caller of the board, which has to have one.
-fn caller_of<A: Side, B: Side, C: Side, N: Naming, R: Wait + Abort>(
-    rt: &R,
-    board: &Board<A, B, C, N>,
-) -> Caller<B, C, N> {
-    match board.caller(rt) {
-        Some(caller) => caller,
-        None => panic!(rt; "a board has no caller"),
-    }
-}
-
-/// The tokens of runners, which give their shares up, into a list of tokens.
+/// The tokens of runners, which give their shares up, come behind others.
 pub(crate) fn tokens_of<A: Side>(
     rt: &impl Abort,
     mut tokens: Vec<StreamToken>,
@@ -84,127 +211,27 @@ pub(crate) fn tokens_of<A: Side>(
     tokens
 }
 
-/// Ends a board as it stands, and the machine with all that was given out.
-fn give_up<A: Side, B: Side, C: Side, N: Naming>(
+/// Ends a machine with all that it has given out.
+pub(crate) fn end(
+    machine: Machine,
+    tokens: Vec<StreamToken>,
+    permits: Vec<Permit>,
+    tickets: Vec<Ticket>,
+) -> End {
+    let count = machine.log().len();
+    (machine.give_up(tokens, permits, tickets), count)
+}
+
+/// Closes a board, whose streams have to have made their ends, with all that it has given out.
+pub(crate) fn close<A: Side, B: Side, C: Side, N: Naming>(
     rt: &impl Abort,
     alloc: Global,
     board: Board<A, B, C, N>,
-    given: Given<A>,
+    ended: Vec<Ended<A>>,
     callers: Vec<Caller<B, C, N>>,
-) -> Placement {
-    let Given {
-        runners,
-        permits,
-        tickets,
-        plans: _,
-    } = given;
-    let machine = board.give_up(Vec::new(alloc), callers);
-    machine.give_up(tokens_of(rt, Vec::new(alloc), runners), permits, tickets)
-}
-
-/// Does with a board what the scene says, for two callers of the board.
-fn act<A: Side, B: Side, C: Side, N: Naming, R: Wait + Abort>(
-    rt: &R,
-    alloc: Global,
-    board: &Board<A, B, C, N>,
-    given: &mut Given<A>,
-    first: &mut Caller<B, C, N>,
-    second: &mut Caller<B, C, N>,
-    scene: Scene<'_>,
-)
-    requires shards { length N.words.opening ≡ length N.setup.shards }
-    requires servers { N.words.servers ≡ length N.setup.servers }
-{
-    match scene {
-        Scene::Turns { turns, log } => {
-            make_all(rt, alloc, board, given, first, turns);
-            assert_log(rt, board.hold(rt).machine(), log);
-        }
-        Scene::MapAndAsks => {
-            assert!(rt; given.begin(rt, alloc, board, 0) == begun(0));
-            map_and_asks(rt, board, given.runners.as_mut_slice(), first, second);
-        }
-        Scene::ToldDesk => {
-            assert!(rt; given.begin(rt, alloc, board, 0) == begun(0));
-            asks(rt, board, given.runners.as_mut_slice(), first);
-        }
-    }
-}
-
-/// Plays a scene on a board on which these plans may begin, and answers the placement that it leaves.
-#[tactic(auto, using(crate::proofs::Sizes::shards, crate::proofs::Sizes::servers))]
-fn on_board<A: Side, B: Side, C: Side, N: Naming, R: Wait + Abort>(
-    rt: &R,
-    alloc: Global,
-    machine: Machine,
-    ground: Ground,
-    plans: Vec<Option<Checked>>,
-    scene: Scene<'_>,
-) -> Placement
-    requires map { IsMapOf ground.words (state_of machine) }
-    requires setup { ground.setup ≡ machine.placement.setup }
-    requires names { (ground.words ≡ N.words) × (ground.setup ≡ N.setup) × (state_of machine ≡ N.opened) }
-    requires steps { (ground.steps ≡ A.name) × (A.parts ≡ 2 ^ 62) × (A.all ≡ 2 ^ 62) }
-    requires executed { (ground.executed ≡ B.name) × (B.parts ≡ 2 ^ 62) × (B.all ≡ 2 ^ 62) }
-    requires refused { (ground.refused ≡ C.name) × (C.parts ≡ 2 ^ 62) × (C.all ≡ 2 ^ 62) }
-{
-    let mut given = Given {
-        runners: Vec::new(alloc),
-        permits: Vec::new(alloc),
-        tickets: Vec::new(alloc),
-        plans,
-    };
-    let board = match Board::<A, B, C, N>::open(alloc, machine, ground) {
-        Ok(board) => board,
-        Err(_) => panic!(rt; "there is no memory for a board"),
-    };
-    let mut first = caller_of(rt, &board);
-    let mut second = caller_of(rt, &board);
-    act(
-        rt,
-        alloc,
-        &board,
-        &mut given,
-        &mut first,
-        &mut second,
-        scene,
-    );
-    let mut callers = Vec::new(alloc);
-    put(rt, &mut callers, first);
-    put(rt, &mut callers, second);
-    give_up(rt, alloc, board, given, callers)
-}
-
-/// A machine over the worked placement, with so many places of the log.
-pub(crate) fn machine(rt: &impl Abort, alloc: Global, log_room: u32) -> Machine {
-    let Ok(placement) = placement(alloc) else {
-        panic!(rt; "there is no memory for a placement");
-    };
-    assert!(rt; placement.settled());
-    match Machine::open(alloc, placement, log_room) {
-        Ok((machine, permits)) => {
-            assert!(rt; permits.is_empty());
-            permits.destroy_empty();
-            machine
-        }
-        Err(_) => panic!(rt; "a machine is not opened"),
-    }
-}
-
-/// Plays a scene on a new board over the worked placement, with these plans and so many places of the log, and answers the placement
-/// that it leaves.
-pub(crate) fn on_new_board<R: Wait + Abort>(
-    rt: &R,
-    alloc: Global,
-    plans: Vec<Option<Checked>>,
-    log_room: u32,
-    scene: Scene<'_>,
-) -> Placement {
-    let machine = machine(rt, alloc, log_room);
-    match Ground::new(alloc, &machine) {
-        Ok(ground) => {
-            on_board::<Brand, Brand, Brand, Brand, R>(rt, alloc, machine, ground, plans, scene)
-        }
-        Err(_) => panic!(rt; "there is no memory for a ground"),
+) -> End {
+    match board.close(ended, callers) {
+        Ok(machine) => end(machine, Vec::new(alloc), Vec::new(alloc), Vec::new(alloc)),
+        Err(_) => panic!(rt; "a board is not closed whose streams have made their ends"),
     }
 }

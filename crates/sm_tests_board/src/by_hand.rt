@@ -2,10 +2,10 @@
 ghost use Rattle.std.specs.Prelude.{IsTrue};
 ghost use Rattle.sm_machine.specs.Hand.{AreFor};
 
-use super::begun_boards::is_for;
-use super::boards::{assert_log, machine};
+use super::boards::{is_for, machine};
 use super::events::Turn;
 use super::given::put;
+use super::scenes::has_log;
 use sm_machine::{Hand, Machine, ReadyPlan, make_ready};
 use sm_placement::Placement;
 use sm_protocol::{Event, Played};
@@ -22,15 +22,13 @@ fn has_one_for(machine: &Machine, plans: &[Option<ReadyPlan>]) -> bool
     }
     match &plans[0] {
         None => true,
-        Some(ready) => is_for(machine, ready.checked()),
+        Some(ready) => is_for(machine.config(), ready.checked()),
     }
 }
 
 /// A hand with a plan alone, for which there has to be memory.
 fn hand_of(rt: &impl Abort, alloc: Global, plan: Result<Checked, AllocError>) -> Hand {
-    let Ok(checked) = plan else {
-        panic!(rt; "there is no memory for a plan");
-    };
+    let checked = plan.expect(rt, "there is no memory for a plan");
     let Ok(ready) = make_ready(alloc, checked) else {
         panic!(rt; "there is no memory for the start of a plan");
     };
@@ -94,6 +92,6 @@ pub(crate) fn assert_played(
     for (event, answer) in turns {
         assert_eq!(rt; play(rt, alloc, &mut machine, &mut hand, *event), *answer);
     }
-    assert_log(rt, &machine, log);
+    assert!(rt; has_log(&machine, log));
     let _placement = end(rt, machine, hand);
 }

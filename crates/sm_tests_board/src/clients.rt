@@ -1,13 +1,13 @@
 //! A plan that is run beside clients that ask.
-ghost use Rattle.std.specs.Prelude.{◌≡◌, length};
-
 use super::courses::{Course, run_through};
 use super::gates::Behind;
 use super::given::{put, shard_of};
-use super::memory::assert_none_stepped;
+use super::memory::has_none_stepped;
 use super::plans::{plan_of, s_to_b, two_handovers};
 use super::runs::{assert_moved, run_plan};
-use sm_executor::{Board, Caller, Client, Ended, Naming, Open, RunFault, Runner, Side, run_beside};
+use sm_executor::{
+    Board, Caller, Client, Ended, Gate, Naming, Open, RunFault, Runner, Side, run_beside,
+};
 use sm_router::Asked;
 use sm_server::{ServerId, ShardId};
 use std::alloc::Global;
@@ -15,145 +15,103 @@ use std::process::Abort;
 use std::sync::Wait;
 use std::thread::Threads;
 
-/// A new client that asks for a shard.
-fn client<A: Side, B: Side, C: Side, N: Naming, R: Wait + Abort>(
-    rt: &R,
-    board: &Board<A, B, C, N>,
-    shard: ShardId,
-) -> Client<B, C, N>
-    requires { length N.words.opening ≡ length N.setup.shards }
-{
-    let shard = shard_of(rt, board, shard);
-    match board.caller(rt) {
-        Some(caller) => Client::new(caller, shard),
-        None => panic!(rt; "a board has no caller"),
-    }
-}
-
 /// A client that asks for s, and one that asks for t.
 fn clients<A: Side, B: Side, C: Side, N: Naming, R: Wait + Abort>(
     rt: &R,
     alloc: Global,
     board: &Board<A, B, C, N>,
-) -> Vec<Client<B, C, N>>
-    requires { length N.words.opening ≡ length N.setup.shards }
-{
+) -> Vec<Client<B, C, N>> {
     let mut clients = Vec::new(alloc);
-    put(rt, &mut clients, client(rt, board, ShardId::new(0)));
-    put(rt, &mut clients, client(rt, board, ShardId::new(1)));
+    for number in 0..2u32 {
+        let shard = shard_of(rt, board, ShardId::new(number));
+        let caller = board.caller(rt).expect(rt, "a board has no caller");
+        put(rt, &mut clients, Client::new(caller, shard));
+    }
     clients
 }
 
-/// The request was executed at the server of this number.
-fn was_executed(asked: Option<Asked>, number: u32) -> bool {
+/// The request of a client was executed at the server of this number.
+fn is_at<B: Side, C: Side, N: Naming>(client: &Client<B, C, N>, number: u32) -> bool {
     let at_server = Asked::Executed {
         server: ServerId::new(number),
     };
-    match asked {
+    match client.asked() {
         Some(asked) => asked == at_server,
         None => false,
     }
 }
 
-/// Takes the last client, whose request was executed at b or at this other server, and answers its caller.
-fn take_caller<B: Side, C: Side, N: Naming>(
-    rt: &impl Abort,
-    clients: &mut Vec<Client<B, C, N>>,
-    other: u32,
-) -> Caller<B, C, N> {
-    let Some(client) = clients.pop() else {
-        panic!(rt; "a client is lost");
-    };
-    let asked = client.asked();
-    assert!(rt; was_executed(asked, 1) || was_executed(asked, other));
-    client.into_caller()
+/// There are two clients. The request of the first one was executed at a or b, and that of the second one at b.
+fn were_executed<B: Side, C: Side, N: Naming>(clients: &[Client<B, C, N>]) -> bool {
+    clients.len() == 2 && (is_at(&clients[0], 0) || is_at(&clients[0], 1)) && is_at(&clients[1], 1)
 }
 
-/// The callers of the clients for s, whose request a or b has executed, and for t, where b has.
-fn callers<B: Side, C: Side, N: Naming>(
+/// The callers of clients.
+fn callers_of<B: Side, C: Side, N: Naming>(
     rt: &impl Abort,
     alloc: Global,
     mut clients: Vec<Client<B, C, N>>,
 ) -> Vec<Caller<B, C, N>> {
     let mut callers = Vec::new(alloc);
-    put(rt, &mut callers, take_caller(rt, &mut clients, 1));
-    put(rt, &mut callers, take_caller(rt, &mut clients, 0));
+    for _ in 0..clients.len() {
+        if let Some(client) = clients.pop() {
+            put(rt, &mut callers, client.into_caller());
+        }
+    }
     assert!(rt; clients.is_empty());
     clients.destroy_empty();
     callers
 }
 
-/// Runs a handover of shard s to b beside a client that asks for s, and one that asks for t. Answers the ends and the callers.
+/// Runs streams beside a client that asks for s, and one that asks for t. Answers the ends and the callers. That a thread cannot be
+/// started is printed, so that whoever refuses one sees it: then both clients have asked, neither of the two streams has stepped and
+/// both runners are back. They are run alone.
 pub(crate) fn run_beside_clients<
     A: Side + Send + Sync,
     B: Side + Send + Sync,
     C: Side + Send + Sync,
     N: Naming + Send + Sync,
-    R: Threads + Wait + Sync + Abort,
+    R: Threads + Wait + Sync + Print + Abort,
+    G: Gate + Sync,
 >(
     rt: &R,
     alloc: Global,
     board: &Board<A, B, C, N>,
     runners: Vec<Runner<A>>,
-) -> (Vec<Ended<A>>, Vec<Caller<B, C, N>>)
-    requires { length N.words.opening ≡ length N.setup.shards }
-{
+    gate: &G,
+) -> (Vec<Ended<A>>, Vec<Caller<B, C, N>>) {
     let mut clients = clients(rt, alloc, board);
-    let ran = run_beside(rt, alloc, board, runners, clients.as_mut_slice(), &Open);
-    let Ok(ended) = ran else {
-        panic!(rt; "a run does not come to the ends of its streams");
-    };
-    (ended, callers(rt, alloc, clients))
-}
-
-/// The ends of a run of two streams beside two clients. That a thread cannot be started is printed, so that whoever refuses one sees it:
-/// then both clients have asked, no stream has stepped and both runners are back. They are run alone.
-fn ended_or_not<
-    A: Side + Send + Sync,
-    B: Side + Send + Sync,
-    C: Side + Send + Sync,
-    N: Naming + Send + Sync,
-    R: Threads + Wait + Sync + Abort,
->(
-    rt: &R,
-    alloc: Global,
-    board: &Board<A, B, C, N>,
-    ran: Result<Vec<Ended<A>>, RunFault<A>>,
-    host: &HostRuntime,
-) -> Vec<Ended<A>> {
-    match ran {
+    let ended = match run_beside(rt, alloc, board, runners, clients.as_mut_slice(), gate) {
         Ok(ended) => ended,
         Err(RunFault::NoThread(runners)) => {
-            assert!(rt; println!(host; "not run: NoThread").is_ok());
-            assert_none_stepped(rt, board, runners.as_slice(), 2);
+            assert!(rt; println!(rt; "not run: NoThread").is_ok());
+            assert!(rt; has_none_stepped(board.hold(rt).machine(), runners.as_slice(), 2));
             run_through(rt, alloc, board, runners, &Open)
         }
         Err(_) => panic!(rt; "a run beside clients has its threads and does not come to its ends"),
-    }
+    };
+    assert!(rt; were_executed(clients.as_slice()));
+    (ended, callers_of(rt, alloc, clients))
 }
 
-/// Runs two streams beside the same clients, through a gate at which each waits before its first step until both have been answered.
+/// Runs streams beside the same clients, through a gate at which each waits before its first step until both have been answered.
 pub(crate) fn run_behind_clients<
     A: Side + Send + Sync,
     B: Side + Send + Sync,
     C: Side + Send + Sync,
     N: Naming + Send + Sync,
-    R: Threads + Wait + Sync + Abort,
+    R: Threads + Wait + Sync + Print + Abort,
 >(
     rt: &R,
     alloc: Global,
     board: &Board<A, B, C, N>,
     runners: Vec<Runner<A>>,
-    host: &HostRuntime,
-) -> (Vec<Ended<A>>, Vec<Caller<B, C, N>>)
-    requires { length N.words.opening ≡ length N.setup.shards }
-{
-    let gate = Behind::events(board, host, 2);
-    let mut clients = clients(rt, alloc, board);
-    let ran = run_beside(rt, alloc, board, runners, clients.as_mut_slice(), &gate);
-    let ended = ended_or_not(rt, alloc, board, ran, host);
-    assert_eq!(rt; gate.gave_up(), 0);
-    (ended, callers(rt, alloc, clients))
+    clock: &HostRuntime,
+) -> (Vec<Ended<A>>, Vec<Caller<B, C, N>>) {
+    let gate = Behind::events(board, clock, 2);
+    let ran = run_beside_clients(rt, alloc, board, runners, &gate);
+    assert!(rt; gate.gave_up() == 0);
+    ran
 }
 
 /// The handover's six steps, and of the asks two to three hops.

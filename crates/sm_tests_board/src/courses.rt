@@ -1,9 +1,7 @@
 //! Ways to run what has begun on a board by threads, each of which has to come to the ends of all streams.
-ghost use Rattle.std.specs.Prelude.{◌≡◌, length};
-
 use super::clients::{run_behind_clients, run_beside_clients};
 use super::gates::{Counting, Halting, Meeting};
-use super::given::put;
+use super::given::{put, put_all};
 use super::links::{Loses, LosesEverySecond};
 use sm_executor::{
     Board, Caller, Ended, Gate, Naming, Open, RunFault, Runner, Side, run, run_over,
@@ -52,27 +50,10 @@ pub(crate) fn run_through<
     }
 }
 
-/// The second ends come behind the first.
-fn joined<A: Side>(
-    rt: &impl Abort,
-    mut ended: Vec<Ended<A>>,
-    mut others: Vec<Ended<A>>,
-) -> Vec<Ended<A>> {
-    for _ in 0..others.len() {
-        if let Some(end) = others.pop() {
-            put(rt, &mut ended, end);
-        }
-    }
-    assert!(rt; others.is_empty());
-    others.destroy_empty();
-    ended
-}
-
 /// Asserts that a gate was called so often before steps, and as often after them.
 fn assert_calls(rt: &impl Abort, called: (u64, u64), calls: u64) {
     let (before, after) = called;
-    assert_eq!(rt; before, calls);
-    assert_eq!(rt; after, calls);
+    assert!(rt; before == calls && after == calls);
 }
 
 /// Runs until the board is halted behind a step, and then the rest. Where all streams had ended, nothing was left to halt; behind the
@@ -97,19 +78,24 @@ fn run_halted<
     match ran {
         Ok(ended) => {
             assert!(rt; number > 1);
-            assert_calls(rt, gate.calls(), recorded);
+            assert_calls(rt, gate.counting.calls(), recorded);
             ended
         }
-        Err(RunFault::Halted { runners, ended }) => {
+        Err(RunFault::Halted { runners, mut ended }) => {
             assert!(rt; !runners.is_empty());
             assert!(rt; recorded >= number);
             assert_calls(
                 rt,
-                gate.calls(),
+                gate.counting.calls(),
                 recorded.saturating_add(runners.len() as u64),
             );
             board.resume(rt);
-            joined(rt, ended, run_through(rt, alloc, board, runners, &Open))
+            put_all(
+                rt,
+                &mut ended,
+                run_through(rt, alloc, board, runners, &Open),
+            );
+            ended
         }
         Err(_) => panic!(rt; "a run ends otherwise than halted"),
     }
@@ -129,19 +115,29 @@ fn run_spent<
             after: true,
             lost: 0,
         };
-        assert_eq!(rt; board.step_over(rt, runner, &mut link), Step::Lost);
+        assert!(rt; board.step_over(rt, runner, &mut link) == Step::Lost);
     }
     let gate = Counting::new();
     match run(rt, alloc, board, runners, &gate) {
-        Err(RunFault::Spent { mut runners, ended }) => {
-            assert_eq!(rt; runners.len(), 1);
+        Err(
+            RunFault::Spent {
+                mut runners,
+                mut ended,
+            },
+        ) => {
+            assert!(rt; runners.len() == 1);
             assert_calls(rt, gate.calls(), 5);
             for runner in runners.iter_mut() {
                 assert!(rt; board.hold(rt).refill(runner, 1).is_ok());
-                assert_eq!(rt; board.step(rt, runner), Step::Halted);
+                assert!(rt; board.step(rt, runner) == Step::Halted);
             }
             board.resume(rt);
-            joined(rt, ended, run_through(rt, alloc, board, runners, &Open))
+            put_all(
+                rt,
+                &mut ended,
+                run_through(rt, alloc, board, runners, &Open),
+            );
+            ended
         }
         _ => panic!(rt; "a run ends otherwise than spent"),
     }
@@ -179,11 +175,10 @@ fn run_losing<
     let recorded = board.hold(rt).machine().log().len() as u64;
     assert_calls(rt, gate.calls(), recorded);
     for link in &links {
-        assert_eq!(rt; link.lock(rt).lost().saturating_add(4), tries);
+        assert!(rt; link.lock(rt).lost().saturating_add(4) == tries);
     }
     for end in &ended {
-        assert_eq!(rt; end.calls(), tries);
-        assert_eq!(rt; end.budget(), 8);
+        assert!(rt; end.calls() == tries && end.budget() == 8);
     }
     ended
 }
@@ -194,24 +189,22 @@ pub(crate) fn go<
     B: Side + Send + Sync,
     C: Side + Send + Sync,
     N: Naming + Send + Sync,
-    R: Threads + Wait + Sync + Abort,
+    R: Threads + Wait + Sync + Print + Abort,
 >(
     rt: &R,
     alloc: Global,
     board: &Board<A, B, C, N>,
     runners: Vec<Runner<A>>,
     course: Course<'_>,
-) -> (Vec<Ended<A>>, Vec<Caller<B, C, N>>)
-    requires { length N.words.opening ≡ length N.setup.shards }
-{
+) -> (Vec<Ended<A>>, Vec<Caller<B, C, N>>) {
     let ended = match course {
         Course::Meets(meeting) => run_through(rt, alloc, board, runners, meeting),
         Course::HaltedBehind(number) => run_halted(rt, alloc, board, runners, number),
         Course::Spent => run_spent(rt, alloc, board, runners),
         Course::Loses { first, tries } => run_losing(rt, alloc, board, runners, first, tries),
-        Course::BesideClients => return run_beside_clients(rt, alloc, board, runners),
-        Course::BehindClients(host) => {
-            return run_behind_clients(rt, alloc, board, runners, host);
+        Course::BesideClients => return run_beside_clients(rt, alloc, board, runners, &Open),
+        Course::BehindClients(clock) => {
+            return run_behind_clients(rt, alloc, board, runners, clock);
         }
     };
     (ended, Vec::new(alloc))

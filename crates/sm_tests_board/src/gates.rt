@@ -117,6 +117,16 @@ impl Counting {
         }
     }
 
+    /// Counts a call before a step.
+    fn note_before(&self) {
+        self.before.fetch_add(1, Ordering::SeqCst);
+    }
+
+    /// Counts a call after a step, and answers how many there were before it.
+    fn note_after(&self) -> u64 {
+        self.after.fetch_add(1, Ordering::SeqCst)
+    }
+
     /// How often it was called before steps, and how often after them.
     pub fn calls(&self) -> (u64, u64) {
         (
@@ -128,21 +138,20 @@ impl Counting {
 
 impl Gate for Counting {
     fn before<R: Wait>(&self, _rt: &R, _stream: StreamId, _at: usize) {
-        self.before.fetch_add(1, Ordering::SeqCst);
+        self.note_before();
     }
 
     fn after<R: Wait>(&self, _rt: &R, _stream: StreamId, _at: usize) {
-        self.after.fetch_add(1, Ordering::SeqCst);
+        self.note_after();
     }
 }
 
-/// Halts a board behind the step of this number, counted from one. It counts how often it was called before steps and after them.
+/// Halts a board behind the step of this number, counted from one, and counts its calls.
 #[derive(Drop)]
 pub(crate) struct Halting<'b, A: Side, B: Side, C: Side, N: Naming> {
     board: &'b Board<A, B, C, N>,
     number: u64,
-    before: AtomicU64,
-    after: AtomicU64,
+    pub counting: Counting,
 }
 
 impl<'b, A: Side, B: Side, C: Side, N: Naming> Halting<'b, A, B, C, N> {
@@ -150,27 +159,18 @@ impl<'b, A: Side, B: Side, C: Side, N: Naming> Halting<'b, A, B, C, N> {
         Halting {
             board,
             number,
-            before: AtomicU64::new(0),
-            after: AtomicU64::new(0),
+            counting: Counting::new(),
         }
-    }
-
-    /// How often it was called before steps, and how often after them.
-    pub fn calls(&self) -> (u64, u64) {
-        (
-            self.before.load(Ordering::SeqCst),
-            self.after.load(Ordering::SeqCst),
-        )
     }
 }
 
 impl<'b, A: Side, B: Side, C: Side, N: Naming> Gate for Halting<'b, A, B, C, N> {
     fn before<R: Wait>(&self, _rt: &R, _stream: StreamId, _at: usize) {
-        self.before.fetch_add(1, Ordering::SeqCst);
+        self.counting.note_before();
     }
 
     fn after<R: Wait>(&self, rt: &R, _stream: StreamId, _at: usize) {
-        if self.after.fetch_add(1, Ordering::SeqCst).wrapping_add(1) == self.number {
+        if self.counting.note_after().wrapping_add(1) == self.number {
             self.board.halt(rt);
         }
     }

@@ -1,7 +1,8 @@
 //! What a board gives out, and events that are made with it, one by one.
-ghost use Rattle.std.specs.Prelude.{◌≡◌, ◌<◌, IsTrue, length};
+ghost use Rattle.std.specs.Prelude.{◌<◌, length};
 
 use super::answers::{answered, played_of, ticket_place};
+use super::boards::is_for;
 use super::links::Loses;
 use sm_executor::{Board, Caller, Naming, Runner, Side};
 use sm_machine::{Answer, BeginFault, Permit, Ticket};
@@ -30,6 +31,14 @@ pub(crate) fn put<T>(rt: &impl Abort, list: &mut Vec<T>, value: T) {
     }
 }
 
+/// Puts all values of a list behind those of another one, for which there is memory.
+pub(crate) fn put_all<T>(rt: &impl Abort, list: &mut Vec<T>, mut values: Vec<T>) {
+    match list.append(&mut values) {
+        Ok(()) => values.destroy_empty(),
+        Err(_) => panic!(rt; "there is no memory for a list"),
+    }
+}
+
 /// The place of a stream's runner.
 fn runner_place<A: Side>(runners: &[Runner<A>], id: StreamId) -> Option<usize> {
     for at in 0..runners.len() {
@@ -40,23 +49,12 @@ fn runner_place<A: Side>(runners: &[Runner<A>], id: StreamId) -> Option<usize> {
     None
 }
 
-/// The plan was checked for the board's configuration.
-pub(crate) fn is_for<A: Side, B: Side, C: Side, N: Naming>(
-    board: &Board<A, B, C, N>,
-    checked: &Checked,
-) -> bool
-    ensures { IsTrue result → checked.now.setup ≡ N.setup }
-{
-    checked.config() == board.config()
-}
-
 /// The id of a shard of the board's map, which has to be there.
 pub(crate) fn shard_of<A: Side, B: Side, C: Side, N: Naming>(
     rt: &impl Abort,
     board: &Board<A, B, C, N>,
     shard: ShardId,
 ) -> ShardId
-    requires { length N.words.opening ≡ length N.setup.shards }
     ensures { result < length N.words.opening }
 {
     assert!(rt; shard.number() < board.config().shard_count());
@@ -69,7 +67,6 @@ pub(crate) fn server_of<A: Side, B: Side, C: Side, N: Naming>(
     board: &Board<A, B, C, N>,
     server: ServerId,
 ) -> ServerId
-    requires { N.words.servers ≡ length N.setup.servers }
     ensures { result < N.words.servers }
 {
     assert!(rt; server.number() < board.config().server_count());
@@ -155,9 +152,7 @@ impl<A: Side> Given<A> {
         rt: &R,
         board: &Board<A, B, C, N>,
         server: ServerId,
-    ) -> Played
-        requires { N.words.servers ≡ length N.setup.servers }
-    {
+    ) -> Played {
         let server = server_of(rt, board, server);
         match board.hold(rt).approve(server) {
             Ok(permit) => {
@@ -203,7 +198,7 @@ impl<A: Side> Given<A> {
         match self.plans[at].take() {
             None => Played::Unknown,
             Some(checked) => {
-                assert!(rt; is_for(board, &checked));
+                assert!(rt; is_for(board.config(), &checked));
                 match board.begin(rt, alloc, checked) {
                     Ok(runners) => self.add(rt, runners),
                     Err((checked, why)) => self.put_back(rt, at, checked, why),
@@ -213,16 +208,10 @@ impl<A: Side> Given<A> {
     }
 
     /// The runners of a plan that has begun come to the others.
-    fn add(&mut self, rt: &impl Abort, mut runners: Vec<Runner<A>>) -> Played {
+    fn add(&mut self, rt: &impl Abort, runners: Vec<Runner<A>>) -> Played {
         assert!(rt; !runners.is_empty());
         let number = runners[0].id().plan;
-        for _ in 0..runners.len() {
-            if let Some(runner) = runners.pop() {
-                put(rt, &mut self.runners, runner);
-            }
-        }
-        assert!(rt; runners.is_empty());
-        runners.destroy_empty();
+        put_all(rt, &mut self.runners, runners);
         Played::Begun { number }
     }
 
@@ -247,10 +236,7 @@ impl<A: Side> Given<A> {
         board: &Board<A, B, C, N>,
         caller: &mut Caller<B, C, N>,
         event: &Event,
-    ) -> Played
-        requires shards { length N.words.opening ≡ length N.setup.shards }
-        requires servers { N.words.servers ≡ length N.setup.servers }
-    {
+    ) -> Played {
         match *event {
             Event::Step { stream } => self.step(rt, board, stream, None),
             Event::Lose { stream, after } => self.step(rt, board, stream, Some(after)),

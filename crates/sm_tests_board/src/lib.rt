@@ -36,4 +36,6 @@ mod played;
 #[cfg(test)]
 mod runs;
 #[cfg(test)]
+mod scenes;
+#[cfg(test)]
 mod worlds;

@@ -1,11 +1,9 @@
 //! The map of a board, and asks at it, while shard s is handed over from a to b.
-ghost use Rattle.std.specs.Prelude.{◌≡◌, length};
-
 use super::events::executed;
 use super::given::shard_of;
 use super::worlds::entry;
 use sm_executor::{Board, Caller, Naming, Runner, Side};
-use sm_machine::Step;
+use sm_machine::{Machine, Step};
 use sm_placement::Entry;
 use sm_protocol::Played;
 use sm_router::{Asked, ask};
@@ -26,25 +24,24 @@ pub(crate) fn assert_steps<A: Side, B: Side, C: Side, N: Naming, R: Wait + Abort
     }
 }
 
+/// Behind two steps the log has a request that is passed on, and one that is executed at b.
+fn ends_in_two_hops(machine: &Machine) -> bool {
+    let log = machine.log();
+    log.len() == 4 && matches!(log[2].answer, Played::Passed { .. }) && log[3].answer == executed(1)
+}
+
 /// An ask for s has two hops, which stand in the log behind two steps: it is passed on from a, and executed at b.
 fn assert_two_hops<A: Side, B: Side, C: Side, N: Naming, R: Wait + Abort>(
     rt: &R,
     board: &Board<A, B, C, N>,
     caller: &mut Caller<B, C, N>,
-)
-    requires { length N.words.opening ≡ length N.setup.shards }
-{
+) {
     let shard = shard_of(rt, board, ShardId::new(0));
     let at_b = Asked::Executed {
         server: ServerId::new(1),
     };
-    assert_eq!(rt; ask(rt, board, caller, shard), at_b);
-    let guard = board.hold(rt);
-    let log = guard.machine().log();
-    assert_eq!(rt; log.len(), 4);
-    let is_passed = matches!(log[2].answer, Played::Passed { .. });
-    assert!(rt; is_passed);
-    assert!(rt; log[3].answer == executed(1));
+    assert!(rt; ask(rt, board, caller, shard) == at_b);
+    assert!(rt; ends_in_two_hops(board.hold(rt).machine()));
 }
 
 /// What the guard and the map say of s.
@@ -53,9 +50,7 @@ fn assert_held<A: Side, B: Side, C: Side, N: Naming, R: Wait + Abort>(
     board: &Board<A, B, C, N>,
     caller: &mut Caller<B, C, N>,
     wanted: Entry,
-)
-    requires { length N.words.opening ≡ length N.setup.shards }
-{
+) {
     let shard = shard_of(rt, board, ShardId::new(0));
     let mut guard = board.hold(rt);
     assert_eq!(rt; board.look_held(&mut guard, caller, shard), wanted);
@@ -67,9 +62,7 @@ fn assert_look<A: Side, B: Side, C: Side, N: Naming>(
     board: &Board<A, B, C, N>,
     caller: &mut Caller<B, C, N>,
     wanted: Entry,
-)
-    requires { length N.words.opening ≡ length N.setup.shards }
-{
+) {
     let shard = shard_of(rt, board, ShardId::new(0));
     assert_eq!(rt; board.look(caller, shard), wanted);
 }
@@ -82,9 +75,7 @@ pub(crate) fn map_and_asks<A: Side, B: Side, C: Side, N: Naming, R: Wait + Abort
     runners: &mut [Runner<A>],
     first: &mut Caller<B, C, N>,
     second: &mut Caller<B, C, N>,
-)
-    requires { length N.words.opening ≡ length N.setup.shards }
-{
+) {
     assert!(rt; !runners.is_empty());
     let runner = &mut runners[0];
     assert_look(rt, board, first, entry(0, 0));

@@ -49,19 +49,30 @@ const fn x_to_b(retries: u32) -> Move {
     }
 }
 
+/// A parcel of these, and nothing spare.
+fn parcel_of(
+    alloc: Global,
+    cells: Vec<CellRight>,
+    crowns: Vec<Crown>,
+    room: Vec<Room>,
+) -> Result<Parcel, AllocError> {
+    let lists = Lists {
+        cells,
+        crowns,
+        room,
+        spare: Vec::new(alloc),
+    };
+    Parcel::new(alloc, lists).map_err(|_| AllocError)
+}
+
 /// What holds so much of a server's room, and nothing else.
 fn room_of(alloc: Global, server: u32, amount: u64) -> Result<Parcel, AllocError> {
     let room = Room {
         server: ServerId::new(server),
         amount,
     };
-    let lists = Lists {
-        cells: Vec::new(alloc),
-        crowns: Vec::new(alloc),
-        room: Vec::from_array(alloc, [room])?,
-        spare: Vec::new(alloc),
-    };
-    Parcel::new(alloc, lists).map_err(|_| AllocError)
+    let room = Vec::from_array(alloc, [room])?;
+    parcel_of(alloc, Vec::new(alloc), Vec::new(alloc), room)
 }
 
 /// What a handover holds at its start.
@@ -82,13 +93,10 @@ fn held(alloc: Global, moved: &Move) -> Result<Parcel, AllocError> {
         server: new,
         amount: moved.room,
     };
-    let lists = Lists {
-        cells: Vec::from_array(alloc, [cell])?,
-        crowns: Vec::from_array(alloc, [crown])?,
-        room: Vec::from_array(alloc, [room])?,
-        spare: Vec::new(alloc),
-    };
-    Parcel::new(alloc, lists).map_err(|_| AllocError)
+    let cells = Vec::from_array(alloc, [cell])?;
+    let crowns = Vec::from_array(alloc, [crown])?;
+    let room = Vec::from_array(alloc, [room])?;
+    parcel_of(alloc, cells, crowns, room)
 }
 
 /// The instructions of a handover.
@@ -236,16 +244,10 @@ pub(crate) fn is_signalled(checked: &Checked) -> bool {
 pub(crate) fn eight_idle(alloc: Global) -> Result<Checked, AllocError> {
     let mut streams = Vec::new(alloc);
     for _ in 0..8 {
-        let lists = Lists {
-            cells: Vec::new(alloc),
-            crowns: Vec::new(alloc),
-            room: Vec::new(alloc),
-            spare: Vec::new(alloc),
-        };
         streams.push(Stream {
             budget: 0,
             retries: 0,
-            holds: Parcel::new(alloc, lists).map_err(|_| AllocError)?,
+            holds: parcel_of(alloc, Vec::new(alloc), Vec::new(alloc), Vec::new(alloc))?,
             code: Vec::new(alloc),
         })?;
     }

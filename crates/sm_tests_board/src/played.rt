@@ -1,13 +1,12 @@
 //! Worked lists of events, made one by one over a board, and played with a hand on a machine of their own: both give these answers and
 //! leave this log.
-use super::boards::{Scene, on_new_board};
 use super::by_hand::assert_played;
 use super::events::{
     Turn, approve, arrive, begin, begun, done, executed, lose, pass_on, passed, refill, step,
     stream,
 };
-use super::given::put;
-use super::plans::{Move, plan_of, s_to_b, three_handovers};
+use super::plans::{plan_of, s_to_b, three_handovers};
+use super::scenes::{Scene, placement_after};
 use super::worlds::assert_cells;
 use sm_placement::Placement;
 use sm_protocol::{Played, RefillFault};
@@ -17,6 +16,7 @@ use sm_verifier::Checked;
 use std::alloc::{AllocError, Global};
 use std::process::Abort;
 use std::sync::Wait;
+use std::thread::Threads;
 
 /// How many places the log has.
 const PLACES: u32 = 64;
@@ -51,43 +51,21 @@ const fn recorded_restarts() -> [Turn; 5] {
 
 /// A request that is passed on in the first of three handovers, and comes to b in the third.
 const fn requests_over_three() -> [Turn; 15] {
-    [
-        (begin(0), begun(0)),
-        (step(0), Played::Moved),
-        (step(0), Played::Moved),
-        (arrive(0, 0), passed(1, 1, 2)),
-        (step(0), Played::Moved),
-        (step(0), Played::Moved),
-        (step(0), Played::Moved),
-        (step(0), Played::Moved),
-        (step(0), Played::Moved),
-        (step(0), Played::Moved),
-        (step(0), Played::Moved),
-        (step(0), Played::Moved),
-        (step(0), Played::Moved),
-        (pass_on(2), Played::NotOwner),
-        (arrive(0, 0), executed(0)),
-    ]
+    let mut turns = [(step(0), Played::Moved); 15];
+    turns[0] = (begin(0), begun(0));
+    turns[3] = (arrive(0, 0), passed(1, 1, 2));
+    turns[13] = (pass_on(2), Played::NotOwner);
+    turns[14] = (arrive(0, 0), executed(0));
+    turns
 }
 
 /// What of them is recorded.
 const fn recorded_over_three() -> [Turn; 14] {
-    [
-        (step(0), Played::Moved),
-        (step(0), Played::Moved),
-        (arrive(0, 0), passed(1, 1, 2)),
-        (step(0), Played::Moved),
-        (step(0), Played::Moved),
-        (step(0), Played::Moved),
-        (step(0), Played::Moved),
-        (step(0), Played::Moved),
-        (step(0), Played::Moved),
-        (step(0), Played::Moved),
-        (step(0), Played::Moved),
-        (step(0), Played::Moved),
-        (pass_on(2), Played::NotOwner),
-        (arrive(0, 0), executed(0)),
-    ]
+    let mut log = [(step(0), Played::Moved); 14];
+    log[2] = (arrive(0, 0), passed(1, 1, 2));
+    log[12] = (pass_on(2), Played::NotOwner);
+    log[13] = (arrive(0, 0), executed(0));
+    log
 }
 
 /// A request that is passed on.
@@ -150,21 +128,9 @@ const fn recorded_losses() -> [Turn; 10] {
     ]
 }
 
-/// The plans of moves, in a list.
-pub(crate) fn plans_of(rt: &impl Abort, alloc: Global, moves: &[Move]) -> Vec<Option<Checked>> {
-    let mut plans = Vec::new(alloc);
-    for moved in moves {
-        match plan_of(alloc, moved) {
-            Ok(checked) => put(rt, &mut plans, Some(checked)),
-            Err(_) => panic!(rt; "there is no memory for a plan"),
-        }
-    }
-    plans
-}
-
 /// Makes events over a new board on which this plan may begin, asserts their answers and the log that they leave, and answers the
 /// placement. A machine of their own, on which its twin may begin, answers them in the same way.
-fn placement_after<R: Wait + Abort>(
+fn as_played<R: Threads + Wait + Sync + Print + Abort>(
     rt: &R,
     alloc: Global,
     plan: Result<Checked, AllocError>,
@@ -172,13 +138,8 @@ fn placement_after<R: Wait + Abort>(
     turns: &[Turn],
     log: &[Turn],
 ) -> Placement {
-    let Ok(checked) = plan else {
-        panic!(rt; "there is no memory for a plan");
-    };
-    let mut plans = Vec::new(alloc);
-    put(rt, &mut plans, Some(checked));
     assert_played(rt, alloc, twin, PLACES, turns, log);
-    on_new_board(rt, alloc, plans, PLACES, Scene::Turns { turns, log })
+    placement_after(rt, alloc, plan, PLACES, Scene::Turns { turns, log })
 }
 
 #[test]
@@ -186,7 +147,7 @@ fn restarts_beside_a_handover_are_as_played(rt: HostRuntime) {
     let alloc = rt.alloc();
     let moved = s_to_b(0);
     let (plan, twin) = (plan_of(alloc, &moved), plan_of(alloc, &moved));
-    let placement = placement_after(&rt, alloc, plan, twin, &restarts(), &recorded_restarts());
+    let placement = as_played(&rt, alloc, plan, twin, &restarts(), &recorded_restarts());
     assert_eq!(&rt; placement.down_count(), 1);
 }
 
@@ -195,7 +156,7 @@ fn requests_over_three_handovers_are_as_played(rt: HostRuntime) {
     let alloc = rt.alloc();
     let (plan, twin) = (three_handovers(alloc), three_handovers(alloc));
     let turns = requests_over_three();
-    let placement = placement_after(&rt, alloc, plan, twin, &turns, &recorded_over_three());
+    let placement = as_played(&rt, alloc, plan, twin, &turns, &recorded_over_three());
     let at_b = Cell::Prepared {
         from: ServerId::new(0),
         number: 3,
@@ -213,7 +174,7 @@ fn a_request_passed_on_is_as_played(rt: HostRuntime) {
     let alloc = rt.alloc();
     let moved = s_to_b(0);
     let (plan, twin) = (plan_of(alloc, &moved), plan_of(alloc, &moved));
-    let _placement = placement_after(&rt, alloc, plan, twin, &passed_on(), &recorded_passed_on());
+    let _placement = as_played(&rt, alloc, plan, twin, &passed_on(), &recorded_passed_on());
 }
 
 #[test]
@@ -221,7 +182,7 @@ fn lost_calls_are_as_played(rt: HostRuntime) {
     let alloc = rt.alloc();
     let moved = s_to_b(2);
     let (plan, twin) = (plan_of(alloc, &moved), plan_of(alloc, &moved));
-    let placement = placement_after(&rt, alloc, plan, twin, &losses(), &recorded_losses());
+    let placement = as_played(&rt, alloc, plan, twin, &losses(), &recorded_losses());
     assert_cells(
         &rt,
         &placement,
@@ -234,6 +195,6 @@ fn lost_calls_are_as_played(rt: HostRuntime) {
 #[test]
 fn map_and_asks_on_a_board(rt: HostRuntime) {
     let alloc = rt.alloc();
-    let plans = plans_of(&rt, alloc, &[s_to_b(0)]);
-    let _placement = on_new_board(&rt, alloc, plans, PLACES, Scene::MapAndAsks);
+    let plan = plan_of(alloc, &s_to_b(0));
+    let _placement = placement_after(&rt, alloc, plan, PLACES, Scene::MapAndAsks);
 }

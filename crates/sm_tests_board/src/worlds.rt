@@ -81,12 +81,9 @@ pub(crate) fn shard_id(rt: &impl Abort, placement: &Placement, shard: u32) -> Sh
 pub(crate) fn assert_cells(rt: &impl Abort, placement: &Placement, shard: u32, cells: &[Cell; 4]) {
     let shard = shard_id(rt, placement, shard);
     let servers = placement.config().server_count();
-    assert_eq!(rt; servers, 4);
+    assert!(rt; servers == 4);
     for number in 0..servers {
-        assert_eq!(rt;
-            placement.cell(shard, ServerId::new(number)),
-            cells[number as usize]
-        );
+        assert!(rt; placement.cell(shard, ServerId::new(number)) == cells[number as usize]);
     }
 }
 
@@ -94,7 +91,7 @@ pub(crate) fn assert_cells(rt: &impl Abort, placement: &Placement, shard: u32, c
 pub(crate) fn assert_entries(rt: &impl Abort, placement: &Placement, entries: &[Entry; 3]) {
     for number in 0..3u32 {
         let shard = shard_id(rt, placement, number);
-        assert_eq!(rt; placement.entry(shard), entries[number as usize]);
+        assert!(rt; placement.entry(shard) == entries[number as usize]);
     }
 }
 
@@ -102,6 +99,6 @@ pub(crate) fn assert_entries(rt: &impl Abort, placement: &Placement, entries: &[
 pub(crate) fn assert_loads(rt: &impl Abort, placement: &Placement, loads: [u64; 4]) {
     for number in 0..4u32 {
         let server = server_id(rt, placement, number);
-        assert_eq!(rt; placement.load(server), loads[number as usize]);
+        assert!(rt; placement.load(server) == loads[number as usize]);
     }
 }

@@ -21,5 +21,5 @@ module _ (A B C N : RattleType) (a : Side.Ghosts A.Denot) (b : Side.Ghosts B.Den
       declared_sync (Behind.the_type l A B C N a b c n la lb lc)
       (as_row_sync (shr_ref_field l (Board.the_row A B C N a b c n la lb lc) tt) board, (search (crosses, sendable) depth 10, (search (crosses, sendable) depth 10, (search (crosses, sendable) depth 10, tt))))
 
-pub run_beside-ran-requires-sync-G : goal.run_beside-ran-requires-sync-G
-run_beside-ran-requires-sync-G g c = λ κs b. search (behind_sync, sendable) depth 20
+pub run_beside_clients-ran-requires-sync-G : goal.run_beside_clients-ran-requires-sync-G
+run_beside_clients-ran-requires-sync-G g c = λ κs b. search (behind_sync, sendable) depth 20

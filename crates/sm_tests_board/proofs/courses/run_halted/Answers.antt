@@ -19,7 +19,7 @@ module _ (A B C N : RattleType) (a : Side.Ghosts A.Denot) (b : Side.Ghosts B.Den
   halting_sync l =
       let board = shr_sync l.mir l.lft _ (board_sync A B C N a b c n la lb lc) in
       declared_sync (Halting.the_type l A B C N a b c n la lb lc)
-      (as_row_sync (shr_ref_field l (Board.the_row A B C N a b c n la lb lc) tt) board, (search (crosses, sendable) depth 10, (search (crosses, sendable) depth 10, (search (crosses, sendable) depth 10, tt))))
+      (as_row_sync (shr_ref_field l (Board.the_row A B C N a b c n la lb lc) tt) board, (search (crosses, sendable) depth 10, (search (crosses, sendable) depth 10, tt)))
 
 pub run-ran-requires-sync-G : goal.run-ran-requires-sync-G
 run-ran-requires-sync-G g c = λ κs b. search (halting_sync, sendable) depth 20

@@ -1,6 +1,6 @@
 use Rattle.std.proofs.Common.{◌^◌}
 use Rattle.sm_machine.specs.State.{state_of}
-use Rattle.sm_tests_board.proofs.runs.run_plan.Given as goal
+use Rattle.sm_tests_board.proofs.boards.act_or_not.Given as goal
 
 abbrev pub ghosts-on_ground-A-Side : goal.ghosts-on_ground-A-Side
 ghosts-on_ground-A-Side g a = record { all = 2 ^ 62 }
