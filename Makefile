@@ -25,7 +25,7 @@ test:
 	$(MAKE) --jobs=2 --output-sync=line BEGUN=$(BEGUN) check-caught check-program check-tests
 	scripts/check-try-edits
 	scripts/try-edits --edits tests/must-fail
-	scripts/try-edits --until $$(( $(BEGUN) + 140 * 60 ))
+	scripts/try-edits --until $$(( $(BEGUN) + 130 * 60 ))
 
 # (wrong versions that only tests catch, which take longest; the scripts over the program that stands in build; and those over tests)
 check-caught:
