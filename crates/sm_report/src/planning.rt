@@ -6,19 +6,17 @@ ghost use Rattle.sm_placement.specs.Layout.{place_of};
 ghost use Rattle.sm_placement.specs.Lead.{IsSettled};
 ghost use Rattle.sm_plan_text.specs.Documents.{IsDocument};
 ghost use Rattle.sm_plan_text.specs.Reading.{rows_of};
-ghost use Rattle.sm_protocol.specs.State.{opened};
 ghost use Rattle.sm_machine.specs.State.{state_of};
 ghost use Rattle.sm_report.specs.Early.{IfEnded, IfMade};
 ghost use Rattle.sm_report.specs.Planning.{move_of, aim_of, aim_stage, IsAimOf, basis_at, IsPlanFor, IsRefusedFor, IsAnswered};
 ghost use Rattle.sm_report.specs.Report.{bad_input, refused};
 ghost use Rattle.sm_report.specs.BadInput.{text_fault_line};
 ghost use Rattle.sm_report.specs.Output.{IsLoggedForPlan, IsPlacedForPlan, IsOpenedForPlan, IsPlanningReport};
-ghost use Rattle.sm_plan_code.specs.declared.limits.TheConstants.{MOST_PLACES};
 
 use crate::early::Early;
 use crate::made::Made;
-use crate::stages::{has_log, placement};
-use sm_machine::{Director, Machine, OpenFault};
+use crate::stages::{director, has_log, placement};
+use sm_machine::Machine;
 use sm_placement::{Config, Placement};
 use sm_plan_text::{Document, Member, MoveText, TextFault};
 use sm_planner::{Move, NoPlan, drain, moves};
@@ -112,21 +110,6 @@ fn report_answer(
     }
 }
 
-/// A machine over a settled placement, whose log has room for the restarts under way.
-fn open(alloc: Global, placement: Placement, log: u32) -> Result<Director, AllocError>
-    requires settled { IsSettled (sizes_of placement.setup) (place_of placement) }
-    requires room { down_count (sizes_of placement.setup) (place_of placement) ≤ log }
-    requires most { log ≤ MOST_PLACES }
-    ensures state { IfOk result (λ d. state_of d ≡ opened (sizes_of placement.setup) (place_of placement) log) }
-    ensures setup { IfOk result (λ d. d.placement.setup ≡ placement.setup) }
-{
-    match Director::open(alloc, placement, log) {
-        Ok(director) => Ok(director),
-        Err((_, OpenFault::NoMemory)) => Err(AllocError),
-        Err((_, OpenFault::LogFull)) => unreachable!(),
-    }
-}
-
 /// The report of what is wanted, for a machine that is opened at the placement, whose log has room.
 fn report_logged(
     alloc: Global,
@@ -141,7 +124,7 @@ fn report_logged(
     requires aim { IsAimOf (rows_of document.now).setup (aim_of wanted.now) }
     ensures { IfMade result (IsLoggedForPlan (rows_of document.now) (aim_of wanted.now) (place_of placement) tt) }
 {
-    let director = open(alloc, placement, document.log)?;
+    let director = director(alloc, placement, document.log)?;
     let made = report_answer(alloc, &document.config, director.machine(), wanted);
     let _ = director.give_up();
     made

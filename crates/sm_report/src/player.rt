@@ -13,7 +13,8 @@ ghost use Rattle.sm_report.specs.Playing.{start_number, named_stream};
 ghost use Rattle.sm_report.specs.Player.{scene_of, IsSetUp, IsEventPlayed};
 ghost use Rattle.sm_plan_code.specs.declared.limits.TheConstants.{MOST_CALLS, MOST_PLACES};
 
-use sm_machine::{Director, Machine, OpenFault, make_ready};
+use crate::stages::director;
+use sm_machine::{Director, Machine, make_ready};
 use sm_placement::Placement;
 use sm_plan_text::EventText;
 use sm_protocol::Played;
@@ -70,15 +71,12 @@ impl Player {
         ensures setup { IfOk result (λ p. p.director.placement.setup ≡ placement.setup) }
         ensures ready { IfOk result IsSetUp }
     {
-        match Director::open(alloc, placement, log) {
-            Ok(director) => Ok(Player {
-                director,
-                waiting,
-                places: Vec::new(alloc),
-            }),
-            Err((_, OpenFault::NoMemory)) => Err(AllocError),
-            Err((_, OpenFault::LogFull)) => unreachable!(),
-        }
+        let director = director(alloc, placement, log)?;
+        Ok(Player {
+            director,
+            waiting,
+            places: Vec::new(alloc),
+        })
     }
 
     /// The machine.

@@ -7,8 +7,11 @@ ghost use Rattle.sm_placement.specs.Layout.{place_of};
 ghost use Rattle.sm_placement.specs.Lead.{IsSettled};
 ghost use Rattle.sm_reservation.specs.Pool.{HasSize, pool_hold, true_rights};
 ghost use Rattle.sm_plan_code.specs.Plan.{IsKnownPlan};
+ghost use Rattle.sm_plan_code.specs.declared.limits.TheConstants.{MOST_PLACES};
 ghost use Rattle.sm_verifier.specs.Plan.{IsSound};
 ghost use Rattle.sm_verifier.specs.Admission.{IsAdmitted};
+ghost use Rattle.sm_protocol.specs.State.{opened};
+ghost use Rattle.sm_machine.specs.State.{state_of};
 ghost use Rattle.sm_plan_text.specs.Reading.{rows_of};
 ghost use Rattle.sm_report.specs.Checking.{fault_line};
 ghost use Rattle.sm_report.specs.Early.{IfEnded};
@@ -17,12 +20,13 @@ ghost use Rattle.sm_report.specs.Stages.{member_stage, alone_stage, placement_st
 
 use crate::early::Early;
 use crate::made::Made;
+use sm_machine::Director;
 use sm_placement::{OpenFault, Placement};
 use sm_plan_code::Plan;
 use sm_plan_text::{Document, Member, TextFault};
 use sm_reservation::Pool;
 use sm_verifier::{Checked, Fault, admit, check};
-use std::alloc::Global;
+use std::alloc::{AllocError, Global};
 
 /// The member that a command needs.
 pub fn member<T: Drop>(alloc: Global, member: Member, value: Option<T>) -> Result<T, Early>
@@ -90,6 +94,21 @@ pub fn has_log(alloc: Global, document: &Document, placement: &Placement) -> Res
         return Err(Early::Report(Made::log_full(alloc)?));
     }
     Ok(())
+}
+
+/// A machine with all its rights over a settled placement, whose log has room for the restarts under way.
+pub fn director(alloc: Global, placement: Placement, log: u32) -> Result<Director, AllocError>
+    requires settled { IsSettled (sizes_of placement.setup) (place_of placement) }
+    requires room { down_count (sizes_of placement.setup) (place_of placement) ≤ log }
+    requires most { log ≤ MOST_PLACES }
+    ensures state { IfOk result (λ d. state_of d ≡ opened (sizes_of placement.setup) (place_of placement) log) }
+    ensures setup { IfOk result (λ d. d.placement.setup ≡ placement.setup) }
+{
+    match Director::open(alloc, placement, log) {
+        Ok(director) => Ok(director),
+        Err((_, sm_machine::OpenFault::NoMemory)) => Err(AllocError),
+        Err((_, sm_machine::OpenFault::LogFull)) => unreachable!(),
+    }
 }
 
 /// The plan, once it has passed the check; else the report ends, behind a front.

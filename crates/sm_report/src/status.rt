@@ -13,7 +13,8 @@ pub enum Status {
     BadInput,
     /// Memory ran out. Nothing was written.
     NoMemory,
-    /// A thread could not be started, and the report says so. Only `report_run` ends so.
+    /// The plan had begun, and was not run to its end, as where a thread could not be started; the report says why. Only `report_run`
+    /// ends so.
     NoThread,
     /// A read failed, or the document did not come to an end. Nothing was written.
     ReadFailed,
