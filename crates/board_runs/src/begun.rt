@@ -10,8 +10,9 @@ ghost use Rattle.board_runs.specs.Ran.{BeginsAs};
 
 use crate::fault::Fault;
 use sm_executor::Ground;
-use sm_machine::{Machine, Permit, StreamToken};
+use sm_machine::{Machine, OpenFault, Permit, StreamToken};
 use sm_placement::Placement;
+use sm_protocol::BeginFault;
 use sm_verifier::Checked;
 use std::alloc::Global;
 
@@ -31,6 +32,14 @@ fn is_for(placement: &Placement, checked: &Checked) -> bool
     ensures { IsTrue result → checked.now.setup ≡ placement.now.setup }
 {
     checked.config() == placement.config()
+}
+
+/// What a run is answered whose plan does not begin.
+fn fault_of(why: &BeginFault) -> Fault {
+    match why {
+        BeginFault::NoMemory => Fault::NoMemory,
+        _ => Fault::NotBegun,
+    }
 }
 
 /// Begins a checked plan on a machine.
@@ -54,9 +63,9 @@ fn begun_on(
                 tokens,
             })
         }
-        Err(_) => {
+        Err((_checked, why)) => {
             machine.give_up(Vec::new(alloc), permits, Vec::new(alloc));
-            Err(Fault::NotBegun)
+            Err(fault_of(&why))
         }
     }
 }
@@ -77,6 +86,7 @@ impl Begun {
         }
         match Machine::open(alloc, placement, places) {
             Ok((machine, permits)) => begun_on(alloc, machine, permits, checked),
+            Err((_, OpenFault::NoMemory)) => Err(Fault::NoMemory),
             Err(_) => Err(Fault::NoMachine),
         }
     }
