@@ -35,3 +35,13 @@ impl From<AllocError> for Fault {
         Fault::NoMemory
     }
 }
+
+/// The first run that failed, and why.
+#[derive(Clone, Copy, Debug, Error)]
+#[error("run {run}: {fault}")]
+pub(crate) struct Failed {
+    /// The run's number.
+    pub run: u32,
+    /// What is wrong with it.
+    pub fault: Fault,
+}

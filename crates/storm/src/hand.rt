@@ -23,16 +23,9 @@ pub(crate) const RESTARTS: u64 = 32;
 #[derive(Drop)]
 pub(crate) enum Hand {
     /// Asks for shards at random.
-    Asks {
-        seed: u64,
-    },
-    /// Restarts servers at random, each approved and ended by a guard, and counts the restarts: of those that no stream mentions, and
-    /// of any.
-    Restarts {
-        seed: u64,
-        made: AtomicU64,
-        others: AtomicU64,
-    },
+    Asks { seed: u64 },
+    /// Restarts servers at random, each approved and ended by a guard, and counts those that no stream mentions.
+    Restarts { seed: u64, made: AtomicU64 },
 }
 
 /// One of so many numbers, if there are any.
@@ -85,45 +78,40 @@ fn ended<A: Side, B: Side, C: Side, N: Naming, R: Wait>(
     guard.done(permit).err()
 }
 
-/// Restarts a server, where that is approved, and counts it. The permit comes back where the restart has not ended.
+/// Restarts a server, and answers whether that was approved. The permit comes back where the restart has not ended.
 fn restart<A: Side, B: Side, C: Side, N: Naming, R: Wait>(
     rt: &R,
     board: &Board<A, B, C, N>,
     server: ServerId,
-    made: &AtomicU64,
-) -> Option<Permit>
+) -> Result<bool, Permit>
     requires { server < N.words.servers }
 {
     let Some(permit) = approved(rt, board, server) else {
-        return None;
+        return Ok(false);
     };
     thread::yield_now();
-    let left = ended(rt, board, permit);
-    if left.is_none() {
-        made.fetch_add(1, Ordering::SeqCst);
+    match ended(rt, board, permit) {
+        None => Ok(true),
+        Some(permit) => Err(permit),
     }
-    left
 }
 
-/// Restarts a server that no stream mentions, and tries to restart any server.
+/// Restarts a server that no stream mentions, which is counted, and tries to restart any server.
 fn restart_two<A: Side, B: Side, C: Side, N: Naming, R: Wait>(
     rt: &R,
     board: &Board<A, B, C, N>,
     number: u64,
     made: &AtomicU64,
-    others: &AtomicU64,
-) -> Option<Permit> {
+) -> Result<(), Permit> {
     let servers = board.config().server_count();
     let rested = RESTED + (number % RESTING) as u32;
-    if rested < servers {
-        if let Some(permit) = restart(rt, board, ServerId::new(rested), made) {
-            return Some(permit);
-        }
+    if rested < servers && restart(rt, board, ServerId::new(rested))? {
+        made.fetch_add(1, Ordering::SeqCst);
     }
-    match picked(scattered(number), servers) {
-        Some(server) => restart(rt, board, ServerId::new(server), others),
-        None => None,
+    if let Some(server) = picked(scattered(number), servers) {
+        let _approved = restart(rt, board, ServerId::new(server))?;
     }
+    Ok(())
 }
 
 /// Makes all restarts of a run. A permit comes back whose restart has not ended.
@@ -132,15 +120,12 @@ fn restart_all<A: Side, B: Side, C: Side, N: Naming, R: Wait>(
     board: &Board<A, B, C, N>,
     seed: u64,
     made: &AtomicU64,
-    others: &AtomicU64,
-) -> Option<Permit> {
+) -> Result<(), Permit> {
     for round in 0..RESTARTS {
         let number = scattered(seed.wrapping_add(round));
-        if let Some(permit) = restart_two(rt, board, number, made, others) {
-            return Some(permit);
-        }
+        restart_two(rt, board, number, made)?;
     }
-    None
+    Ok(())
 }
 
 impl Worker for Hand {
@@ -156,7 +141,7 @@ impl Worker for Hand {
                 ask_often(rt, board, caller, *seed);
                 None
             }
-            Hand::Restarts { seed, made, others } => restart_all(rt, board, *seed, made, others),
+            Hand::Restarts { seed, made } => restart_all(rt, board, *seed, made).err(),
         }
     }
 }

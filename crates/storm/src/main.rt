@@ -10,7 +10,7 @@ mod hand;
 mod run;
 mod world;
 
-use fault::Fault;
+use fault::Failed;
 use run::run_once;
 use std::process::ExitCode;
 use std::rt::{Clock, Env};
@@ -37,10 +37,10 @@ fn make_runs<R: Threads + Wait + Clock + Sync + AllocGlobal>(
     rt: &R,
     world: &World,
     runs: u32,
-) -> Result<(), (u32, Fault)> {
-    for number in 0..runs {
-        if let Err(fault) = run_once(rt, rt.alloc(), world, number) {
-            return Err((number, fault));
+) -> Result<(), Failed> {
+    for run in 0..runs {
+        if let Err(fault) = run_once(rt, rt.alloc(), world, run) {
+            return Err(Failed { run, fault });
         }
     }
     Ok(())
@@ -50,22 +50,22 @@ fn make_runs<R: Threads + Wait + Clock + Sync + AllocGlobal>(
 fn make_all<R: Threads + Wait + Clock + Sync + AllocGlobal>(
     rt: &R,
     runs: u32,
-) -> Result<(), (u32, Fault)> {
+) -> Result<(), Failed> {
     match World::new(rt.alloc()) {
         Ok(world) => make_runs(rt, &world, runs),
-        Err(fault) => Err((0, fault)),
+        Err(fault) => Err(Failed { run: 0, fault }),
     }
 }
 
 /// Tells whether so many runs were made.
-fn tell<R: Print>(rt: &R, runs: u32, made: Result<(), (u32, Fault)>) -> io::Result<ExitCode> {
+fn tell<R: Print>(rt: &R, runs: u32, made: Result<(), Failed>) -> io::Result<ExitCode> {
     match made {
         Ok(()) => {
             println!(rt; "{runs} runs: each ended and was closed, at the same placement")?;
             Ok(ExitCode::SUCCESS)
         }
-        Err((number, fault)) => {
-            println!(rt; "run {number}: {fault}")?;
+        Err(failed) => {
+            println!(rt; "{failed}")?;
             Ok(ExitCode::FAILURE)
         }
     }

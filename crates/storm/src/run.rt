@@ -29,7 +29,6 @@ fn hands_of(alloc: Global, seed: u64) -> Result<Vec<Hand>, AllocError> {
     hands.push(Hand::Restarts {
         seed: scattered(seed.wrapping_add(ASKERS)),
         made: AtomicU64::new(0),
-        others: AtomicU64::new(0),
     })?;
     Ok(hands)
 }
