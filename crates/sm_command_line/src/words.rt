@@ -36,14 +36,16 @@ fn first_words<'a>(alloc: Global) -> Result<Parser<'a>, AllocError>
     ensures { IfOk result (λ p. app_of p ≡ first_words) }
 {
     let calls = Parser::new(alloc, "calls").about(
-        "Makes the document's calls, and prints their answers and the placement after them",
+        "Makes the calls of the document on standard input, and prints their answers and the placement after them",
     );
     let check = Parser::new(alloc, "check").about(
-        "Checks the document's plan, and prints that it is accepted or why it is not",
+        "Checks the plan of the document on standard input, and prints that it is accepted or why it is not",
     );
     Parser::new(alloc, "smplan")
         .bin_name("smplan")?
-        .about("Reads a placement of shards on standard input, and prints a report of it")
+        .about(
+            "Reads a JSON document of a placement on standard input (smplan COMMAND < FILE), and prints a report of it",
+        )
         .no_binary_name(true)
         .subcommand_required(true)
         .subcommand(calls)?
@@ -55,13 +57,13 @@ fn parser<'a>(alloc: Global) -> Result<Parser<'a>, AllocError>
     ensures { IfOk result (λ p. app_of p ≡ program) }
 {
     let play = Parser::new(alloc, "play").about(
-        "Plays the document's events, and prints their answers, how far its plans have come, and the placement after them",
+        "Plays the events of the document on standard input, and prints their answers, how far its plans have come, and the placement after them",
     );
     let plan = Parser::new(alloc, "plan").about(
-        "Makes a plan for the document's moves, or one that empties a server, and prints it or why there is none",
+        "Makes a plan for the moves of the document on standard input, or one that empties a server, and prints it or why there is none",
     );
     let run = Parser::new(alloc, "run").about(
-        "Runs the document's plan with a thread for each stream, and prints what each came to, the answers to the document's asks, and the placement at the end",
+        "Runs the plan of the document on standard input with a thread for each stream, and prints what each came to, the answers to the document's asks, and the placement at the end",
     );
     first_words(alloc)?
         .subcommand(play)?
