@@ -7,7 +7,7 @@
 
 build:
 	mkdir -p build
-	cp "$$(scripts/build-smplan)" build/smplan
+	p=$$(scripts/build-smplan) && cp "$$p" build/smplan
 
 run:
 	@scripts/try-smplan calls < examples/placement.json
