@@ -8,7 +8,7 @@ use sm_placement::Placement;
 use sm_server::ServerId;
 use thiserror::Error;
 
-/// Why a machine is not opened. Of several reasons the first one in this order is given.
+/// Why a machine is not opened. LogFull is given before any memory is asked for, and so in place of NoMemory.
 #[derive(Clone, Copy, Debug, PartialEq, Eq, Error)]
 pub enum OpenFault {
     /// Memory was short.
