@@ -28,10 +28,7 @@ pub(crate) fn permits_of(mut permits: Vec<Permit>, placement: &Placement) -> Vec
     for number in 0..placement.config().server_count() {
         let server = ServerId::new(number);
         if placement.is_down(server) {
-            match permits.push(Permit::new(server)) {
-                Ok(()) => {}
-                Err(_) => unreachable!(),
-            }
+            permits.push_reserved(Permit::new(server));
         }
     }
     permits

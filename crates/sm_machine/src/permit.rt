@@ -47,13 +47,9 @@ impl Permit {
 }
 
 /// Permits end with their machine. Takes no memory.
-pub(crate) fn close_permits(permits: Vec<Permit>) {
-    let mut permits = permits;
-    for _ in 0..permits.len() {
-        match permits.pop() {
-            Some(permit) => permit.close(),
-            None => {}
-        }
+pub(crate) fn close_permits(mut permits: Vec<Permit>) {
+    while let Some(permit) = permits.pop() {
+        permit.close();
     }
     permits.destroy_empty();
 }

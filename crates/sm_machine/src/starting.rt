@@ -30,10 +30,7 @@ fn fill_tokens(tokens: &mut Vec<StreamToken>, plan: u32, count: usize)
             plan,
             stream: stream as u32,
         };
-        match tokens.push(StreamToken::new(id)) {
-            Ok(()) => {}
-            Err(_) => unreachable!(),
-        }
+        tokens.push_reserved(StreamToken::new(id));
     }
 }
 

@@ -75,13 +75,9 @@ impl Ticket {
 }
 
 /// Tickets end with their machine. Takes no memory.
-pub(crate) fn close_tickets(tickets: Vec<Ticket>) {
-    let mut tickets = tickets;
-    for _ in 0..tickets.len() {
-        match tickets.pop() {
-            Some(ticket) => ticket.abandon(),
-            None => {}
-        }
+pub(crate) fn close_tickets(mut tickets: Vec<Ticket>) {
+    while let Some(ticket) = tickets.pop() {
+        ticket.abandon();
     }
     tickets.destroy_empty();
 }

@@ -42,15 +42,9 @@ impl StreamToken {
 }
 
 /// Tokens end with their machine. Takes no memory.
-pub(crate) fn close_tokens(tokens: Vec<StreamToken>) {
-    let mut tokens = tokens;
-    for _ in 0..tokens.len() {
-        match tokens.pop() {
-            Some(token) => {
-                let _ = token.into_id();
-            }
-            None => {}
-        }
+pub(crate) fn close_tokens(mut tokens: Vec<StreamToken>) {
+    while let Some(token) = tokens.pop() {
+        let _ = token.into_id();
     }
     tokens.destroy_empty();
 }

@@ -1,7 +1,5 @@
-use Rattle.std.proofs.Common.{◌≡◌, ◌+◌, length}
+use Rattle.std.specs.Prelude.{vec_len}
 use Rattle.sm_machine.proofs.permit.close_permits.Given as goal
 
-abbrev pub invariant-loop : goal.invariant-loop
-invariant-loop l = record {
-  left : length l.permits.items + l.counter ≡ l.end;
-}
+abbrev pub decreases-loop-permit : goal.decreases-loop-permit
+decreases-loop-permit l = vec_len l.permits

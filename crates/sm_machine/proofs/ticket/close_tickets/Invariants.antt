@@ -1,7 +1,5 @@
-use Rattle.std.proofs.Common.{◌≡◌, ◌+◌, length}
+use Rattle.std.specs.Prelude.{vec_len}
 use Rattle.sm_machine.proofs.ticket.close_tickets.Given as goal
 
-abbrev pub invariant-loop : goal.invariant-loop
-invariant-loop l = record {
-  left : length l.tickets.items + l.counter ≡ l.end;
-}
+abbrev pub decreases-loop-ticket : goal.decreases-loop-ticket
+decreases-loop-ticket l = vec_len l.tickets

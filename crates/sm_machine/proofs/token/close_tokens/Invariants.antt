@@ -1,7 +1,5 @@
-use Rattle.std.proofs.Common.{◌≡◌, ◌+◌, length}
+use Rattle.std.specs.Prelude.{vec_len}
 use Rattle.sm_machine.proofs.token.close_tokens.Given as goal
 
-abbrev pub invariant-loop : goal.invariant-loop
-invariant-loop l = record {
-  left : length l.tokens.items + l.counter ≡ l.end;
-}
+abbrev pub decreases-loop-token : goal.decreases-loop-token
+decreases-loop-token l = vec_len l.tokens
