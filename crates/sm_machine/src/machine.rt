@@ -401,6 +401,15 @@ impl Machine {
         self.engine.allowance(id)
     }
 
+    /// How many recorded steps a stream makes on its way: the tries of its calls so far, its other instructions, and its end,
+    /// whether or not it has come to those. Of a stream that has made its end it is the number that `retire` answers.
+    pub fn recorded_steps(&self, id: StreamId) -> u64
+        requires { is_begun (state_of self.now) id ≡ true }
+        ensures { result ≡ recorded_steps (state_of self.now) id }
+    {
+        self.engine.steps_made(id)
+    }
+
     /// The published map's entry of a shard.
     pub fn entry(&self, shard: ShardId) -> Entry
         requires { shard < (state_of self.now).sizes.shards }
