@@ -19,7 +19,6 @@ use crate::machine::Machine;
 use crate::opened::OpenFault;
 use crate::permit::{Permit, close_permits};
 use crate::ready_plan::ReadyPlan;
-use crate::step::played_of;
 use crate::ticket::Ticket;
 use crate::token::close_tokens;
 use sm_placement::Placement;
@@ -85,14 +84,14 @@ impl Director {
     pub fn step(&mut self, id: StreamId) -> Played
         ensures { IsDirected self.old (happening.Step id) result self.new }
     {
-        played_of(self.machine.step_by(id, Passage::Through))
+        Played::from(self.machine.step_by(id, Passage::Through))
     }
 
     /// A stream makes its next step, and its call, where it tries one, is lost: before its effect, or its answer after it.
     pub fn lose(&mut self, id: StreamId, after: bool) -> Played
         ensures { IsDirected self.old (happening.Lose id after) result self.new }
     {
-        played_of(self.machine.lose_by(id, after))
+        Played::from(self.machine.lose_by(id, after))
     }
 
     /// A stream's allowance of tries is raised, by 262,144 at most at once.

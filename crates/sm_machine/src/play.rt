@@ -17,7 +17,6 @@ use crate::hand::{Hand, token_room};
 use crate::lists::{add_left, add_tokens, put_back, put_plan, settle};
 use crate::machine::Machine;
 use crate::searches::{first_permit, first_ticket, has_token};
-use crate::step::played_of;
 use sm_plan_code::MOST_CALLS;
 use sm_protocol::{Event, Passage, Played};
 use sm_reservation::StreamId;
@@ -32,7 +31,7 @@ impl Machine {
         if !has_token(hand.tokens.as_slice(), stream) {
             return Played::Unknown;
         }
-        played_of(self.step_by(stream, Passage::Through))
+        Played::from(self.step_by(stream, Passage::Through))
     }
 
     /// A stream makes its next step, if the hand has its token, and a call is lost.
@@ -42,7 +41,7 @@ impl Machine {
         if !has_token(hand.tokens.as_slice(), stream) {
             return Played::Unknown;
         }
-        played_of(self.lose_by(stream, after))
+        Played::from(self.lose_by(stream, after))
     }
 
     /// A stream's allowance is raised, if the hand has its token.

@@ -1,7 +1,4 @@
 //! What a step of a stream is answered.
-ghost use Rattle.std.specs.Prelude.{◌≡◌};
-ghost use Rattle.sm_machine.specs.Played.{played_of};
-
 use sm_protocol::Played;
 
 /// What a step of a stream is answered.
@@ -24,16 +21,21 @@ pub enum Step {
 }
 
 /// The answer, as the log and lists of events have it.
-pub(crate) fn played_of(step: Step) -> Played
-    ensures { result ≡ played_of step }
-{
-    match step {
-        Step::Moved => Played::Moved,
-        Step::Blocked { signal } => Played::Blocked { signal },
-        Step::Done => Played::Done,
-        Step::Halted => Played::Halted,
-        Step::Unknown => Played::Unknown,
-        Step::Lost => Played::Lost,
-        Step::Spent => Played::Spent,
+impl From<Step> for Played {
+    ghost use Rattle.std.specs.Prelude.{◌≡◌};
+    ghost use Rattle.sm_machine.specs.Played.{played_of};
+
+    ghost from_gives = { λ step answer. answer ≡ played_of step };
+
+    fn from(step: Step) -> Played {
+        match step {
+            Step::Moved => Played::Moved,
+            Step::Blocked { signal } => Played::Blocked { signal },
+            Step::Done => Played::Done,
+            Step::Halted => Played::Halted,
+            Step::Unknown => Played::Unknown,
+            Step::Lost => Played::Lost,
+            Step::Spent => Played::Spent,
+        }
     }
 }

@@ -13,6 +13,6 @@ invariant_of-self c = still_runs c.self.inside.machine c.lose_by.new.self (happe
 
 pub returns : goal.returns
 returns c =
-    subst (λ m. IsDirected m (happening.Lose c.args.id c.args.after) c.played_of.result c.lose_by.new.self) c.self.view_is
-    (stepped c.self.inside.machine c.lose_by.new.self c.args.id (if c.args.after then LostAfter else LostBefore) (happening.Lose c.args.id c.args.after) c.played_of.result c.self.invariant refl
-    (c.lose_by.ensures.answer ∙ ap Answered (sym c.played_of.ensures)) c.lose_by.ensures.state c.lose_by.ensures.setup)
+    subst (λ m. IsDirected m (happening.Lose c.args.id c.args.after) c.from.result c.lose_by.new.self) c.self.view_is
+    (stepped c.self.inside.machine c.lose_by.new.self c.args.id (if c.args.after then LostAfter else LostBefore) (happening.Lose c.args.id c.args.after) c.from.result c.self.invariant refl
+    (c.lose_by.ensures.answer ∙ ap Answered (sym c.from.ensures)) c.lose_by.ensures.state c.lose_by.ensures.setup)

@@ -12,6 +12,6 @@ invariant_of-self c = still_runs c.self.inside.machine c.step_by.new.self (happe
 
 pub returns : goal.returns
 returns c =
-    subst (λ m. IsDirected m (happening.Step c.args.id) c.played_of.result c.step_by.new.self) c.self.view_is
-    (stepped c.self.inside.machine c.step_by.new.self c.args.id Through (happening.Step c.args.id) c.played_of.result c.self.invariant refl
-    (c.step_by.ensures.answer ∙ ap Answered (sym c.played_of.ensures)) c.step_by.ensures.state c.step_by.ensures.setup)
+    subst (λ m. IsDirected m (happening.Step c.args.id) c.from.result c.step_by.new.self) c.self.view_is
+    (stepped c.self.inside.machine c.step_by.new.self c.args.id Through (happening.Step c.args.id) c.from.result c.self.invariant refl
+    (c.step_by.ensures.answer ∙ ap Answered (sym c.from.ensures)) c.step_by.ensures.state c.step_by.ensures.setup)
