@@ -6,7 +6,7 @@ use Rattle.sm_placement.specs.Setup.{Setup, IsSetup, sizes_of}
 use Rattle.sm_placement.specs.Place.{Place}
 use Rattle.sm_plan_code.specs.Plan.{PlanModel, KnowsSignals}
 use Rattle.sm_plan_code.specs.Effects.{IsScene}
-use Rattle.sm_verifier.specs.FirstHolding.{first_holding}
+use Rattle.sm_verifier.specs.Admission.{IsAdmitted}
 use Rattle.sm_verifier.specs.Order.{HasOrder}
 use Rattle.sm_verifier.specs.Plan.{KeepsBudget, AreUsedOnce}
 use Rattle.sm_verifier.specs.PlanEnd.{end_of}
@@ -31,10 +31,10 @@ pub record IsOrderly (plan : PlanModel) : Type 0 where
 abbrev pub PlansAreOrderly : Type 0
 PlansAreOrderly = (b : Basis) (order : List Move) → IsOrderly (planned b order)
 
--- the plan would pass the check, and nothing holds it up at the placement with its pool
+-- the plan would pass the check, and is admitted at the placement with its pool
 pub record IsUsable (b : Basis) (plan : PlanModel) : Type 0 where
   pub checked : IsCheckedPlan (sizes_of b.setup) plan
-  pub free : first_holding (sizes_of b.setup) b.place b.pool plan ≡ None
+  pub admitted : IsAdmitted (sizes_of b.setup) b.place b.pool plan
 
 -- the placement is of the configuration, and the pool is true of it
 abbrev pub HasScene : Basis → Type 0

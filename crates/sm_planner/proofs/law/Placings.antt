@@ -8,7 +8,7 @@ use Rattle.std.proofs.lemmas.List.Folds.{list_any_at}
 use Rattle.sm_placement.proofs.Searches.{first_none}
 use Rattle.sm_planner.specs.declared.moving.Move.{Move}
 use Rattle.sm_planner.specs.Basis.{Basis, move_at, move_load, no_move}
-use Rattle.sm_planner.specs.Placing.{taken_by, freed_by, room_left, is_placed, fits, first_left}
+use Rattle.sm_planner.specs.Placing.{taken_by, freed_by, room_left, is_placed, first_left}
 use Rattle.sm_planner.specs.Refusal.{in_placed_order}
 use Rattle.sm_planner.proofs.law.Payments.{IsAffordable, load, to, taken, freed}
 use Rattle.sm_planner.proofs.Accounting.{IsGreedy, fits_in}

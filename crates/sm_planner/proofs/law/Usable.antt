@@ -7,9 +7,7 @@ use Rattle.sm_placement.specs.Place.{Place}
 use Rattle.sm_placement.specs.Setup.{Setup, ServerRow, IsSetup, sizes_of, no_server}
 use Rattle.sm_plan_code.specs.Plan.{PlanModel, IsPlan}
 use Rattle.sm_plan_code.specs.Effects.{IsScene}
-use Rattle.sm_verifier.specs.Admission.{IsAdmitted}
 use Rattle.sm_verifier.specs.Plan.{IsSound}
-use Rattle.sm_verifier.proofs.Holdings.{finds_holding}
 use Rattle.sm_verifier.proofs.WithinPool.{within_admitted}
 use Rattle.sm_planner.specs.declared.moving.Move.{Move}
 use Rattle.sm_planner.specs.Basis.{Basis, basis, IsMoveOf, move_at, no_move}
@@ -95,13 +93,12 @@ module _ (b : Basis) (leads : ℕ → Lead) (numbers : ℕ → ℕ) (moves : Lis
       let apart = order_apart b moves placed is none in
       let opened = order_opened b moves placed is none in
       let fits = fits_plan b order known scene.placement.listed in
-      let admitted = within_admitted (sizes_of b.setup) b.place leads numbers b.pool (planned b order) scene fits (are_within b order apart opened) (are_up b order apart opened) in
       record {
         checked = record { parts = is_plan; fits = fits; sound = is_sound };
-        free = (finds_holding (sizes_of b.setup) b.place b.pool (planned b order) is_plan.parcels fits).none.1 admitted;
+        admitted = within_admitted (sizes_of b.setup) b.place leads numbers b.pool (planned b order) scene fits (are_within b order apart opened) (are_up b order apart opened);
       }
 
--- at a pool that is true of the placement the rule's plan passes the check, and nothing holds it up
+-- at a pool that is true of the placement the rule's plan passes the check and is admitted
 pub plan_is_usable : (b : Basis) (leads : ℕ → Lead) (numbers : ℕ → ℕ) (moves : List Move) (plan : PlanModel) → IsSetup b.setup → IsScene (sizes_of b.setup) b.place leads numbers b.pool → All (IsMoveOf b.setup) moves → IsPlanOf b moves plan → IsUsable b plan
 plan_is_usable b leads numbers moves plan setup scene all by = subst (λ p. IsUsable b p) (sym by.3) (is_usable b leads numbers moves by.0 setup scene all by.1 by.2)
 
@@ -140,7 +137,3 @@ scene_at setup own w place free reached sizes there is =
 pub draft_is_usable : (b : Basis) (moves : List Move) (draft : Draft) → HasScene b → All (IsMoveOf b.setup) moves → IsDraftOf b moves draft → IsUsable b (planned b draft.moves.items)
 draft_is_usable b moves draft scene all by =
     subst (λ order. IsUsable b (planned b order)) (sym by.3) (is_usable b scene.0 scene.1 moves by.0 by.4.setup scene.2 all by.1 by.2)
-
--- a plan that passes the check and that nothing holds up is admitted
-pub usable_is_admitted : (b : Basis) (plan : PlanModel) → IsUsable b plan → IsAdmitted (sizes_of b.setup) b.place b.pool plan
-usable_is_admitted b plan is = (finds_holding (sizes_of b.setup) b.place b.pool plan is.checked.parts.parcels is.checked.fits).none.0 is.free
