@@ -14,7 +14,8 @@ pub struct Move {
     pub to: ServerId,
 }
 
-/// Why there is no plan. Of several reasons the first one in this order is given.
+/// Why there is no plan. Of several reasons other than `NoMemory` the first one in this order is given; `NoMemory` says nothing of
+/// the others.
 #[derive(Clone, Copy, Debug, PartialEq, Eq, Error)]
 pub enum NoPlan {
     /// Memory was short.
