@@ -1,7 +1,6 @@
 -- Where the rule has a plan it has no reason why not.
-use Rattle.std.proofs.Common.{◌≡◌, ◌<◌, ◌∙◌, ◌++◌, ◌∷◌, [], ℕ, zero, suc, Option, List, Result, Ok, Err, inl, inr, refl, sym, ap, subst, arith}
+use Rattle.std.proofs.Common.{◌≡◌, ◌<◌, ◌∙◌, ◌++◌, ◌∷◌, [], ℕ, zero, suc, List, Result, Ok, Err, inl, inr, refl, sym, ap, subst, arith}
 use Rattle.std.specs.Prelude.{IfErr}
-use Rattle.std.specs.Option.{option_or}
 use Rattle.std.proofs.lemmas.Bool.{cases_Bool, cases_eq, both_ways}
 use Rattle.sm_server.specs.Cell.{is_absent}
 use Rattle.sm_placement.specs.Place.{Place}
@@ -12,7 +11,7 @@ use Rattle.sm_planner.specs.declared.moving.Move.{Move}
 use Rattle.sm_planner.specs.declared.moving.NoPlan.{NoPlan}
 use Rattle.sm_planner.specs.declared.moving.NoPlan.TheVariants.{NoMemory}
 use Rattle.sm_planner.specs.Basis.{Basis, basis}
-use Rattle.sm_planner.specs.Refusal.{no_room, no_spread, too_many, HasReason, IsPlanOf, IsNoPlanFor}
+use Rattle.sm_planner.specs.Refusal.{IsRefused, IsPlanOf, IsNoPlanFor}
 use Rattle.sm_planner.specs.Drain.{may_take, leaving, IsTarget, AreLeaving, IsStuck, IsDrainPlan, IsNoDrainFor}
 use Rattle.sm_planner.proofs.law.Existing.{rule_answers}
 
@@ -20,18 +19,10 @@ use Rattle.sm_planner.proofs.law.Existing.{rule_answers}
 pub same_basis : (s t : Setup) (p q : Place) (h k : Hold) → s ≡ t → p ≡ q → h ≡ k → basis s p h ≡ basis t q k
 same_basis s t p q h k e f g = rw (e, f, g) refl
 
-no_reason : (b : Basis) (moves : List Move) (plan : PlanModel) (why : NoPlan) → IsPlanOf b moves plan → HasReason b moves why → ⊥
-no_reason b moves plan why by reason = elim reason [
-  | inl alone ↦
-      let wrong = sym by.2 ∙ ap (λ (x : Option NoPlan). option_or x (option_or (no_room moves by.0) (option_or (no_spread b moves) (too_many b moves by.0)))) alone in
-      cc
-  | inr refused ↦ (rule_answers b moves).not_both plan why by refused
-]
-
 -- where moves have a plan, nothing but short memory is a reason for none
 pub memory_alone : {T : Type 0} (b : Basis) (moves : List Move) (r : Result T NoPlan) → IfErr r (IsNoPlanFor b moves) → (plan : PlanModel) → IsPlanOf b moves plan → IfErr r (λ why. why ≡ NoMemory)
 memory_alone b moves (Ok x) said plan by = tt
-memory_alone b moves (Err why) said plan by = elim said [ inl short ↦ short | inr reason ↦ absurd (no_reason b moves plan why by reason) ]
+memory_alone b moves (Err why) said plan by = elim said [ inl short ↦ short | inr reason ↦ absurd ((rule_answers b moves).not_both plan why by reason) ]
 
 -- ---- drains
 
@@ -81,7 +72,7 @@ module _ (b : Basis) (v : ℕ) where
         | inl stuck ↦ absurd (not_stuck (sizes_of b.setup).shards stuck.0 by.0 stuck.1 stuck.3.known by.1.1 stuck.3)
         | inr reason ↦
             let same : reason.0 ≡ by.0 = same_leaving (sizes_of b.setup).shards reason.0 by.0 reason.1.1 by.1.1 in
-            absurd (no_reason b by.0 plan why by.2 (subst (λ ms. HasReason b ms why) same reason.2))
+            absurd ((rule_answers b by.0).not_both plan why by.2 (subst (λ ms. IsRefused b ms why) same reason.2))
       ]
     ]
   ]

@@ -13,7 +13,7 @@ use Rattle.sm_planner.specs.Basis.{Basis, is_replica}
 use Rattle.sm_planner.specs.Rights.{has_crown_at}
 use Rattle.sm_planner.specs.Placing.{taken_by}
 use Rattle.sm_planner.specs.Spread.{region_count, spread_of}
-use Rattle.sm_planner.specs.Refusal.{HasReason, IsPlanOf}
+use Rattle.sm_planner.specs.Refusal.{IsRefused, IsPlanOf}
 use Rattle.sm_plan_code.specs.Plan.{PlanModel}
 
 -- the server has nothing of the shard, or a replica that may leave it: a primary with its crown in the pool, or a secondary
@@ -111,7 +111,7 @@ abbrev pub IsDrainRefused : Basis → ℕ → NoPlan → Type 0
 IsDrainRefused b v why =
     (drain_refusal b v ≡ Some why)
     ⊎ (((s : ℕ) × (moves : List Move) × (drain_refusal b v ≡ None) × IsStuck b v s moves × (why ≡ NoPlace s))
-    ⊎ ((moves : List Move) × AreDepartures b v moves × HasReason b moves why))
+    ⊎ ((moves : List Move) × AreDepartures b v moves × IsRefused b moves why))
 
 -- memory was short, or the rule doesn't empty the server for this reason
 abbrev pub IsNoDrainFor : Basis → ℕ → NoPlan → Type 0

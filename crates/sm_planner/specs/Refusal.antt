@@ -80,13 +80,9 @@ refusal b moves placed =
 abbrev pub IsRefused : Basis → List Move → NoPlan → Type 0
 IsRefused b moves why = (placed : List ℕ) × IsPlacing b moves placed × (refusal b moves placed ≡ Some why)
 
--- one of the moves alone gives this reason, whatever order they are placed in, or the rule refuses them for it
-abbrev pub HasReason : Basis → List Move → NoPlan → Type 0
-HasReason b moves why = (first_refused b moves ≡ Some why) ⊎ IsRefused b moves why
-
 -- memory was short, or the rule refuses the moves for this reason
 abbrev pub IsNoPlanFor : Basis → List Move → NoPlan → Type 0
-IsNoPlanFor b moves why = (why ≡ NoMemory) ⊎ HasReason b moves why
+IsNoPlanFor b moves why = (why ≡ NoMemory) ⊎ IsRefused b moves why
 
 -- the plan is the rule's
 abbrev pub IsPlanOf : Basis → List Move → PlanModel → Type 0

@@ -72,6 +72,7 @@ fn checked(alloc: Global, placement: &Placement, pool: &Pool, plan: Plan) -> Res
 }
 
 /// A plan that makes the moves, at a placement with its pool.
+#[tactic(auto, using(crate::proofs::law::Existing::refused_alone))]
 pub(crate) fn moves_at(
     alloc: Global,
     placement: &Placement,

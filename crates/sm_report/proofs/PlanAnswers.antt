@@ -1,7 +1,6 @@
 -- The planner's rule has one answer, and the report of it is one.
-use Rattle.std.proofs.Common.{◌≡◌, ◌<◌, ◌≤◌, ◌∙◌, ◌++◌, ◌∷◌, [], ℕ, zero, suc, true, false, Option, Some, None, List, sym, ap, subst, refl, arith, inl, inr, ◌⊎◌}
+use Rattle.std.proofs.Common.{◌≡◌, ◌<◌, ◌≤◌, ◌∙◌, ◌++◌, ◌∷◌, [], ℕ, zero, suc, true, false, Some, None, List, sym, ap, subst, refl, arith, inl, inr, ◌⊎◌}
 use Rattle.std.proofs.lemmas.Bool.{cases_Bool, cases_eq, cases_lt, both_ways}
-use Rattle.std.specs.Option.{option_or}
 use Rattle.std.proofs.lemmas.Option.{same_Some}
 use Rattle.sm_server.specs.Cell.{is_absent}
 use Rattle.sm_placement.specs.Setup.{Setup, sizes_of}
@@ -11,27 +10,12 @@ use Rattle.sm_planner.specs.declared.moving.Move.{Move}
 use Rattle.sm_planner.specs.declared.moving.NoPlan.{NoPlan}
 use Rattle.sm_planner.specs.declared.moving.NoPlan.TheVariants.{NoPlace}
 use Rattle.sm_planner.specs.Basis.{Basis}
-use Rattle.sm_planner.specs.Refusal.{first_refused, refusal, no_room, no_spread, too_many, IsRefused, HasReason, IsPlanOf}
+use Rattle.sm_planner.specs.Refusal.{IsRefused, IsPlanOf}
 use Rattle.sm_planner.specs.Drain.{drain_refusal, room_beside, may_take, leaving, IsTarget, AreLeaving, IsStuck, AreDepartures, IsDrainPlan, IsDrainRefused}
 use Rattle.sm_planner.specs.Laws.{RuleAnswersOnce}
 use Rattle.sm_planner.proofs.Answering.{same_leaving}
 use Rattle.sm_report.specs.Report.{Output, refused, done}
 use Rattle.sm_report.specs.Planning.{Aim, Moving, Emptying, IsPlanFor, IsRefusedFor, made_line, no_plan_line, IsAnswered}
-
--- ---- moves
-
--- what is refused first is refused, whatever comes after it
-refused_first : (b : Basis) (moves : List Move) (placed : List ℕ) (why : NoPlan) → first_refused b moves ≡ Some why → refusal b moves placed ≡ Some why
-refused_first b moves placed why is =
-    ap (λ (x : Option NoPlan). option_or x (option_or (no_room moves placed) (option_or (no_spread b moves) (too_many b moves placed)))) is
-
--- a reason that one of the moves gives alone is the rule's reason
-reason_refuses : RuleAnswersOnce → (b : Basis) (moves : List Move) (why : NoPlan) → HasReason b moves why → IsRefused b moves why
-reason_refuses law b moves why (inr is) = is
-reason_refuses law b moves why (inl is) = elim (law b moves).some [
-  | inl made ↦ absurd (let a = made.1.2 in let e = refused_first b moves made.1.0 why is in let z : None ≡ Some why = sym a ∙ e in cc)
-  | inr other ↦ (other.1.0, other.1.1, refused_first b moves other.1.0 why is)
-]
 
 -- ---- the targets of a drain
 
@@ -150,10 +134,10 @@ record AnswersAim (b : Basis) (aim : Aim) : Type 0 where
 module _ (law : RuleAnswersOnce) (b : Basis) where
   answers_moves : (moves : List Move) → AnswersAim b (Moving moves)
   answers_moves moves = record {
-    some = elim (law b moves).some [ inl made ↦ inl made | inr other ↦ inr (other.0, inr other.1) ];
+    some = (law b moves).some;
     one_plan = (law b moves).one_plan;
-    one_reason = λ why other x y. (law b moves).one_reason why other (reason_refuses law b moves why x) (reason_refuses law b moves other y);
-    not_both = λ plan why x y. (law b moves).not_both plan why x (reason_refuses law b moves why y);
+    one_reason = (law b moves).one_reason;
+    not_both = (law b moves).not_both;
   }
 
   module _ (v : ℕ) where
@@ -169,7 +153,7 @@ module _ (law : RuleAnswersOnce) (b : Basis) where
     drain_not_both : (plan : PlanModel) (why : NoPlan) → IsDrainPlan b v plan → IsDrainRefused b v why → ⊥
     drain_not_both plan why x (inl is) = drain_none why x.0 x.1 is
     drain_not_both plan why x (inr (inl y)) = stays b v (sizes_of b.setup).shards y.0 x.0 y.1 x.1.1 y.3.known y.3
-    drain_not_both plan why x (inr (inr y)) = (law b y.0).not_both plan why (subst (λ ms. IsPlanOf b ms plan) (departed x.0 y.0 x.1 y.1) x.2) (reason_refuses law b y.0 why y.2)
+    drain_not_both plan why x (inr (inr y)) = (law b y.0).not_both plan why (subst (λ ms. IsPlanOf b ms plan) (departed x.0 y.0 x.1 y.1) x.2) y.2
 
     drain_one_reason : (why other : NoPlan) → IsDrainRefused b v why → IsDrainRefused b v other → why ≡ other
     drain_one_reason why other (inl x) (inl y) = same_Some why other (sym x ∙ y)
@@ -181,9 +165,7 @@ module _ (law : RuleAnswersOnce) (b : Basis) where
     drain_one_reason why other (inr (inr x)) (inl y) = absurd (drain_none other x.0 x.1 y)
     drain_one_reason why other (inr (inr x)) (inr (inl y)) = absurd (stays b v (sizes_of b.setup).shards y.0 x.0 y.1 x.1.1 y.3.known y.3)
     drain_one_reason why other (inr (inr x)) (inr (inr y)) =
-        (law b y.0).one_reason why other
-        (reason_refuses law b y.0 why (subst (λ ms. HasReason b ms why) (departed x.0 y.0 x.1 y.1) x.2))
-        (reason_refuses law b y.0 other y.2)
+        (law b y.0).one_reason why other (subst (λ ms. IsRefused b ms why) (departed x.0 y.0 x.1 y.1) x.2) y.2
 
     drain_some : ((plan : PlanModel) × IsDrainPlan b v plan) ⊎ ((why : NoPlan) × IsDrainRefused b v why)
     drain_some = elim (cases_Option (drain_refusal b v)) [
@@ -192,7 +174,7 @@ module _ (law : RuleAnswersOnce) (b : Basis) where
         | inr stuck ↦ inr (NoPlace stuck.0, inr (inl (stuck.0, stuck.1, none, stuck.2, refl)))
         | inl left ↦ elim (law b left.0).some [
           | inl made ↦ inl (made.0, (left.0, (none, left.1), made.1))
-          | inr other ↦ inr (other.0, inr (inr (left.0, (none, left.1), inr other.1)))
+          | inr other ↦ inr (other.0, inr (inr (left.0, (none, left.1), other.1)))
         ]
       ]
     ]

@@ -8,7 +8,7 @@ use Rattle.sm_planner.specs.declared.moving.Move.{Move}
 use Rattle.sm_planner.specs.declared.moving.NoPlan.{NoPlan}
 use Rattle.sm_planner.specs.declared.moving.NoPlan.TheVariants as no_plan
 use Rattle.sm_planner.specs.Basis.{Basis, basis, IsMoveOf}
-use Rattle.sm_planner.specs.Refusal.{IsPlanOf, HasReason}
+use Rattle.sm_planner.specs.Refusal.{IsRefused, IsPlanOf}
 use Rattle.sm_planner.specs.Drain.{IsDrainPlan, IsDrainRefused}
 use Rattle.sm_plan_text.specs.declared.fault.TextFault.TheVariants.{Shape}
 use Rattle.sm_plan_text.specs.declared.member.Member.TheVariants as members
@@ -68,7 +68,7 @@ IsPlanFor b (Emptying server) = IsDrainPlan b server
 
 -- the rule has no plan for it, for this reason
 abbrev pub IsRefusedFor : Basis → Aim → NoPlan → Type 0
-IsRefusedFor b (Moving moves) = HasReason b moves
+IsRefusedFor b (Moving moves) = IsRefused b moves
 IsRefusedFor b (Emptying server) = IsDrainRefused b server
 
 -- a plan on a line of its own

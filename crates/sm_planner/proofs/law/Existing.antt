@@ -1,6 +1,7 @@
 -- Any moves are placed: the first that fits is placed for as long as one fits, and each move once.
-use Rattle.std.proofs.Common.{◌≡◌, ℕ, zero, suc, ◌+◌, ◌<◌, ◌≤◌, Bool, true, false, cond, Some, List, [], ◌∷◌, ◌++◌, length, get_or, take, refl, sym, ap, ◌∙◌, arith, inl, inr, length-append}
+use Rattle.std.proofs.Common.{◌≡◌, ℕ, zero, suc, ◌+◌, ◌<◌, ◌≤◌, Bool, true, false, cond, Option, Some, List, [], ◌∷◌, ◌++◌, length, get_or, take, refl, sym, ap, ◌∙◌, arith, inl, inr, length-append}
 use Rattle.std.specs.Prelude.{◌==◌}
+use Rattle.std.specs.Option.{option_or}
 use Rattle.std.proofs.lemmas.Bool.{cases_lt, eqb-true}
 use Rattle.std.proofs.lemmas.List.{take_more, take-append-le, take_at, get_or_append_left, get_or_at}
 use Rattle.sm_placement.specs.Sums.{sum_below}
@@ -8,10 +9,11 @@ use Rattle.sm_placement.proofs.Sums.{sum-le}
 use Rattle.sm_placement.proofs.Searches.{cases_Option}
 use Rattle.sm_verifier.proofs.SumLemmas.{sum_once}
 use Rattle.sm_planner.specs.declared.moving.Move.{Move}
+use Rattle.sm_planner.specs.declared.moving.NoPlan.{NoPlan}
 use Rattle.sm_planner.specs.Basis.{Basis}
 use Rattle.sm_planner.specs.Placing.{first_fit, IsPlacing}
 use Rattle.sm_planner.specs.Plan.{planned}
-use Rattle.sm_planner.specs.Refusal.{in_placed_order, refusal}
+use Rattle.sm_planner.specs.Refusal.{first_refused, no_room, no_spread, too_many, in_placed_order, refusal, IsRefused}
 use Rattle.sm_planner.specs.Laws.{AnswersOnce}
 use Rattle.std.proofs.Math.Seq.{take-length}
 use Rattle.std.proofs.lemmas.Option.{same_Some}
@@ -87,6 +89,12 @@ one_placing b moves xs ys one two =
     let least = not_longer b moves ys xs two one in
     let same : length xs ≡ length ys = omega arith in
     sym (take-length xs) ∙ same_front b moves xs ys one.greedy two.greedy (length xs) (omega arith) (omega arith) ∙ ap (λ n. take n ys) same ∙ take-length ys
+
+-- what one of the moves gives alone is the rule's reason, whatever order they are placed in
+pub refused_alone : (b : Basis) (moves : List Move) (why : NoPlan) → first_refused b moves ≡ Some why → IsRefused b moves why
+refused_alone b moves why alone =
+    let all = are_placed b moves in
+    (all.0, all.1, ap (λ (x : Option NoPlan). option_or x (option_or (no_room moves all.0) (option_or (no_spread b moves) (too_many b moves all.0)))) alone)
 
 -- the rule has a plan for the moves or a reason why not, never both, and never two of either
 pub rule_answers : (b : Basis) (moves : List Move) → AnswersOnce b moves

@@ -23,7 +23,7 @@ pub returns-in-Some-clause-refused : goal.returns-in-Some-clause-refused
 returns-in-Some-clause-refused c =
     let b = basis_of c.args.placement.now c.args.pool.now in
     let placed = c.in_ok-placing.placing.placed.items in
-    inr (inr (placed, c.in_ok-placing.ensures.placing, refused_room b c.args.moves.now placed c.requires.open c.in-Some.i _ (sym c.in_ok-placing.ensures.left ∙ sym c.in-Some.ensures.first) (ap (λ (m : Move). m.to) (get_or_default c.args.moves.now c.in-Some.i c.index-moves-i.result no_move c.in-Some.ensures.within))))
+    inr (placed, c.in_ok-placing.ensures.placing, refused_room b c.args.moves.now placed c.requires.open c.in-Some.i _ (sym c.in_ok-placing.ensures.left ∙ sym c.in-Some.ensures.first) (ap (λ (m : Move). m.to) (get_or_default c.args.moves.now c.in-Some.i c.index-moves-i.result no_move c.in-Some.ensures.within)))
 
 pub stretches-requires : goal.stretches-requires
 stretches-requires c =
@@ -49,7 +49,7 @@ returns-then-len-gt-MOST_SIGNALS-clause-refused c =
     let at = goal.at.returns-then-len-gt-MOST_SIGNALS-clause-refused c in
     let e = ap length (signalled at.In_ok-signals ∙ ap (signals_of b) c.in_ok-order.ensures) in
     let n = c.len.ensures in let o = c.in_ok-signals.signals.ok in let p = o.0 in let t = c.if-len-gt-MOST_SIGNALS.true in
-    inr (inr (placed, c.in_ok-placing.ensures.placing, refused_signals b c.args.moves.now placed c.requires.open (left_none at.In_ok-order) (apart at.In_ok-order) (omega arith)))
+    inr (placed, c.in_ok-placing.ensures.placing, refused_signals b c.args.moves.now placed c.requires.open (left_none at.In_ok-order) (apart at.In_ok-order) (omega arith))
 
 pub returns-clause-drafted : goal.returns-clause-drafted
 returns-clause-drafted c =
