@@ -1,9 +1,10 @@
 -- To which servers the replicas of a server go that is to be emptied.
-use Rattle.std.specs.Prelude.{◌≡◌, ◌<◌, ◌≤◌, ◌⊎◌, ℕ, zero, suc, ◌-◌, ◌&&◌, ◌||◌, ◌==◌, not, nat_le, Bool, true, false, Option, Some, None, option_map, MatchOption, length, slice_index, List, [], ◌∷◌, ◌++◌, sum_by, if◌then◌else◌}
+use Rattle.std.specs.Prelude.{◌≡◌, ◌<◌, ◌≤◌, ◌⊎◌, ℕ, zero, suc, ◌-◌, ◌&&◌, ◌||◌, ◌==◌, not, nat_le, Bool, true, false, Option, Some, None, option_map, MatchOption, length, slice_index, slice_index_or, List, [], ◌∷◌, ◌++◌, sum_by, if◌then◌else◌}
 use Rattle.std.specs.Option.{option_or}
 use Rattle.sm_server.specs.Cell.{is_absent, is_primary, is_secondary}
 use Rattle.sm_placement.specs.Opening.{first_below}
-use Rattle.sm_placement.specs.Setup.{sizes_of}
+use Rattle.sm_placement.specs.Place.{Place}
+use Rattle.sm_placement.specs.Setup.{Setup, sizes_of}
 use Rattle.sm_reservation.specs.declared.right.PlainCell.TheVariants.{Absent, Secondary}
 use Rattle.sm_reservation.specs.Amounts.{is_cell}
 use Rattle.sm_planner.specs.declared.moving.Move.{Move}
@@ -36,6 +37,11 @@ drain_refusal b v =
 -- the room of a server that is left once these moves go where they go; what they free is not counted
 abbrev pub room_beside : Basis → List Move → ℕ → ℕ
 room_beside b moves u = b.pool.room u - sum_by (taken_by b.setup u) moves
+
+-- the servers that are marked are those whose replica of the shard stays when v is left
+pub record AreStaying (setup : Setup) (p : Place) (s v : ℕ) (marks : List Bool) : Type 0 where
+  pub wide : length marks ≡ length setup.servers
+  pub marked : (w : ℕ) → w < length setup.servers → slice_index_or marks w false ≡ (is_replica (p.cells s w) && not (w == v))
 
 -- A server that a shard may go to from v, where so much room is left of each: another one, up, with nothing of the shard
 -- and the right to its cell in the pool, with room for the load, and in whose place the replicas lie in enough regions.

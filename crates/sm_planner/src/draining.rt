@@ -1,5 +1,5 @@
 //! To which servers the replicas of a server go that is to be emptied.
-ghost use Rattle.std.specs.Prelude.{◌≡◌, ◌<◌, ◌+◌, ◌&&◌, ◌||◌, ◌==◌, ℕ, not, nat_le, nat_lt, true, false, All, MatchOption, IfOk, IfErr, OnOk, length, slice_index, slice_index_or, slice_set};
+ghost use Rattle.std.specs.Prelude.{◌≡◌, ◌<◌, ◌+◌, ◌&&◌, ◌||◌, ◌==◌, ℕ, not, nat_le, nat_lt, true, All, MatchOption, IfOk, IfErr, OnOk, length, slice_index};
 ghost use Rattle.std.specs.Bool.{MatchBool};
 ghost use Rattle.sm_server.specs.Cell.{is_absent};
 ghost use Rattle.sm_placement.specs.Layout.{place_of};
@@ -7,10 +7,10 @@ ghost use Rattle.sm_reservation.specs.Amounts.{is_cell};
 ghost use Rattle.sm_reservation.specs.Pool.{pool_hold};
 ghost use Rattle.sm_planner.specs.Basis.{basis_of, is_replica, move_load, IsMoveOf};
 ghost use Rattle.sm_planner.specs.Spread.{region_count, spread_of};
-ghost use Rattle.sm_planner.specs.Drain.{may_leave, first_stuck, has_place, IsBestOf, IsRoomBeside, AreLeaving, IsStuck, AreDepartures, IsNoDrainFor};
+ghost use Rattle.sm_planner.specs.Drain.{may_leave, first_stuck, has_place, IsBestOf, AreStaying, IsRoomBeside, AreLeaving, IsStuck, AreDepartures, IsNoDrainFor};
 
 use crate::held::{has_absent, has_crown, has_secondary, is_absent, is_primary, is_secondary};
-use crate::marks::{Amounts, mark};
+use crate::marks::{Amounts, is_marked, mark};
 use crate::moving::{Move, NoPlan};
 use crate::spread::{mark_replicas, region_count};
 use sm_placement::Placement;
@@ -53,8 +53,7 @@ fn staying(
 ) -> Result<Vec<bool>, AllocError>
     requires shard { shard < length placement.now.setup.shards }
     requires from { from < length placement.now.setup.servers }
-    ensures wide { IfOk result (λ has. length has.items ≡ length placement.now.setup.servers) }
-    ensures staying { IfOk result (λ has. (w : ℕ) → w < length placement.now.setup.servers → slice_index_or has.items w false ≡ (is_replica ((place_of placement.now).cells shard w) && not (w == from))) }
+    ensures { IfOk result (λ has. AreStaying placement.now.setup (place_of placement.now) shard from has.items) }
 {
     let mut has = vec![in alloc; false; placement.config().server_count() as usize]?;
     mark_replicas(placement, shard, &mut has);
@@ -62,31 +61,21 @@ fn staying(
     Ok(has)
 }
 
-/// These marks, with the target's.
-fn with_target(alloc: Global, staying: &[bool], target: ServerId) -> Result<Vec<bool>, AllocError>
-    ensures { IfOk result (λ has. has.items ≡ slice_set staying.now target true) }
-{
-    let mut has = Vec::from_slice(alloc, staying)?;
-    mark(&mut has, target.number() as usize, true);
-    Ok(has)
-}
-
-/// With a replica at the target beside those that stay, the shard's replicas lie in enough regions.
-fn is_spread(
-    alloc: Global,
-    placement: &Placement,
-    staying: &[bool],
-    leaving: &Move,
-) -> Result<bool, AllocError>
+/// With a replica at the target beside those that stay, the shard's replicas lie in enough regions. The target is marked while
+/// regions are counted.
+fn is_spread(placement: &Placement, staying: &mut [bool], leaving: &Move) -> bool
     requires leaving { IsMoveOf placement.now.setup leaving.now }
-    requires wide { length staying.now ≡ length placement.now.setup.servers }
-    requires staying { (w : ℕ) → w < length placement.now.setup.servers → slice_index_or staying.now w false ≡ (is_replica ((place_of placement.now).cells leaving.now.shard w) && not (w == leaving.now.from)) }
-    ensures { IfOk result (λ spread. spread ≡ nat_le (spread_of placement.now.setup leaving.now.shard) (region_count placement.now.setup (λ w. (w == leaving.now.to) || (is_replica ((place_of placement.now).cells leaving.now.shard w) && not (w == leaving.now.from))))) }
+    requires staying { AreStaying placement.now.setup (place_of placement.now) leaving.now.shard leaving.now.from staying.old }
+    ensures kept { staying.new ≡ staying.old }
+    ensures spread { result ≡ nat_le (spread_of placement.now.setup leaving.now.shard) (region_count placement.now.setup (λ w. (w == leaving.now.to) || (is_replica ((place_of placement.now).cells leaving.now.shard w) && not (w == leaving.now.from)))) }
 {
-    let has = with_target(alloc, staying, leaving.to)?;
+    let target = leaving.to.number() as usize;
+    let marked = is_marked(staying, target);
+    mark(staying, target, true);
     let config = placement.config();
-    let count = region_count(config, &has);
-    Ok(config.shard(leaving.shard).spread <= count)
+    let count = region_count(config, staying);
+    mark(staying, target, marked);
+    config.shard(leaving.shard).spread <= count
 }
 
 /// The server is another one, up, with nothing of the shard and the right to its cell in the pool, and has room for it.
@@ -104,22 +93,18 @@ fn is_open(placement: &Placement, pool: &Pool, room: &Amounts, leaving: &Move) -
 
 /// The server may take the shard.
 fn may_take(
-    alloc: Global,
     placement: &Placement,
     pool: &Pool,
     room: &Amounts,
-    staying: &[bool],
+    staying: &mut [bool],
     leaving: &Move,
-) -> Result<bool, AllocError>
+) -> bool
     requires leaving { IsMoveOf placement.now.setup leaving.now }
-    requires wide { length staying.now ≡ length placement.now.setup.servers }
-    requires staying { (w : ℕ) → w < length placement.now.setup.servers → slice_index_or staying.now w false ≡ (is_replica ((place_of placement.now).cells leaving.now.shard w) && not (w == leaving.now.from)) }
-    ensures { IfOk result (λ takes. takes ≡ has_place (basis_of placement.now pool.now) leaving.now.from (slice_index room.now) leaving.now.shard leaving.now.to) }
+    requires staying { AreStaying placement.now.setup (place_of placement.now) leaving.now.shard leaving.now.from staying.old }
+    ensures kept { staying.new ≡ staying.old }
+    ensures takes { result ≡ has_place (basis_of placement.now pool.now) leaving.now.from (slice_index room.now) leaving.now.shard leaving.now.to }
 {
-    if !is_open(placement, pool, room, leaving) {
-        return Ok(false);
-    }
-    is_spread(alloc, placement, staying, leaving)
+    is_open(placement, pool, room, leaving) && is_spread(placement, staying, leaving)
 }
 
 /// There is no target yet, or the server has more room left than it.
@@ -136,25 +121,24 @@ fn is_better(room: &Amounts, best: &Option<ServerId>, to: ServerId) -> bool
 /// room alone.
 #[tactic(auto, using(crate::proofs::Departing::most_here, crate::proofs::Departing::most_next, crate::proofs::Departing::most_stays))]
 fn target_with(
-    alloc: Global,
     placement: &Placement,
     pool: &Pool,
     room: &Amounts,
-    staying: &[bool],
+    staying: &mut [bool],
     leaving: &Move,
     best: Option<ServerId>,
-) -> Result<Option<ServerId>, AllocError>
+) -> Option<ServerId>
     requires leaving { IsMoveOf placement.now.setup leaving.now }
-    requires wide { length staying.now ≡ length placement.now.setup.servers }
-    requires staying { (w : ℕ) → w < length placement.now.setup.servers → slice_index_or staying.now w false ≡ (is_replica ((place_of placement.now).cells leaving.now.shard w) && not (w == leaving.now.from)) }
+    requires staying { AreStaying placement.now.setup (place_of placement.now) leaving.now.shard leaving.now.from staying.old }
     requires best { IsBestOf (has_place (basis_of placement.now pool.now) leaving.now.from (slice_index room.now) leaving.now.shard) (slice_index room.now) leaving.now.to best }
-    ensures { IfOk result (IsBestOf (has_place (basis_of placement.now pool.now) leaving.now.from (slice_index room.now) leaving.now.shard) (slice_index room.now) (leaving.now.to + 1)) }
+    ensures kept { staying.new ≡ staying.old }
+    ensures best { IsBestOf (has_place (basis_of placement.now pool.now) leaving.now.from (slice_index room.now) leaving.now.shard) (slice_index room.now) (leaving.now.to + 1) result }
 {
     let to = leaving.to;
-    if is_better(room, &best, to) && may_take(alloc, placement, pool, room, staying, leaving)? {
-        Ok(Some(to))
+    if is_better(room, &best, to) && may_take(placement, pool, room, staying, leaving) {
+        Some(to)
     } else {
-        Ok(best)
+        best
     }
 }
 
@@ -171,12 +155,12 @@ fn target(
     requires from { from < length placement.now.setup.servers }
     ensures { IfOk result (IsBestOf (has_place (basis_of placement.now pool.now) from (slice_index room.now) shard) (slice_index room.now) (length placement.now.setup.servers)) }
 {
-    let staying = staying(alloc, placement, shard, from)?;
+    let mut staying = staying(alloc, placement, shard, from)?;
     let mut best = None;
     for number in 0..placement.config().server_count() {
         let to = ServerId::new(number);
         let leaving = Move { shard, from, to };
-        best = target_with(alloc, placement, pool, room, &staying, &leaving, best)?;
+        best = target_with(placement, pool, room, &mut staying, &leaving, best);
     }
     Ok(best)
 }
