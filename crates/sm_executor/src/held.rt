@@ -2,16 +2,17 @@
 //!
 //! Each method is one event at most, and changes the machine just as the machine's own call does. The books rise with the log,
 //! and what a step publishes is stored in the words before the method returns.
-ghost use Rattle.std.specs.Prelude.{◌≡◌, ◌≢◌, OnOk, OnErr, ◌<◌, ◌≤◌, ◌+◌, ◌*◌, ◌^◌, ◌++◌, ◌∷◌, [], length, map, IfOk, IfErr, IfSome, IfNone, true, false, vec_len, vec_capacity};
+ghost use Rattle.std.specs.Prelude.{◌≡◌, ◌≢◌, OnOk, OnErr, ◌<◌, ◌≤◌, ◌+◌, ◌*◌, ◌^◌, ◌++◌, ◌∷◌, [], length, map, IfOk, IfErr, IfSome, IfNone, true, false, if◌then◌else◌, vec_len, vec_capacity};
 ghost use Rattle.sm_placement.specs.Place.{entry_at};
 ghost use Rattle.sm_map.specs.History.{NoneNewer};
 ghost use Rattle.sm_protocol.specs.State.{progress_of, is_running};
 ghost use Rattle.sm_protocol.specs.Steps.{Answered};
 ghost use Rattle.sm_protocol.specs.Happens as happening;
 ghost use Rattle.sm_protocol.specs.Happens.{happens};
+ghost use Rattle.sm_protocol.specs.Hand.{tickets_of, spends};
 ghost use Rattle.sm_machine.specs.State.{state_of};
 ghost use Rattle.sm_machine.specs.Played.{played_of};
-ghost use Rattle.sm_machine.specs.Requested.{played_by};
+ghost use Rattle.sm_machine.specs.Requested.{played_by, tickets_in};
 ghost use Rattle.sm_machine.specs.Restarted.{approval_of, restart_of};
 ghost use Rattle.sm_machine.specs.Losses.{refill_answer, is_lost_answer, IsStepOver};
 ghost use Rattle.sm_machine.specs.Retired.{has_ended};
@@ -317,6 +318,7 @@ impl<A: Side, B: Side, C: Side, N: Naming> Held<A, B, C, N> {
         requires server { server < N.words.servers }
         ensures answer { (happens (state_in self.old) (happening.Arrive shard server)).0 ≡ Answered (played_by result) }
         ensures state { state_in self.new ≡ (happens (state_in self.old) (happening.Arrive shard server)).1 }
+        ensures tickets { tickets_in result ≡ tickets_of shard server (played_by result) }
         ensures others { self.new ≡ held_model self.new.machine self.old.runners self.old.callers }
         ensures caller { caller.new ≡ calling caller.old.seen (caller.old.executed + executes result) (caller.old.refused + refuses result) }
     {
@@ -329,6 +331,7 @@ impl<A: Side, B: Side, C: Side, N: Naming> Held<A, B, C, N> {
     pub fn pass_on(&mut self, caller: &mut Caller<B, C, N>, ticket: Ticket) -> Answer
         ensures answer { (happens (state_in self.old) (happening.PassOn ticket)).0 ≡ Answered (played_by result) }
         ensures state { state_in self.new ≡ (happens (state_in self.old) (happening.PassOn ticket)).1 }
+        ensures tickets { tickets_in result ≡ (if spends (played_by result) then tickets_of ticket.shard ticket.target (played_by result) else ticket ∷ []) }
         ensures others { self.new ≡ held_model self.new.machine self.old.runners self.old.callers }
         ensures caller { caller.new ≡ calling caller.old.seen (caller.old.executed + executes result) (caller.old.refused + refuses result) }
     {
