@@ -16,6 +16,7 @@ ghost use Rattle.sm_machine.specs.Requested.{played_by, tickets_in};
 ghost use Rattle.sm_machine.specs.Restarted.{approval_of, restart_of};
 ghost use Rattle.sm_machine.specs.Losses.{refill_answer, is_lost_answer};
 ghost use Rattle.sm_placement.specs.Sums.{bit};
+ghost use Rattle.sm_executor.specs.Answering.{HasAnswered};
 ghost use Rattle.sm_executor.specs.Closed.{GoesOn};
 ghost use Rattle.sm_executor.specs.Counting.{executes, refuses};
 ghost use Rattle.sm_executor.specs.Ending.{HasEnded};
@@ -238,7 +239,7 @@ impl<A: Side, B: Side, C: Side, N: Naming> Board<A, B, C, N> {
         caller.look(&self.words, shard)
     }
 
-    /// A request for a shard comes to a server.
+    /// A request for a shard comes to a server, which answers as the protocol does at some state of the board.
     pub fn arrive<R: Wait>(
         &self,
         rt: &R,
@@ -248,18 +249,27 @@ impl<A: Side, B: Side, C: Side, N: Naming> Board<A, B, C, N> {
     ) -> Answer
         requires shard { shard < length N.words.opening }
         requires server { server < N.words.servers }
+        ensures at { HasAnswered N.opened (happening.Arrive shard server) (played_by result) }
         ensures tickets { tickets_in result ≡ tickets_of shard server (played_by result) }
         ensures caller { caller.new ≡ calling caller.old.seen (caller.old.executed + executes result) (caller.old.refused + refuses result) }
     {
-        self.held.lock(rt).arrive(caller, shard, server)
+        let mut held = self.held.lock(rt);
+        held.goes_on();
+        held.machine().is_reached();
+        held.arrive(caller, shard, server)
     }
 
-    /// A request that was passed on comes to the server that it was passed to.
+    /// A request that was passed on comes to the server that it was passed to. Its ticket is spent by an answer of the server, and
+    /// else comes back.
     pub fn pass_on<R: Wait>(&self, rt: &R, caller: &mut Caller<B, C, N>, ticket: Ticket) -> Answer
+        ensures at { HasAnswered N.opened (happening.PassOn ticket) (played_by result) }
         ensures tickets { tickets_in result ≡ (if spends (played_by result) then tickets_of ticket.shard ticket.target (played_by result) else ticket ∷ []) }
         ensures caller { caller.new ≡ calling caller.old.seen (caller.old.executed + executes result) (caller.old.refused + refuses result) }
     {
-        self.held.lock(rt).pass_on(caller, ticket)
+        let mut held = self.held.lock(rt);
+        held.goes_on();
+        held.machine().is_reached();
+        held.pass_on(caller, ticket)
     }
 
     /// The machine's entry of a shard, which the caller has then seen. Each entry that the caller had seen is one of the machine's.
