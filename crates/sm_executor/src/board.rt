@@ -19,7 +19,7 @@ ghost use Rattle.sm_placement.specs.Sums.{bit};
 ghost use Rattle.sm_executor.specs.Answering.{HasAnswered};
 ghost use Rattle.sm_executor.specs.Closed.{GoesOn};
 ghost use Rattle.sm_executor.specs.Counting.{executes, refuses};
-ghost use Rattle.sm_executor.specs.Ending.{HasEnded};
+ghost use Rattle.sm_executor.specs.Ending.{HasEnded, HasNotEnded};
 ghost use Rattle.sm_executor.specs.Starting.{HasBegun, HasNotBegun};
 ghost use Rattle.sm_executor.specs.Stepping.{HasMadeStep, HasStepped, is_waiting};
 ghost use Rattle.sm_executor.specs.Tied.{HasStood};
@@ -150,10 +150,12 @@ impl<A: Side, B: Side, C: Side, N: Naming> Board<A, B, C, N> {
         held.begin(alloc, checked)
     }
 
-    /// The runner's end, where its stream has made it, with what the locked machine has of that stream. Else the runner comes back.
+    /// The runner's end, where its stream has made it, with what the locked machine has of that stream. Else the runner comes back, and
+    /// its stream has not made its end.
     pub fn retire<R: Wait>(&self, rt: &R, runner: Runner<A>) -> Result<Ended<A>, Runner<A>>
         ensures ended { IfOk result (λ end. (end.stream ≡ runner.stream) × (end.counted ≡ runner.steps)) }
         ensures at { IfOk result (λ end. HasEnded N.opened end) }
+        ensures unfinished { IfErr result (λ r. HasNotEnded N.opened r) }
         ensures back { IfErr result (λ r. r ≡ runner) }
     {
         let held = self.held.lock(rt);
