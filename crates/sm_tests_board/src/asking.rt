@@ -3,9 +3,9 @@ ghost use Rattle.std.specs.Prelude.{◌≡◌};
 
 use super::given::{server_of, shard_of};
 use super::map_and_asks::assert_steps;
-use super::plans::{plan_of, s_to_b};
 use super::scenes::{Scene, placement_after};
 use sm_executor::{Board, Caller, Naming, Runner, Side};
+use sm_fixtures::{S_TO_B, World, handover_plan};
 use sm_machine::{Answer, Step, Ticket};
 use sm_placement::Entry;
 use sm_router::{Asked, Desk, ask};
@@ -285,6 +285,6 @@ pub(crate) fn asks<A: Side, B: Side, C: Side, N: Naming, R: Wait + Abort>(
 #[test]
 fn an_ask_looks_follows_and_spends_its_tickets(rt: HostRuntime) {
     let alloc = rt.alloc();
-    let plan = plan_of(alloc, &s_to_b(0));
+    let plan = handover_plan(alloc, World::Wide, S_TO_B);
     let _placement = placement_after(&rt, alloc, plan, 32, Scene::ToldDesk);
 }

@@ -1,13 +1,12 @@
 //! A board that is opened over a machine on which plans have begun already, and one with a runner for a stream that its machine has not
 //! begun.
-use super::boards::{Deed, End, act_over, close, end, is_for, machine, tokens_of};
+use super::boards::{Deed, End, act_over, close, end, machine, tokens_of};
 use super::courses::run_through;
-use super::events::stream;
 use super::given::{put, put_all};
 use super::map_and_asks::assert_steps;
-use super::plans::{Move, plan_of, s_to_b, t_to_a};
 use super::worlds::assert_loads;
 use sm_executor::{Board, Ended, Naming, Open, RunFault, Runner, Side, run};
+use sm_fixtures::{Move, S_TO_B, T_TO_A, World, handover_plan, is_for, stream};
 use sm_machine::{Machine, Step, StreamToken};
 use std::alloc::Global;
 use std::process::Abort;
@@ -19,7 +18,10 @@ fn begun_machine(rt: &impl Abort, alloc: Global, moves: &[Move]) -> (Machine, Ve
     let mut machine = machine(rt, alloc, 16);
     let mut tokens = Vec::new(alloc);
     for moved in moves {
-        let checked = plan_of(alloc, moved).expect(rt, "there is no memory for a plan");
+        let checked = handover_plan(alloc, World::Wide, *moved).expect(
+            rt,
+            "there is no memory for a plan",
+        );
         assert!(rt; is_for(machine.config(), &checked));
         match machine.begin(alloc, checked) {
             Ok(begun) => {
@@ -110,7 +112,7 @@ pub(crate) fn halt_by_unknown<
 #[test]
 fn a_board_is_opened_over_plans_that_have_begun(rt: HostRuntime) {
     let alloc = rt.alloc();
-    let (machine, tokens) = begun_machine(&rt, alloc, &[s_to_b(0), t_to_a(0)]);
+    let (machine, tokens) = begun_machine(&rt, alloc, &[S_TO_B, T_TO_A]);
     let (placement, count) = act_over(&rt, alloc, machine, tokens, Deed::RunBoth);
     assert_eq!(&rt; count, 12);
     assert_loads(&rt, &placement, [6, 4, 4, 8]);
@@ -120,8 +122,8 @@ fn a_board_is_opened_over_plans_that_have_begun(rt: HostRuntime) {
 #[test]
 fn a_stream_of_another_machine_halts_the_board(rt: HostRuntime) {
     let alloc = rt.alloc();
-    let (machine, mut tokens) = begun_machine(&rt, alloc, &[s_to_b(0)]);
-    let (other, mut others) = begun_machine(&rt, alloc, &[s_to_b(0), t_to_a(0)]);
+    let (machine, mut tokens) = begun_machine(&rt, alloc, &[S_TO_B]);
+    let (other, mut others) = begun_machine(&rt, alloc, &[S_TO_B, T_TO_A]);
     put(
         &rt,
         &mut tokens,

@@ -1,5 +1,5 @@
 //! Boards: how one is opened for what is done with it, how a plan begins there, and how it ends.
-ghost use Rattle.std.specs.Prelude.{◌≡◌, ◌^◌, IsTrue};
+ghost use Rattle.std.specs.Prelude.{◌≡◌, ◌^◌};
 ghost use Rattle.sm_machine.specs.State.{state_of};
 ghost use Rattle.sm_executor.specs.Tied.{IsMapOf};
 
@@ -10,10 +10,10 @@ use super::given::{put, put_all};
 use super::memory::{Attempt, begin_or_not};
 use super::runs::run_checked;
 use super::scenes::{Scene, play_scene};
-use super::worlds::placement;
 use sm_executor::{Board, Caller, Ended, Ground, Naming, Runner, Side};
+use sm_fixtures::{World, is_for};
 use sm_machine::{Machine, Permit, StreamToken, Ticket};
-use sm_placement::{Config, Placement};
+use sm_placement::Placement;
 use sm_verifier::Checked;
 use std::alloc::Global;
 use std::marker::Brand;
@@ -51,7 +51,7 @@ pub(crate) enum Deed<'a> {
 
 /// A machine over the worked placement, with so many places of the log, or none.
 pub(crate) fn machine_or_not(rt: &impl Abort, alloc: Global, log_room: u32) -> Option<Machine> {
-    let Ok(placement) = placement(alloc) else {
+    let Ok(placement) = World::Wide.placement(alloc, &[]) else {
         return None;
     };
     assert!(rt; placement.settled());
@@ -171,13 +171,6 @@ pub(crate) fn act_on_new<R: Threads + Wait + Sync + Print + Abort>(
 ) -> End {
     let machine = machine(rt, alloc, log_room);
     act_over(rt, alloc, machine, Vec::new(alloc), deed)
-}
-
-/// The plan was checked for the configuration.
-pub(crate) fn is_for(config: &Config, checked: &Checked) -> bool
-    ensures { IsTrue result → checked.now.setup ≡ config.now }
-{
-    checked.config() == config
 }
 
 /// A plan that has to begin begins on a board, and the runners of its streams come behind the others.

@@ -2,10 +2,10 @@
 ghost use Rattle.std.specs.Prelude.{IsTrue};
 ghost use Rattle.sm_machine.specs.Hand.{AreFor};
 
-use super::boards::{is_for, machine};
-use super::events::Turn;
+use super::boards::machine;
 use super::given::put;
 use super::scenes::has_log;
+use sm_fixtures::{Turn, is_for};
 use sm_machine::{Hand, Machine, ReadyPlan, make_ready};
 use sm_placement::Placement;
 use sm_protocol::{Event, Played};

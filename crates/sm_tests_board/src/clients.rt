@@ -3,11 +3,12 @@ use super::courses::{Course, run_through};
 use super::gates::Behind;
 use super::given::{put, shard_of};
 use super::memory::has_none_stepped;
-use super::plans::{plan_of, s_to_b, two_handovers};
+use super::plans::two_handovers;
 use super::runs::{assert_moved, run_plan};
 use sm_executor::{
     Board, Caller, Client, Ended, Gate, Naming, Open, RunFault, Runner, Side, run_beside,
 };
+use sm_fixtures::{S_TO_B, World, handover_plan};
 use sm_router::Asked;
 use sm_server::{ServerId, ShardId};
 use std::alloc::Global;
@@ -118,7 +119,7 @@ pub(crate) fn run_behind_clients<
 #[test]
 fn a_handover_is_run_beside_clients(rt: HostRuntime) {
     let alloc = rt.alloc();
-    let plan = plan_of(alloc, &s_to_b(0));
+    let plan = handover_plan(alloc, World::Wide, S_TO_B);
     let (placement, count) = run_plan(&rt, alloc, plan, Course::BesideClients);
     assert!(&rt; count >= 8);
     assert_moved(&rt, &placement);

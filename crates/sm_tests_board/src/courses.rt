@@ -2,10 +2,10 @@
 use super::clients::{run_behind_clients, run_beside_clients};
 use super::gates::{Counting, Halting, Meeting};
 use super::given::{put, put_all};
-use super::links::{Loses, LosesEverySecond};
 use sm_executor::{
     Board, Caller, Ended, Gate, Naming, Open, RunFault, Runner, Side, run, run_over,
 };
+use sm_fixtures::{Loses, LosesEverySecond};
 use sm_machine::{Link, Step};
 use std::alloc::Global;
 use std::process::Abort;

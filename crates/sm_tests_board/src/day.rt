@@ -4,9 +4,9 @@ ghost use Rattle.std.specs.Prelude.{◌≡◌, IsErrAnd};
 use super::boards::{Deed, End, act_on_new, begin, close};
 use super::given::put;
 use super::map_and_asks::assert_steps;
-use super::plans::{plan_of, s_to_b, t_to_a};
 use super::worlds::assert_loads;
 use sm_executor::{Board, Caller, CloseFault, Ended, Naming, NotClosed, Runner, Side};
+use sm_fixtures::{S_TO_B, T_TO_A, World, handover_plan};
 use sm_machine::{Machine, Step};
 use sm_reservation::StreamId;
 use sm_verifier::Checked;
@@ -161,8 +161,10 @@ pub(crate) fn day<A: Side, B: Side, C: Side, N: Naming, R: Wait + Abort>(
 #[test]
 fn two_plans_run_on_a_board_that_is_closed(rt: HostRuntime) {
     let alloc = rt.alloc();
-    let first = plan_of(alloc, &s_to_b(0)).expect(&rt, "there is no memory for a plan");
-    let second = plan_of(alloc, &t_to_a(0)).expect(&rt, "there is no memory for a plan");
+    let first = handover_plan(alloc, World::Wide, S_TO_B);
+    let first = first.expect(&rt, "there is no memory for a plan");
+    let second = handover_plan(alloc, World::Wide, T_TO_A);
+    let second = second.expect(&rt, "there is no memory for a plan");
     let (placement, count) = act_on_new(&rt, alloc, 16, Deed::Day { first, second });
     assert_eq!(&rt; count, 12);
     assert_loads(&rt, &placement, [6, 4, 4, 8]);

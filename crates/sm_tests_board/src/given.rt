@@ -1,10 +1,8 @@
 //! What a board gives out, and events that are made with it, one by one.
 ghost use Rattle.std.specs.Prelude.{◌<◌, length};
 
-use super::answers::{answered, played_of, ticket_place};
-use super::boards::is_for;
-use super::links::Loses;
 use sm_executor::{Board, Caller, Naming, Runner, Side};
+use sm_fixtures::{Loses, answered, is_for, ticket_place};
 use sm_machine::{Answer, BeginFault, Permit, Ticket};
 use sm_plan_code::MOST_CALLS;
 use sm_protocol::{Event, Played};
@@ -93,7 +91,7 @@ impl<A: Side> Given<A> {
                 board.step_over(rt, &mut self.runners[at], &mut link)
             }
         };
-        played_of(step)
+        Played::from(step)
     }
 
     /// A stream's allowance is raised by a guard.

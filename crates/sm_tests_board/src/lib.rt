@@ -2,8 +2,6 @@
 #![tactic(auto)]
 
 #[cfg(test)]
-mod answers;
-#[cfg(test)]
 mod asking;
 #[cfg(test)]
 mod begun_boards;
@@ -18,13 +16,9 @@ mod courses;
 #[cfg(test)]
 mod day;
 #[cfg(test)]
-mod events;
-#[cfg(test)]
 mod gates;
 #[cfg(test)]
 mod given;
-#[cfg(test)]
-mod links;
 #[cfg(test)]
 mod map_and_asks;
 #[cfg(test)]

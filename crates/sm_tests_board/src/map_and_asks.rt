@@ -1,8 +1,8 @@
 //! The map of a board, and asks at it, while shard s is handed over from a to b.
-use super::events::executed;
 use super::given::shard_of;
 use super::worlds::entry;
 use sm_executor::{Board, Caller, Naming, Runner, Side};
+use sm_fixtures::executed;
 use sm_machine::{Machine, Step};
 use sm_placement::Entry;
 use sm_protocol::Played;

@@ -1,9 +1,11 @@
 //! Boards that are opened, and plans that begin on them and are run, or for which there is no memory. `scripts/check-memory-tests` runs
 //! each of these tests with its first allocation refused, then with its second, and so on; `scripts/check-threads` does so with the threads
 //! of the last one.
-use super::boards::{Deed, End, act_or_not, close, end, is_for, machine_or_not, tokens_of};
-use super::plans::{is_handover, is_signalled, plan_of, s_to_b, signalled};
+use super::boards::{Deed, End, act_or_not, close, end, machine_or_not, tokens_of};
 use sm_executor::{Board, Naming, Open, RunFault, Runner, Side, run};
+use sm_fixtures::{
+    S_TO_B, World, handover_plan, is_for, is_handover, is_signalled, signalled_plan,
+};
 use sm_machine::{BeginFault, Machine, StreamToken};
 use sm_reservation::StreamId;
 use sm_verifier::Checked;
@@ -25,8 +27,8 @@ impl Wanted {
     /// The plan.
     fn plan(self, alloc: Global) -> Result<Checked, AllocError> {
         match self {
-            Wanted::Handover => plan_of(alloc, &s_to_b(0)),
-            Wanted::Run => signalled(alloc, 0, 8),
+            Wanted::Handover => handover_plan(alloc, World::Wide, S_TO_B),
+            Wanted::Run => signalled_plan(alloc, 0),
         }
     }
 

@@ -1,13 +1,13 @@
 //! Worked lists of events, made one by one over a board, and played with a hand on a machine of their own: both give these answers and
 //! leave this log.
 use super::by_hand::assert_played;
-use super::events::{
-    Turn, approve, arrive, begin, begun, done, executed, lose, pass_on, passed, refill, step,
-    stream,
-};
-use super::plans::{plan_of, s_to_b, three_handovers};
+use super::plans::three_handovers;
 use super::scenes::{Scene, placement_after};
 use super::worlds::assert_cells;
+use sm_fixtures::{
+    Move, S_TO_B, Turn, World, approve, arrive, begin, begun, done, executed, handover_plan, lose,
+    pass_on, passed, refill, step, stream,
+};
 use sm_placement::Placement;
 use sm_protocol::{Played, RefillFault};
 use sm_server::{Cell, ServerId};
@@ -142,11 +142,18 @@ fn as_played<R: Threads + Wait + Sync + Print + Abort>(
     placement_after(rt, alloc, plan, PLACES, Scene::Turns { turns, log })
 }
 
+/// Two plans of the same handover.
+fn twins(alloc: Global, moved: Move) -> (Result<Checked, AllocError>, Result<Checked, AllocError>) {
+    (
+        handover_plan(alloc, World::Wide, moved),
+        handover_plan(alloc, World::Wide, moved),
+    )
+}
+
 #[test]
 fn restarts_beside_a_handover_are_as_played(rt: HostRuntime) {
     let alloc = rt.alloc();
-    let moved = s_to_b(0);
-    let (plan, twin) = (plan_of(alloc, &moved), plan_of(alloc, &moved));
+    let (plan, twin) = twins(alloc, S_TO_B);
     let placement = as_played(&rt, alloc, plan, twin, &restarts(), &recorded_restarts());
     assert_eq!(&rt; placement.down_count(), 1);
 }
@@ -172,16 +179,18 @@ fn requests_over_three_handovers_are_as_played(rt: HostRuntime) {
 #[test]
 fn a_request_passed_on_is_as_played(rt: HostRuntime) {
     let alloc = rt.alloc();
-    let moved = s_to_b(0);
-    let (plan, twin) = (plan_of(alloc, &moved), plan_of(alloc, &moved));
+    let (plan, twin) = twins(alloc, S_TO_B);
     let _placement = as_played(&rt, alloc, plan, twin, &passed_on(), &recorded_passed_on());
 }
 
 #[test]
 fn lost_calls_are_as_played(rt: HostRuntime) {
     let alloc = rt.alloc();
-    let moved = s_to_b(2);
-    let (plan, twin) = (plan_of(alloc, &moved), plan_of(alloc, &moved));
+    let moved = Move {
+        retries: 2,
+        ..S_TO_B
+    };
+    let (plan, twin) = twins(alloc, moved);
     let placement = as_played(&rt, alloc, plan, twin, &losses(), &recorded_losses());
     assert_cells(
         &rt,
@@ -195,6 +204,6 @@ fn lost_calls_are_as_played(rt: HostRuntime) {
 #[test]
 fn map_and_asks_on_a_board(rt: HostRuntime) {
     let alloc = rt.alloc();
-    let plan = plan_of(alloc, &s_to_b(0));
+    let plan = handover_plan(alloc, World::Wide, S_TO_B);
     let _placement = placement_after(&rt, alloc, plan, PLACES, Scene::MapAndAsks);
 }

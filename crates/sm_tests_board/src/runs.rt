@@ -2,9 +2,10 @@
 use super::boards::{Deed, End, act_on_new, begin, close};
 use super::courses::{Course, go};
 use super::gates::Meeting;
-use super::plans::{eight_idle, plan_of, s_to_b, signalled, two_handovers};
+use super::plans::two_handovers;
 use super::worlds::{assert_cells, assert_entries, assert_loads, entry};
 use sm_executor::{Board, Naming, Runner, Side};
+use sm_fixtures::{S_TO_B, World, handover_plan, idle_plan, signalled_plan};
 use sm_placement::Placement;
 use sm_server::Cell;
 use sm_verifier::Checked;
@@ -66,7 +67,8 @@ fn two_streams_meet(rt: HostRuntime) {
 fn eight_streams_without_code_meet(rt: HostRuntime) {
     let alloc = rt.alloc();
     let meeting = Meeting::of(&rt, 8);
-    let (_placement, count) = run_plan(&rt, alloc, eight_idle(alloc), Course::Meets(&meeting));
+    let plan = idle_plan(alloc, World::Wide, 8);
+    let (_placement, count) = run_plan(&rt, alloc, plan, Course::Meets(&meeting));
     assert!(&rt; meeting.gave_up() == 0 && count == 8);
 }
 
@@ -92,17 +94,15 @@ fn assert_signalled(rt: &impl Abort, placement: &Placement) {
     assert_entries(rt, placement, &[entry(0, 0), entry(0, 1), entry(1, 1)]);
 }
 
-/// Runs the two streams with a signal between them, with so many retries for each and this budget for both, to their one end: by so
-/// many steps.
+/// Runs the two streams with a signal between them, with so many retries for each, to their one end: by so many steps.
 fn run_signalled<R: Threads + Wait + Sync + Print + Abort>(
     rt: &R,
     alloc: Global,
     retries: u32,
-    budget: u32,
     course: Course<'_>,
     steps: usize,
 ) {
-    let plan = signalled(alloc, retries, budget);
+    let plan = signalled_plan(alloc, retries);
     let (placement, count) = run_plan(rt, alloc, plan, course);
     assert_eq!(rt; count, steps);
     assert_signalled(rt, &placement);
@@ -113,7 +113,7 @@ fn run_signalled<R: Threads + Wait + Sync + Print + Abort>(
 fn a_run_is_halted_behind_each_step(rt: HostRuntime) {
     let alloc = rt.alloc();
     for number in 1..15u64 {
-        run_signalled(&rt, alloc, 0, 8, Course::HaltedBehind(number), 14);
+        run_signalled(&rt, alloc, 0, Course::HaltedBehind(number), 14);
     }
 }
 
@@ -123,7 +123,7 @@ fn a_run_loses_every_second_try(rt: HostRuntime) {
     let alloc = rt.alloc();
     for (first, tries, steps) in [(true, 8, 22), (false, 7, 20)] {
         let course = Course::Loses { first, tries };
-        run_signalled(&rt, alloc, 4, 16, course, steps);
+        run_signalled(&rt, alloc, 4, course, steps);
     }
 }
 
@@ -131,7 +131,8 @@ fn a_run_loses_every_second_try(rt: HostRuntime) {
 #[test]
 fn a_stream_that_has_spent_its_tries_goes_on_after_a_refill(rt: HostRuntime) {
     let alloc = rt.alloc();
-    let (placement, count) = run_plan(&rt, alloc, plan_of(alloc, &s_to_b(0)), Course::Spent);
+    let plan = handover_plan(alloc, World::Wide, S_TO_B);
+    let (placement, count) = run_plan(&rt, alloc, plan, Course::Spent);
     assert_eq!(&rt; count, 8);
     assert_moved(&rt, &placement);
 }

@@ -1,10 +1,10 @@
 //! Scenes that are played on a board, on one thread.
 use super::asking::asks;
 use super::boards::{Deed, End, act_on_new, end, tokens_of};
-use super::events::{Turn, begun};
 use super::given::{Given, put};
 use super::map_and_asks::map_and_asks;
 use sm_executor::{Board, Caller, Naming, Runner, Side};
+use sm_fixtures::{Turn, begun};
 use sm_machine::Machine;
 use sm_placement::Placement;
 use sm_protocol::Logged;

@@ -1,5 +1,6 @@
 //! Machines that are opened, halted, resumed and given up.
 use super::fixture::*;
+use sm_fixtures::World;
 use sm_machine::{Machine, OpenFault, Permit};
 use sm_placement::Placement;
 use sm_reservation::StreamId;
@@ -7,10 +8,10 @@ use sm_server::{Call, Cell, Role, ServerId};
 use std::alloc::Global;
 use std::process::Abort;
 
-/// Gives a machine over the small placement up, with so many servers down.
+/// Gives a machine over the worked placement up, with so many servers down.
 fn give_up(rt: &impl Abort, alloc: Global, machine: Machine, permits: Vec<Permit>, down: u32) {
     let placement = machine.give_up(Vec::new(alloc), permits, Vec::new(alloc));
-    assert_small(rt, &placement, down);
+    assert_worked(rt, &placement, down);
 }
 
 /// Asserts that no stream of a machine was begun.
@@ -21,11 +22,11 @@ fn assert_none_begun(rt: &impl Abort, machine: &Machine) {
     }
 }
 
-/// The small placement, for which there has to be memory.
+/// The worked placement, for which there has to be memory.
 fn placement(rt: &impl Abort, alloc: Global, down: &[ServerId]) -> Placement {
-    match small_placement(alloc, down) {
-        Some(placement) => placement,
-        None => panic!(rt; "the small placement is not opened"),
+    match World::Base.placement(alloc, down) {
+        Ok(placement) => placement,
+        Err(_) => panic!(rt; "the worked placement is not opened"),
     }
 }
 
@@ -103,7 +104,7 @@ fn assert_log_full(rt: &impl Abort, alloc: Global, opened: Placement, room: u32,
         }
         Err((placement, why)) => {
             assert!(rt; why == OpenFault::LogFull);
-            assert_small(rt, &placement, down);
+            assert_worked(rt, &placement, down);
         }
     }
 }
@@ -148,7 +149,7 @@ fn assert_last(rt: &impl Abort, placement: &Placement, number: u64) {
     );
 }
 
-/// The small placement, where a call of number 7 added a secondary of shard 0 at server 1.
+/// The worked placement, where a call of number 7 added a secondary of shard 0 at server 1.
 fn numbered_placement(rt: &impl Abort, alloc: Global) -> Placement {
     let mut placement = placement(rt, alloc, &[]);
     let shard = shard_id(rt, &placement, 0);

@@ -4,6 +4,7 @@ ghost use Rattle.std.specs.Prelude.{◌<◌};
 use super::run::{Run, open_over};
 use super::wanted::Wanted;
 use super::worlds::Ground;
+use sm_fixtures::Dice;
 use sm_planner::NoPlan;
 use sm_server::Cell;
 use std::alloc::{AllocError, Global};
@@ -15,102 +16,82 @@ const EMPTIED: u32 = 200;
 /// How many placements are made at most: some do not open, and of some no server takes a shard.
 const MADE: u32 = 2_000;
 
-/// Numbers that look random, the same in each run.
-#[derive(Drop)]
-struct Dice {
-    state: u64,
+/// One of three regions.
+fn random_region(dice: &mut Dice) -> &'static str {
+    match dice.roll(3) {
+        0 => "r1",
+        1 => "r2",
+        _ => "r3",
+    }
 }
 
-impl Dice {
-    /// A number below so many.
-    fn roll(&mut self, sides: u32) -> u32
-        requires { 0 < sides }
-        ensures { result < sides }
-    {
-        self.state = self
-            .state
-            .wrapping_mul(6_364_136_223_846_793_005)
-            .wrapping_add(1_442_695_040_888_963_407);
-        (self.state / 65_536 % u64::from(sides)) as u32
+/// So many servers, of which one may be down.
+fn add_servers(
+    alloc: Global,
+    dice: &mut Dice,
+    ground: &mut Ground,
+    servers: u32,
+) -> Result<(), AllocError> {
+    for _ in 0..servers {
+        let (region, room) = (random_region(dice), 15 + dice.roll(20));
+        ground.add_server(alloc, region, u64::from(room))?;
     }
-
-    /// One of three regions.
-    fn region(&mut self) -> &'static str {
-        match self.roll(3) {
-            0 => "r1",
-            1 => "r2",
-            _ => "r3",
-        }
+    let down = dice.roll(16);
+    if down < servers {
+        ground.take_down(down)?;
     }
+    Ok(())
+}
 
-    /// So many servers, of which one may be down.
-    fn add_servers(
-        &mut self,
-        alloc: Global,
-        ground: &mut Ground,
-        servers: u32,
-    ) -> Result<(), AllocError> {
-        for _ in 0..servers {
-            let (region, room) = (self.region(), 15 + self.roll(20));
-            ground.add_server(alloc, region, u64::from(room))?;
-        }
-        let down = self.roll(16);
-        if down < servers {
-            ground.take_down(down)?;
-        }
-        Ok(())
-    }
-
-    /// A shard with up to three replicas, each at the next server, of which the first may be the primary.
-    fn add_shard(
-        &mut self,
-        alloc: Global,
-        ground: &mut Ground,
-        number: u32,
-        servers: u32,
-    ) -> Result<(), AllocError>
-        requires { 0 < servers }
-    {
-        let (first, replicas) = (self.roll(servers), 1 + self.roll(servers.min(3)));
-        let (load, cap, spread) = (self.roll(6), self.roll(replicas + 1), self.roll(3));
-        let (is_led, is_listed) = (self.roll(4) > 0, self.roll(4) > 0);
-        let listed = if is_led && is_listed {
-            Some(first)
+/// A shard with up to three replicas, each at the next server, of which the first may be the primary.
+fn add_shard(
+    alloc: Global,
+    dice: &mut Dice,
+    ground: &mut Ground,
+    number: u32,
+    servers: u32,
+) -> Result<(), AllocError>
+    requires { 0 < servers }
+{
+    let (first, replicas) = (dice.roll(servers), 1 + dice.roll(servers.min(3)));
+    let (load, cap, spread) = (dice.roll(6), dice.roll(replicas + 1), dice.roll(3));
+    let (is_led, is_listed) = (dice.roll(4) > 0, dice.roll(4) > 0);
+    let listed = if is_led && is_listed {
+        Some(first)
+    } else {
+        None
+    };
+    ground.add_shard(alloc, (u64::from(load), replicas, cap, spread), listed)?;
+    for place in 0..replicas {
+        let cell = if place == 0 && is_led {
+            Cell::Primary
         } else {
-            None
+            Cell::Secondary
         };
-        ground.add_shard(alloc, (u64::from(load), replicas, cap, spread), listed)?;
-        for place in 0..replicas {
-            let cell = if place == 0 && is_led {
-                Cell::Primary
-            } else {
-                Cell::Secondary
-            };
-            ground.put(number, first.saturating_add(place) % servers, cell)?;
-        }
-        Ok(())
+        ground.put(number, first.saturating_add(place) % servers, cell)?;
     }
+    Ok(())
+}
 
-    /// So many servers, and up to 16 shards.
-    fn ground(&mut self, alloc: Global, servers: u32) -> Result<Ground, AllocError>
-        requires { 0 < servers }
-    {
-        let mut ground = Ground::new(alloc);
-        self.add_servers(alloc, &mut ground, servers)?;
-        for number in 0..self.roll(17) {
-            self.add_shard(alloc, &mut ground, number, servers)?;
-        }
-        Ok(ground)
+/// So many servers, and up to 16 shards.
+fn random_ground(alloc: Global, dice: &mut Dice, servers: u32) -> Result<Ground, AllocError>
+    requires { 0 < servers }
+{
+    let mut ground = Ground::new(alloc);
+    add_servers(alloc, dice, &mut ground, servers)?;
+    for number in 0..dice.roll(17) {
+        add_shard(alloc, dice, &mut ground, number, servers)?;
     }
+    Ok(ground)
+}
 
-    /// A machine over a random placement of so many servers, if it opens.
-    fn open(&mut self, rt: &impl Abort, alloc: Global, servers: u32) -> Option<Run>
-        requires { 0 < servers }
-    {
-        match self.ground(alloc, servers) {
-            Ok(ground) => open_over(rt, alloc, ground.open(alloc)?),
-            Err(_) => panic!(rt; "there is no memory for a placement"),
-        }
+/// A machine over a random placement of so many servers, if it opens.
+fn open_random(rt: &impl Abort, alloc: Global, dice: &mut Dice, servers: u32) -> Option<Run>
+    requires { 0 < servers }
+{
+    match random_ground(alloc, dice, servers) {
+        Ok(ground) => open_over(rt, alloc, ground.open(alloc)?),
+        Err(_) => panic!(rt; "there is no memory for a placement"),
     }
 }
 
@@ -142,7 +123,7 @@ fn empty(rt: &impl Abort, alloc: Global, run: &mut Run, server: u32) -> Option<u
 fn empty_random(rt: &impl Abort, alloc: Global, dice: &mut Dice) -> Option<usize> {
     let servers = 2 + dice.roll(7);
     let server = dice.roll(servers);
-    let mut run = dice.open(rt, alloc, servers)?;
+    let mut run = open_random(rt, alloc, dice, servers)?;
     let streams = empty(rt, alloc, &mut run, server);
     run.close(alloc);
     streams
@@ -151,7 +132,7 @@ fn empty_random(rt: &impl Abort, alloc: Global, dice: &mut Dice) -> Option<usize
 #[test]
 fn random_placements_are_drained(rt: HostRuntime) {
     let alloc = rt.alloc();
-    let mut dice = Dice { state: 20_261_123 };
+    let mut dice = Dice::new();
     let mut emptied: u32 = 0;
     let mut streams: usize = 0;
     for _ in 0..MADE {

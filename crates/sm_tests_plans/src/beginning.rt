@@ -1,9 +1,9 @@
 //! Plans that begin beside others, and why others do not.
 use super::handover::TO_THE_END;
-use super::plans::{S_TO_A, S_TO_B, T_TO_A, empty_plan, handover_plan};
 use super::run::{Run, open_in};
 use super::same::is_same;
-use super::worlds::{World, assert_loads};
+use super::worlds::assert_loads;
+use sm_fixtures::{S_TO_A, S_TO_B, T_TO_A, World, handover_plan, idle_plan};
 use sm_machine::{BeginFault, Step};
 use sm_reservation::Key;
 use sm_server::{ServerId, ShardId};
@@ -103,12 +103,12 @@ fn sixteen_plans_run_at_once(rt: HostRuntime) {
     let alloc = rt.alloc();
     let mut run = open_in(&rt, alloc, World::Base, 32);
     for _ in 0..16 {
-        run.must_begin(&rt, alloc, empty_plan(alloc));
+        run.must_begin(&rt, alloc, idle_plan(alloc, World::Base, 1));
     }
-    let refused = empty_plan(alloc);
+    let refused = idle_plan(alloc, World::Base, 1);
     assert_not_begun(&rt, alloc, &mut run, refused, BeginFault::TooManyPlans);
     run.assert_steps(&rt, 0, &[Step::Done]);
-    run.must_begin(&rt, alloc, empty_plan(alloc));
+    run.must_begin(&rt, alloc, idle_plan(alloc, World::Base, 1));
     assert_eq!(&rt; run.tokens.len(), 17);
     let _placement = run.close();
 }

@@ -1,15 +1,15 @@
 //! A plan that is halted between any two of its steps, and resumed.
-use super::plans::chained_plan;
 use super::run::{Run, open_in};
 use super::same::is_same;
-use super::worlds::{World, assert_loads};
+use super::worlds::assert_loads;
+use sm_fixtures::{World, signalled_plan};
 use sm_machine::Step;
 use std::alloc::Global;
 use std::process::Abort;
 
 /// The steps of the plan, each a stream and a position, in an order in which each of them can be made.
 fn order_of(rt: &impl Abort, alloc: Global) -> Vec<(u32, u32)> {
-    match chained_plan(alloc, 0) {
+    match signalled_plan(alloc, 0) {
         Ok(checked) => match Vec::from_slice(alloc, checked.order()) {
             Ok(order) => order,
             Err(_) => panic!(rt; "there is no memory for an order"),
@@ -21,7 +21,7 @@ fn order_of(rt: &impl Abort, alloc: Global) -> Vec<(u32, u32)> {
 /// A machine that has begun the plan.
 fn begun(rt: &impl Abort, alloc: Global) -> Run {
     let mut run = open_in(rt, alloc, World::Wide, 14);
-    run.must_begin(rt, alloc, chained_plan(alloc, 0));
+    run.must_begin(rt, alloc, signalled_plan(alloc, 0));
     run
 }
 

@@ -1,13 +1,10 @@
 //! The worked handover to its end, and streams that have no code or wait.
-use super::plans::{S_TO_B, chained_plan, empty_plan, handover_plan};
 use super::run::{open_in, open_over};
-use super::worlds::{
-    World, assert_loads, assert_primary, cell_at, placement_of, server_id, shard_id,
-};
+use super::worlds::{assert_loads, assert_primary, cell_at, server_id, shard_id};
+use sm_fixtures::{S_TO_B, World, handover_plan, idle_plan, signalled_plan, step};
 use sm_machine::Step;
 use sm_placement::Placement;
-use sm_protocol::{Event, Logged, Played};
-use sm_reservation::StreamId;
+use sm_protocol::{Logged, Played};
 use sm_server::{Call, Cell, Role};
 use std::alloc::{AllocError, Global};
 use std::process::Abort;
@@ -46,12 +43,10 @@ fn six_steps_make_the_handover(rt: HostRuntime) {
 fn an_empty_stream_is_done_twice(rt: HostRuntime) {
     let alloc = rt.alloc();
     let mut run = open_in(&rt, alloc, World::Base, 4);
-    run.must_begin(&rt, alloc, empty_plan(alloc));
+    run.must_begin(&rt, alloc, idle_plan(alloc, World::Base, 1));
     run.assert_steps(&rt, 0, &[Step::Done, Step::Done]);
     let end = Logged {
-        event: Event::Step {
-            stream: StreamId { plan: 0, stream: 0 },
-        },
+        event: step(0),
         answer: Played::Done,
     };
     assert!(rt; run.machine.log() == [end].as_slice());
@@ -62,7 +57,7 @@ fn an_empty_stream_is_done_twice(rt: HostRuntime) {
 fn a_stream_is_blocked_until_its_signal_is_posted(rt: HostRuntime) {
     let alloc = rt.alloc();
     let mut run = open_in(&rt, alloc, World::Wide, 16);
-    run.must_begin(&rt, alloc, chained_plan(alloc, 0));
+    run.must_begin(&rt, alloc, signalled_plan(alloc, 0));
     let blocked = Step::Blocked { signal: 0 };
     run.assert_steps(&rt, 1, &[blocked, blocked]);
     run.assert_recorded(&rt, 0);
@@ -74,7 +69,7 @@ fn a_stream_is_blocked_until_its_signal_is_posted(rt: HostRuntime) {
 
 /// The placement, where the calls of numbers 2 and 1 added a replica of shard s at server b, and dropped it.
 fn numbered_placement(rt: &impl Abort, alloc: Global) -> Result<Placement, AllocError> {
-    let mut placement = placement_of(alloc, World::Base)?;
+    let mut placement = World::Base.placement(alloc, &[])?;
     let shard = shard_id(rt, &placement, 0);
     let server = server_id(rt, &placement, 1);
     let added = placement.call_numbered(server, shard, Call::Add(Role::Secondary), 2);

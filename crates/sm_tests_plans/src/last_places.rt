@@ -1,9 +1,9 @@
 //! The last places of a log, beside what the worked handover needs, and how many tries a stream may be allowed.
 use super::beginning::assert_not_begun;
 use super::handover::TO_THE_END;
-use super::plans::{S_TO_B, handover_plan};
 use super::run::{Outcome, Run, open_in, outcome_of};
-use super::worlds::{World, server_id};
+use super::worlds::server_id;
+use sm_fixtures::{S_TO_B, World, handover_plan};
 use sm_machine::{BeginFault, Step};
 use sm_plan_code::MOST_CALLS;
 use sm_protocol::RefillFault;

@@ -14,8 +14,6 @@ mod losing;
 #[cfg(test)]
 mod memory;
 #[cfg(test)]
-mod plans;
-#[cfg(test)]
 mod run;
 #[cfg(test)]
 mod same;

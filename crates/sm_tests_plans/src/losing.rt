@@ -1,52 +1,21 @@
 //! Links that lose calls.
 use super::handover::{TO_THE_END, assert_moved};
 use super::last_places::assert_refill;
-use super::plans::{S_TO_B, chained_plan, handover_plan};
 use super::run::{Run, open_in};
-use super::worlds::{World, assert_loads, assert_primary};
+use super::worlds::{assert_loads, assert_primary};
+use sm_fixtures::{LosesEverySecond, S_TO_B, World, handover_plan, signalled_plan};
 use sm_machine::{Link, Step};
-use sm_protocol::Passage;
-use sm_reservation::StreamId;
 use std::process::Abort;
-
-/// Loses the answer to every second try, as long as it can count.
-#[derive(Drop)]
-struct EverySecond {
-    lost: u64,
-    is_second: bool,
-}
-
-impl Link for EverySecond {
-    ghost use Rattle.std.specs.Prelude.{⊤};
-
-    ghost losses = { λ link. link.lost };
-
-    ghost asked = { λ _ _ _ _ _. ⊤ };
-
-    fn passage(&mut self, _stream: StreamId, _number: u64) -> Passage {
-        let loses = self.is_second;
-        self.is_second = !self.is_second;
-        if !loses || self.lost == u64::MAX {
-            return Passage::Through;
-        }
-        self.lost += 1;
-        Passage::LostAfter
-    }
-
-    fn lost(&self) -> u64 {
-        self.lost
-    }
-}
 
 impl Run {
     /// A stream makes a step over a link, by the place of its token.
-    fn step_over(&mut self, rt: &impl Abort, token: usize, link: &mut EverySecond) -> Step {
+    fn step_over(&mut self, rt: &impl Abort, token: usize, link: &mut LosesEverySecond) -> Step {
         assert!(rt; token < self.tokens.len());
         self.machine.step_over(&mut self.tokens[token], link)
     }
 
     /// A stream makes steps over a link until its end; how many were lost.
-    fn go_to_end(&mut self, rt: &impl Abort, token: usize, link: &mut EverySecond) -> u64 {
+    fn go_to_end(&mut self, rt: &impl Abort, token: usize, link: &mut LosesEverySecond) -> u64 {
         let mut lost: u64 = 0;
         for _ in 0..32 {
             match self.step_over(rt, token, link) {
@@ -65,11 +34,11 @@ impl Run {
 fn what_is_lost_after_its_effect_is_made_once(rt: HostRuntime) {
     let alloc = rt.alloc();
     let mut run = open_in(&rt, alloc, World::Wide, 22);
-    let mut link = EverySecond {
+    let mut link = LosesEverySecond {
+        next: false,
         lost: 0,
-        is_second: false,
     };
-    run.must_begin(&rt, alloc, chained_plan(alloc, 4));
+    run.must_begin(&rt, alloc, signalled_plan(alloc, 4));
     let first = run.go_to_end(&rt, 0, &mut link);
     let second = run.go_to_end(&rt, 1, &mut link);
     assert_eq!(rt; (first, second), (3, 4));
@@ -88,9 +57,9 @@ fn what_is_lost_after_its_effect_is_made_once(rt: HostRuntime) {
 fn a_link_that_cannot_count_loses_nothing(rt: HostRuntime) {
     let alloc = rt.alloc();
     let mut run = open_in(&rt, alloc, World::Base, 6);
-    let mut link = EverySecond {
+    let mut link = LosesEverySecond {
+        next: true,
         lost: u64::MAX,
-        is_second: true,
     };
     run.must_begin(&rt, alloc, handover_plan(alloc, World::Base, S_TO_B));
     for answer in &TO_THE_END {
@@ -105,9 +74,9 @@ fn a_link_that_cannot_count_loses_nothing(rt: HostRuntime) {
 fn a_stream_that_has_spent_its_tries_goes_on_with_more(rt: HostRuntime) {
     let alloc = rt.alloc();
     let mut run = open_in(&rt, alloc, World::Base, 8);
-    let mut link = EverySecond {
+    let mut link = LosesEverySecond {
+        next: true,
         lost: u64::MAX - 1,
-        is_second: true,
     };
     run.must_begin(&rt, alloc, handover_plan(alloc, World::Base, S_TO_B));
     assert_eq!(rt; run.step_over(&rt, 0, &mut link), Step::Lost);

@@ -1,24 +1,12 @@
 //! Plans that begin, or for which there is no memory. `scripts/check-memory-tests` runs each of these tests with its first
 //! allocation refused, then with its second, and so on.
-use super::plans::chained_plan;
-use super::run::is_for;
-use super::worlds::{World, placement_of};
+use sm_fixtures::{World, is_for, is_signalled, signalled_plan};
 use sm_machine::{BeginFault, Machine, Step, StreamToken};
 use sm_placement::Placement;
 use sm_reservation::StreamId;
 use sm_verifier::Checked;
 use std::alloc::Global;
 use std::process::Abort;
-
-/// The plan is the one of two streams and a signal.
-fn is_chained(checked: &Checked) -> bool {
-    let plan = checked.plan();
-    plan.budget() == 8
-        && plan.streams().len() == 2
-        && plan.signals().len() == 1
-        && plan.streams().iter().all(|stream| stream.code.len() == 6)
-        && checked.order().len() == 14
-}
 
 /// Nothing was begun, and nothing has happened.
 fn assert_untouched(rt: &impl Abort, machine: &Machine) {
@@ -47,7 +35,7 @@ fn begun_or_not(
     machine: &mut Machine,
     checked: Checked,
 ) -> Vec<StreamToken> {
-    assert!(rt; is_for(machine, &checked));
+    assert!(rt; is_for(machine.config(), &checked));
     match machine.begin(alloc, checked) {
         Ok(tokens) => {
             let mut tokens = tokens;
@@ -56,7 +44,7 @@ fn begun_or_not(
         }
         Err((checked, why)) => {
             assert_eq!(rt; why, BeginFault::NoMemory);
-            assert!(rt; is_chained(&checked));
+            assert!(rt; is_signalled(&checked));
             assert_untouched(rt, machine);
             Vec::new(alloc)
         }
@@ -76,10 +64,10 @@ fn begin_at(rt: &impl Abort, alloc: Global, placement: Placement, checked: Check
 #[test]
 fn a_plan_is_begun_or_not(rt: HostRuntime) {
     let alloc = rt.alloc();
-    let Ok(checked) = chained_plan(alloc, 0) else {
+    let Ok(checked) = signalled_plan(alloc, 0) else {
         return;
     };
-    if let Ok(placement) = placement_of(alloc, World::Wide) {
+    if let Ok(placement) = World::Wide.placement(alloc, &[]) {
         begin_at(&rt, alloc, placement, checked);
     }
 }

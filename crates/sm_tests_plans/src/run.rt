@@ -1,7 +1,6 @@
 //! A machine with the rights to go on with it.
-ghost use Rattle.std.specs.Prelude.{◌≡◌, IsTrue};
-
-use super::worlds::{World, placement_of, server_id, shard_id};
+use super::worlds::{server_id, shard_id};
+use sm_fixtures::{World, is_for};
 use sm_machine::{Answer, BeginFault, Machine, Permit, Step, StreamToken, Ticket};
 use sm_placement::Placement;
 use sm_reservation::StreamId;
@@ -9,13 +8,6 @@ use sm_server::{ServerId, ShardId};
 use sm_verifier::Checked;
 use std::alloc::{AllocError, Global};
 use std::process::Abort;
-
-/// The plan was checked for the machine's configuration.
-pub(crate) fn is_for(machine: &Machine, checked: &Checked) -> bool
-    ensures { IsTrue result → checked.now.setup ≡ machine.now.placement.setup }
-{
-    checked.config() == machine.config()
-}
 
 /// A machine, the tokens of its plans in their order, its permits, and the tickets that end with it.
 pub(crate) struct Run {
@@ -54,7 +46,7 @@ pub(crate) fn open_over(
 
 /// Opens a machine over the placement of a world, with so many places of the log.
 pub(crate) fn open_in(rt: &impl Abort, alloc: Global, world: World, log_room: u32) -> Run {
-    open_over(rt, alloc, placement_of(alloc, world), log_room)
+    open_over(rt, alloc, world.placement(alloc, &[]), log_room)
 }
 
 /// What a request was answered, without its ticket.
@@ -118,7 +110,7 @@ impl Run {
         alloc: Global,
         checked: Checked,
     ) -> Result<(), (Checked, BeginFault)> {
-        assert!(rt; is_for(&self.machine, &checked));
+        assert!(rt; is_for(self.machine.config(), &checked));
         let mut tokens = self.machine.begin(alloc, checked)?;
         match self.tokens.append(&mut tokens) {
             Ok(()) => tokens.destroy_empty(),

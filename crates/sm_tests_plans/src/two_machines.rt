@@ -1,8 +1,8 @@
 //! What one machine gave out, at another one.
-use super::plans::{S_TO_B, handover_plan};
 use super::run::{Outcome, Run, open_in, outcome_of, ticket_of};
 use super::same::is_same;
-use super::worlds::{World, server_id};
+use super::worlds::server_id;
+use sm_fixtures::{S_TO_B, World, handover_plan};
 use sm_machine::{Answer, Permit, Step, Ticket};
 use std::alloc::Global;
 use std::process::Abort;

@@ -1,91 +1,9 @@
-//! The worked placements. Servers a, b, c and d have room for 10, 10, 4 and 8. Shard s has load 4, its primary at a, a
-//! secondary at c, and may lose one of them; shard t has load 6 and its primary at b, shard x load 8 and its primary at d.
+//! What is asked of the worked placements, and asserted of them.
 ghost use Rattle.std.specs.Prelude.{◌<◌, length};
 
-use sm_placement::{Config, Placement, Server, Shard};
+use sm_placement::Placement;
 use sm_server::{Cell, ServerId, ShardId};
-use std::alloc::{AllocError, Global};
 use std::process::Abort;
-
-/// Which servers and shards there are.
-#[derive(Clone, Copy, PartialEq, Eq)]
-pub(crate) enum World {
-    /// Servers a, b and c, shards s and t.
-    Base,
-    /// These with server d and shard x.
-    Wide,
-}
-
-/// The names of the servers, and their room.
-static SERVERS: [(&str, u64); 4] = [("a", 10), ("b", 10), ("c", 4), ("d", 8)];
-
-/// The names of the shards, with load, wanted replicas and cap.
-static SHARDS: [(&str, u64, u32, u32); 3] = [("s", 4, 2, 1), ("t", 6, 1, 0), ("x", 8, 1, 0)];
-
-/// The cells that are not absent.
-const fn cells() -> [(ShardId, ServerId, Cell); 4] {
-    [
-        (ShardId::new(0), ServerId::new(0), Cell::Primary),
-        (ShardId::new(0), ServerId::new(2), Cell::Secondary),
-        (ShardId::new(1), ServerId::new(1), Cell::Primary),
-        (ShardId::new(2), ServerId::new(3), Cell::Primary),
-    ]
-}
-
-/// The listed servers.
-const fn listed() -> [Option<ServerId>; 3] {
-    [
-        Some(ServerId::new(0)),
-        Some(ServerId::new(1)),
-        Some(ServerId::new(3)),
-    ]
-}
-
-/// The configuration of these servers and shards.
-fn config_by(
-    alloc: Global,
-    servers: &[(&str, u64)],
-    shards: &[(&str, u64, u32, u32)],
-) -> Result<Config, AllocError> {
-    let mut server_list = Vec::new(alloc);
-    for (name, room) in servers {
-        server_list.push(Server {
-            name: String::from_str(alloc, name)?,
-            region: String::from_str(alloc, "r1")?,
-            room: *room,
-        })?;
-    }
-    let mut shard_list = Vec::new(alloc);
-    for (name, load, want, cap) in shards {
-        shard_list.push(Shard {
-            name: String::from_str(alloc, name)?,
-            load: *load,
-            want: *want,
-            cap: *cap,
-            spread: 1,
-        })?;
-    }
-    Config::new(alloc, &server_list, &shard_list).map_err(|_| AllocError)
-}
-
-/// The configuration of a world.
-pub(crate) fn config_of(alloc: Global, world: World) -> Result<Config, AllocError> {
-    match world {
-        World::Base => config_by(alloc, &SERVERS[..3], &SHARDS[..2]),
-        World::Wide => config_by(alloc, &SERVERS, &SHARDS),
-    }
-}
-
-/// The placement of a world.
-pub(crate) fn placement_of(alloc: Global, world: World) -> Result<Placement, AllocError> {
-    let config = config_of(alloc, world)?;
-    let (cells, listed) = (cells(), listed());
-    let opened = match world {
-        World::Base => Placement::open(alloc, &config, &cells[..3], &listed[..2], &[], 1),
-        World::Wide => Placement::open(alloc, &config, &cells, &listed, &[], 1),
-    };
-    opened.map_err(|_| AllocError)
-}
 
 /// The id of a server, which has to be there.
 pub(crate) fn server_id(rt: &impl Abort, placement: &Placement, server: u32) -> ServerId

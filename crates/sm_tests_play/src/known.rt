@@ -5,9 +5,9 @@ ghost use Rattle.sm_protocol.specs.Laws.{NamesKnown};
 ghost use Rattle.sm_machine.specs.State.{state_of};
 ghost use Rattle.sm_machine.specs.Hand.{AreFor};
 
+use sm_fixtures::is_for;
 use sm_machine::{Machine, ReadyPlan};
 use sm_protocol::Event;
-use sm_verifier::Checked;
 
 /// Each event names what is known to the machine.
 pub(crate) fn are_known(machine: &Machine, events: &[Event]) -> bool
@@ -21,20 +21,13 @@ pub(crate) fn are_known(machine: &Machine, events: &[Event]) -> bool
     true
 }
 
-/// The plan was checked for the machine's configuration.
-pub(crate) fn is_for(machine: &Machine, checked: &Checked) -> bool
-    ensures { IsTrue result → checked.now.setup ≡ machine.now.placement.setup }
-{
-    checked.config() == machine.config()
-}
-
 /// The plan, if there is one, was checked for the machine's configuration.
 fn fits(machine: &Machine, plan: &Option<ReadyPlan>) -> bool
     ensures { IsTrue result → IfSome plan.now (λ p. p.setup ≡ machine.now.placement.setup) }
 {
     match plan {
         None => true,
-        Some(ready) => is_for(machine, ready.checked()),
+        Some(ready) => is_for(machine.config(), ready.checked()),
     }
 }
 

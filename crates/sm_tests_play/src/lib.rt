@@ -3,8 +3,6 @@
 #![tactic(auto)]
 
 #[cfg(test)]
-mod events;
-#[cfg(test)]
 mod known;
 #[cfg(test)]
 mod memory;

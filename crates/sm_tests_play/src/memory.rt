@@ -1,8 +1,9 @@
 //! Plans that are made ready and events that are played, or for which there is no memory. `scripts/check-memory-tests` runs each of
 //! these tests with its first allocation refused, then with its second, and so on.
-use super::events::{approve, arrive, begin, pass_on, step};
 use super::table::{Table, open};
-use super::worlds::{is_handover, plan_of, s_to_b};
+use sm_fixtures::{
+    S_TO_B, World, approve, arrive, begin, executed, handover_plan, is_handover, pass_on, step,
+};
 use sm_machine::make_ready;
 use sm_protocol::{Event, Played};
 use sm_server::{ServerId, ShardId};
@@ -25,7 +26,7 @@ fn assert_made_ready(rt: &impl Abort, alloc: Global, checked: Checked) {
 #[test]
 fn a_plan_is_made_ready_or_not(rt: HostRuntime) {
     let alloc = rt.alloc();
-    if let Ok(checked) = plan_of(alloc, &s_to_b(0)) {
+    if let Ok(checked) = handover_plan(alloc, World::Base, S_TO_B) {
         assert_made_ready(&rt, alloc, checked);
     }
 }
@@ -60,10 +61,7 @@ fn assert_played(rt: &impl Abort, table: &Table, answers: &[Played]) {
     table.assert_recorded(rt, 5);
     assert_eq!(rt; answers.len(), 6);
     assert!(rt; answers[0] == Played::Approved);
-    let to_b = Played::Executed {
-        server: ServerId::new(1),
-    };
-    assert!(rt; answers[5] == to_b);
+    assert!(rt; answers[5] == executed(1));
     let hand = &table.hand;
     assert!(rt; hand.tokens.len() == 1 && hand.permits.len() == 1 && hand.tickets.is_empty());
 }
@@ -75,7 +73,7 @@ fn events_are_played_or_not(rt: HostRuntime) {
     let Ok(mut table) = open(&rt, alloc, 16) else {
         return;
     };
-    if table.add_plan(alloc, &s_to_b(0)).is_ok() {
+    if table.add_plan(alloc, S_TO_B).is_ok() {
         match table.play(&rt, alloc, &events()) {
             Ok(answers) => assert_played(&rt, &table, answers.as_slice()),
             Err(_) => assert_untouched(&rt, &table),

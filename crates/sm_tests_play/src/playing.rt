@@ -1,10 +1,10 @@
 //! Worked lists of events.
-use super::events::{
-    Turn, approve, arrive, begin, begun, done, executed, lose, pass_on, passed, refill, step,
-    stream,
-};
 use super::table::{Table, must_open};
-use super::worlds::{Move, assert_cells, s_to_b};
+use super::worlds::assert_cells;
+use sm_fixtures::{
+    Move, S_TO_A, S_TO_B, Turn, approve, arrive, begin, begun, done, executed, lose, pass_on,
+    passed, refill, step, stream,
+};
 use sm_machine::BeginFault;
 use sm_protocol::{Played, RefillFault};
 use sm_reservation::Key;
@@ -14,24 +14,15 @@ use sm_verifier::Holding;
 use std::alloc::Global;
 use std::process::Abort;
 
-/// Shard s goes back from b to a.
-const S_TO_A: Move = Move {
-    shard: 0,
-    from: 1,
-    to: 0,
-    load: 4,
-    retries: 0,
-};
-
 /// A machine with the handover of shard s from a to b in its hand, with so many retries.
 fn with_handover(rt: &impl Abort, alloc: Global, log_room: u32, retries: u32) -> Table {
     let mut table = must_open(rt, alloc, log_room);
-    add_plan(rt, alloc, &mut table, &s_to_b(retries));
+    add_plan(rt, alloc, &mut table, Move { retries, ..S_TO_B });
     table
 }
 
 /// Puts the plan of a handover into the hand, for which there is memory.
-fn add_plan(rt: &impl Abort, alloc: Global, table: &mut Table, moved: &Move) {
+fn add_plan(rt: &impl Abort, alloc: Global, table: &mut Table, moved: Move) {
     let added = table.add_plan(alloc, moved);
     assert!(rt; added.is_ok());
 }
@@ -247,8 +238,8 @@ fn assert_plans(rt: &impl Abort, table: &Table, left: [bool; 3]) {
 fn a_plan_that_does_not_start_stays_in_its_place(rt: HostRuntime) {
     let alloc = rt.alloc();
     let mut table = with_handover(&rt, alloc, 13, 0);
-    add_plan(&rt, alloc, &mut table, &s_to_b(0));
-    add_plan(&rt, alloc, &mut table, &S_TO_A);
+    add_plan(&rt, alloc, &mut table, S_TO_B);
+    add_plan(&rt, alloc, &mut table, S_TO_A);
     play(&rt, alloc, &mut table, &starts());
     assert_plans(&rt, &table, [false, true, false]);
     assert_eq!(&rt; table.hand.tokens.len(), 2);

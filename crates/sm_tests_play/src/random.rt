@@ -1,9 +1,10 @@
 //! Random events, made by single calls and then by one list.
-ghost use Rattle.std.specs.Prelude.{◌<◌};
-
-use super::events::{approve, arrive, begin, done, lose, pass_on, refill, step};
 use super::table::{Table, must_open, put};
-use super::worlds::{Move, server_id, shard_id};
+use super::worlds::{server_id, shard_id};
+use sm_fixtures::{
+    Dice, Move, S_TO_A, S_TO_B, T_TO_A, T_TO_B, approve, arrive, begin, done, lose, pass_on,
+    refill, step,
+};
 use sm_placement::Placement;
 use sm_protocol::{Event, Played};
 use std::alloc::Global;
@@ -18,32 +19,17 @@ const PLACES: u32 = 220;
 /// The plans in the hand: each shard goes between a and b, again and again.
 static MOVES: [Move; 4] = [
     Move {
-        shard: 0,
-        from: 0,
-        to: 1,
-        load: 4,
         retries: 2,
+        ..S_TO_B
     },
+    T_TO_A,
     Move {
-        shard: 1,
-        from: 1,
-        to: 0,
-        load: 6,
-        retries: 0,
-    },
-    Move {
-        shard: 0,
-        from: 1,
-        to: 0,
-        load: 4,
         retries: 1,
+        ..S_TO_A
     },
     Move {
-        shard: 1,
-        from: 0,
-        to: 1,
-        load: 6,
         retries: 3,
+        ..T_TO_B
     },
 ];
 
@@ -52,63 +38,43 @@ fn open_with(rt: &impl Abort, alloc: Global, rounds: u32) -> Table {
     let mut table = must_open(rt, alloc, PLACES);
     for _ in 0..rounds {
         for moved in &MOVES {
-            let added = table.add_plan(alloc, moved);
+            let added = table.add_plan(alloc, *moved);
             assert!(rt; added.is_ok());
         }
     }
     table
 }
 
-/// Numbers that look random, the same in each run.
-#[derive(Drop)]
-struct Dice {
-    state: u64,
+/// The number of a plan: mostly one of the last that were begun.
+fn random_plan(dice: &mut Dice, table: &Table) -> u32 {
+    let begun = table.machine.plan_count().min(1_000) as u32;
+    if dice.roll(4) == 0 {
+        return dice.roll(begun + 1);
+    }
+    let back = 1 + dice.roll(2);
+    begun.saturating_sub(back)
 }
 
-impl Dice {
-    /// A number below so many.
-    fn roll(&mut self, sides: u32) -> u32
-        requires { 0 < sides }
-        ensures { result < sides }
-    {
-        self.state = self
-            .state
-            .wrapping_mul(6_364_136_223_846_793_005)
-            .wrapping_add(1_442_695_040_888_963_407);
-        (self.state / 65_536 % u64::from(sides)) as u32
+/// A place of the log: that of a request under way, if there is one.
+fn random_place(dice: &mut Dice, table: &Table) -> u32 {
+    let tickets = table.hand.tickets.as_slice();
+    if tickets.is_empty() || dice.roll(4) == 0 {
+        return dice.roll(PLACES);
     }
+    tickets[0].place()
+}
 
-    /// The number of a plan: mostly one of the last that were begun.
-    fn plan(&mut self, table: &Table) -> u32 {
-        let begun = table.machine.plan_count().min(1_000) as u32;
-        if self.roll(4) == 0 {
-            return self.roll(begun + 1);
-        }
-        let back = 1 + self.roll(2);
-        begun.saturating_sub(back)
-    }
-
-    /// A place of the log: that of a request under way, if there is one.
-    fn place(&mut self, table: &Table) -> u32 {
-        let tickets = table.hand.tickets.as_slice();
-        if tickets.is_empty() || self.roll(4) == 0 {
-            return self.roll(PLACES);
-        }
-        tickets[0].place()
-    }
-
-    /// An event.
-    fn event(&mut self, table: &Table) -> Event {
-        match self.roll(32) {
-            0..=12 => step(self.plan(table)),
-            13..=14 => lose(self.plan(table), self.roll(2) == 0),
-            15 => refill(self.plan(table), self.roll(4)),
-            16..=20 => arrive(self.roll(2), self.roll(3)),
-            21..=23 => pass_on(self.place(table)),
-            24..=25 => approve(self.roll(3)),
-            26..=28 => done(self.roll(3)),
-            _ => begin(self.roll(24)),
-        }
+/// An event.
+fn random_event(dice: &mut Dice, table: &Table) -> Event {
+    match dice.roll(32) {
+        0..=12 => step(random_plan(dice, table)),
+        13..=14 => lose(random_plan(dice, table), dice.roll(2) == 0),
+        15 => refill(random_plan(dice, table), dice.roll(4)),
+        16..=20 => arrive(dice.roll(2), dice.roll(3)),
+        21..=23 => pass_on(random_place(dice, table)),
+        24..=25 => approve(dice.roll(3)),
+        26..=28 => done(dice.roll(3)),
+        _ => begin(dice.roll(24)),
     }
 }
 
@@ -119,9 +85,9 @@ fn make_events(
     events: &mut Vec<Event>,
     answers: &mut Vec<Played>,
 ) {
-    let mut dice = Dice { state: 20_261_123 };
+    let mut dice = Dice::new();
     for _ in 0..EVENTS {
-        let event = dice.event(table);
+        let event = random_event(&mut dice, table);
         let answer = table.make(rt, &event);
         add(rt, events, Some(event));
         add(rt, answers, Some(answer));

@@ -1,88 +1,18 @@
 //! Events made by single calls, with what a hand has for them.
-use super::known::is_for;
 use super::table::{Table, put};
 use super::worlds::{server_id, shard_id};
-use sm_machine::{Answer, Link, ReadyPlan, Step, StreamToken, Ticket};
+use sm_fixtures::{Loses, answered, is_for, ticket_place};
+use sm_machine::{Answer, ReadyPlan, StreamToken};
 use sm_plan_code::MOST_CALLS;
-use sm_protocol::{Event, Passage, Played};
+use sm_protocol::{Event, Played};
 use sm_reservation::StreamId;
 use sm_server::{ServerId, ShardId};
 use std::process::Abort;
-
-/// Loses each try in the same way, as long as it can count.
-#[derive(Drop)]
-struct Loses {
-    after: bool,
-    lost: u64,
-}
-
-impl Link for Loses {
-    ghost use Rattle.std.specs.Prelude.{⊤};
-
-    ghost losses = { λ link. link.lost };
-
-    ghost asked = { λ _ _ _ _ _. ⊤ };
-
-    fn passage(&mut self, _stream: StreamId, _number: u64) -> Passage {
-        if self.lost == u64::MAX {
-            return Passage::Through;
-        }
-        self.lost += 1;
-        if self.after {
-            Passage::LostAfter
-        } else {
-            Passage::LostBefore
-        }
-    }
-
-    fn lost(&self) -> u64 {
-        self.lost
-    }
-}
-
-/// What a step is answered, as lists of events have it.
-fn played_of(step: Step) -> Played {
-    match step {
-        Step::Moved => Played::Moved,
-        Step::Blocked { signal } => Played::Blocked { signal },
-        Step::Done => Played::Done,
-        Step::Halted => Played::Halted,
-        Step::Unknown => Played::Unknown,
-        Step::Lost => Played::Lost,
-        Step::Spent => Played::Spent,
-    }
-}
-
-/// What a request is answered, as lists of events have it.
-fn answered(answer: &Answer) -> Played {
-    match answer {
-        Answer::Executed { server } => Played::Executed { server: *server },
-        Answer::Passed(ticket) => Played::Passed {
-            to: ticket.target(),
-            number: ticket.number(),
-            place: ticket.place(),
-        },
-        Answer::NotOwner => Played::NotOwner,
-        Answer::Unavailable => Played::Unavailable,
-        Answer::LogFull(_) => Played::LogFull,
-        Answer::Unknown(_) => Played::Unknown,
-    }
-}
 
 /// The place of a stream's token.
 fn token_place(tokens: &[StreamToken], id: StreamId) -> Option<usize> {
     for at in 0..tokens.len() {
         if tokens[at].id() == id {
-            return Some(at);
-        }
-    }
-    None
-}
-
-/// The place of the ticket of a pass.
-fn ticket_place(tickets: &[Ticket], place: u32) -> Option<usize> {
-    for at in 0..tickets.len() {
-        if tickets[at].place() == place {
             return Some(at);
         }
     }
@@ -103,7 +33,7 @@ impl Table {
                 self.machine.step_over(&mut self.hand.tokens[at], &mut link)
             }
         };
-        played_of(step)
+        Played::from(step)
     }
 
     /// A stream's allowance is raised.
@@ -193,7 +123,7 @@ impl Table {
 
     /// A plan starts that stood at a place, or goes back there.
     fn start(&mut self, rt: &impl Abort, at: usize, ready: ReadyPlan) -> Played {
-        assert!(rt; is_for(&self.machine, ready.checked()));
+        assert!(rt; is_for(self.machine.config(), ready.checked()));
         let number = self.machine.plan_count();
         match self.machine.start(ready) {
             Ok(tokens) => {

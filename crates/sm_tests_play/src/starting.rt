@@ -1,8 +1,6 @@
 //! Plans that are made ready and start by single calls, and tokens that are retired.
-use super::events::stream;
-use super::known::is_for;
 use super::table::{Table, must_open, put};
-use super::worlds::{is_handover, plan_of, s_to_b};
+use sm_fixtures::{S_TO_B, World, handover_plan, is_for, is_handover, stream};
 use sm_machine::{BeginFault, ReadyPlan, Step, make_ready};
 use sm_reservation::Key;
 use sm_server::{ServerId, ShardId};
@@ -12,7 +10,7 @@ use std::process::Abort;
 
 /// The handover of shard s from a to b, ready to start.
 fn ready(rt: &impl Abort, alloc: Global) -> ReadyPlan {
-    match plan_of(alloc, &s_to_b(0)) {
+    match handover_plan(alloc, World::Base, S_TO_B) {
         Ok(checked) => match make_ready(alloc, checked) {
             Ok(ready) => ready,
             Err(_) => panic!(rt; "there is no memory for a plan's room"),
@@ -23,7 +21,7 @@ fn ready(rt: &impl Abort, alloc: Global) -> ReadyPlan {
 
 /// The first plan starts, whose one token goes into the hand.
 fn start(rt: &impl Abort, table: &mut Table, ready: ReadyPlan) {
-    assert!(rt; is_for(&table.machine, ready.checked()));
+    assert!(rt; is_for(table.machine.config(), ready.checked()));
     match table.machine.start(ready) {
         Ok(tokens) => {
             let mut tokens = tokens;
@@ -42,7 +40,7 @@ fn not_started(
     ready: ReadyPlan,
     want: BeginFault,
 ) -> ReadyPlan {
-    assert!(rt; is_for(&table.machine, ready.checked()));
+    assert!(rt; is_for(table.machine.config(), ready.checked()));
     match table.machine.start(ready) {
         Ok(_) => panic!(rt; "a plan starts"),
         Err((ready, why)) => {

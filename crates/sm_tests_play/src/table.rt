@@ -1,7 +1,6 @@
 //! A machine, and the hand that lists of events are played with.
-use super::events::Turn;
 use super::known::{are_for, are_known};
-use super::worlds::{Move, placement, plan_of};
+use sm_fixtures::{Move, Turn, World, handover_plan};
 use sm_machine::{Hand, Machine, ReadyPlan, make_ready};
 use sm_placement::Placement;
 use sm_protocol::{Event, Played};
@@ -16,7 +15,7 @@ pub(crate) struct Table {
 
 /// Opens a machine over the worked placement, with so many places of the log and an empty hand.
 pub(crate) fn open(rt: &impl Abort, alloc: Global, log_room: u32) -> Result<Table, AllocError> {
-    let placement = placement(alloc)?;
+    let placement = World::Base.placement(alloc, &[])?;
     assert!(rt; placement.settled());
     match Machine::open(alloc, placement, log_room) {
         Ok((machine, permits)) => Ok(Table {
@@ -72,8 +71,8 @@ pub(crate) fn put<T>(rt: &impl Abort, list: &mut Vec<T>, value: T) {
 
 impl Table {
     /// Puts the plan of a handover behind those in the hand.
-    pub fn add_plan(&mut self, alloc: Global, moved: &Move) -> Result<(), AllocError> {
-        let checked = plan_of(alloc, moved)?;
+    pub fn add_plan(&mut self, alloc: Global, moved: Move) -> Result<(), AllocError> {
+        let checked = handover_plan(alloc, World::Base, moved)?;
         let ready = match make_ready(alloc, checked) {
             Ok(ready) => ready,
             Err(_) => return Err(AllocError),

@@ -3,9 +3,9 @@ use sm_machine::Link;
 use sm_protocol::Passage;
 use sm_reservation::StreamId;
 
-/// Loses each try in the same way, as long as it can count.
+/// Loses each try in the same way, before its effect or after it, as long as it can count.
 #[derive(Drop)]
-pub(crate) struct Loses {
+pub struct Loses {
     pub after: bool,
     pub lost: u64,
 }
@@ -36,7 +36,7 @@ impl Link for Loses {
 
 /// Loses every second try after its effect, the next one or the one behind it, as long as it can count.
 #[derive(Drop)]
-pub(crate) struct LosesEverySecond {
+pub struct LosesEverySecond {
     pub next: bool,
     pub lost: u64,
 }

@@ -1,7 +1,7 @@
 -- Configurations that compare as equal are equal.
 use Rattle.std.proofs.Common.{◌∙◌, sym}
 use Rattle.sm_placement.proofs.SameLemmas.{true_where_equal}
-use Rattle.sm_tests_board.proofs.boards.is_for.Goals as goal
+use Rattle.sm_fixtures.proofs.plans.is_for.Goals as goal
 
 pub returns : goal.returns
 returns c same =

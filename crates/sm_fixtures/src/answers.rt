@@ -1,0 +1,36 @@
+//! What requests are answered, as lists of events have it, and where their tickets are.
+ghost use Rattle.std.specs.Prelude.{◌≡◌, ◌<◌, length, IfSome};
+ghost use Rattle.sm_machine.specs.Requested.{played_by};
+
+use sm_machine::{Answer, Ticket};
+use sm_protocol::Played;
+
+/// What a request is answered.
+pub fn answered(answer: &Answer) -> Played
+    ensures { result ≡ played_by answer.now }
+{
+    match answer {
+        Answer::Executed { server } => Played::Executed { server: *server },
+        Answer::Passed(ticket) => Played::Passed {
+            to: ticket.target(),
+            number: ticket.number(),
+            place: ticket.place(),
+        },
+        Answer::NotOwner => Played::NotOwner,
+        Answer::Unavailable => Played::Unavailable,
+        Answer::LogFull(_) => Played::LogFull,
+        Answer::Unknown(_) => Played::Unknown,
+    }
+}
+
+/// Where the ticket of a pass stands among these, by the pass's place of the log.
+pub fn ticket_place(tickets: &[Ticket], place: u32) -> Option<usize>
+    ensures { IfSome result (λ at. at < length tickets.now) }
+{
+    for at in 0..tickets.len() {
+        if tickets[at].place() == place {
+            return Some(at);
+        }
+    }
+    None
+}

@@ -1,0 +1,253 @@
+//! Plans of handovers over the worked placements, each with its check, and plans whose streams have no code.
+ghost use Rattle.std.specs.Prelude.{◌≡◌, IsTrue};
+
+use super::worlds::World;
+use sm_placement::Config;
+use sm_plan_code::{Instr, Parts, Plan, Stream};
+use sm_reservation::{CellRight, Crown, Lead, Lists, Parcel, PlainCell, Room};
+use sm_server::{Role, ServerId, ShardId};
+use sm_verifier::{Checked, check};
+use std::alloc::{AllocError, Global};
+
+/// A shard goes from one server to another, of whose room its stream has so much at first, with so many retries.
+#[derive(Clone, Copy)]
+pub struct Move {
+    pub shard: u32,
+    pub from: u32,
+    pub to: u32,
+    pub room: u64,
+    pub retries: u32,
+}
+
+/// The worked handover: shard s goes from a to b.
+pub const S_TO_B: Move = Move {
+    shard: 0,
+    from: 0,
+    to: 1,
+    room: 4,
+    retries: 0,
+};
+
+/// Shard s goes back from b to a.
+pub const S_TO_A: Move = Move {
+    shard: 0,
+    from: 1,
+    to: 0,
+    room: 4,
+    retries: 0,
+};
+
+/// Shard t goes from b to a.
+pub const T_TO_A: Move = Move {
+    shard: 1,
+    from: 1,
+    to: 0,
+    room: 6,
+    retries: 0,
+};
+
+/// Shard t goes back from a to b.
+pub const T_TO_B: Move = Move {
+    shard: 1,
+    from: 0,
+    to: 1,
+    room: 6,
+    retries: 0,
+};
+
+/// Shard x goes from d to b, with half of the room that it takes: there is too little while t is there.
+const X_TO_B: Move = Move {
+    shard: 2,
+    from: 3,
+    to: 1,
+    room: 4,
+    retries: 0,
+};
+
+/// A parcel of these, and nothing spare.
+fn parcel_of(
+    alloc: Global,
+    cells: Vec<CellRight>,
+    crowns: Vec<Crown>,
+    room: Vec<Room>,
+) -> Result<Parcel, AllocError> {
+    let lists = Lists {
+        cells,
+        crowns,
+        room,
+        spare: Vec::new(alloc),
+    };
+    Parcel::new(alloc, lists).map_err(|_| AllocError)
+}
+
+/// What holds so much of a server's room, and nothing else.
+fn room_of(alloc: Global, server: u32, amount: u64) -> Result<Parcel, AllocError> {
+    let room = Room {
+        server: ServerId::new(server),
+        amount,
+    };
+    let room = Vec::from_array(alloc, [room])?;
+    parcel_of(alloc, Vec::new(alloc), Vec::new(alloc), room)
+}
+
+/// What a handover holds at its start.
+fn held(alloc: Global, moved: Move) -> Result<Parcel, AllocError> {
+    let shard = ShardId::new(moved.shard);
+    let (old, new) = (ServerId::new(moved.from), ServerId::new(moved.to));
+    let cell = CellRight {
+        shard,
+        server: new,
+        state: PlainCell::Absent,
+    };
+    let crown = Crown {
+        shard,
+        lead: Lead::At(old),
+        listed: Some(old),
+    };
+    let room = Room {
+        server: new,
+        amount: moved.room,
+    };
+    let cells = Vec::from_array(alloc, [cell])?;
+    let crowns = Vec::from_array(alloc, [crown])?;
+    let room = Vec::from_array(alloc, [room])?;
+    parcel_of(alloc, cells, crowns, room)
+}
+
+/// The instructions of a handover.
+pub const fn handover(moved: Move) -> [Instr; 5] {
+    let shard = ShardId::new(moved.shard);
+    let (old, new) = (ServerId::new(moved.from), ServerId::new(moved.to));
+    [
+        Instr::PrepareAdd {
+            shard,
+            server: new,
+            owner: old,
+        },
+        Instr::PrepareDrop {
+            shard,
+            server: old,
+            new_owner: new,
+        },
+        Instr::Add {
+            shard,
+            server: new,
+            role: Role::Primary,
+        },
+        Instr::Publish { shard },
+        Instr::Drop { shard, server: old },
+    ]
+}
+
+/// A stream that holds at its start what a handover holds.
+pub fn stream_of(
+    alloc: Global,
+    moved: Move,
+    budget: u32,
+    code: Vec<Instr>,
+) -> Result<Stream, AllocError> {
+    Ok(Stream {
+        budget,
+        retries: moved.retries,
+        holds: held(alloc, moved)?,
+        code,
+    })
+}
+
+/// The plan of these streams and signals, with its check for a world, which it has to pass.
+pub fn checked_of(
+    alloc: Global,
+    world: World,
+    budget: u32,
+    streams: Vec<Stream>,
+    signals: Vec<Parcel>,
+) -> Result<Checked, AllocError> {
+    let parts = Parts {
+        budget,
+        streams,
+        signals,
+    };
+    let plan = Plan::new(parts).map_err(|_| AllocError)?;
+    let config = world.config(alloc)?;
+    if !plan.fits(&config) {
+        return Err(AllocError);
+    }
+    check(alloc, &config, plan).map_err(|_| AllocError)
+}
+
+/// The plan was checked for the configuration.
+pub fn is_for(config: &Config, checked: &Checked) -> bool
+    ensures { IsTrue result → checked.now.setup ≡ config.now }
+{
+    checked.config() == config
+}
+
+/// The plan of one stream, which holds at its start what a handover holds.
+pub fn one_stream_plan(
+    alloc: Global,
+    world: World,
+    moved: Move,
+    budget: u32,
+    code: Vec<Instr>,
+) -> Result<Checked, AllocError> {
+    let mut streams = Vec::new(alloc);
+    streams.push(stream_of(alloc, moved, budget, code)?)?;
+    let budget = budget.saturating_add(moved.retries.min(100));
+    checked_of(alloc, world, budget, streams, Vec::new(alloc))
+}
+
+/// The plan of a handover by one stream.
+pub fn handover_plan(alloc: Global, world: World, moved: Move) -> Result<Checked, AllocError> {
+    let code = Vec::from_array(alloc, handover(moved))?;
+    one_stream_plan(alloc, world, moved, 4, code)
+}
+
+/// The plan is that of one handover.
+pub fn is_handover(checked: &Checked) -> bool {
+    let streams = checked.plan().streams();
+    streams.len() == 1 && checked.order().len() == 6
+}
+
+/// The plan by which shard t goes to a in one stream, which then posts the room that t had at b, and x goes to b in another one, which
+/// waits for it and fills the room; with so many retries for each.
+pub fn signalled_plan(alloc: Global, retries: u32) -> Result<Checked, AllocError> {
+    let first = Move { retries, ..T_TO_A };
+    let second = Move { retries, ..X_TO_B };
+    let mut posts = Vec::from_array(alloc, handover(first))?;
+    posts.push(Instr::Signal { signal: 0 })?;
+    let mut waits = Vec::from_array(alloc, [Instr::Wait { signal: 0 }])?;
+    for instr in &handover(second) {
+        waits.push(*instr)?;
+    }
+    let mut streams = Vec::new(alloc);
+    streams.push(stream_of(alloc, first, 4, posts)?)?;
+    streams.push(stream_of(alloc, second, 4, waits)?)?;
+    let mut signals = Vec::new(alloc);
+    signals.push(room_of(alloc, first.from, first.room)?)?;
+    let budget = 8 + 2 * retries.min(100);
+    checked_of(alloc, World::Wide, budget, streams, signals)
+}
+
+/// The plan is that of two streams with a signal between them, without retries.
+pub fn is_signalled(checked: &Checked) -> bool {
+    let plan = checked.plan();
+    plan.budget() == 8
+        && plan.streams().len() == 2
+        && plan.signals().len() == 1
+        && plan.streams().iter().all(|stream| stream.code.len() == 6)
+        && checked.order().len() == 14
+}
+
+/// The plan of so many streams without code.
+pub fn idle_plan(alloc: Global, world: World, count: u32) -> Result<Checked, AllocError> {
+    let mut streams = Vec::new(alloc);
+    for _ in 0..count {
+        streams.push(Stream {
+            budget: 0,
+            retries: 0,
+            holds: parcel_of(alloc, Vec::new(alloc), Vec::new(alloc), Vec::new(alloc))?,
+            code: Vec::new(alloc),
+        })?;
+    }
+    checked_of(alloc, world, 0, streams, Vec::new(alloc))
+}
