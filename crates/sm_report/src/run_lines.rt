@@ -1,6 +1,6 @@
 //! The lines of a plan that was run, and of what was asked beside it.
-ghost use Rattle.std.specs.Prelude.{◌≡◌, ◌++◌, All, OnOk, string_bytes, count_by, length, true};
-ghost use Rattle.sm_protocol.specs.State.{is_begun, is_no_call, stream_parts};
+ghost use Rattle.std.specs.Prelude.{◌≡◌, ◌++◌, All, OnOk, string_bytes, length, true};
+ghost use Rattle.sm_protocol.specs.State.{is_begun};
 ghost use Rattle.sm_executor.specs.Clients.{IsClient};
 ghost use Rattle.sm_machine.specs.State.{state_of};
 ghost use Rattle.sm_report.specs.RunLines.{stream_end_line, end_line, end_lines, ask_front, asked_line, ask_line, client_line, client_lines};
@@ -10,7 +10,6 @@ use crate::play_lines::{push_executed, push_word};
 use sm_executor::{Client, Naming, Side};
 use sm_machine::Machine;
 use sm_placement::Config;
-use sm_plan_code::{Instr, Stream, is_call};
 use sm_reservation::StreamId;
 use sm_router::Asked;
 use std::alloc::AllocError;
@@ -19,7 +18,7 @@ use std::alloc::AllocError;
 fn push_stream_end(
     out: &mut String,
     stream: u32,
-    steps: u128,
+    steps: u64,
     calls: u64,
     budget: u64,
 ) -> Result<(), AllocError>
@@ -31,28 +30,18 @@ fn push_stream_end(
     )
 }
 
-/// How many instructions of a code are no calls.
-fn others_in(code: &[Instr]) -> usize
-    ensures { result ≡ count_by is_no_call code.now }
-{
-    code.iter().filter(|instr| !is_call(instr)).count()
-}
-
-/// Adds the line of a stream as it stands, which has this part of the plan.
-fn push_end(
-    out: &mut String,
-    machine: &Machine,
-    id: StreamId,
-    parts: &Stream,
-) -> Result<(), AllocError>
-    requires begun { is_begun (state_of machine.now) id ≡ true }
-    requires parts { parts.now ≡ stream_parts (state_of machine.now) id }
+/// Adds the line of a stream as it stands.
+fn push_end(out: &mut String, machine: &Machine, id: StreamId) -> Result<(), AllocError>
+    requires { is_begun (state_of machine.now) id ≡ true }
     ensures { OnOk result (string_bytes out.new ≡ string_bytes out.old ++ end_line (state_of machine.now) id) }
 {
-    let calls = machine.calls(id);
-    // (in as many bits as no contract asks for: none bounds the tries)
-    let steps = u128::from(calls) + others_in(parts.code.as_slice()) as u128 + 1;
-    push_stream_end(out, id.stream, steps, calls, machine.allowance(id))
+    push_stream_end(
+        out,
+        id.stream,
+        machine.recorded_steps(id),
+        machine.calls(id),
+        machine.allowance(id),
+    )
 }
 
 /// Adds the lines of the streams of the first plan, which has begun.
@@ -61,12 +50,12 @@ pub fn push_ends(out: &mut String, machine: &Machine) -> Result<(), AllocError>
     ensures { OnOk result (string_bytes out.new ≡ string_bytes out.old ++ end_lines (state_of machine.now) 0) }
 {
     let streams = machine.plan(0).streams();
-    for (i, parts) in streams.iter().enumerate() {
+    for i in 0..streams.len() {
         let id = StreamId {
             plan: 0,
             stream: i as u32,
         };
-        push_end(out, machine, id, parts)?;
+        push_end(out, machine, id)?;
     }
     Ok(())
 }

@@ -9,15 +9,6 @@ use Rattle.sm_report.specs.RunLines.{end_line}
 use Rattle.sm_report.proofs.Texts.{text_of_next}
 use Rattle.sm_report.proofs.run_lines.push_ends.Goals as goal
 
-pub push_end-requires-clause-parts : goal.push_end-requires-clause-parts
-push_end-requires-clause-parts c =
-    let w = state_of c.args.machine.now in
-    let streams = c.streams-streams.result.now in
-    let streams_are : streams ≡ (plan_at w 0).streams = c.streams-streams.ensures.value ∙ ap (λ (p : PlanModel). p.streams) c.plan.ensures in
-    let count = ap length streams_are in
-    let within : c.loop-i.i < length streams = omega arith in
-    c.index-streams-i.is ∙ get_or_default streams c.loop-i.i c.index-streams-i.result no_stream within ∙ ap (λ xs. slice_index_or xs c.loop-i.i no_stream) streams_are
-
 pub loop-i-preserved : goal.loop-i-preserved
 loop-i-preserved c =
     let w = state_of c.args.machine.now in
