@@ -24,8 +24,7 @@ test:
 	cp crates/smplan/out/smplan build/smplan
 	$(MAKE) --jobs=2 --output-sync=line BEGUN=$(BEGUN) check-caught check-program check-tests
 	scripts/check-try-edits
-	scripts/try-edits --edits tests/must-fail
-	scripts/try-edits --until $$(( $(BEGUN) + 130 * 60 ))
+	scripts/try-edits --always tests/must-fail --until $$(( $(BEGUN) + 130 * 60 ))
 
 # (wrong versions that only tests catch, which take longest; the scripts over the program that stands in build; and those over tests)
 check-caught:
@@ -50,8 +49,7 @@ check-tests:
 
 # (all crates' edits, over what the gate has built)
 edits:
-	scripts/try-edits --edits tests/must-fail
-	scripts/try-edits
+	scripts/try-edits --always tests/must-fail
 
 # (over the program as it is now, and not as the gate may have built it before)
 storm:
