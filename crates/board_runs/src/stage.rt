@@ -8,7 +8,7 @@ use crate::begun::{Begun, Prepared};
 use crate::crew::Crew;
 use crate::fault::Fault;
 use crate::streams::Streams;
-use sm_executor::{Board, Naming, NotClosed, Side};
+use sm_executor::{Board, Naming, NotClosed, NotOpened, Side};
 use sm_machine::{Permit, StreamToken};
 use sm_placement::Placement;
 use std::alloc::Global;
@@ -83,12 +83,18 @@ impl<A: Side, B: Side, C: Side, N: Naming> Stage<A, B, C, N> {
             permits,
             tokens,
         } = begun;
-        match Board::<A, B, C, N>::open_begun(alloc, machine, base, tokens) {
+        match Board::<A, B, C, N>::open(alloc, machine, base, tokens) {
             Ok((board, runners)) => {
                 let streams = Streams::new(alloc, runners, room);
                 Stage::with_seats(rt, alloc, board, streams, permits, seats)
             }
-            Err((machine, _base, tokens, _error)) => {
+            Err(
+                NotOpened {
+                    machine,
+                    ground: _,
+                    tokens,
+                },
+            ) => {
                 room.destroy_empty();
                 machine.give_up(tokens, permits, Vec::new(alloc));
                 Err(Fault::NoMemory)

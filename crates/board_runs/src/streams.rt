@@ -1,9 +1,8 @@
 //! The streams of a run.
 ghost use Rattle.std.specs.Prelude.{◌≡◌, ◌≤◌, ◌+◌, vec_len, vec_capacity};
-ghost use Rattle.sm_executor.specs.CameBack.{came_back};
 
 use crate::fault::Fault;
-use sm_executor::{Board, Ended, Gate, Naming, RunFault, Runner, Side, run};
+use sm_executor::{Board, Ended, Gate, Naming, NotRun, RunFault, Runner, Side, run, take_tokens};
 use sm_machine::StreamToken;
 use std::alloc::Global;
 use std::mem;
@@ -20,15 +19,13 @@ pub(crate) struct Streams<A: Side> {
     ghost roomy: { vec_len tokens + vec_len runners ≤ vec_capacity tokens },
 }
 
-/// Adds the tokens of runners to a list with room for all.
-fn keep_runners<A: Side>(tokens: &mut Vec<StreamToken>, mut runners: Vec<Runner<A>>)
-    requires { vec_len tokens.old + vec_len runners ≤ vec_capacity tokens.old }
-    ensures { vec_len tokens.new ≤ vec_capacity tokens.new }
-{
-    while let Some(runner) = runners.pop() {
-        tokens.push_reserved(runner.into_token());
+/// What a run is answered whose streams have not made their ends.
+fn fault_of(why: RunFault) -> Fault {
+    match why {
+        RunFault::NoMemory => Fault::NoMemory,
+        RunFault::NoThread => Fault::NoThread,
+        RunFault::Halted | RunFault::Spent => Fault::NotEnded,
     }
-    runners.destroy_empty();
 }
 
 impl<A: Side> Streams<A> {
@@ -44,48 +41,26 @@ impl<A: Side> Streams<A> {
         }
     }
 
-    /// Keeps runners that came to no end.
-    fn keep(&mut self, runners: Vec<Runner<A>>, fault: Fault)
-        requires none { vec_len self.old.runners ≡ 0 }
-        requires room { vec_len self.old.tokens + vec_len runners ≤ vec_capacity self.old.tokens }
-        ensures { self.new.ended ≡ self.old.ended }
-    {
-        keep_runners(&mut self.tokens, runners);
-        self.ran = Err(fault);
-    }
-
-    /// Keeps the ends of streams, where there are none yet.
-    fn keep_ends(&mut self, ended: Vec<Ended<A>>)
+    /// Keeps the ends of streams, where there are none yet, and how the run came out.
+    fn keep(&mut self, ended: Vec<Ended<A>>, ran: Result<(), Fault>)
         requires { vec_len self.old.ended ≡ 0 }
     {
         mem::replace(&mut self.ended, ended).destroy_empty();
+        self.ran = ran;
     }
 
     /// Keeps what comes back of a run that has not come to the ends of all streams.
-    fn keep_fault(&mut self, fault: RunFault<A>)
+    fn keep_back(&mut self, back: NotRun<A>)
         requires none { (vec_len self.old.runners ≡ 0) × (vec_len self.old.ended ≡ 0) }
-        requires room { vec_len self.old.tokens + came_back fault ≤ vec_capacity self.old.tokens }
+        requires room { vec_len self.old.tokens + vec_len back.runners ≤ vec_capacity self.old.tokens }
     {
-        match fault {
-            RunFault::NoMemory(runners) => self.keep(runners, Fault::NoMemory),
-            RunFault::NoThread(runners) => self.keep(runners, Fault::NoThread),
-            RunFault::Halted { runners, ended } => {
-                self.keep(runners, Fault::NotEnded);
-                self.keep_ends(ended);
-            }
-            RunFault::Spent { runners, ended } => {
-                self.keep(runners, Fault::NotEnded);
-                self.keep_ends(ended);
-            }
-        }
-    }
-
-    /// Keeps the ends of all streams.
-    fn keep_all(&mut self, ended: Vec<Ended<A>>)
-        requires { vec_len self.old.ended ≡ 0 }
-    {
-        self.keep_ends(ended);
-        self.ran = Ok(());
+        let NotRun {
+            fault,
+            runners,
+            ended,
+        } = back;
+        take_tokens(runners, &mut self.tokens);
+        self.keep(ended, Err(fault_of(fault)));
     }
 
     /// Its runners, of which it has none then.
@@ -113,8 +88,8 @@ impl<A: Side> Streams<A> {
         }
         let runners = self.take_runners(alloc);
         match run(rt, alloc, board, runners, gate) {
-            Ok(ended) => self.keep_all(ended),
-            Err(fault) => self.keep_fault(fault),
+            Ok(ended) => self.keep(ended, Ok(())),
+            Err(back) => self.keep_back(back),
         }
     }
 
@@ -131,7 +106,7 @@ impl<A: Side> Streams<A> {
             mut tokens,
             ran: _,
         } = self;
-        keep_runners(&mut tokens, runners);
+        take_tokens(runners, &mut tokens);
         (ended, tokens)
     }
 }

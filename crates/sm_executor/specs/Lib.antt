@@ -6,6 +6,6 @@ pub mod Closed
 pub mod Starting
 pub mod Stepping
 pub mod Ending
+pub mod NotRun
 pub mod Answering
-pub mod CameBack
 pub mod Clients

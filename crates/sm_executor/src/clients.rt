@@ -1,9 +1,10 @@
 //! Clients that ask at a board, each in a thread of its own, beside a run.
 ghost use Rattle.std.specs.Prelude.{◌≡◌, ◌≢◌, ◌<◌, [], None, IfOk, IfErr, OnOk, All, length, true, vec_len};
-ghost use Rattle.sm_executor.specs.CameBack.{came_back, ends_back, runners_back, lacks_memory};
 ghost use Rattle.sm_executor.specs.Clients.{asking, AsksOnce, IsClient};
 ghost use Rattle.sm_executor.specs.Ending.{HasEnded};
+ghost use Rattle.sm_executor.specs.NotRun.{ComesBack};
 ghost use Rattle.sm_executor.specs.Views.{calling, streams_ended, streams_run};
+ghost use Rattle.sm_executor.specs.declared.threads.RunFault.TheVariants.{NoMemory};
 
 use crate::board::Board;
 use crate::caller::Caller;
@@ -11,7 +12,7 @@ use crate::gate::Gate;
 use crate::names::{Naming, Side};
 use crate::runner::{Ended, Runner};
 use crate::sure::Sure;
-use crate::threads::{Lists, Ran, RunFault, run_all};
+use crate::threads::{Lists, NotRun, Ran, run_all};
 use sm_router::{Asked, ask};
 use sm_server::ShardId;
 use std::alloc::Global;
@@ -199,21 +200,19 @@ pub fn run_beside<
     rt: &R,
     alloc: Global,
     board: &Board<A, B, C, N>,
-    mut runners: Vec<Runner<A>>,
+    runners: Vec<Runner<A>>,
     clients: &mut [Client<B, C, N>],
     gate: &G,
-) -> Result<Vec<Ended<A>>, RunFault<A>>
+) -> Result<Vec<Ended<A>>, NotRun<A>>
     ensures ended { IfOk result (λ ended. streams_ended ended.items ≡ streams_run runners.items) }
     ensures at { IfOk result (λ ended. All (HasEnded N.opened) ended.items) }
-    ensures back_at { IfErr result (λ fault. All (HasEnded N.opened) (ends_back fault)) }
-    ensures back { IfErr result (λ fault. came_back fault ≡ vec_len runners) }
-    ensures memory { IfErr result (λ fault. lacks_memory fault ≡ true → runners_back fault ≡ runners.items) }
+    ensures back_at { IfErr result (λ back. All (HasEnded N.opened) back.ended.items) }
+    ensures back { IfErr result (ComesBack (vec_len runners)) }
+    ensures memory { IfErr result (λ back. back.fault ≡ NoMemory → back.runners.items ≡ runners.items) }
     ensures clients { length clients.new ≡ length clients.old }
     ensures asked { OnOk result (All (λ client. client.asked ≢ None) clients.new) }
 {
-    let Ok(lists) = Lists::new(alloc, runners.as_slice()) else {
-        return Err(RunFault::NoMemory(runners));
-    };
+    let (lists, mut runners) = Lists::beside(alloc, runners)?;
     let ran = run_all_beside(rt, board, runners.as_mut_slice(), clients, gate);
     // What a thread did to its client is not told to who joins it.
     ask_all(rt, board, clients);

@@ -1,10 +1,11 @@
 //! What a board is opened with.
-ghost use Rattle.std.specs.Prelude.{◌≡◌, ◌<◌, ◌≤◌, ◌*◌, ◌^◌, [], All, IfOk, IfErr, length, map, slice_get, Some, ℕ};
+ghost use Rattle.std.specs.Prelude.{◌≡◌, ◌<◌, ◌≤◌, ◌*◌, ◌^◌, [], All, IfOk, IfErr, length, map, slice_get, vec_capacity, Some, ℕ};
 ghost use Rattle.sm_placement.specs.Place.{entry_at};
 ghost use Rattle.sm_map.specs.Entry.{IsInRange};
 ghost use Rattle.sm_machine.specs.State.{state_of};
 ghost use Rattle.sm_executor.specs.Tied.{IsMapOf};
 ghost use Rattle.sm_executor.specs.Views.{held_model, running};
+ghost use Rattle.sm_executor.specs.declared.unfinished.TheConstants.{MOST_UNFINISHED};
 ghost use Rattle.sm_plan_code.specs.declared.limits.TheConstants.{MOST_STREAMS};
 
 use crate::board::Board;
@@ -15,6 +16,7 @@ use crate::unfinished::MOST_UNFINISHED;
 use sm_machine::{Machine, StreamToken};
 use sm_map::{Entry, Publisher, Words};
 use sm_placement::Config;
+use sm_reservation::StreamId;
 use sm_server::ShardId;
 use std::alloc::{AllocError, Global};
 use std::marker::Model;
@@ -136,45 +138,36 @@ impl Ground {
     }
 }
 
+/// A board for which there is no memory, with all that it was to be opened with.
+pub struct NotOpened {
+    pub machine: Machine,
+    pub ground: Ground,
+    /// The tokens of the streams that were to get runners.
+    pub tokens: Vec<StreamToken>,
+}
+
+/// Room for what a board lists where it is not closed, and for so many runners.
+fn rooms<A: Side>(
+    alloc: Global,
+    count: usize,
+) -> Result<(Vec<(StreamId, usize)>, Vec<Runner<A>>), AllocError>
+    ensures positions { IfOk result (λ rooms. MOST_UNFINISHED ≤ vec_capacity rooms.0) }
+    ensures runners { IfOk result (λ rooms. (rooms.1.items ≡ []) × (count ≤ vec_capacity rooms.1)) }
+{
+    let positions = Vec::with_capacity(alloc, MOST_UNFINISHED)?;
+    let runners = Vec::with_capacity(alloc, count)?;
+    Ok((positions, runners))
+}
+
 impl<A: Side, B: Side, C: Side, N: Naming> Board<A, B, C, N> {
-    /// Opens a board over a machine, on the ground of this machine as it stands, under the names of that ground. Where memory runs
-    /// out, both come back.
+    /// Opens a board over a machine, on the ground of this machine as it stands, under the names of that ground. There is a runner for each
+    /// of these tokens, in their order: those of streams that have begun on the machine.
     pub fn open(
         alloc: Global,
         machine: Machine,
         ground: Ground,
-    ) -> Result<Board<A, B, C, N>, (Machine, Ground, AllocError)>
-        requires map { IsMapOf ground.words (state_of machine) }
-        requires setup { ground.setup ≡ machine.placement.setup }
-        requires names { (ground.words ≡ N.words) × (ground.setup ≡ N.setup) × (state_of machine ≡ N.opened) }
-        requires steps { (ground.steps ≡ A.name) × (A.parts ≡ 2 ^ 62) × (A.all ≡ 2 ^ 62) }
-        requires executed { (ground.executed ≡ B.name) × (B.parts ≡ 2 ^ 62) × (B.all ≡ 2 ^ 62) }
-        requires refused { (ground.refused ≡ C.name) × (C.parts ≡ 2 ^ 62) × (C.all ≡ 2 ^ 62) }
-        ensures { IfErr result (λ e. (e.0 ≡ machine) × (e.1 ≡ ground)) }
-    {
-        match Board::open_begun(alloc, machine, ground, Vec::new(alloc)) {
-            Ok((board, runners)) => {
-                runners.destroy_empty();
-                Ok(board)
-            }
-            Err((machine, ground, tokens, why)) => {
-                tokens.destroy_empty();
-                Err((machine, ground, why))
-            }
-        }
-    }
-
-    /// Opens a board over a machine in which plans have begun already, with a runner for each of these tokens of their streams, in the
-    /// tokens' order. Where memory runs out, all come back.
-    pub fn open_begun(
-        alloc: Global,
-        machine: Machine,
-        ground: Ground,
         tokens: Vec<StreamToken>,
-    ) -> Result<
-        (Board<A, B, C, N>, Vec<Runner<A>>),
-        (Machine, Ground, Vec<StreamToken>, AllocError),
-    >
+    ) -> Result<(Board<A, B, C, N>, Vec<Runner<A>>), NotOpened>
         requires map { IsMapOf ground.words (state_of machine) }
         requires setup { ground.setup ≡ machine.placement.setup }
         requires names { (ground.words ≡ N.words) × (ground.setup ≡ N.setup) × (state_of machine ≡ N.opened) }
@@ -183,21 +176,17 @@ impl<A: Side, B: Side, C: Side, N: Naming> Board<A, B, C, N> {
         requires executed { (ground.executed ≡ B.name) × (B.parts ≡ 2 ^ 62) × (B.all ≡ 2 ^ 62) }
         requires refused { (ground.refused ≡ C.name) × (C.parts ≡ 2 ^ 62) × (C.all ≡ 2 ^ 62) }
         ensures runners { IfOk result (λ opened. opened.1.items ≡ map (λ token. running token 0) tokens.items) }
-        ensures back { IfErr result (λ e. (e.0 ≡ machine) × (e.1 ≡ ground) × (e.2 ≡ tokens)) }
+        ensures back { IfErr result (λ e. (e.machine ≡ machine) × (e.ground ≡ ground) × (e.tokens ≡ tokens)) }
     {
-        let room = match Vec::with_capacity(alloc, MOST_UNFINISHED) {
-            Ok(room) => room,
-            Err(why) => return Err((machine, ground, tokens, why)),
-        };
-        let mut runners = match Vec::with_capacity(alloc, tokens.len()) {
-            Ok(runners) => runners,
-            Err(why) => {
-                room.destroy_empty();
-                return Err((machine, ground, tokens, why));
-            }
+        let Ok((positions, mut runners)) = rooms(alloc, tokens.len()) else {
+            return Err(NotOpened {
+                machine,
+                ground,
+                tokens,
+            });
         };
         let (mut held, words, config) = ground.laid(machine);
         held.take_on(&mut runners, tokens);
-        Ok((Board::of(held, words, config, room), runners))
+        Ok((Board::of(held, words, config, positions), runners))
     }
 }

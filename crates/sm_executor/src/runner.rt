@@ -1,5 +1,6 @@
 //! The right to make the steps of a stream on a board, and what is left of it when the stream has made its end.
-ghost use Rattle.std.specs.Prelude.{◌≡◌};
+ghost use Rattle.std.specs.Prelude.{◌≡◌, ◌≤◌, ◌+◌, ◌++◌, vec_len, vec_capacity};
+ghost use Rattle.sm_executor.specs.Views.{streams_run};
 
 use crate::names::Side;
 use sm_machine::StreamToken;
@@ -41,6 +42,19 @@ impl<A: Side> Runner<A> {
         let Runner { token, share: _ } = self;
         token
     }
+}
+
+/// The tokens of runners in their order, behind those of a list with room for all. The shares are given up for good. Takes no memory.
+pub fn take_tokens<A: Side>(mut runners: Vec<Runner<A>>, tokens: &mut Vec<StreamToken>)
+    requires { vec_len tokens.old + vec_len runners ≤ vec_capacity tokens.old }
+    ensures items { tokens.new.items ≡ tokens.old.items ++ streams_run runners.items }
+    ensures capacity { vec_capacity tokens.new ≡ vec_capacity tokens.old }
+{
+    runners.reverse();
+    while let Some(runner) = runners.pop() {
+        tokens.push_reserved(runner.into_token());
+    }
+    runners.destroy_empty();
 }
 
 /// A stream that has made its end, with its runner's share of the steps. It can be neither copied nor dropped.

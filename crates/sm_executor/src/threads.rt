@@ -3,10 +3,11 @@
 //! The threads wait for each other before their first steps, so that no stream has stepped where one cannot be started. What a
 //! thread did to its runner is not told to who joins it: the locked machine says of each runner whether its stream has made its end,
 //! and the ends are compared with the streams that were noted before.
-ghost use Rattle.std.specs.Prelude.{◌≡◌, ◌≤◌, ◌+◌, All, IfOk, IfErr, length, [], true, false, vec_len, vec_capacity};
+ghost use Rattle.std.specs.Prelude.{◌≡◌, ◌≢◌, ◌≤◌, ◌+◌, All, IfOk, IfErr, length, [], true, false, vec_len, vec_capacity};
 ghost use Rattle.sm_executor.specs.Ending.{HasEnded};
 ghost use Rattle.sm_executor.specs.Views.{streams_ended, streams_run};
-ghost use Rattle.sm_executor.specs.CameBack.{came_back, ends_back, runners_back, lacks_memory};
+ghost use Rattle.sm_executor.specs.NotRun.{ComesBack};
+ghost use Rattle.sm_executor.specs.declared.threads.RunFault.TheVariants.{NoMemory};
 
 use crate::board::Board;
 use crate::gate::{Gate, Starter, drive_own};
@@ -19,23 +20,33 @@ use std::alloc::{AllocError, Global};
 use std::sync::{Mutex, Wait};
 use std::thread;
 use std::thread::{Scope, Threads};
+use thiserror::Error;
 
 /// Why a run has not come to the ends of all streams.
-pub enum RunFault<A: Side> {
+#[derive(Clone, Copy, Debug, PartialEq, Eq, Error)]
+pub enum RunFault {
     /// Memory ran out before a stream has stepped.
-    NoMemory(Vec<Runner<A>>),
+    #[error("out of memory")]
+    NoMemory,
     /// A thread cannot be started, and no stream has stepped.
-    NoThread(Vec<Runner<A>>),
-    /// The board was halted: the runners whose streams have not made their ends, and the ends of the others.
-    Halted {
-        runners: Vec<Runner<A>>,
-        ended: Vec<Ended<A>>,
-    },
+    #[error("a thread cannot be started")]
+    NoThread,
+    /// The board was halted.
+    #[error("the board is halted")]
+    Halted,
     /// A stream has spent its allowance, so its thread has halted the board.
-    Spent {
-        runners: Vec<Runner<A>>,
-        ended: Vec<Ended<A>>,
-    },
+    #[error("a stream has spent its allowance")]
+    Spent,
+}
+
+/// A run that has not come to the ends of all streams, with what comes back of it.
+pub struct NotRun<A: Side> {
+    /// Why.
+    pub fault: RunFault,
+    /// The runners whose streams have not made their ends.
+    pub runners: Vec<Runner<A>>,
+    /// The ends of the other streams.
+    pub ended: Vec<Ended<A>>,
 }
 
 /// How the threads of a run have fared. All have ended.
@@ -189,7 +200,7 @@ pub(crate) struct Lists<A: Side> {
 
 impl<A: Side> Lists<A> {
     /// The streams of these runners, and two empty lists with room for all of them.
-    pub fn new(alloc: Global, runners: &[Runner<A>]) -> Result<Lists<A>, AllocError>
+    fn new(alloc: Global, runners: &[Runner<A>]) -> Result<Lists<A>, AllocError>
         ensures streams { IfOk result (λ lists. lists.streams.items ≡ streams_run runners.now) }
         ensures room { IfOk result (λ lists. (length runners.now ≤ vec_capacity lists.ended) × (length runners.now ≤ vec_capacity lists.left)) }
     {
@@ -206,6 +217,26 @@ impl<A: Side> Lists<A> {
         })
     }
 
+    /// What a run of these runners needs, beside the runners. Where there is no memory they come back.
+    pub fn beside(
+        alloc: Global,
+        runners: Vec<Runner<A>>,
+    ) -> Result<(Lists<A>, Vec<Runner<A>>), NotRun<A>>
+        ensures streams { IfOk result (λ r. r.0.streams.items ≡ streams_run runners.items) }
+        ensures room { IfOk result (λ r. (vec_len runners ≤ vec_capacity r.0.ended) × (vec_len runners ≤ vec_capacity r.0.left)) }
+        ensures runners { IfOk result (λ r. r.1 ≡ runners) }
+        ensures back { IfErr result (λ back. (back.fault ≡ NoMemory) × (back.runners ≡ runners) × (back.ended.items ≡ [])) }
+    {
+        let Ok(lists) = Lists::new(alloc, runners.as_slice()) else {
+            return Err(NotRun {
+                fault: RunFault::NoMemory,
+                runners,
+                ended: Vec::new(alloc),
+            });
+        };
+        Ok((lists, runners))
+    }
+
     /// What a run is answered, after its threads have ended so.
     pub fn answer<B: Side, C: Side, N: Naming, R: Wait>(
         self,
@@ -213,13 +244,13 @@ impl<A: Side> Lists<A> {
         board: &Board<A, B, C, N>,
         runners: Vec<Runner<A>>,
         ran: Ran,
-    ) -> Result<Vec<Ended<A>>, RunFault<A>>
+    ) -> Result<Vec<Ended<A>>, NotRun<A>>
         requires room { (vec_len runners ≤ vec_capacity self.ended) × (vec_len runners ≤ vec_capacity self.left) }
         ensures ended { IfOk result (λ ended. streams_ended ended.items ≡ self.streams.items) }
         ensures at { IfOk result (λ ended. All (HasEnded N.opened) ended.items) }
-        ensures back_at { IfErr result (λ fault. All (HasEnded N.opened) (ends_back fault)) }
-        ensures back { IfErr result (λ fault. came_back fault ≡ vec_len runners) }
-        ensures memory { IfErr result (λ fault. lacks_memory fault ≡ false) }
+        ensures back_at { IfErr result (λ back. All (HasEnded N.opened) back.ended.items) }
+        ensures back { IfErr result (ComesBack (vec_len runners)) }
+        ensures memory { IfErr result (λ back. back.fault ≢ NoMemory) }
     {
         let Lists {
             streams,
@@ -227,26 +258,27 @@ impl<A: Side> Lists<A> {
             mut left,
         } = self;
         if ran == Ran::NotAll {
-            ended.destroy_empty();
             left.destroy_empty();
-            return Err(RunFault::NoThread(runners));
+            return Err(NotRun {
+                fault: RunFault::NoThread,
+                runners,
+                ended,
+            });
         }
         retire_all(rt, board, runners, &mut ended, &mut left);
         if left.is_empty() && are_of(ended.as_slice(), streams.as_slice()) {
             left.destroy_empty();
             return Ok(ended);
         }
-        if ran == Ran::Spent {
-            Err(RunFault::Spent {
-                runners: left,
-                ended,
-            })
-        } else {
-            Err(RunFault::Halted {
-                runners: left,
-                ended,
-            })
-        }
+        Err(NotRun {
+            fault: if ran == Ran::Spent {
+                RunFault::Spent
+            } else {
+                RunFault::Halted
+            },
+            runners: left,
+            ended,
+        })
     }
 }
 
@@ -264,25 +296,23 @@ pub fn run_over<
     rt: &R,
     alloc: Global,
     board: &Board<A, B, C, N>,
-    mut runners: Vec<Runner<A>>,
+    runners: Vec<Runner<A>>,
     links: &[Mutex<L>],
     gate: &G,
-) -> Result<Vec<Ended<A>>, RunFault<A>>
+) -> Result<Vec<Ended<A>>, NotRun<A>>
     ensures ended { IfOk result (λ ended. streams_ended ended.items ≡ streams_run runners.items) }
     ensures at { IfOk result (λ ended. All (HasEnded N.opened) ended.items) }
-    ensures back_at { IfErr result (λ fault. All (HasEnded N.opened) (ends_back fault)) }
-    ensures back { IfErr result (λ fault. came_back fault ≡ vec_len runners) }
-    ensures memory { IfErr result (λ fault. lacks_memory fault ≡ true → runners_back fault ≡ runners.items) }
+    ensures back_at { IfErr result (λ back. All (HasEnded N.opened) back.ended.items) }
+    ensures back { IfErr result (ComesBack (vec_len runners)) }
+    ensures memory { IfErr result (λ back. back.fault ≡ NoMemory → back.runners.items ≡ runners.items) }
 {
-    let Ok(lists) = Lists::new(alloc, runners.as_slice()) else {
-        return Err(RunFault::NoMemory(runners));
-    };
+    let (lists, mut runners) = Lists::beside(alloc, runners)?;
     let ran = run_all(rt, board, runners.as_mut_slice(), links, gate);
     lists.answer(rt, board, runners, ran)
 }
 
-/// Makes all steps of the runners' streams, each in a thread of its own. With Ok there is an end for each runner, in their order. With
-/// a fault as many runners and ends come back as there were runners, with NoMemory the runners as they were. Each end tells what the
+/// Makes all steps of the runners' streams, each in a thread of its own. With Ok there is an end for each runner, in their order. Else
+/// as many runners and ends come back as there were runners, with NoMemory the runners as they were. Each end tells what the
 /// machine had of its stream once that had ended.
 pub fn run<
     A: Side + Send + Sync,
@@ -297,12 +327,12 @@ pub fn run<
     board: &Board<A, B, C, N>,
     runners: Vec<Runner<A>>,
     gate: &G,
-) -> Result<Vec<Ended<A>>, RunFault<A>>
+) -> Result<Vec<Ended<A>>, NotRun<A>>
     ensures ended { IfOk result (λ ended. streams_ended ended.items ≡ streams_run runners.items) }
     ensures at { IfOk result (λ ended. All (HasEnded N.opened) ended.items) }
-    ensures back_at { IfErr result (λ fault. All (HasEnded N.opened) (ends_back fault)) }
-    ensures back { IfErr result (λ fault. came_back fault ≡ vec_len runners) }
-    ensures memory { IfErr result (λ fault. lacks_memory fault ≡ true → runners_back fault ≡ runners.items) }
+    ensures back_at { IfErr result (λ back. All (HasEnded N.opened) back.ended.items) }
+    ensures back { IfErr result (ComesBack (vec_len runners)) }
+    ensures memory { IfErr result (λ back. back.fault ≡ NoMemory → back.runners.items ≡ runners.items) }
 {
     run_over::<A, B, C, N, Sure, R, G>(rt, alloc, board, runners, &[], gate)
 }

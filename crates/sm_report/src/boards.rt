@@ -20,11 +20,13 @@ ghost use Rattle.sm_plan_code.specs.declared.limits.TheConstants.{MOST_STREAMS};
 use crate::begun::Begun;
 use crate::early::Early;
 use crate::ending::push_ending;
-use crate::given::{Given, keep_ends, keep_fault, keep_runners, take_callers};
+use crate::given::{Given, keep_back, keep_ends, take_callers};
 use crate::made::Made;
 use crate::run_lines::{push_clients, push_ends};
 use crate::unmade::{Unmade, Unrun};
-use sm_executor::{Board, Client, Ground, Naming, Open, Runner, Side, run_beside};
+use sm_executor::{
+    Board, Client, Ground, Naming, NotOpened, Open, Runner, Side, run_beside, take_tokens,
+};
 use sm_machine::{BeginFault, Machine, Permit, StreamToken};
 use sm_placement::Config;
 use sm_server::ShardId;
@@ -110,7 +112,7 @@ fn run_begun<
     ensures why { IfErr result (λ why. IfUnmade why (λ made. ⊥)) }
 {
     if !call_clients(rt, board, asks, &mut given.clients) {
-        keep_runners(&mut given.tokens, runners);
+        take_tokens(runners, &mut given.tokens);
         return Err(Unmade::Unrun(Unrun::NoCaller));
     }
     let clients = given.clients.as_mut_slice();
@@ -119,7 +121,7 @@ fn run_begun<
             keep_ends(&mut given.ended, ended);
             Ok(())
         }
-        Err(fault) => Err(keep_fault(&mut given.ended, &mut given.tokens, fault)),
+        Err(back) => Err(keep_back(&mut given.ended, &mut given.tokens, back)),
     }
 }
 
@@ -327,14 +329,20 @@ fn report_on_ground<
         tokens,
         accepted,
     } = begun;
-    match Board::<A, B, C, N>::open_begun(alloc, machine, ground, tokens) {
+    match Board::<A, B, C, N>::open(alloc, machine, ground, tokens) {
         Ok((board, runners)) => {
             report_given(rt, alloc, board, given, permits, runners, accepted, asks)
         }
-        Err((machine, _ground, tokens, error)) => {
+        Err(
+            NotOpened {
+                machine,
+                ground: _,
+                tokens,
+            },
+        ) => {
             given.destroy_empty();
             machine.give_up(tokens, permits, Vec::new(alloc));
-            Err(Unmade::from(error))
+            Err(Unmade::Early(Early::NoMemory))
         }
     }
 }

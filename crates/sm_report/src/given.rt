@@ -1,11 +1,10 @@
 //! What a board has given out, and takes back where it ends.
 ghost use Rattle.std.specs.Prelude.{◌≡◌, ◌≤◌, ◌+◌, IfOk, [], map, vec_len, vec_capacity};
-ghost use Rattle.sm_executor.specs.CameBack.{came_back};
 ghost use Rattle.sm_report.specs.Unmade.{IfUnmade};
 
 use crate::early::Early;
 use crate::unmade::{Unmade, Unrun};
-use sm_executor::{Caller, Client, Ended, Naming, RunFault, Runner, Side};
+use sm_executor::{Caller, Client, Ended, Naming, NotRun, RunFault, Side, take_tokens};
 use sm_machine::StreamToken;
 use std::alloc::{AllocError, Global};
 use std::mem;
@@ -76,46 +75,36 @@ pub fn keep_ends<A: Side>(kept: &mut Vec<Ended<A>>, ended: Vec<Ended<A>>)
     mem::replace(kept, ended).destroy_empty();
 }
 
-/// The tokens of runners, into a list with room for all. Takes no memory.
-pub fn keep_runners<A: Side>(tokens: &mut Vec<StreamToken>, mut runners: Vec<Runner<A>>)
-    requires { vec_len tokens.old + vec_len runners ≤ vec_capacity tokens.old }
+/// Why there is no report of a run whose streams have not made their ends.
+fn unmade_of(why: RunFault) -> Unmade
+    ensures { IfUnmade result (λ made. ⊥) }
 {
-    while let Some(runner) = runners.pop() {
-        tokens.push_reserved(runner.into_token());
+    match why {
+        RunFault::NoMemory => Unmade::Early(Early::NoMemory),
+        RunFault::NoThread => Unmade::Unrun(Unrun::NoThread),
+        RunFault::Halted => Unmade::Unrun(Unrun::Halted),
+        RunFault::Spent => Unmade::Unrun(Unrun::Spent),
     }
-    runners.destroy_empty();
 }
 
 /// Keeps what comes back of a run that has not come to the ends of all streams, and says why there is no report.
-pub fn keep_fault<A: Side>(
+pub fn keep_back<A: Side>(
     kept: &mut Vec<Ended<A>>,
     tokens: &mut Vec<StreamToken>,
-    fault: RunFault<A>,
+    back: NotRun<A>,
 ) -> Unmade
     requires none { kept.old.items ≡ [] }
-    requires room { vec_len tokens.old + came_back fault ≤ vec_capacity tokens.old }
+    requires room { vec_len tokens.old + vec_len back.runners ≤ vec_capacity tokens.old }
     ensures { IfUnmade result (λ made. ⊥) }
 {
-    match fault {
-        RunFault::NoMemory(runners) => {
-            keep_runners(tokens, runners);
-            Unmade::Early(Early::NoMemory)
-        }
-        RunFault::NoThread(runners) => {
-            keep_runners(tokens, runners);
-            Unmade::Unrun(Unrun::NoThread)
-        }
-        RunFault::Halted { runners, ended } => {
-            keep_runners(tokens, runners);
-            keep_ends(kept, ended);
-            Unmade::Unrun(Unrun::Halted)
-        }
-        RunFault::Spent { runners, ended } => {
-            keep_runners(tokens, runners);
-            keep_ends(kept, ended);
-            Unmade::Unrun(Unrun::Spent)
-        }
-    }
+    let NotRun {
+        fault,
+        runners,
+        ended,
+    } = back;
+    take_tokens(runners, tokens);
+    keep_ends(kept, ended);
+    unmade_of(fault)
 }
 
 /// The callers of clients in their order, into an empty list with room for all. Takes no memory.

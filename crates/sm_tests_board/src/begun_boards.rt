@@ -5,7 +5,7 @@ use super::courses::run_through;
 use super::given::{put, put_all};
 use super::map_and_asks::assert_steps;
 use super::worlds::assert_loads;
-use sm_executor::{Board, Ended, Naming, Open, RunFault, Runner, Side, run};
+use sm_executor::{Board, Ended, Naming, NotRun, Open, RunFault, Runner, Side, run};
 use sm_fixtures::{Move, S_TO_B, T_TO_A, World, handover_plan, is_for, stream};
 use sm_machine::{Machine, Step, StreamToken};
 use std::alloc::Global;
@@ -78,7 +78,13 @@ fn run_unknown<
     let mut runners = Vec::new(alloc);
     put(rt, &mut runners, unknown);
     match run(rt, alloc, board, runners, &Open) {
-        Err(RunFault::Halted { runners, ended }) => {
+        Err(
+            NotRun {
+                fault: RunFault::Halted,
+                runners,
+                ended,
+            },
+        ) => {
             assert!(rt; ended.is_empty());
             ended.destroy_empty();
             assert!(rt; runners.len() == 1);

@@ -10,7 +10,7 @@ use super::given::{put, put_all};
 use super::memory::{Attempt, begin_or_not};
 use super::runs::run_checked;
 use super::scenes::{Scene, play_scene};
-use sm_executor::{Board, Caller, Ended, Ground, Naming, Runner, Side};
+use sm_executor::{Board, Caller, Ended, Ground, Naming, NotOpened, Runner, Side};
 use sm_fixtures::{World, is_for};
 use sm_machine::{Machine, Permit, StreamToken, Ticket};
 use sm_placement::Placement;
@@ -88,8 +88,8 @@ fn act<
     }
 }
 
-/// Opens a board over a machine and acts on it. Where there are tokens of two streams at most, of plans that have begun on the machine,
-/// the board gives out runners for them. Where there is no memory for a board without them, the machine and the deed come back.
+/// Opens a board over a machine and acts on it, with runners for the streams of these tokens: of two at most, of plans that have begun on the
+/// machine. Where there is no memory for a board without tokens, the machine and the deed come back.
 fn on_ground<
     'a,
     A: Side + Send + Sync,
@@ -112,17 +112,19 @@ fn on_ground<
     requires executed { (ground.executed ≡ B.name) × (B.parts ≡ 2 ^ 62) × (B.all ≡ 2 ^ 62) }
     requires refused { (ground.refused ≡ C.name) × (C.parts ≡ 2 ^ 62) × (C.all ≡ 2 ^ 62) }
 {
-    if tokens.is_empty() {
-        tokens.destroy_empty();
-        match Board::<A, B, C, N>::open(alloc, machine, ground) {
-            Ok(board) => Ok(act(rt, alloc, board, Vec::new(alloc), deed)),
-            Err((machine, _, _)) => Err((machine, deed)),
-        }
-    } else {
-        assert!(rt; tokens.len() <= 2 && machine.plan_count() >= 1);
-        match Board::<A, B, C, N>::open_begun(alloc, machine, ground, tokens) {
-            Ok((board, runners)) => Ok(act(rt, alloc, board, runners, deed)),
-            Err(_) => panic!(rt; "there is no memory for a board over plans that have begun"),
+    assert!(rt; tokens.is_empty() || tokens.len() <= 2 && machine.plan_count() >= 1);
+    match Board::<A, B, C, N>::open(alloc, machine, ground, tokens) {
+        Ok((board, runners)) => Ok(act(rt, alloc, board, runners, deed)),
+        Err(
+            NotOpened {
+                machine,
+                ground: _,
+                tokens,
+            },
+        ) => {
+            assert!(rt; tokens.is_empty());
+            tokens.destroy_empty();
+            Err((machine, deed))
         }
     }
 }

@@ -6,7 +6,7 @@ use super::memory::has_none_stepped;
 use super::plans::two_handovers;
 use super::runs::{assert_moved, run_plan};
 use sm_executor::{
-    Board, Caller, Client, Ended, Gate, Naming, Open, RunFault, Runner, Side, run_beside,
+    Board, Caller, Client, Ended, Gate, Naming, NotRun, Open, RunFault, Runner, Side, run_beside,
 };
 use sm_fixtures::{S_TO_B, World, handover_plan};
 use sm_router::Asked;
@@ -84,7 +84,14 @@ pub(crate) fn run_beside_clients<
     let mut clients = clients(rt, alloc, board);
     let ended = match run_beside(rt, alloc, board, runners, clients.as_mut_slice(), gate) {
         Ok(ended) => ended,
-        Err(RunFault::NoThread(runners)) => {
+        Err(
+            NotRun {
+                fault: RunFault::NoThread,
+                runners,
+                ended,
+            },
+        ) => {
+            ended.destroy_empty();
             assert!(rt; println!(rt; "not run: NoThread").is_ok());
             assert!(rt; has_none_stepped(board.hold(rt).machine(), runners.as_slice(), 2));
             run_through(rt, alloc, board, runners, &Open)

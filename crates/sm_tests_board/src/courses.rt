@@ -3,7 +3,7 @@ use super::clients::{run_behind_clients, run_beside_clients};
 use super::gates::{Counting, Halting, Meeting};
 use super::given::{put, put_all};
 use sm_executor::{
-    Board, Caller, Ended, Gate, Naming, Open, RunFault, Runner, Side, run, run_over,
+    Board, Caller, Ended, Gate, Naming, NotRun, Open, RunFault, Runner, Side, run, run_over,
 };
 use sm_fixtures::{Loses, LosesEverySecond};
 use sm_machine::{Link, Step};
@@ -81,7 +81,13 @@ fn run_halted<
             assert_calls(rt, gate.counting.calls(), recorded);
             ended
         }
-        Err(RunFault::Halted { runners, mut ended }) => {
+        Err(
+            NotRun {
+                fault: RunFault::Halted,
+                runners,
+                mut ended,
+            },
+        ) => {
             assert!(rt; !runners.is_empty());
             assert!(rt; recorded >= number);
             assert_calls(
@@ -120,7 +126,8 @@ fn run_spent<
     let gate = Counting::new();
     match run(rt, alloc, board, runners, &gate) {
         Err(
-            RunFault::Spent {
+            NotRun {
+                fault: RunFault::Spent,
                 mut runners,
                 mut ended,
             },

@@ -2,7 +2,7 @@
 //! each of these tests with its first allocation refused, then with its second, and so on; `scripts/check-threads` does so with the threads
 //! of the last one.
 use super::boards::{Deed, End, act_or_not, close, end, machine_or_not, tokens_of};
-use sm_executor::{Board, Naming, Open, RunFault, Runner, Side, run};
+use sm_executor::{Board, Naming, NotRun, Open, RunFault, Runner, Side, run};
 use sm_fixtures::{
     S_TO_B, World, handover_plan, is_for, is_handover, is_signalled, signalled_plan,
 };
@@ -116,8 +116,24 @@ fn run_or_not<
             tokens.destroy_empty();
             return (placement, count);
         }
-        Err(RunFault::NoMemory(runners)) => runners,
-        Err(RunFault::NoThread(runners)) => {
+        Err(
+            NotRun {
+                fault: RunFault::NoMemory,
+                runners,
+                ended,
+            },
+        ) => {
+            ended.destroy_empty();
+            runners
+        }
+        Err(
+            NotRun {
+                fault: RunFault::NoThread,
+                runners,
+                ended,
+            },
+        ) => {
+            ended.destroy_empty();
             assert!(rt; println!(rt; "not run: NoThread").is_ok());
             runners
         }
