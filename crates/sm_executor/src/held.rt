@@ -216,8 +216,10 @@ impl<A: Side, B: Side, C: Side, N: Naming> Held<A, B, C, N> {
         link: &mut L,
     ) -> Step
         requires { words.now ≡ N.words }
+        ensures over { IsStepOver L.asked link.old link.new (state_in self.old) runner.old.stream (played_of result) (state_in self.new) }
+        ensures others { self.new ≡ held_model self.new.machine self.old.runners self.old.callers }
         ensures stream { runner.new.stream ≡ runner.old.stream }
-        ensures over { HasStepped L.asked link.old link.new N.opened runner.old runner.new (played_of result) }
+        ensures at { HasStepped L.asked link.old link.new N.opened runner.old runner.new (played_of result) }
         ensures lost { L.losses link.new ≡ L.losses link.old + bit (is_lost_answer (played_of result)) }
         ensures unasked { is_waiting result ≡ true → link.new ≡ link.old }
         ensures waits { is_waiting result ≡ true → runner.new ≡ runner.old }
