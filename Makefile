@@ -42,6 +42,7 @@ check-program:
 	scripts/check-memory
 	scripts/check-threads
 	scripts/storm 20
+	crates/board_trials/out/board_trials looks check
 
 check-tests:
 	scripts/check-memory-tests sm_tests_json sm_tests_placement sm_tests_rights sm_tests_text sm_tests sm_tests_machine sm_tests_plans sm_tests_play sm_tests_board sm_tests_planner sm_map
@@ -53,7 +54,7 @@ edits:
 
 # (over the program as it is now, and not as the gate may have built it before)
 storm:
-	rm -f crates/storm/out/storm
+	rm -f crates/board_trials/out/board_trials
 	scripts/storm
 
 bench: build

@@ -1,6 +1,6 @@
 //! What is compared: batches of looks, and batches of loads in the same loop.
 ghost use Rattle.std.specs.Prelude.{◌≡◌, ◌<◌, ◌≤◌, IfOk, length, vec_len};
-ghost use Rattle.bench_board.specs.declared.looks.TheConstants.{SHARDS};
+ghost use Rattle.board_trials.specs.declared.looks.batches.TheConstants.{SHARDS};
 
 use sm_executor::{Board, Caller, Naming, Side};
 use sm_map::Entry;

@@ -1,6 +1,4 @@
 //! Why a run is not as it has to be.
-use board_runs::Fault as RunFault;
-use board_streams::Fault as PlanFault;
 use std::alloc::AllocError;
 use thiserror::Error;
 
@@ -12,10 +10,10 @@ pub(crate) enum Fault {
     NoMemory,
     /// The plan was not made.
     #[error("no plan: {0}")]
-    NoPlan(PlanFault),
+    NoPlan(board_streams::Fault),
     /// The plan did not run to its end.
     #[error("{0}")]
-    NotRun(RunFault),
+    NotRun(board_runs::Fault),
     /// A restart was not made that had to be.
     #[error("a restart was denied, or did not end")]
     NoRestart,
@@ -24,8 +22,8 @@ pub(crate) enum Fault {
     OtherEnd,
 }
 
-impl From<PlanFault> for Fault {
-    fn from(fault: PlanFault) -> Fault {
+impl From<board_streams::Fault> for Fault {
+    fn from(fault: board_streams::Fault) -> Fault {
         Fault::NoPlan(fault)
     }
 }

@@ -1,5 +1,5 @@
 //! How long batches took.
-use crate::looks::BATCH;
+use crate::looks::batches::BATCH;
 use std::time::Duration;
 
 /// The times of the fastest batch of looks and of loads, and how many of each were measured.

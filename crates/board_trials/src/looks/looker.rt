@@ -1,9 +1,9 @@
 //! Who looks at the map while a plan runs.
 ghost use Rattle.std.specs.Prelude.{◌≤◌, length};
-ghost use Rattle.bench_board.specs.declared.looks.TheConstants.{SHARDS};
+ghost use Rattle.board_trials.specs.declared.looks.batches.TheConstants.{SHARDS};
 
-use crate::looks::{PlainWords, SHARDS, load_batch, look_batch};
-use crate::measured::Measured;
+use crate::looks::batches::{PlainWords, SHARDS, load_batch, look_batch};
+use crate::looks::measured::Measured;
 use board_runs::{Finish, Worker};
 use sm_executor::{Board, Caller, Naming, Side};
 use sm_machine::Permit;

@@ -1,8 +1,8 @@
 //! Who works beside the streams of a run: those who ask, and who restarts servers.
 ghost use Rattle.std.specs.Prelude.{◌<◌, IfSome};
 
-use crate::gusts::scattered;
-use crate::world::{RESTED, RESTING};
+use crate::storm::gusts::scattered;
+use crate::storm::world::{RESTED, RESTING};
 use board_runs::{Finish, Worker};
 use sm_executor::{Board, Caller, Naming, Side};
 use sm_machine::Permit;

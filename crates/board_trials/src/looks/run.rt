@@ -1,7 +1,7 @@
 //! One run: a plan runs on a board beside the lookers.
 use crate::fault::Fault;
-use crate::looker::Looker;
-use crate::measured::Measured;
+use crate::looks::looker::Looker;
+use crate::looks::measured::Measured;
 use board_runs::run_at;
 use board_streams::{Shape, config_of, placement_before, plan_of};
 use sm_executor::Open;

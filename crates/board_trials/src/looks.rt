@@ -2,38 +2,25 @@
 //!
 //! Threads look and load in turn, a batch of each, while a plan of 64 streams runs; a batch counts only where the plan has changed
 //! the map since the batch before. It prints the time of a look and of a load, each of the fastest batch, with 1, 2 and 4 such
-//! threads, and ends with status 1 where a look takes more than twice as long. With the argument `check` it prints no times, only whether the plan of a
-//! small run comes to its end beside the looks.
-#![tactic(auto)]
-
-mod fault;
+//! threads, and a look may take twice as long. A check prints no times, only whether the plan of a small run comes to its end beside
+//! the looks.
+mod batches;
 mod looker;
-mod looks;
 mod measured;
 mod run;
 
+use crate::fault::Fault;
 use board_streams::Shape;
-use fault::Fault;
 use measured::Measured;
 use run::{LARGE, SMALL, measure};
-use std::process::ExitCode;
-use std::rt::{Clock, Env};
+use std::io;
+use std::rt::Clock;
 use std::sync::Wait;
 use std::thread::Threads;
-use std::{env, io};
 
 /// How many plans are run for each number of threads. The fastest batch of all counts: whatever else the machine does only slows
 /// a batch.
 const PLANS: u32 = 3;
-
-fn is_check(rt: &(impl Alloc + Env)) -> io::Result<bool> {
-    let mut args = env::args(rt)?;
-    let _program = args.next();
-    Ok(match args.next() {
-        Some(word) => word.as_str() == "check",
-        None => false,
-    })
-}
 
 /// The fastest batches beside some plans of a shape.
 fn fastest<R: Threads + Wait + Sync + Clock + AllocGlobal>(
@@ -63,7 +50,9 @@ fn tell<R: Print>(rt: &R, threads: usize, measured: &Measured) -> io::Result<boo
 }
 
 /// Measures beside large plans, with more and more threads. True where all looks were fast enough.
-fn measure_all<R: Threads + Wait + Sync + Clock + AllocGlobal + Print>(rt: &R) -> io::Result<bool> {
+pub(crate) fn measure_all<R: Threads + Wait + Sync + Clock + AllocGlobal + Print>(
+    rt: &R,
+) -> io::Result<bool> {
     let mut good = true;
     for threads in [1, 2, 4] {
         match fastest(rt, &LARGE, threads) {
@@ -77,17 +66,11 @@ fn measure_all<R: Threads + Wait + Sync + Clock + AllocGlobal + Print>(rt: &R) -
     Ok(good)
 }
 
-fn main(rt: HostRuntime) -> io::Result<ExitCode> {
-    let good = if is_check(&rt)? {
-        let ended = measure(&rt, rt.alloc(), &SMALL, 2).is_ok();
-        println!(rt; "the plan ends beside the looks: {ended}")?;
-        ended
-    } else {
-        measure_all(&rt)?
-    };
-    Ok(if good {
-        ExitCode::SUCCESS
-    } else {
-        ExitCode::FAILURE
-    })
+/// Runs a small plan beside looks, and tells whether it comes to its end. True where it does.
+pub(crate) fn check_looks<R: Threads + Wait + Sync + Clock + AllocGlobal + Print>(
+    rt: &R,
+) -> io::Result<bool> {
+    let ended = measure(rt, rt.alloc(), &SMALL, 2).is_ok();
+    println!(rt; "the plan ends beside the looks: {ended}")?;
+    Ok(ended)
 }

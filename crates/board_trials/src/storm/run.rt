@@ -1,8 +1,8 @@
 //! One run: a board is opened, the storm goes over it, and it is closed.
 use crate::fault::Fault;
-use crate::gusts::{Gusts, scattered};
-use crate::hand::{Hand, RESTARTS};
-use crate::world::{SHAPE, World, is_same};
+use crate::storm::gusts::{Gusts, scattered};
+use crate::storm::hand::{Hand, RESTARTS};
+use crate::storm::world::{SHAPE, World, is_same};
 use board_runs::run_at;
 use board_streams::plan_of;
 use sm_placement::Placement;
