@@ -7,12 +7,12 @@
 extern void *__libc_malloc(size_t size);
 extern void *__libc_realloc(void *old, size_t size);
 
-/* Whether this allocation is the one to refuse. */
+/* Whether this allocation is the one to refuse, whichever thread makes it. */
 static int is_refused(void) {
   static long made;
   const char *number = getenv("REFUSED_ALLOCATION");
-  made += 1;
-  return number && made == atol(number) && write(9, "x", 1) == 1;
+  long this = __atomic_add_fetch(&made, 1, __ATOMIC_SEQ_CST);
+  return number && this == atol(number) && write(9, "x", 1) == 1;
 }
 
 void *malloc(size_t size) {
