@@ -10,11 +10,11 @@ use std::process::Abort;
 use std::test::Fail;
 
 /// A handover of shard s from server a to server b.
-const HANDOVER: &str =
+pub(crate) const HANDOVER: &str =
     r#"{"budget":4,"format":1,"signals":[],"streams":[{"budget":4,"code":[{"do":"prepare_add","other":"a","server":"b","shard":"s"},{"do":"prepare_drop","other":"b","server":"a","shard":"s"},{"do":"add","role":"primary","server":"b","shard":"s"},{"do":"publish","shard":"s"},{"do":"drop","server":"a","shard":"s"}],"holds":{"cells":[{"server":"b","shard":"s","state":"absent"}],"crowns":[{"lead":"at","listed":"a","server":"a","shard":"s"}],"room":[{"amount":4,"server":"b"}],"spare":[]}}]}"#;
 
 /// Server c is emptied: its replica of shard s comes to server b.
-const DRAIN: &str =
+pub(crate) const DRAIN: &str =
     r#"{"budget":2,"format":1,"signals":[],"streams":[{"budget":2,"code":[{"do":"add","role":"secondary","server":"b","shard":"s"},{"do":"drop","server":"c","shard":"s"}],"holds":{"cells":[{"server":"b","shard":"s","state":"absent"},{"server":"c","shard":"s","state":"secondary"}],"crowns":[],"room":[{"amount":4,"server":"b"}],"spare":[]}}]}"#;
 
 const fn shard() -> ShardId {

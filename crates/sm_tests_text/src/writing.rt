@@ -1,5 +1,6 @@
 //! The texts of plans.
 use super::fixtures::config_of;
+use super::worked_plans::{DRAIN, HANDOVER};
 use sm_placement::Lead;
 use sm_plan_code::{Instr, Parts, Plan, Stream};
 use sm_plan_text::write_plan;
@@ -27,14 +28,6 @@ fn shard_s() -> ShardId {
 fn shard_t() -> ShardId {
     ShardId::new(1)
 }
-
-/// The primary of `s` goes from `a` to `b`.
-const HANDOVER: &str =
-    r#"{"budget":4,"format":1,"signals":[],"streams":[{"budget":4,"code":[{"do":"prepare_add","other":"a","server":"b","shard":"s"},{"do":"prepare_drop","other":"b","server":"a","shard":"s"},{"do":"add","role":"primary","server":"b","shard":"s"},{"do":"publish","shard":"s"},{"do":"drop","server":"a","shard":"s"}],"holds":{"cells":[{"server":"b","shard":"s","state":"absent"}],"crowns":[{"lead":"at","listed":"a","server":"a","shard":"s"}],"room":[{"amount":4,"server":"b"}],"spare":[]}}]}"#;
-
-/// The server `c` is emptied.
-const DRAIN: &str =
-    r#"{"budget":2,"format":1,"signals":[],"streams":[{"budget":2,"code":[{"do":"add","role":"secondary","server":"b","shard":"s"},{"do":"drop","server":"c","shard":"s"}],"holds":{"cells":[{"server":"b","shard":"s","state":"absent"},{"server":"c","shard":"s","state":"secondary"}],"crowns":[],"room":[{"amount":4,"server":"b"}],"spare":[]}}]}"#;
 
 /// One of two streams has retries.
 const RETRIED: &str =
