@@ -7,6 +7,7 @@ mod fits;
 mod instruction;
 mod law;
 mod limits;
+mod moves;
 mod plan;
 
 pub use call::{ServerCall, call_of, number_after};
@@ -21,4 +22,5 @@ pub use limits::{
     MOST_ALLOWANCE, MOST_AMOUNT, MOST_CALLS, MOST_INSTRUCTIONS, MOST_MOVES, MOST_NUMBER,
     MOST_PLACES, MOST_PLANS, MOST_RIGHTS, MOST_SIGNALS, MOST_STREAMS,
 };
+pub use moves::Move;
 pub use plan::{Parts, Plan, PlanFault, Stream};

@@ -5,6 +5,7 @@ use Rattle.sm_placement.specs.Setup.{Setup}
 use Rattle.sm_placement.specs.Opening.{NamedCell}
 use Rattle.sm_placement.specs.Rows.{IsKnownCall}
 use Rattle.sm_plan_code.specs.Plan.{PlanModel, IsKnownPlan}
+use Rattle.sm_plan_code.specs.declared.moves.Move.{Move}
 use Rattle.sm_plan_text.specs.declared.fault.TextFault.{TextFault}
 use Rattle.sm_plan_text.specs.declared.member.Member.TheVariants as members
 use Rattle.sm_plan_text.specs.Values.{found, number_in, number_or, list_in, entries_in, names_in, id_named, ids_in}
@@ -15,7 +16,6 @@ use Rattle.sm_plan_text.specs.Calls.{NamedCall, call_faults, call_in}
 use Rattle.sm_plan_text.specs.Plans.{faults_within, plan_faults, plan_in}
 use Rattle.sm_plan_text.specs.declared.event.EventText.{EventText}
 use Rattle.sm_plan_text.specs.Events.{IsKnownEvent, event_faults, event_in}
-use Rattle.sm_plan_text.specs.declared.moves.MoveText.{MoveText}
 use Rattle.sm_plan_text.specs.Moves.{IsKnownMove, move_faults, move_in}
 use Rattle.sm_plan_text.specs.declared.limits.TheConstants.{MOST_EVENTS, MOST_ASKS, LOG_PLACES}
 use Rattle.sm_plan_code.specs.declared.limits.TheConstants.{MOST_MOVES, MOST_PLACES, MOST_PLANS}
@@ -33,7 +33,7 @@ pub record DocumentModel : Type 0 where
   pub plan : Option PlanModel
   pub plans : Option (List PlanModel)
   pub events : Option (List EventText)
-  pub moves : Option (List MoveText)
+  pub moves : Option (List Move)
   pub drain : Option ℕ
   pub asks : List ℕ
 

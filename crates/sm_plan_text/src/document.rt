@@ -6,12 +6,12 @@ use crate::cursor::id_named;
 use crate::limits::{DOWN_LIMIT, LOG_PLACES, MOST_EVENTS};
 use crate::outline::{Early, Outline};
 use crate::rows::{Servers, Shards, read_servers, read_shards};
-use crate::{Cursor, Entry, EventText, Faults, Form, Member, MoveText, Names, Rule, TextFault};
+use crate::{Cursor, Entry, EventText, Faults, Form, Member, Names, Rule, TextFault};
 use json_tree::{ReadFault, Scratch, Tree};
 use sm_placement::{
     Config, ConfigFault, MOST_SERVERS, MOST_SHARDS, OpenFault, Placement, Server, Shard,
 };
-use sm_plan_code::{MOST_MOVES, MOST_PLACES, MOST_PLANS, Plan};
+use sm_plan_code::{MOST_MOVES, MOST_PLACES, MOST_PLANS, Move, Plan};
 use sm_server::{Call, Cell, ServerId, ShardId};
 use std::alloc::{AllocError, Global};
 
@@ -37,7 +37,7 @@ pub struct Document {
     /// What is to happen, one event after the other.
     pub events: Option<Vec<EventText>>,
     /// The moves to make a plan for.
-    pub moves: Option<Vec<MoveText>>,
+    pub moves: Option<Vec<Move>>,
     /// The server to make a plan for that empties it.
     pub drain: Option<ServerId>,
     /// The shards to ask for while plans run.
@@ -93,7 +93,7 @@ struct Work {
     plan: Option<Plan>,
     plans: Option<Vec<Plan>>,
     events: Option<Vec<EventText>>,
-    moves: Option<Vec<MoveText>>,
+    moves: Option<Vec<Move>>,
     drain: Option<ServerId>,
     asks: Vec<ShardId>,
 }

@@ -27,7 +27,6 @@ pub use event::EventText;
 use fault::Faults;
 pub use fault::{TextFault, first_is_answered};
 pub use member::Member;
-pub use moves::MoveText;
 use names::Names;
 pub use plan_text::read_plan;
 use rule::{Form, Rule};

@@ -12,7 +12,7 @@ use Rattle.std.proofs.lemmas.List.Sums.{sum_by_push, sum_by-set}
 use Rattle.sm_placement.specs.Opening.{first_below}
 use Rattle.sm_placement.specs.Setup.{Setup}
 use Rattle.sm_placement.proofs.Searches.{first_some, first_same}
-use Rattle.sm_planner.specs.declared.moving.Move.{Move}
+use Rattle.sm_plan_code.specs.declared.moves.Move.{Move}
 use Rattle.sm_planner.specs.Basis.{Basis, IsMoveOf, no_move, move_at, move_load}
 use Rattle.sm_planner.specs.Placing.{is_placed, room_left, taken_by, freed_by, first_fit, first_left, fits}
 use Rattle.sm_planner.specs.Accounts.{is_left, is_next, room_after}

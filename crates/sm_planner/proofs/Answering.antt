@@ -7,7 +7,7 @@ use Rattle.sm_placement.specs.Place.{Place}
 use Rattle.sm_placement.specs.Setup.{Setup, sizes_of}
 use Rattle.sm_reservation.specs.Hold.{Hold}
 use Rattle.sm_plan_code.specs.Plan.{PlanModel}
-use Rattle.sm_planner.specs.declared.moving.Move.{Move}
+use Rattle.sm_plan_code.specs.declared.moves.Move.{Move}
 use Rattle.sm_planner.specs.declared.moving.NoPlan.{NoPlan}
 use Rattle.sm_planner.specs.declared.moving.NoPlan.TheVariants.{NoMemory}
 use Rattle.sm_planner.specs.Basis.{Basis, basis}

@@ -6,7 +6,7 @@ use Rattle.std.proofs.lemmas.List.FromFn.{length-map-range_with_len, get_or-map-
 use Rattle.std.proofs.lemmas.List.Sums.{sum_by_more}
 use Rattle.sm_placement.specs.Setup.{Setup, ShardRow, IsSetup, no_shard}
 use Rattle.sm_placement.specs.declared.limits.TheConstants.{MOST_LOAD}
-use Rattle.sm_planner.specs.declared.moving.Move.{Move}
+use Rattle.sm_plan_code.specs.declared.moves.Move.{Move}
 use Rattle.sm_planner.specs.declared.payment.Placed.{Placed}
 use Rattle.sm_planner.specs.declared.writing.Draft.{Draft}
 use Rattle.sm_planner.specs.Basis.{Basis, no_move, move_at, move_load}

@@ -3,7 +3,7 @@ use Rattle.std.proofs.Common.{◌≡◌, ◌<◌, ◌-◌, ◌+◌, ◌∙◌, �
 use Rattle.std.specs.Prelude.{find, not, take}
 use Rattle.std.specs.List.{range_with_len}
 use Rattle.sm_placement.specs.Opening.{first_below}
-use Rattle.sm_planner.specs.declared.moving.Move.{Move}
+use Rattle.sm_plan_code.specs.declared.moves.Move.{Move}
 use Rattle.sm_planner.specs.Basis.{Basis, move_at}
 use Rattle.sm_planner.specs.Refusal.{is_open, is_closed}
 use Rattle.sm_placement.proofs.Searches.{find_here, find_next}

@@ -11,7 +11,7 @@ use Rattle.sm_reservation.specs.Key.{key_of_room, IsOnce, IsLowestDouble}
 use Rattle.sm_plan_code.specs.declared.plan.PlanFault.{PlanFault}
 use Rattle.sm_plan_code.specs.declared.plan.PlanFault.TheVariants.{TooMany, UnknownSignal}
 use Rattle.sm_plan_code.specs.Plan.{PlanModel, IsPlan, IsPlanFault}
-use Rattle.sm_planner.specs.declared.moving.Move.{Move}
+use Rattle.sm_plan_code.specs.declared.moves.Move.{Move}
 use Rattle.sm_planner.specs.Basis.{Basis, move_at}
 use Rattle.sm_planner.specs.Plan.{moves_of}
 use Rattle.sm_planner.specs.Draft.{needs_by}

@@ -4,7 +4,7 @@ use Rattle.std.specs.Prelude.{option_map}
 use Rattle.std.specs.Option.{option_or}
 use Rattle.std.proofs.lemmas.Bool.{lt-ltb, le-ltb, or_right, or_from}
 use Rattle.sm_plan_code.specs.declared.limits.TheConstants.{MOST_MOVES, MOST_SIGNALS}
-use Rattle.sm_planner.specs.declared.moving.Move.{Move}
+use Rattle.sm_plan_code.specs.declared.moves.Move.{Move}
 use Rattle.sm_planner.specs.declared.moving.NoPlan.{NoPlan}
 use Rattle.sm_planner.specs.declared.moving.NoPlan.TheVariants.{NoRoom, Spread, TooMany}
 use Rattle.sm_planner.specs.Basis.{Basis, move_at}

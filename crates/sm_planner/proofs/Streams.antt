@@ -20,7 +20,7 @@ use Rattle.sm_plan_code.specs.declared.instruction.Instr.{Instr}
 use Rattle.sm_plan_code.specs.declared.instruction.Instr.TheVariants.{Signal, Wait}
 use Rattle.sm_plan_code.specs.Instr.{is_call}
 use Rattle.sm_plan_code.specs.Plan.{StreamModel}
-use Rattle.sm_planner.specs.declared.moving.Move.{Move}
+use Rattle.sm_plan_code.specs.declared.moves.Move.{Move}
 use Rattle.sm_planner.specs.declared.payment.Placed.{Placed}
 use Rattle.sm_planner.specs.declared.writing.Draft.{Draft}
 use Rattle.sm_planner.specs.Basis.{Basis, move_at, left_cell}

@@ -7,7 +7,7 @@ use Rattle.std.proofs.lemmas.List.{take_more, length-set, length_push}
 use Rattle.std.proofs.lemmas.List.FromFn.{length-map-range_with_len, get_or-map-range_with_len}
 use Rattle.std.proofs.lemmas.List.Sums.{sum_by_push}
 use Rattle.sm_placement.specs.Setup.{Setup}
-use Rattle.sm_planner.specs.declared.moving.Move.{Move}
+use Rattle.sm_plan_code.specs.declared.moves.Move.{Move}
 use Rattle.sm_planner.specs.Basis.{Basis, IsMoveOf, no_move, move_at, move_load}
 use Rattle.sm_planner.specs.Placing.{taken_by, freed_by}
 use Rattle.sm_planner.specs.declared.payment.Placed.{Placed}

@@ -7,7 +7,7 @@ use Rattle.sm_placement.specs.Place.{Place}
 use Rattle.sm_placement.specs.Layout.{PlacementModel, place_of}
 use Rattle.sm_reservation.specs.Hold.{Hold}
 use Rattle.sm_reservation.specs.Pool.{PoolModel, pool_hold}
-use Rattle.sm_planner.specs.declared.moving.Move.{Move}
+use Rattle.sm_plan_code.specs.declared.moves.Move.{Move}
 
 -- a configuration, a placement of it, and the rights that nobody has
 pub record Basis : Type 0 where

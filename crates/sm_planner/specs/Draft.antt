@@ -9,7 +9,7 @@ use Rattle.sm_reservation.specs.Key.{IsOnce}
 use Rattle.sm_reservation.specs.InOrder.{in_order}
 use Rattle.sm_plan_code.specs.declared.instruction.Instr.{Instr}
 use Rattle.sm_plan_code.specs.declared.limits.TheConstants.{MOST_MOVES, MOST_SIGNALS}
-use Rattle.sm_planner.specs.declared.moving.Move.{Move}
+use Rattle.sm_plan_code.specs.declared.moves.Move.{Move}
 use Rattle.sm_planner.specs.declared.writing.Draft.{Draft}
 use Rattle.sm_planner.specs.Basis.{Basis, IsMoveOf, move_at}
 use Rattle.sm_planner.specs.Placing.{IsPlacing}

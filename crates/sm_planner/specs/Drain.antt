@@ -7,7 +7,6 @@ use Rattle.sm_placement.specs.Place.{Place}
 use Rattle.sm_placement.specs.Setup.{Setup, sizes_of}
 use Rattle.sm_reservation.specs.declared.right.PlainCell.TheVariants.{Absent, Secondary}
 use Rattle.sm_reservation.specs.Amounts.{is_cell}
-use Rattle.sm_planner.specs.declared.moving.Move.{Move}
 use Rattle.sm_planner.specs.declared.moving.NoPlan.{NoPlan}
 use Rattle.sm_planner.specs.declared.moving.NoPlan.TheVariants.{NoMemory, Held, ServerDown, NoPlace}
 use Rattle.sm_planner.specs.Basis.{Basis, is_replica}
@@ -16,6 +15,7 @@ use Rattle.sm_planner.specs.Placing.{taken_by}
 use Rattle.sm_planner.specs.Spread.{region_count, spread_of}
 use Rattle.sm_planner.specs.Refusal.{IsRefused, IsPlanOf}
 use Rattle.sm_plan_code.specs.Plan.{PlanModel}
+use Rattle.sm_plan_code.specs.declared.moves.Move.{Move}
 
 -- the server has nothing of the shard, or a replica that may leave it: a primary with its crown in the pool, or a secondary
 -- with the right to its cell there

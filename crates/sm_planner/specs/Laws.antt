@@ -6,13 +6,13 @@ use Rattle.sm_placement.specs.Setup.{Setup, IsSetup, sizes_of}
 use Rattle.sm_placement.specs.Place.{Place}
 use Rattle.sm_plan_code.specs.Plan.{PlanModel, KnowsSignals}
 use Rattle.sm_plan_code.specs.Effects.{IsScene}
+use Rattle.sm_plan_code.specs.declared.moves.Move.{Move}
 use Rattle.sm_verifier.specs.Admission.{IsAdmitted}
 use Rattle.sm_verifier.specs.Order.{HasOrder}
 use Rattle.sm_verifier.specs.Plan.{KeepsBudget, AreUsedOnce}
 use Rattle.sm_verifier.specs.PlanEnd.{end_of}
 use Rattle.sm_protocol.specs.State.{State, pool}
 use Rattle.sm_protocol.specs.Laws.{IsCheckedPlan, IsReached}
-use Rattle.sm_planner.specs.declared.moving.Move.{Move}
 use Rattle.sm_planner.specs.declared.moving.NoPlan.{NoPlan}
 use Rattle.sm_planner.specs.Basis.{Basis, basis, IsMoveOf, move_at, left_cell}
 use Rattle.sm_planner.specs.Plan.{planned}

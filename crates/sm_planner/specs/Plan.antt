@@ -18,7 +18,7 @@ use Rattle.sm_plan_code.specs.declared.instruction.Instr.TheVariants.{PrepareAdd
 use Rattle.sm_plan_code.specs.declared.limits.TheConstants.{MOST_STREAMS}
 use Rattle.sm_plan_code.specs.Instr.{is_call}
 use Rattle.sm_plan_code.specs.Plan.{StreamModel, PlanModel}
-use Rattle.sm_planner.specs.declared.moving.Move.{Move}
+use Rattle.sm_plan_code.specs.declared.moves.Move.{Move}
 use Rattle.sm_planner.specs.Basis.{Basis, move_at, left_cell}
 use Rattle.sm_planner.specs.Payment.{Handed, handed, from_pool, from_move, stream_of, signals_of}
 

@@ -6,7 +6,7 @@ use Rattle.sm_placement.specs.declared.lead.Lead.TheVariants.{At}
 use Rattle.sm_placement.specs.Place.{Place}
 use Rattle.sm_reservation.specs.declared.right.PlainCell.TheVariants.{Absent, Secondary}
 use Rattle.sm_reservation.specs.Amounts.{is_cell, is_crown}
-use Rattle.sm_planner.specs.declared.moving.Move.{Move}
+use Rattle.sm_plan_code.specs.declared.moves.Move.{Move}
 use Rattle.sm_planner.specs.Basis.{Basis, left_cell}
 
 -- the pool has the crown of a shard whose primary stands at the server, as the published map has it

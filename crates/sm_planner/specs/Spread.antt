@@ -6,7 +6,7 @@ use Rattle.sm_placement.specs.Opening.{first_below}
 use Rattle.sm_placement.specs.Sums.{any_below, count_below}
 use Rattle.sm_placement.specs.Setup.{Setup, sizes_of, no_server, no_shard}
 use Rattle.sm_placement.specs.Place.{Place}
-use Rattle.sm_planner.specs.declared.moving.Move.{Move}
+use Rattle.sm_plan_code.specs.declared.moves.Move.{Move}
 use Rattle.sm_planner.specs.Basis.{Basis, is_replica}
 
 -- two servers stand in one region

@@ -1,7 +1,7 @@
 -- A placed move, with the stretches of room that it takes and frees.
 use Rattle.std.specs.Prelude.{◌<◌, ℕ, ◌&&◌, ◌==◌, not, nat_lt, Bool, List, length, map, filter, slice_index_or, if◌then◌else◌}
 use Rattle.std.specs.List.{range_with_len}
-use Rattle.sm_planner.specs.declared.moving.Move.{Move}
+use Rattle.sm_plan_code.specs.declared.moves.Move.{Move}
 use Rattle.sm_planner.specs.declared.payment.Placed.{Placed}
 use Rattle.sm_planner.specs.Basis.{Basis, no_move, move_at, move_load}
 use Rattle.sm_planner.specs.Payment.{Handed, handed, overlap, takes_from, frees_from, from_move, stream_of}

@@ -8,9 +8,10 @@ ghost use Rattle.sm_planner.specs.Basis.{basis, IsMoveOf};
 ghost use Rattle.sm_planner.specs.Refusal.{IsPlanOf, IsNoPlanFor};
 ghost use Rattle.sm_planner.specs.Drain.{IsDrainPlan, IsNoDrainFor};
 
-use crate::moving::{Move, NoPlan};
+use crate::moving::NoPlan;
 use crate::planner::{drain_at, moves_at};
 use sm_machine::Machine;
+use sm_plan_code::Move;
 use sm_server::ServerId;
 use sm_verifier::Checked;
 use std::alloc::Global;

@@ -18,4 +18,4 @@ pub use laws::{
     drains_empty, drains_have_plans, plans_are_orderly, plans_are_usable, plans_move,
     rule_answers_once,
 };
-pub use moving::{Move, NoPlan};
+pub use moving::NoPlan;

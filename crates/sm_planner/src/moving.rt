@@ -1,18 +1,7 @@
-//! Moves, and why they get no plan.
+//! Why moves get no plan.
 use sm_server::{ServerId, ShardId};
 use std::alloc::AllocError;
 use thiserror::Error;
-
-/// A replica of a shard that is to go from one server to another.
-#[derive(Clone, Copy, Debug, PartialEq, Eq)]
-pub struct Move {
-    /// The shard.
-    pub shard: ShardId,
-    /// The server that has the replica.
-    pub from: ServerId,
-    /// The server that is to have it.
-    pub to: ServerId,
-}
 
 /// Why there is no plan. Of several reasons other than `NoMemory` the first one in this order is given; `NoMemory` says nothing of
 /// the others.

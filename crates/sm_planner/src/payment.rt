@@ -7,9 +7,8 @@ ghost use Rattle.sm_planner.specs.Payment.{overlap};
 ghost use Rattle.sm_planner.specs.Stretches.{stretch, paid_from, is_paid_by, handed_to};
 
 use crate::marks::Amounts;
-use crate::moving::Move;
 use sm_placement::Placement;
-use sm_plan_code::MOST_STREAMS;
+use sm_plan_code::{MOST_STREAMS, Move};
 use sm_reservation::Pool;
 use std::alloc::{AllocError, Global};
 

@@ -7,8 +7,8 @@ ghost use Rattle.sm_planner.specs.Accounts.{is_next, is_left, room_after};
 ghost use Rattle.sm_planner.specs.Refusal.{in_placed_order};
 
 use crate::marks::{Amounts, is_marked, mark};
-use crate::moving::Move;
 use sm_placement::{Config, Placement};
+use sm_plan_code::Move;
 use sm_reservation::Pool;
 use std::alloc::{AllocError, Global};
 

@@ -12,13 +12,13 @@ ghost use Rattle.sm_planner.specs.Drain.{IsDrainPlan, IsNoDrainFor};
 
 use crate::draining::leaving;
 use crate::held::first_refused;
-use crate::moving::{Move, NoPlan};
+use crate::moving::NoPlan;
 use crate::payment::{signals, stretches};
 use crate::placing::place_all;
 use crate::spread::first_too_close;
 use crate::writing::{Draft, write};
 use sm_placement::Placement;
-use sm_plan_code::{MOST_MOVES, MOST_SIGNALS, Plan};
+use sm_plan_code::{MOST_MOVES, MOST_SIGNALS, Move, Plan};
 use sm_reservation::Pool;
 use sm_server::ServerId;
 use sm_verifier::{Checked, Fault, check};

@@ -9,8 +9,8 @@ ghost use Rattle.sm_planner.specs.Spread.{same_region, region_count, has_after, 
 
 use crate::held::is_replica;
 use crate::marks::{is_marked, mark};
-use crate::moving::Move;
 use sm_placement::{Config, Placement};
+use sm_plan_code::Move;
 use sm_server::{ServerId, ShardId};
 use std::alloc::{AllocError, Global};
 

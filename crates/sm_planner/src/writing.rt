@@ -17,10 +17,12 @@ ghost use Rattle.sm_planner.specs.Draft.{IsDraft, ArePayments, drafted_code, roo
 
 use crate::held::is_primary;
 use crate::marks::Amounts;
-use crate::moving::{Move, NoPlan};
+use crate::moving::NoPlan;
 use crate::payment::{Handed, Placed};
 use sm_placement::{Lead, Placement};
-use sm_plan_code::{Instr, MOST_MOVES, MOST_SIGNALS, MOST_STREAMS, Parts, Plan, Stream, is_call};
+use sm_plan_code::{
+    Instr, MOST_MOVES, MOST_SIGNALS, MOST_STREAMS, Move, Parts, Plan, Stream, is_call,
+};
 use sm_reservation::{CellRight, Crown, Lists, Parcel, ParcelFault, PlainCell, Pool, Room};
 use sm_server::{Role, ServerId};
 use std::alloc::{AllocError, Global};

@@ -1,7 +1,6 @@
 pub mod Onward
 pub mod Inputs
 pub mod Texts
-pub mod KnownMoves
 pub mod PlanAnswers
 pub mod OneReport
 pub mod SomeReport

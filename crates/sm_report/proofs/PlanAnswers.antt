@@ -6,7 +6,7 @@ use Rattle.sm_server.specs.Cell.{is_absent}
 use Rattle.sm_placement.specs.Setup.{Setup, sizes_of}
 use Rattle.sm_placement.proofs.Searches.{cases_Option}
 use Rattle.sm_plan_code.specs.Plan.{PlanModel}
-use Rattle.sm_planner.specs.declared.moving.Move.{Move}
+use Rattle.sm_plan_code.specs.declared.moves.Move.{Move}
 use Rattle.sm_planner.specs.declared.moving.NoPlan.{NoPlan}
 use Rattle.sm_planner.specs.declared.moving.NoPlan.TheVariants.{NoPlace}
 use Rattle.sm_planner.specs.Basis.{Basis}

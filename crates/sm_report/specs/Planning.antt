@@ -1,10 +1,10 @@
 -- Plans that are made for a document: for its moves, or to empty a server.
-use Rattle.std.specs.Prelude.{◌≡◌, ◌⊎◌, ◌<◌, ℕ, List, [], ◌∷◌, All, codes, length, map, Option, Some, None, Result, Ok, Err}
+use Rattle.std.specs.Prelude.{◌≡◌, ◌⊎◌, ◌<◌, ℕ, List, [], ◌∷◌, All, codes, length, Option, Some, None, Result, Ok, Err}
 use Rattle.sm_placement.specs.Setup.{Setup, sizes_of, names_of_servers, names_of_shards}
 use Rattle.sm_placement.specs.Place.{Place}
 use Rattle.sm_plan_code.specs.Plan.{PlanModel}
+use Rattle.sm_plan_code.specs.declared.moves.Move.{Move}
 use Rattle.sm_protocol.specs.State.{State, opened, pool}
-use Rattle.sm_planner.specs.declared.moving.Move.{Move}
 use Rattle.sm_planner.specs.declared.moving.NoPlan.{NoPlan}
 use Rattle.sm_planner.specs.declared.moving.NoPlan.TheVariants as no_plan
 use Rattle.sm_planner.specs.Basis.{Basis, basis, IsMoveOf}
@@ -12,7 +12,6 @@ use Rattle.sm_planner.specs.Refusal.{IsRefused, IsPlanOf}
 use Rattle.sm_planner.specs.Drain.{IsDrainPlan, IsDrainRefused}
 use Rattle.sm_plan_text.specs.declared.fault.TextFault.TheVariants.{Shape}
 use Rattle.sm_plan_text.specs.declared.member.Member.TheVariants as members
-use Rattle.sm_plan_text.specs.declared.moves.MoveText.{MoveText}
 use Rattle.sm_plan_text.specs.PlanTexts.{plan_text}
 use Rattle.sm_report.specs.declared.planning.Wanted.{Wanted}
 use Rattle.sm_report.specs.declared.planning.Wanted.TheVariants as wanted
@@ -28,20 +27,16 @@ pub data Aim : Type 0 where
   Moving : (moves : List Move) → Aim
   Emptying : (server : ℕ) → Aim
 
--- a move of a document
-abbrev pub move_of : MoveText → Move
-move_of m = record { shard = m.shard; from = m.from; to = m.to }
-
 -- a document that a plan is made for has moves or a server to empty, and not both
-abbrev pub aim_stage : Option (List MoveText) → Option ℕ → Result Aim Output
-aim_stage (Some moves) None = Ok (Moving (map move_of moves))
+abbrev pub aim_stage : Option (List Move) → Option ℕ → Result Aim Output
+aim_stage (Some moves) None = Ok (Moving moves)
 aim_stage None (Some server) = Ok (Emptying server)
 aim_stage (Some moves) (Some server) = Err (bad_input (text_fault_line (Shape members.Drain)))
 aim_stage None None = Err (bad_input (text_fault_line (Shape members.Moves)))
 
 -- what the code keeps of it
 abbrev pub aim_of : Wanted → Aim
-aim_of (wanted.Moves moves) = Moving moves.items
+aim_of (wanted.Moves moves) = Moving moves.now
 aim_of (wanted.Drain server) = Emptying server
 
 -- it names shards and servers of the configuration

@@ -1,5 +1,5 @@
 //! The report of a plan that is made for a document.
-ghost use Rattle.std.specs.Prelude.{◌≡◌, ◌≢◌, ◌≤◌, ◌<◌, Err, IfErr, IfOk, Ok, Some, map};
+ghost use Rattle.std.specs.Prelude.{◌≡◌, ◌≢◌, ◌≤◌, ◌<◌, Err, IfErr, IfOk, Ok, Some};
 ghost use Rattle.sm_placement.specs.Setup.{sizes_of};
 ghost use Rattle.sm_placement.specs.Place.{down_count};
 ghost use Rattle.sm_placement.specs.Layout.{place_of};
@@ -8,7 +8,7 @@ ghost use Rattle.sm_plan_text.specs.Documents.{IsDocument};
 ghost use Rattle.sm_plan_text.specs.Reading.{rows_of};
 ghost use Rattle.sm_machine.specs.State.{state_of};
 ghost use Rattle.sm_report.specs.Early.{IfEnded, IfMade};
-ghost use Rattle.sm_report.specs.Planning.{move_of, aim_of, aim_stage, IsAimOf, basis_at, IsPlanFor, IsRefusedFor, IsAnswered};
+ghost use Rattle.sm_report.specs.Planning.{aim_of, aim_stage, IsAimOf, basis_at, IsPlanFor, IsRefusedFor, IsAnswered};
 ghost use Rattle.sm_report.specs.Report.{bad_input, refused};
 ghost use Rattle.sm_report.specs.BadInput.{text_fault_line};
 ghost use Rattle.sm_report.specs.Output.{IsLoggedForPlan, IsPlacedForPlan, IsOpenedForPlan, IsPlanningReport};
@@ -18,40 +18,20 @@ use crate::made::Made;
 use crate::stages::{director, has_log, placement};
 use sm_machine::Machine;
 use sm_placement::{Config, Placement};
-use sm_plan_text::{Document, Member, MoveText, TextFault};
-use sm_planner::{Move, NoPlan, drain, moves};
+use sm_plan_code::Move;
+use sm_plan_text::{Document, Member, TextFault};
+use sm_planner::{NoPlan, drain, moves};
 use sm_server::ServerId;
 use sm_verifier::Checked;
-use std::alloc::{AllocError, Global};
+use std::alloc::Global;
 
 /// What a plan is wanted for.
-#[derive(Drop)]
-pub enum Wanted {
+#[derive(Clone, Copy)]
+pub enum Wanted<'a> {
     /// To make moves.
-    Moves(Vec<Move>),
+    Moves(&'a [Move]),
     /// To empty a server.
     Drain(ServerId),
-}
-
-fn move_of(text: &MoveText) -> Move
-    ensures { result ≡ move_of text.now }
-{
-    Move {
-        shard: text.shard,
-        from: text.from,
-        to: text.to,
-    }
-}
-
-/// The moves of a document.
-fn moves_of(alloc: Global, texts: &[MoveText]) -> Result<Vec<Move>, AllocError>
-    ensures { IfOk result (λ moves. moves.items ≡ map move_of texts.now) }
-{
-    let mut moves = Vec::with_capacity(alloc, texts.len())?;
-    for text in texts {
-        moves.push(move_of(text))?;
-    }
-    Ok(moves)
 }
 
 /// How the report ends of a document that is not one for a plan.
@@ -65,14 +45,14 @@ fn misfit(alloc: Global, member: Member) -> Early
 }
 
 /// What a document wants a plan for: its moves, or a server that is to be emptied, and not both.
-fn wanted_of(alloc: Global, document: &Document) -> Result<Wanted, Early>
+fn wanted_of(alloc: Global, document: &Document) -> Result<Wanted<'_>, Early>
     requires { IsDocument (rows_of document.now) }
     ensures ok { IfOk result (λ wanted. aim_stage (rows_of document.now).moves (rows_of document.now).drain ≡ Ok (aim_of wanted)) }
     ensures known { IfOk result (λ wanted. IsAimOf (rows_of document.now).setup (aim_of wanted)) }
     ensures ends { IfErr result (λ early. IfEnded early (λ made. aim_stage (rows_of document.now).moves (rows_of document.now).drain ≡ Err made)) }
 {
     match (&document.moves, document.drain) {
-        (Some(texts), None) => Ok(Wanted::Moves(moves_of(alloc, texts)?)),
+        (Some(list), None) => Ok(Wanted::Moves(list.as_slice())),
         (None, Some(server)) => Ok(Wanted::Drain(server)),
         (Some(_), Some(_)) => Err(misfit(alloc, Member::Drain)),
         (None, None) => Err(misfit(alloc, Member::Moves)),
@@ -80,14 +60,14 @@ fn wanted_of(alloc: Global, document: &Document) -> Result<Wanted, Early>
 }
 
 /// The plan that is wanted, for the machine as it stands.
-fn plan(alloc: Global, machine: &Machine, wanted: &Wanted) -> Result<Checked, NoPlan>
+fn plan(alloc: Global, machine: &Machine, wanted: &Wanted<'_>) -> Result<Checked, NoPlan>
     requires { IsAimOf machine.now.placement.setup (aim_of wanted.now) }
     ensures setup { IfOk result (λ checked. checked.setup ≡ machine.now.placement.setup) }
     ensures plan { IfOk result (λ checked. IsPlanFor (basis_at machine.now.placement.setup (state_of machine.now)) (aim_of wanted.now) checked.plan) }
     ensures refused { IfErr result (λ why. why ≢ NoPlan.NoMemory → IsRefusedFor (basis_at machine.now.placement.setup (state_of machine.now)) (aim_of wanted.now) why) }
 {
     match wanted {
-        Wanted::Moves(list) => moves(alloc, machine, list.as_slice()),
+        Wanted::Moves(list) => moves(alloc, machine, list),
         Wanted::Drain(server) => drain(alloc, machine, *server),
     }
 }
@@ -97,7 +77,7 @@ fn report_answer(
     alloc: Global,
     config: &Config,
     machine: &Machine,
-    wanted: &Wanted,
+    wanted: &Wanted<'_>,
 ) -> Result<Made, Early>
     requires aim { IsAimOf machine.now.placement.setup (aim_of wanted.now) }
     requires setup { machine.now.placement.setup ≡ config.now }
@@ -115,7 +95,7 @@ fn report_logged(
     alloc: Global,
     document: &Document,
     placement: Placement,
-    wanted: &Wanted,
+    wanted: &Wanted<'_>,
 ) -> Result<Made, Early>
     requires document { IsDocument (rows_of document.now) }
     requires setup { placement.setup ≡ (rows_of document.now).setup }
@@ -135,7 +115,7 @@ fn report_placed(
     alloc: Global,
     document: &Document,
     placement: Placement,
-    wanted: &Wanted,
+    wanted: &Wanted<'_>,
 ) -> Result<Made, Early>
     requires document { IsDocument (rows_of document.now) }
     requires setup { placement.setup ≡ (rows_of document.now).setup }
@@ -148,7 +128,7 @@ fn report_placed(
 }
 
 /// The report of what a document wants a plan for.
-fn report_wanted(alloc: Global, document: &Document, wanted: &Wanted) -> Result<Made, Early>
+fn report_wanted(alloc: Global, document: &Document, wanted: &Wanted<'_>) -> Result<Made, Early>
     requires document { IsDocument (rows_of document.now) }
     requires aim { IsAimOf (rows_of document.now).setup (aim_of wanted.now) }
     ensures { IfMade result (IsOpenedForPlan (rows_of document.now) (aim_of wanted.now)) }

@@ -2,7 +2,8 @@
 use super::run::{Run, open_over};
 use super::wanted::{move_of, plan_moves};
 use super::worlds::Ground;
-use sm_planner::{Move, NoPlan};
+use sm_plan_code::Move;
+use sm_planner::NoPlan;
 use sm_server::Cell;
 use std::alloc::{AllocError, Global};
 use std::process::Abort;

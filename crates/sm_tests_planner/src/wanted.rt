@@ -4,7 +4,8 @@ ghost use Rattle.sm_planner.specs.Basis.{IsMoveOf};
 
 use sm_machine::Machine;
 use sm_placement::Config;
-use sm_planner::{Move, NoPlan, drain, moves};
+use sm_plan_code::Move;
+use sm_planner::{NoPlan, drain, moves};
 use sm_server::{ServerId, ShardId};
 use sm_verifier::Checked;
 use std::alloc::{AllocError, Global};

@@ -1,7 +1,8 @@
 //! What good documents say.
 use super::fixtures::{EVERYTHING, PLACEMENT};
 use sm_placement::{Server, Shard};
-use sm_plan_text::{Document, EventText, MoveText, TextFault, read_document};
+use sm_plan_code::Move;
+use sm_plan_text::{Document, EventText, TextFault, read_document};
 use sm_server::{Call, Cell, Role, ServerId, ShardId};
 use std::process::Abort;
 use std::test::Fail;
@@ -29,8 +30,8 @@ const fn call(shard: u32, server: u32, call: Call) -> (ShardId, ServerId, Call) 
     (ShardId::new(shard), ServerId::new(server), call)
 }
 
-const fn move_text(shard: u32, from: u32, to: u32) -> MoveText {
-    MoveText {
+const fn move_of(shard: u32, from: u32, to: u32) -> Move {
+    Move {
         shard: ShardId::new(shard),
         from: ServerId::new(from),
         to: ServerId::new(to),
@@ -227,7 +228,7 @@ fn has_all_names(document: &Document) -> bool {
 #[test]
 fn reads_moves_and_names(rt: HostRuntime) -> Result<(), Fail> {
     let document = read_document(rt.alloc(), EVERYTHING.as_bytes())?;
-    let moves = [move_text(1, 0, 1), move_text(0, 1, 1)];
+    let moves = [move_of(1, 0, 1), move_of(0, 1, 1)];
     assert!(rt; are_read(&document.moves, &moves));
     assert!(rt; has_all_names(&document));
     Ok(())

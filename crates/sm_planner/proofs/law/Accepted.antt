@@ -7,11 +7,11 @@ use Rattle.std.proofs.lemmas.List.Elements.{All-from_recursion, All-map, All-con
 use Rattle.sm_server.specs.Cell.{is_primary}
 use Rattle.sm_plan_code.specs.declared.instruction.Instr.{Instr}
 use Rattle.sm_plan_code.specs.declared.instruction.Instr.TheVariants.{PrepareAdd, PrepareDrop, Add, Drop, Publish, Signal, Wait}
+use Rattle.sm_plan_code.specs.declared.moves.Move.{Move}
 use Rattle.sm_server.specs.declared.call.Role.TheVariants as role
 use Rattle.sm_plan_code.specs.Instr.{names_of, Mentions}
 use Rattle.sm_plan_code.specs.Plan.{StreamModel, IsOrderedParcel, HasOrderedParcels}
 use Rattle.sm_verifier.specs.Admission.{AreUp}
-use Rattle.sm_planner.specs.declared.moving.Move.{Move}
 use Rattle.sm_planner.specs.Basis.{Basis, move_at, left_cell}
 use Rattle.sm_planner.specs.Payment.{Handed, from_move, stream_of, signals_of}
 use Rattle.sm_planner.specs.Plan.{signal_at, handed_parcel, publication, handing_over, instructions, waits_of, posts_of, move_code, moves_of, stream, planned}

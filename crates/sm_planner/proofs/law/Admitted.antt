@@ -15,11 +15,11 @@ use Rattle.sm_reservation.specs.HoldOf.{hold_of}
 use Rattle.sm_reservation.specs.Amounts.{Right, OfCell, OfCrown, OfRoom, OfSpare, is_cell, is_crown, count}
 use Rattle.sm_reservation.proofs.Truths.{is_cell_true, is_cell_self, bit_true}
 use Rattle.sm_plan_code.specs.Plan.{StreamModel}
+use Rattle.sm_plan_code.specs.declared.moves.Move.{Move}
 use Rattle.sm_verifier.specs.Admission.{declared}
 use Rattle.sm_verifier.specs.Within.{declared_sum, AreWithin}
 use Rattle.sm_verifier.proofs.SumLemmas.{sum_once}
 use Rattle.sm_verifier.proofs.Judging.{crown_true, crown_self}
-use Rattle.sm_planner.specs.declared.moving.Move.{Move}
 use Rattle.sm_planner.specs.Basis.{Basis, move_at, left_cell}
 use Rattle.sm_planner.specs.Rights.{has_crown_at}
 use Rattle.sm_planner.specs.Payment.{stream_of}

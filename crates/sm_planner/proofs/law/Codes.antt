@@ -5,9 +5,9 @@ use Rattle.std.proofs.lemmas.List.FromFn.{length-map-range_with_len, get_or-map-
 use Rattle.sm_plan_code.specs.declared.instruction.Instr.{Instr}
 use Rattle.sm_plan_code.specs.declared.limits.TheConstants.{MOST_STREAMS}
 use Rattle.sm_plan_code.specs.Plan.{StreamModel}
+use Rattle.sm_plan_code.specs.declared.moves.Move.{Move}
 use Rattle.sm_verifier.specs.Stream.{no_stream}
 use Rattle.sm_verifier.specs.Order.{code_at}
-use Rattle.sm_planner.specs.declared.moving.Move.{Move}
 use Rattle.sm_planner.specs.Basis.{Basis}
 use Rattle.sm_planner.specs.Payment.{stream_of}
 use Rattle.sm_planner.specs.Plan.{move_code, stream, streams_of, planned}

@@ -27,7 +27,7 @@ use Rattle.sm_reservation.proofs.ElementLemmas.{rises_kept}
 use Rattle.sm_reservation.proofs.SortedRows.{sorted_rises}
 use Rattle.sm_reservation.proofs.InOrder.{in_order_is_ordered, in_order_is_positive}
 use Rattle.sm_plan_code.specs.Plan.{IsOrderedParcel}
-use Rattle.sm_planner.specs.declared.moving.Move.{Move}
+use Rattle.sm_plan_code.specs.declared.moves.Move.{Move}
 use Rattle.sm_planner.specs.Basis.{Basis, move_at, left_cell, is_replica}
 use Rattle.sm_planner.specs.Payment.{stream_of}
 use Rattle.sm_planner.specs.Plan.{cells_needed, crowns_of, room_paid, rooms_of, holds_of}

@@ -9,8 +9,8 @@ use Rattle.sm_server.specs.declared.call.Cell.TheVariants as cell
 use Rattle.sm_server.specs.Cell.{is_absent}
 use Rattle.sm_placement.specs.Setup.{sizes_of}
 use Rattle.sm_plan_code.specs.Plan.{PlanModel}
+use Rattle.sm_plan_code.specs.declared.moves.Move.{Move}
 use Rattle.sm_verifier.specs.PlanEnd.{end_of}
-use Rattle.sm_planner.specs.declared.moving.Move.{Move}
 use Rattle.sm_planner.specs.Basis.{Basis, IsMoveOf, move_at, no_move}
 use Rattle.sm_planner.specs.Drain.{leaving, AreLeaving}
 use Rattle.sm_planner.specs.Refusal.{IsPlanOf}

@@ -11,9 +11,9 @@ use Rattle.sm_placement.specs.Place.{Place}
 use Rattle.sm_reservation.specs.declared.right.PlainCell.{PlainCell}
 use Rattle.sm_reservation.specs.Hold.{Hold}
 use Rattle.sm_plan_code.specs.Plan.{StreamModel, PlanModel}
+use Rattle.sm_plan_code.specs.declared.moves.Move.{Move}
 use Rattle.sm_verifier.specs.Stream.{course_of, final_hold, stream_at}
 use Rattle.sm_verifier.specs.PlanEnd.{cell_by_crown, cell_by_right, set_by_streams, end_of}
-use Rattle.sm_planner.specs.declared.moving.Move.{Move}
 use Rattle.sm_planner.specs.Basis.{Basis, IsMoveOf, move_at, left_cell}
 use Rattle.sm_planner.specs.Payment.{stream_of}
 use Rattle.sm_planner.specs.Plan.{planned}

@@ -7,8 +7,8 @@ use Rattle.std.proofs.lemmas.List.{take_more, take-append-le, take_at, get_or_ap
 use Rattle.sm_placement.specs.Sums.{sum_below}
 use Rattle.sm_placement.proofs.Sums.{sum-le}
 use Rattle.sm_placement.proofs.Searches.{cases_Option}
+use Rattle.sm_plan_code.specs.declared.moves.Move.{Move}
 use Rattle.sm_verifier.proofs.SumLemmas.{sum_once}
-use Rattle.sm_planner.specs.declared.moving.Move.{Move}
 use Rattle.sm_planner.specs.declared.moving.NoPlan.{NoPlan}
 use Rattle.sm_planner.specs.Basis.{Basis}
 use Rattle.sm_planner.specs.Placing.{first_fit, IsPlacing}

@@ -15,10 +15,10 @@ use Rattle.sm_reservation.specs.declared.right.PlainCell.TheVariants.{Absent, Se
 use Rattle.sm_reservation.specs.Rights.{Rights}
 use Rattle.sm_reservation.specs.Hold.{Hold}
 use Rattle.sm_plan_code.specs.Plan.{StreamModel}
+use Rattle.sm_plan_code.specs.declared.moves.Move.{Move}
 use Rattle.sm_verifier.specs.Step.{parcels_of}
 use Rattle.sm_verifier.specs.Stream.{HasCrownsAtRest, IsGood, course_of, final_hold}
 use Rattle.sm_verifier.specs.Plan.{AreGood}
-use Rattle.sm_planner.specs.declared.moving.Move.{Move}
 use Rattle.sm_planner.specs.Basis.{Basis, move_at}
 use Rattle.sm_planner.specs.Payment.{stream_of, from_pool}
 use Rattle.sm_planner.specs.Plan.{room_paid, moves_of, stream, planned}

@@ -13,9 +13,9 @@ use Rattle.sm_reservation.specs.Rights.{Rights, no_rights}
 use Rattle.sm_reservation.specs.Hold.{Hold, get_room, pay_room}
 use Rattle.sm_plan_code.specs.declared.instruction.Instr.TheVariants.{Signal, Wait}
 use Rattle.sm_plan_code.specs.After.{decided, wait_line, signal_line, after}
+use Rattle.sm_plan_code.specs.declared.moves.Move.{Move}
 use Rattle.sm_verifier.specs.Step.{parcels_of}
 use Rattle.sm_verifier.proofs.SumLemmas.{sum_by-below}
-use Rattle.sm_planner.specs.declared.moving.Move.{Move}
 use Rattle.sm_planner.specs.Basis.{Basis}
 use Rattle.sm_planner.specs.Payment.{Handed, handed, from_move, is_handed, stream_of, signals_of}
 use Rattle.sm_planner.specs.Plan.{signal_at, handed_parcel, planned, waits_of, posts_of}

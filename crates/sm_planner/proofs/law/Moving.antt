@@ -17,7 +17,7 @@ use Rattle.sm_reservation.specs.Amounts.{same_listed}
 use Rattle.sm_plan_code.specs.declared.instruction.Instr.{Instr}
 use Rattle.sm_plan_code.specs.declared.instruction.Instr.TheVariants.{PrepareAdd, PrepareDrop, Add, Drop, Publish}
 use Rattle.sm_plan_code.specs.After.{listed_of, is_not_listed, after}
-use Rattle.sm_planner.specs.declared.moving.Move.{Move}
+use Rattle.sm_plan_code.specs.declared.moves.Move.{Move}
 use Rattle.sm_planner.specs.Basis.{left_cell}
 use Rattle.sm_planner.specs.Plan.{publication, handing_over, instructions}
 use Rattle.sm_planner.proofs.law.Leading.{Leads}

@@ -4,7 +4,7 @@ use Rattle.std.specs.Prelude.{◌==◌, ◌&&◌, nat_le}
 use Rattle.std.proofs.lemmas.Bool.{cases_Bool, cases_eq, cases_lt, eq-eqb, ne_eqb, eqb-true, le-leb, lt-leb, and_parts, and_left, and_right}
 use Rattle.sm_placement.specs.Sums.{sum_below}
 use Rattle.sm_placement.proofs.Sums.{same_sum, sum_of_both, sum_apart, sum_zero}
-use Rattle.sm_planner.specs.declared.moving.Move.{Move}
+use Rattle.sm_plan_code.specs.declared.moves.Move.{Move}
 use Rattle.sm_planner.specs.Basis.{Basis}
 use Rattle.sm_planner.specs.Payment.{from_pool, from_move, stream_of}
 use Rattle.sm_planner.proofs.law.Payments.{load, to, from, from_move_other, IsAffordable, pays_its_load, hands_what_it_freed}

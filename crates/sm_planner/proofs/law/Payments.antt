@@ -4,7 +4,7 @@ use Rattle.std.specs.Prelude.{◌==◌, sum_by}
 use Rattle.std.proofs.lemmas.Bool.{cases_eq, cases_lt, eq-eqb, ne_eqb, lt-ltb, le-ltb}
 use Rattle.std.proofs.lemmas.List.Sums.{sum_by_more}
 use Rattle.sm_placement.specs.Sums.{sum_below}
-use Rattle.sm_planner.specs.declared.moving.Move.{Move}
+use Rattle.sm_plan_code.specs.declared.moves.Move.{Move}
 use Rattle.sm_planner.specs.Basis.{Basis, move_at, move_load, no_move}
 use Rattle.sm_planner.specs.Placing.{taken_by, freed_by}
 use Rattle.sm_planner.specs.Payment.{overlap, takes_from, frees_from, from_pool, from_move}

@@ -6,7 +6,7 @@ use Rattle.std.proofs.lemmas.List.{length-map, get_or-map, take-map, get_or-take
 use Rattle.std.proofs.lemmas.List.Sums.{sum_by-cons, sum_by_more}
 use Rattle.std.proofs.lemmas.List.Folds.{list_any_at}
 use Rattle.sm_placement.proofs.Searches.{first_none}
-use Rattle.sm_planner.specs.declared.moving.Move.{Move}
+use Rattle.sm_plan_code.specs.declared.moves.Move.{Move}
 use Rattle.sm_planner.specs.Basis.{Basis, move_at, move_load, no_move}
 use Rattle.sm_planner.specs.Placing.{taken_by, freed_by, room_left, is_placed, first_left}
 use Rattle.sm_planner.specs.Refusal.{in_placed_order}

@@ -21,7 +21,7 @@ use Rattle.sm_plan_code.specs.declared.instruction.Instr.TheVariants.{Signal, Wa
 use Rattle.sm_plan_code.specs.declared.limits.TheConstants.{MOST_AMOUNT}
 use Rattle.sm_plan_code.specs.Instr.{is_call}
 use Rattle.sm_plan_code.specs.Plan.{StreamModel, IsSmallParcel, IsSmallStream, IsSmallPlan}
-use Rattle.sm_planner.specs.declared.moving.Move.{Move}
+use Rattle.sm_plan_code.specs.declared.moves.Move.{Move}
 use Rattle.sm_planner.specs.Basis.{Basis, IsMoveOf, move_at, left_cell}
 use Rattle.sm_planner.specs.Payment.{Handed, stream_of, from_move, signals_of}
 use Rattle.sm_planner.specs.Plan.{signal_at, handed_parcel, instructions, waits_of, posts_of, move_code, cells_needed, crowns_of, rooms_of, room_paid, holds_of, stream, streams_of, planned}

@@ -11,9 +11,9 @@ use Rattle.sm_placement.proofs.Sums.{put-here, put-apart}
 use Rattle.sm_reservation.specs.declared.right.PlainCell.{PlainCell}
 use Rattle.sm_reservation.specs.Rights.{Rights}
 use Rattle.sm_reservation.specs.Hold.{Hold}
+use Rattle.sm_plan_code.specs.declared.moves.Move.{Move}
 use Rattle.sm_verifier.specs.Step.{parcels_of}
 use Rattle.sm_verifier.specs.Stream.{HasCrownsAtRest}
-use Rattle.sm_planner.specs.declared.moving.Move.{Move}
 use Rattle.sm_planner.specs.Basis.{Basis, move_at, left_cell}
 use Rattle.sm_planner.specs.Payment.{stream_of, signals_of}
 use Rattle.sm_planner.specs.Plan.{instructions, waits_of, posts_of, move_code, planned}

@@ -18,7 +18,6 @@ use Rattle.sm_verifier.proofs.SumLemmas.{sum_once, sum_by-below}
 use Rattle.sm_reservation.specs.declared.right.PlainCell.TheVariants.{Absent, Secondary}
 use Rattle.sm_reservation.specs.Amounts.{is_cell}
 use Rattle.sm_reservation.proofs.Below.{neither_of}
-use Rattle.sm_planner.specs.declared.moving.Move.{Move}
 use Rattle.sm_planner.specs.declared.moving.NoPlan.TheVariants.{Held, ServerDown, NotThere, NoRoom, Spread}
 use Rattle.sm_planner.specs.Basis.{Basis, move_at, move_load, no_move, left_cell, is_replica}
 use Rattle.sm_planner.specs.Rights.{has_crown_at, has_rights, shares_right, is_forestalled}
@@ -28,6 +27,7 @@ use Rattle.sm_planner.specs.Drain.{may_leave, may_take, first_stuck, drain_refus
 use Rattle.sm_planner.specs.Refusal.{is_open, is_closed, first_not_there, first_held, first_down, end_down, first_refused, in_placed_order, no_room, no_spread, too_many, refusal, IsPlanOf}
 use Rattle.sm_plan_code.specs.Plan.{PlanModel}
 use Rattle.sm_plan_code.specs.declared.limits.TheConstants.{MOST_MOVES, MOST_SIGNALS}
+use Rattle.sm_plan_code.specs.declared.moves.Move.{Move}
 use Rattle.sm_planner.specs.Payment.{Handed, from_move, stream_of, signals_of}
 use Rattle.sm_planner.specs.Plan.{signal_at, planned}
 use Rattle.sm_planner.proofs.law.Signals.{is_handed_on}

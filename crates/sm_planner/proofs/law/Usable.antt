@@ -7,9 +7,9 @@ use Rattle.sm_placement.specs.Place.{Place}
 use Rattle.sm_placement.specs.Setup.{Setup, ServerRow, IsSetup, sizes_of, no_server}
 use Rattle.sm_plan_code.specs.Plan.{PlanModel, IsPlan}
 use Rattle.sm_plan_code.specs.Effects.{IsScene}
+use Rattle.sm_plan_code.specs.declared.moves.Move.{Move}
 use Rattle.sm_verifier.specs.Plan.{IsSound}
 use Rattle.sm_verifier.proofs.WithinPool.{within_admitted}
-use Rattle.sm_planner.specs.declared.moving.Move.{Move}
 use Rattle.sm_planner.specs.Basis.{Basis, basis, IsMoveOf, move_at, no_move}
 use Rattle.sm_planner.specs.Placing.{IsPlacing}
 use Rattle.sm_planner.specs.Plan.{move_code, planned}

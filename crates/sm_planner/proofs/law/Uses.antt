@@ -13,11 +13,11 @@ use Rattle.sm_placement.proofs.Sums.{same_sum, sum_apart, sum_one}
 use Rattle.sm_plan_code.specs.declared.instruction.Instr.{Instr}
 use Rattle.sm_plan_code.specs.declared.instruction.Instr.TheVariants.{Signal, Wait}
 use Rattle.sm_plan_code.specs.Plan.{StreamModel, KnowsSignal, KnowsSignals}
+use Rattle.sm_plan_code.specs.declared.moves.Move.{Move}
 use Rattle.sm_verifier.specs.Stream.{no_stream}
 use Rattle.sm_verifier.specs.Order.{code_at}
 use Rattle.sm_verifier.specs.Plan.{is_post, is_wait, posts, waits, KeepsBudget, AreUsedOnce}
 use Rattle.sm_verifier.proofs.SumLemmas.{sum_by-below}
-use Rattle.sm_planner.specs.declared.moving.Move.{Move}
 use Rattle.sm_planner.specs.Basis.{Basis, move_at, left_cell}
 use Rattle.sm_planner.specs.Payment.{Handed, stream_of, signals_of}
 use Rattle.sm_planner.specs.Plan.{signal_at, handed_parcel, handing_over, instructions, waits_of, posts_of, move_code, moves_of, stream, planned}

@@ -1,6 +1,6 @@
 use Rattle.std.proofs.lemmas.List.Elements.{All-nil}
 use Rattle.std.proofs.Common.{List, subst, sym}
-use Rattle.sm_planner.specs.declared.moving.Move.{Move}
+use Rattle.sm_plan_code.specs.declared.moves.Move.{Move}
 use Rattle.sm_planner.specs.Basis.{basis_of, IsMoveOf}
 use Rattle.sm_planner.specs.Drain.{IsRoomBeside}
 use Rattle.std.specs.Prelude.{All}

@@ -1,6 +1,6 @@
 use Rattle.std.proofs.Common.{◌≡◌, ◌∙◌, ◌&&◌, ap, sym, length, get_or, leb}
 use Rattle.std.proofs.lemmas.List.{get_or_default}
-use Rattle.sm_planner.specs.declared.moving.Move.{Move}
+use Rattle.sm_plan_code.specs.declared.moves.Move.{Move}
 use Rattle.sm_planner.specs.Basis.{no_move, move_at, move_load}
 use Rattle.sm_planner.specs.Accounts.{is_left, is_next}
 use Rattle.sm_planner.proofs.Firsts.{found, passed}
