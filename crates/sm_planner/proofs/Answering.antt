@@ -8,8 +8,8 @@ use Rattle.sm_placement.specs.Setup.{Setup, sizes_of}
 use Rattle.sm_reservation.specs.Hold.{Hold}
 use Rattle.sm_plan_code.specs.Plan.{PlanModel}
 use Rattle.sm_plan_code.specs.declared.moves.Move.{Move}
-use Rattle.sm_planner.specs.declared.moving.NoPlan.{NoPlan}
-use Rattle.sm_planner.specs.declared.moving.NoPlan.TheVariants.{NoMemory}
+use Rattle.sm_planner.specs.declared.refusal.NoPlan.{NoPlan}
+use Rattle.sm_planner.specs.declared.refusal.NoPlan.TheVariants.{NoMemory}
 use Rattle.sm_planner.specs.Basis.{Basis, basis}
 use Rattle.sm_planner.specs.Refusal.{IsRefused, IsPlanOf, IsNoPlanFor}
 use Rattle.sm_planner.specs.Drain.{may_take, leaving, IsTarget, AreLeaving, IsStuck, IsDrainPlan, IsNoDrainFor}

@@ -7,7 +7,7 @@ use Rattle.std.proofs.lemmas.List.FromFn.{length-map-range_with_len, get_or-map-
 use Rattle.sm_placement.specs.Setup.{Setup}
 use Rattle.sm_planner.specs.Basis.{Basis}
 use Rattle.sm_planner.specs.Drain.{IsBestOf, IsRoomBeside, AreDepartures, IsDrainPlan, IsNoDrainFor}
-use Rattle.sm_planner.specs.declared.moving.NoPlan.{NoPlan}
+use Rattle.sm_planner.specs.declared.refusal.NoPlan.{NoPlan}
 use Rattle.sm_plan_code.specs.Plan.{PlanModel}
 use Rattle.sm_plan_code.specs.declared.moves.Move.{Move}
 use Rattle.sm_planner.specs.Refusal.{IsPlanOf, IsNoPlanFor}

@@ -7,8 +7,8 @@ use Rattle.sm_placement.specs.Place.{Place}
 use Rattle.sm_placement.specs.Setup.{Setup, sizes_of}
 use Rattle.sm_reservation.specs.declared.right.PlainCell.TheVariants.{Absent, Secondary}
 use Rattle.sm_reservation.specs.Amounts.{is_cell}
-use Rattle.sm_planner.specs.declared.moving.NoPlan.{NoPlan}
-use Rattle.sm_planner.specs.declared.moving.NoPlan.TheVariants.{NoMemory, Held, ServerDown, NoPlace}
+use Rattle.sm_planner.specs.declared.refusal.NoPlan.{NoPlan}
+use Rattle.sm_planner.specs.declared.refusal.NoPlan.TheVariants.{NoMemory, Held, ServerDown, NoPlace}
 use Rattle.sm_planner.specs.Basis.{Basis, is_replica}
 use Rattle.sm_planner.specs.Rights.{has_crown_at}
 use Rattle.sm_planner.specs.Placing.{taken_by}

@@ -13,7 +13,7 @@ use Rattle.sm_verifier.specs.Plan.{KeepsBudget, AreUsedOnce}
 use Rattle.sm_verifier.specs.PlanEnd.{end_of}
 use Rattle.sm_protocol.specs.State.{State, pool}
 use Rattle.sm_protocol.specs.Laws.{IsCheckedPlan, IsReached}
-use Rattle.sm_planner.specs.declared.moving.NoPlan.{NoPlan}
+use Rattle.sm_planner.specs.declared.refusal.NoPlan.{NoPlan}
 use Rattle.sm_planner.specs.Basis.{Basis, basis, IsMoveOf, move_at, left_cell}
 use Rattle.sm_planner.specs.Plan.{planned}
 use Rattle.sm_planner.specs.Drain.{drain_refusal, AreLeaving}

@@ -7,8 +7,8 @@ use Rattle.sm_placement.specs.Place.{Place}
 use Rattle.sm_plan_code.specs.Plan.{PlanModel}
 use Rattle.sm_plan_code.specs.declared.limits.TheConstants.{MOST_MOVES, MOST_SIGNALS}
 use Rattle.sm_plan_code.specs.declared.moves.Move.{Move}
-use Rattle.sm_planner.specs.declared.moving.NoPlan.{NoPlan}
-use Rattle.sm_planner.specs.declared.moving.NoPlan.TheVariants.{NoMemory, NotThere, Held, ServerDown, NoRoom, Spread, TooMany}
+use Rattle.sm_planner.specs.declared.refusal.NoPlan.{NoPlan}
+use Rattle.sm_planner.specs.declared.refusal.NoPlan.TheVariants.{NoMemory, NotThere, Held, ServerDown, NoRoom, Spread, TooMany}
 use Rattle.sm_planner.specs.Basis.{Basis, move_at, left_cell, is_replica}
 use Rattle.sm_planner.specs.Rights.{has_rights, is_forestalled}
 use Rattle.sm_planner.specs.Placing.{IsPlacing, first_left}

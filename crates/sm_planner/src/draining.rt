@@ -11,7 +11,7 @@ ghost use Rattle.sm_planner.specs.Drain.{may_leave, first_stuck, has_place, IsBe
 
 use crate::held::{has_absent, has_crown, has_secondary, is_absent, is_primary, is_secondary};
 use crate::marks::{Amounts, is_marked, mark};
-use crate::moving::NoPlan;
+use crate::refusal::NoPlan;
 use crate::spread::{mark_replicas, region_count};
 use sm_placement::Placement;
 use sm_plan_code::Move;

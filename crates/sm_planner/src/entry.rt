@@ -8,8 +8,8 @@ ghost use Rattle.sm_planner.specs.Basis.{basis, IsMoveOf};
 ghost use Rattle.sm_planner.specs.Refusal.{IsPlanOf, IsNoPlanFor};
 ghost use Rattle.sm_planner.specs.Drain.{IsDrainPlan, IsNoDrainFor};
 
-use crate::moving::NoPlan;
 use crate::planner::{drain_at, moves_at};
+use crate::refusal::NoPlan;
 use sm_machine::Machine;
 use sm_plan_code::Move;
 use sm_server::ServerId;

@@ -8,7 +8,7 @@ ghost use Rattle.sm_planner.specs.Basis.{basis_of, is_replica, IsMoveOf};
 ghost use Rattle.sm_planner.specs.Rights.{has_crown_at, has_rights, needs_cell, shares_right, is_forestalled};
 ghost use Rattle.sm_planner.specs.Refusal.{is_open, first_not_there, first_held, first_down, end_down, first_refused};
 
-use crate::moving::NoPlan;
+use crate::refusal::NoPlan;
 use sm_placement::{Lead, Placement};
 use sm_plan_code::Move;
 use sm_reservation::{PlainCell, Pool};

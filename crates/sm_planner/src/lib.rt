@@ -6,10 +6,10 @@ mod entry;
 mod held;
 mod laws;
 mod marks;
-mod moving;
 mod payment;
 mod placing;
 mod planner;
+mod refusal;
 mod spread;
 mod writing;
 
@@ -18,4 +18,4 @@ pub use laws::{
     drains_empty, drains_have_plans, plans_are_orderly, plans_are_usable, plans_move,
     rule_answers_once,
 };
-pub use moving::NoPlan;
+pub use refusal::NoPlan;

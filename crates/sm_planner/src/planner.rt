@@ -12,9 +12,9 @@ ghost use Rattle.sm_planner.specs.Drain.{IsDrainPlan, IsNoDrainFor};
 
 use crate::draining::leaving;
 use crate::held::first_refused;
-use crate::moving::NoPlan;
 use crate::payment::{signals, stretches};
 use crate::placing::place_all;
+use crate::refusal::NoPlan;
 use crate::spread::first_too_close;
 use crate::writing::{Draft, write};
 use sm_placement::Placement;

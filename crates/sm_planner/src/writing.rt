@@ -17,8 +17,8 @@ ghost use Rattle.sm_planner.specs.Draft.{IsDraft, ArePayments, drafted_code, roo
 
 use crate::held::is_primary;
 use crate::marks::Amounts;
-use crate::moving::NoPlan;
 use crate::payment::{Handed, Placed};
+use crate::refusal::NoPlan;
 use sm_placement::{Lead, Placement};
 use sm_plan_code::{
     Instr, MOST_MOVES, MOST_SIGNALS, MOST_STREAMS, Move, Parts, Plan, Stream, is_call,

@@ -7,8 +7,8 @@ use Rattle.sm_placement.specs.Setup.{Setup, sizes_of}
 use Rattle.sm_placement.proofs.Searches.{cases_Option}
 use Rattle.sm_plan_code.specs.Plan.{PlanModel}
 use Rattle.sm_plan_code.specs.declared.moves.Move.{Move}
-use Rattle.sm_planner.specs.declared.moving.NoPlan.{NoPlan}
-use Rattle.sm_planner.specs.declared.moving.NoPlan.TheVariants.{NoPlace}
+use Rattle.sm_planner.specs.declared.refusal.NoPlan.{NoPlan}
+use Rattle.sm_planner.specs.declared.refusal.NoPlan.TheVariants.{NoPlace}
 use Rattle.sm_planner.specs.Basis.{Basis}
 use Rattle.sm_planner.specs.Refusal.{IsRefused, IsPlanOf}
 use Rattle.sm_planner.specs.Drain.{drain_refusal, room_beside, may_take, leaving, IsTarget, AreLeaving, IsStuck, AreDepartures, IsDrainPlan, IsDrainRefused}

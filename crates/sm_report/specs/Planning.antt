@@ -5,8 +5,8 @@ use Rattle.sm_placement.specs.Place.{Place}
 use Rattle.sm_plan_code.specs.Plan.{PlanModel}
 use Rattle.sm_plan_code.specs.declared.moves.Move.{Move}
 use Rattle.sm_protocol.specs.State.{State, opened, pool}
-use Rattle.sm_planner.specs.declared.moving.NoPlan.{NoPlan}
-use Rattle.sm_planner.specs.declared.moving.NoPlan.TheVariants as no_plan
+use Rattle.sm_planner.specs.declared.refusal.NoPlan.{NoPlan}
+use Rattle.sm_planner.specs.declared.refusal.NoPlan.TheVariants as no_plan
 use Rattle.sm_planner.specs.Basis.{Basis, basis, IsMoveOf}
 use Rattle.sm_planner.specs.Refusal.{IsRefused, IsPlanOf}
 use Rattle.sm_planner.specs.Drain.{IsDrainPlan, IsDrainRefused}

@@ -9,7 +9,7 @@ use Rattle.sm_placement.proofs.Sums.{sum-le}
 use Rattle.sm_placement.proofs.Searches.{cases_Option}
 use Rattle.sm_plan_code.specs.declared.moves.Move.{Move}
 use Rattle.sm_verifier.proofs.SumLemmas.{sum_once}
-use Rattle.sm_planner.specs.declared.moving.NoPlan.{NoPlan}
+use Rattle.sm_planner.specs.declared.refusal.NoPlan.{NoPlan}
 use Rattle.sm_planner.specs.Basis.{Basis}
 use Rattle.sm_planner.specs.Placing.{first_fit, IsPlacing}
 use Rattle.sm_planner.specs.Plan.{planned}

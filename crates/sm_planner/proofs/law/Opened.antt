@@ -14,7 +14,7 @@ use Rattle.sm_placement.specs.Place.{Place}
 use Rattle.sm_placement.proofs.Searches.{first_none, none_mapped}
 use Rattle.sm_plan_code.specs.declared.limits.TheConstants.{MOST_MOVES, MOST_SIGNALS}
 use Rattle.sm_plan_code.specs.declared.moves.Move.{Move}
-use Rattle.sm_planner.specs.declared.moving.NoPlan.TheVariants.{NotThere, Held, ServerDown, NoRoom, TooMany}
+use Rattle.sm_planner.specs.declared.refusal.NoPlan.TheVariants.{NotThere, Held, ServerDown, NoRoom, TooMany}
 use Rattle.sm_placement.specs.Opening.{first_below}
 use Rattle.sm_planner.specs.Basis.{Basis, move_at, no_move, left_cell, is_replica}
 use Rattle.sm_planner.specs.Rights.{has_rights, needs_cell, shares_right, is_forestalled}

@@ -18,7 +18,7 @@ use Rattle.sm_verifier.proofs.SumLemmas.{sum_once, sum_by-below}
 use Rattle.sm_reservation.specs.declared.right.PlainCell.TheVariants.{Absent, Secondary}
 use Rattle.sm_reservation.specs.Amounts.{is_cell}
 use Rattle.sm_reservation.proofs.Below.{neither_of}
-use Rattle.sm_planner.specs.declared.moving.NoPlan.TheVariants.{Held, ServerDown, NotThere, NoRoom, Spread}
+use Rattle.sm_planner.specs.declared.refusal.NoPlan.TheVariants.{Held, ServerDown, NotThere, NoRoom, Spread}
 use Rattle.sm_planner.specs.Basis.{Basis, move_at, move_load, no_move, left_cell, is_replica}
 use Rattle.sm_planner.specs.Rights.{has_crown_at, has_rights, shares_right, is_forestalled}
 use Rattle.sm_planner.specs.Placing.{taken_by, room_left, is_placed, fits, first_left, IsPlacing}

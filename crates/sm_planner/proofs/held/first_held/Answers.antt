@@ -4,7 +4,7 @@ use Rattle.std.proofs.lemmas.List.{get_or_default}
 use Rattle.sm_placement.specs.Layout.{place_of}
 use Rattle.sm_reservation.specs.Pool.{pool_hold}
 use Rattle.sm_plan_code.specs.declared.moves.Move.{Move}
-use Rattle.sm_planner.specs.declared.moving.NoPlan.TheVariants.{Held}
+use Rattle.sm_planner.specs.declared.refusal.NoPlan.TheVariants.{Held}
 use Rattle.sm_planner.specs.Basis.{basis, no_move, move_at}
 use Rattle.sm_planner.specs.Refusal.{is_closed}
 use Rattle.sm_planner.proofs.Firsts.{found, passed, closed_by}

@@ -56,7 +56,7 @@ pub enum NoPlan {
 }
 
 impl From<AllocError> for NoPlan {
-    ghost use Rattle.sm_planner.specs.declared.moving.NoPlan.TheVariants.{NoMemory};
+    ghost use Rattle.sm_planner.specs.declared.refusal.NoPlan.TheVariants.{NoMemory};
 
     ghost from_gives = { λ _ why. why ≡ NoMemory };
 
