@@ -5,7 +5,7 @@ use Rattle.std.specs.Option.{option_to_list}
 use Rattle.sm_reservation.specs.declared.change.Change.{Change as Exchange}
 use Rattle.sm_reservation.specs.declared.change.Portion.{Portion}
 use Rattle.sm_reservation.specs.declared.right.Room.{Room}
-use Rattle.sm_reservation.specs.Rows.{same, amount_at, Rises}
+use Rattle.sm_reservation.specs.Rows.{same, amount_at}
 use Rattle.sm_reservation.specs.Key.{IsOrdered, key_of_cell, key_of_crown, key_of_room, key_of_spare}
 use Rattle.sm_reservation.specs.Hold.{Hold, minus, plus}
 use Rattle.sm_reservation.specs.HoldOf.{hold_of}
@@ -13,12 +13,9 @@ use Rattle.sm_reservation.specs.CanJoin.{AreApart, CanJoin}
 use Rattle.sm_reservation.specs.Change.{portion_rights}
 use Rattle.sm_reservation.specs.Capacity.{HoldModel, HasCapacityAfter}
 use Rattle.sm_reservation.specs.Turns.{lacks_cell, lacks_crown, lacks_room, lacks_spare}
+use Rattle.sm_reservation.proofs.RowLemmas.{one_rises}
 use Rattle.sm_reservation.proofs.ParcelSums.{minus_is, plus_is}
 use Rattle.sm_plan_code.specs.Table.{IsSmallPortion}
-
-one_rises : {T : Type 0} (key_of : T → ℕ × ℕ) (o : Option T) → Rises key_of (option_to_list o)
-one_rises key_of None = tt
-one_rises key_of (Some x) = (tt, tt)
 
 -- the lists of a portion are in order
 pub portion_ordered : (p : Portion) → IsOrdered (portion_rights p)

@@ -1,6 +1,7 @@
 -- Ordered rows: look-ups after an edit.
 use Rattle.std.proofs.Common.{◌≡◌, ℕ, ◌<◌, ◌≤◌, true, false, Option, Some, None, IsSome, List, [], ◌∷◌, length, get_or, refl, sym, ◌∙◌, ap, arith, inl, inr}
 use Rattle.std.specs.List.{insert}
+use Rattle.std.specs.Option.{option_to_list}
 use Rattle.std.proofs.lemmas.Bool.{cases_Bool, both_ways}
 use Rattle.sm_reservation.specs.Rows.{same, before, row_at, AllAfter, Rises, count_before}
 use Rattle.sm_reservation.proofs.Places.{same_here, same_trans, before_not_same, before_trans, before_from_not}
@@ -25,6 +26,11 @@ none_after key_of k q (x ∷ xs) a e =
       | inr f ↦ f
     ] in
     rw apart (none_after key_of k q xs a.1 e)
+
+-- where there is one row at most, the rows rise
+pub one_rises : {T : Type 0} (key_of : T → ℕ × ℕ) (o : Option T) → Rises key_of (option_to_list o)
+one_rises key_of None = tt
+one_rises key_of (Some x) = (tt, tt)
 
 -- rows that come after a key come after each key before it
 pub AllAfter-trans : {T : Type 0} (key_of : T → ℕ × ℕ) (j k : ℕ × ℕ) (xs : List T) → before j k ≡ true → AllAfter key_of k xs → AllAfter key_of j xs

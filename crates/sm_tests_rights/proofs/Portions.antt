@@ -2,16 +2,13 @@
 use Rattle.std.proofs.Common.{◌≡◌, ◌<◌, ℕ, Option, Some, None}
 use Rattle.std.specs.Prelude.{IfSome}
 use Rattle.std.specs.Option.{option_to_list}
-use Rattle.sm_reservation.specs.Rows.{Rises, HasPositive}
+use Rattle.sm_reservation.specs.Rows.{HasPositive}
 use Rattle.sm_reservation.specs.Key.{key_of_cell, key_of_crown, key_of_room, key_of_spare}
 use Rattle.sm_reservation.specs.InOrder.{in_order}
 use Rattle.sm_reservation.specs.Change.{portion_rights}
 use Rattle.sm_reservation.specs.declared.change.Portion.{Portion}
+use Rattle.sm_reservation.proofs.RowLemmas.{one_rises}
 use Rattle.sm_reservation.proofs.InOrder.{in_order_of_ordered}
-
-one_rises : {T : Type 0} (place : T → ℕ × ℕ) (o : Option T) → Rises place (option_to_list o)
-one_rises place None = tt
-one_rises place (Some x) = (tt, tt)
 
 one_positive : {T : Type 0} (amount : T → ℕ) (o : Option T) → IfSome o (λ x. 0 < amount x) → HasPositive amount (option_to_list o)
 one_positive amount None p = tt
