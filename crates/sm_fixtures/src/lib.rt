@@ -17,7 +17,7 @@ pub use events::{
 };
 pub use links::{Loses, LosesEverySecond};
 pub use plans::{
-    Move, S_TO_A, S_TO_B, T_TO_A, T_TO_B, checked_of, handover, handover_plan, idle_plan, is_for,
-    is_handover, is_signalled, one_stream_plan, signalled_plan, stream_of,
+    S_TO_A, S_TO_B, T_TO_A, T_TO_B, WorkedMove, checked_of, handover, handover_plan, idle_plan,
+    is_for, is_handover, is_signalled, one_stream_plan, signalled_plan, stream_of,
 };
 pub use worlds::World;

@@ -11,7 +11,7 @@ use std::alloc::{AllocError, Global};
 
 /// A shard goes from one server to another, of whose room its stream has so much at first, with so many retries.
 #[derive(Clone, Copy)]
-pub struct Move {
+pub struct WorkedMove {
     pub shard: u32,
     pub from: u32,
     pub to: u32,
@@ -20,7 +20,7 @@ pub struct Move {
 }
 
 /// The worked handover: shard s goes from a to b.
-pub const S_TO_B: Move = Move {
+pub const S_TO_B: WorkedMove = WorkedMove {
     shard: 0,
     from: 0,
     to: 1,
@@ -29,7 +29,7 @@ pub const S_TO_B: Move = Move {
 };
 
 /// Shard s goes back from b to a.
-pub const S_TO_A: Move = Move {
+pub const S_TO_A: WorkedMove = WorkedMove {
     shard: 0,
     from: 1,
     to: 0,
@@ -38,7 +38,7 @@ pub const S_TO_A: Move = Move {
 };
 
 /// Shard t goes from b to a.
-pub const T_TO_A: Move = Move {
+pub const T_TO_A: WorkedMove = WorkedMove {
     shard: 1,
     from: 1,
     to: 0,
@@ -47,7 +47,7 @@ pub const T_TO_A: Move = Move {
 };
 
 /// Shard t goes back from a to b.
-pub const T_TO_B: Move = Move {
+pub const T_TO_B: WorkedMove = WorkedMove {
     shard: 1,
     from: 0,
     to: 1,
@@ -56,7 +56,7 @@ pub const T_TO_B: Move = Move {
 };
 
 /// Shard x goes from d to b, with half of the room that it takes: there is too little while t is there.
-const X_TO_B: Move = Move {
+const X_TO_B: WorkedMove = WorkedMove {
     shard: 2,
     from: 3,
     to: 1,
@@ -91,7 +91,7 @@ fn room_of(alloc: Global, server: u32, amount: u64) -> Result<Parcel, AllocError
 }
 
 /// What a handover holds at its start.
-fn held(alloc: Global, moved: Move) -> Result<Parcel, AllocError> {
+fn held(alloc: Global, moved: WorkedMove) -> Result<Parcel, AllocError> {
     let shard = ShardId::new(moved.shard);
     let (old, new) = (ServerId::new(moved.from), ServerId::new(moved.to));
     let cell = CellRight {
@@ -115,7 +115,7 @@ fn held(alloc: Global, moved: Move) -> Result<Parcel, AllocError> {
 }
 
 /// The instructions of a handover.
-pub const fn handover(moved: Move) -> [Instr; 5] {
+pub const fn handover(moved: WorkedMove) -> [Instr; 5] {
     let shard = ShardId::new(moved.shard);
     let (old, new) = (ServerId::new(moved.from), ServerId::new(moved.to));
     [
@@ -142,7 +142,7 @@ pub const fn handover(moved: Move) -> [Instr; 5] {
 /// A stream that holds at its start what a handover holds.
 pub fn stream_of(
     alloc: Global,
-    moved: Move,
+    moved: WorkedMove,
     budget: u32,
     code: Vec<Instr>,
 ) -> Result<Stream, AllocError> {
@@ -186,7 +186,7 @@ pub fn is_for(config: &Config, checked: &Checked) -> bool
 pub fn one_stream_plan(
     alloc: Global,
     world: World,
-    moved: Move,
+    moved: WorkedMove,
     budget: u32,
     code: Vec<Instr>,
 ) -> Result<Checked, AllocError> {
@@ -197,7 +197,11 @@ pub fn one_stream_plan(
 }
 
 /// The plan of a handover by one stream.
-pub fn handover_plan(alloc: Global, world: World, moved: Move) -> Result<Checked, AllocError> {
+pub fn handover_plan(
+    alloc: Global,
+    world: World,
+    moved: WorkedMove,
+) -> Result<Checked, AllocError> {
     let code = Vec::from_array(alloc, handover(moved))?;
     one_stream_plan(alloc, world, moved, 4, code)
 }
@@ -211,8 +215,8 @@ pub fn is_handover(checked: &Checked) -> bool {
 /// The plan by which shard t goes to a in one stream, which then posts the room that t had at b, and x goes to b in another one, which
 /// waits for it and fills the room; with so many retries for each.
 pub fn signalled_plan(alloc: Global, retries: u32) -> Result<Checked, AllocError> {
-    let first = Move { retries, ..T_TO_A };
-    let second = Move { retries, ..X_TO_B };
+    let first = WorkedMove { retries, ..T_TO_A };
+    let second = WorkedMove { retries, ..X_TO_B };
     let mut posts = Vec::from_array(alloc, handover(first))?;
     posts.push(Instr::Signal { signal: 0 })?;
     let mut waits = Vec::from_array(alloc, [Instr::Wait { signal: 0 }])?;

@@ -6,7 +6,7 @@ use super::given::{put, put_all};
 use super::map_and_asks::assert_steps;
 use super::worlds::assert_loads;
 use sm_executor::{Board, Ended, Naming, NotRun, Open, RunFault, Runner, Side, run};
-use sm_fixtures::{Move, S_TO_B, T_TO_A, World, handover_plan, is_for, stream};
+use sm_fixtures::{S_TO_B, T_TO_A, WorkedMove, World, handover_plan, is_for, stream};
 use sm_machine::{Machine, Step, StreamToken};
 use std::alloc::Global;
 use std::process::Abort;
@@ -14,7 +14,11 @@ use std::sync::Wait;
 use std::thread::Threads;
 
 /// A machine on which the plans of these moves, by one stream each, have begun, with their tokens.
-fn begun_machine(rt: &impl Abort, alloc: Global, moves: &[Move]) -> (Machine, Vec<StreamToken>) {
+fn begun_machine(
+    rt: &impl Abort,
+    alloc: Global,
+    moves: &[WorkedMove],
+) -> (Machine, Vec<StreamToken>) {
     let mut machine = machine(rt, alloc, 16);
     let mut tokens = Vec::new(alloc);
     for moved in moves {

@@ -5,8 +5,8 @@ use super::plans::three_handovers;
 use super::scenes::{Scene, placement_after};
 use super::worlds::assert_cells;
 use sm_fixtures::{
-    Move, S_TO_B, Turn, World, approve, arrive, begin, begun, done, executed, handover_plan, lose,
-    pass_on, passed, refill, step, stream,
+    S_TO_B, Turn, WorkedMove, World, approve, arrive, begin, begun, done, executed, handover_plan,
+    lose, pass_on, passed, refill, step, stream,
 };
 use sm_placement::Placement;
 use sm_protocol::{Played, RefillFault};
@@ -143,7 +143,10 @@ fn as_played<R: Threads + Wait + Sync + Print + Abort>(
 }
 
 /// Two plans of the same handover.
-fn twins(alloc: Global, moved: Move) -> (Result<Checked, AllocError>, Result<Checked, AllocError>) {
+fn twins(
+    alloc: Global,
+    moved: WorkedMove,
+) -> (Result<Checked, AllocError>, Result<Checked, AllocError>) {
     (
         handover_plan(alloc, World::Wide, moved),
         handover_plan(alloc, World::Wide, moved),
@@ -186,7 +189,7 @@ fn a_request_passed_on_is_as_played(rt: HostRuntime) {
 #[test]
 fn lost_calls_are_as_played(rt: HostRuntime) {
     let alloc = rt.alloc();
-    let moved = Move {
+    let moved = WorkedMove {
         retries: 2,
         ..S_TO_B
     };

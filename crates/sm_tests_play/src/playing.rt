@@ -2,7 +2,7 @@
 use super::table::{Table, must_open};
 use super::worlds::assert_cells;
 use sm_fixtures::{
-    Move, S_TO_A, S_TO_B, Turn, approve, arrive, begin, begun, done, executed, lose, pass_on,
+    S_TO_A, S_TO_B, Turn, WorkedMove, approve, arrive, begin, begun, done, executed, lose, pass_on,
     passed, refill, step, stream,
 };
 use sm_machine::BeginFault;
@@ -17,12 +17,12 @@ use std::process::Abort;
 /// A machine with the handover of shard s from a to b in its hand, with so many retries.
 fn with_handover(rt: &impl Abort, alloc: Global, log_room: u32, retries: u32) -> Table {
     let mut table = must_open(rt, alloc, log_room);
-    add_plan(rt, alloc, &mut table, Move { retries, ..S_TO_B });
+    add_plan(rt, alloc, &mut table, WorkedMove { retries, ..S_TO_B });
     table
 }
 
 /// Puts the plan of a handover into the hand, for which there is memory.
-fn add_plan(rt: &impl Abort, alloc: Global, table: &mut Table, moved: Move) {
+fn add_plan(rt: &impl Abort, alloc: Global, table: &mut Table, moved: WorkedMove) {
     let added = table.add_plan(alloc, moved);
     assert!(rt; added.is_ok());
 }

@@ -2,7 +2,7 @@
 use super::table::{Table, must_open, put};
 use super::worlds::{server_id, shard_id};
 use sm_fixtures::{
-    Dice, Move, S_TO_A, S_TO_B, T_TO_A, T_TO_B, approve, arrive, begin, done, lose, pass_on,
+    Dice, S_TO_A, S_TO_B, T_TO_A, T_TO_B, WorkedMove, approve, arrive, begin, done, lose, pass_on,
     refill, step,
 };
 use sm_placement::Placement;
@@ -17,17 +17,17 @@ const EVENTS: u32 = 1_000;
 const PLACES: u32 = 220;
 
 /// The plans in the hand: each shard goes between a and b, again and again.
-static MOVES: [Move; 4] = [
-    Move {
+static MOVES: [WorkedMove; 4] = [
+    WorkedMove {
         retries: 2,
         ..S_TO_B
     },
     T_TO_A,
-    Move {
+    WorkedMove {
         retries: 1,
         ..S_TO_A
     },
-    Move {
+    WorkedMove {
         retries: 3,
         ..T_TO_B
     },

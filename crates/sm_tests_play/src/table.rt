@@ -1,6 +1,6 @@
 //! A machine, and the hand that lists of events are played with.
 use super::known::{are_for, are_known};
-use sm_fixtures::{Move, Turn, World, handover_plan};
+use sm_fixtures::{Turn, WorkedMove, World, handover_plan};
 use sm_machine::{Hand, Machine, ReadyPlan, make_ready};
 use sm_placement::Placement;
 use sm_protocol::{Event, Played};
@@ -71,7 +71,7 @@ pub(crate) fn put<T>(rt: &impl Abort, list: &mut Vec<T>, value: T) {
 
 impl Table {
     /// Puts the plan of a handover behind those in the hand.
-    pub fn add_plan(&mut self, alloc: Global, moved: Move) -> Result<(), AllocError> {
+    pub fn add_plan(&mut self, alloc: Global, moved: WorkedMove) -> Result<(), AllocError> {
         let checked = handover_plan(alloc, World::Base, moved)?;
         let ready = match make_ready(alloc, checked) {
             Ok(ready) => ready,
