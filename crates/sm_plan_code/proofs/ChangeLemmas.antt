@@ -1,5 +1,5 @@
 -- A change that is made of a line of the table of rights: what it says of the hold, and what a refusal says.
-use Rattle.std.proofs.Common.{◌≡◌, ◌⊎◌, ◌<◌, ◌^◌, ℕ, refl, sym, ap, subst, ◌∙◌, arith, inl, inr, Option, Some, None, Result, Ok, Err}
+use Rattle.std.proofs.Common.{◌≡◌, ◌⊎◌, ◌≤◌, ℕ, refl, sym, ap, subst, ◌∙◌, arith, inl, inr, Option, Some, None, Result, Ok, Err}
 use Rattle.std.specs.Prelude.{IfOk, IfErr, IfSome, Bool, true, false, if◌then◌else◌}
 use Rattle.sm_server.specs.declared.call.Role.TheVariants as role
 use Rattle.sm_placement.specs.declared.lead.Lead.{Lead}
@@ -15,6 +15,7 @@ use Rattle.sm_reservation.specs.Short.{first_short}
 use Rattle.sm_plan_code.specs.declared.instruction.Instr.{Instr}
 use Rattle.sm_plan_code.specs.declared.instruction.Instr.TheVariants.{PrepareAdd, PrepareDrop, Add, Drop, Change, Publish, Unlist, Signal, Wait}
 use Rattle.sm_plan_code.specs.declared.instruction.Why.{Why}
+use Rattle.sm_plan_code.specs.declared.limits.TheConstants.{MOST_AMOUNT}
 use Rattle.sm_plan_code.specs.Instr.{IsOwn, shard_of}
 use Rattle.sm_plan_code.specs.After.{after, first_why, line_of, unless_refused, listed_of, lead_held, has_right}
 use Rattle.sm_plan_code.specs.Table.{exchanged, exchange_of, gives_of, no_exchange, nothing, IsSmallPortion, add_primary_exchange, drop_held_exchange, drop_led_exchange, publish_exchange, unlist_exchange}
@@ -109,7 +110,7 @@ module _ (c : Sizes) (i : Instr) (h : Hold) (r : Result Exchange Why) (own : (si
 
 -- ---- what is got is small
 
-module _ (c : Sizes) (s v : ℕ) (small : c.load s < 2 ^ 32) where
+module _ (c : Sizes) (s v : ℕ) (small : c.load s ≤ MOST_AMOUNT) where
   by_add_primary : (listed : Option ℕ) (o : Option Lead) → IsSmallPortion (add_primary_exchange c s v listed o).got
   by_add_primary listed None = record { room = tt; spare = tt }
   by_add_primary listed (Some Gone) = record { room = tt; spare = omega arith }
@@ -138,8 +139,8 @@ by_unlist : (s : ℕ) (listed : Option ℕ) (o : Option Lead) → IsSmallPortion
 by_unlist s listed None = record { room = tt; spare = tt }
 by_unlist s listed (Some lead) = record { room = tt; spare = tt }
 
--- an instruction gives one spare replica at most, and room below 2^32 where its shard's load is below it
-pub small_got : (c : Sizes) (h : Hold) (i : Instr) → IfSome (shard_of i) (λ s. c.load s < 2 ^ 32) → IsSmallPortion (gives_of c i h)
+-- an instruction gives one spare replica at most, and room within the limit where its shard's load is
+pub small_got : (c : Sizes) (h : Hold) (i : Instr) → IfSome (shard_of i) (λ s. c.load s ≤ MOST_AMOUNT) → IsSmallPortion (gives_of c i h)
 small_got c h (PrepareAdd s v u) l = record { room = tt; spare = tt }
 small_got c h (PrepareDrop s u v) l = record { room = tt; spare = tt }
 small_got c h (Add s v role.Secondary) l = record { room = tt; spare = omega arith }

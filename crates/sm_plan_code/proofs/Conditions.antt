@@ -1,10 +1,9 @@
 -- When a small change can be made: what a caller of `exchange` shows of its sums and of its room, and how far it grows.
-use Rattle.std.proofs.Common.{◌≡◌, ℕ, ◌+◌, ◌<◌, ◌≤◌, ◌^◌, Bool, true, false, refl, arith, Option, Some, None, length}
+use Rattle.std.proofs.Common.{◌≡◌, ℕ, ◌+◌, ◌≤◌, ◌^◌, Bool, true, false, refl, arith, Option, Some, None, length}
 use Rattle.std.specs.Prelude.{IfSome, count_by}
 use Rattle.std.specs.Option.{option_to_list}
 use Rattle.sm_reservation.specs.declared.change.Change.{Change as Exchange}
 use Rattle.sm_reservation.specs.declared.change.Portion.{Portion}
-use Rattle.sm_reservation.specs.declared.right.Room.{Room}
 use Rattle.sm_reservation.specs.Rows.{same, amount_at}
 use Rattle.sm_reservation.specs.Key.{IsOrdered, key_of_cell, key_of_crown, key_of_room, key_of_spare}
 use Rattle.sm_reservation.specs.Hold.{Hold, minus, plus}
@@ -15,6 +14,7 @@ use Rattle.sm_reservation.specs.Capacity.{HoldModel, HasCapacityAfter}
 use Rattle.sm_reservation.specs.Turns.{lacks_cell, lacks_crown, lacks_room, lacks_spare}
 use Rattle.sm_reservation.proofs.RowLemmas.{one_rises}
 use Rattle.sm_reservation.proofs.ParcelSums.{minus_is, plus_is}
+use Rattle.sm_plan_code.specs.declared.limits.TheConstants.{MOST_AMOUNT}
 use Rattle.sm_plan_code.specs.Table.{IsSmallPortion}
 
 -- the lists of a portion are in order
@@ -31,13 +31,9 @@ amount_of_one key_of amount n (Some x) q l = go (same (key_of x) q) refl
     go true e = rw e l
     go false e = rw e (omega arith)
 
-below_is_most : (o : Option Room) → IfSome o (λ x. x.amount < 2 ^ 32) → IfSome o (λ x. x.amount ≤ 2 ^ 32)
-below_is_most None l = tt
-below_is_most (Some x) l = omega arith
-
-room_of : (p : Portion) → IsSmallPortion p → (v : ℕ) → (hold_of (portion_rights p)).room v ≤ 2 ^ 32
+room_of : (p : Portion) → IsSmallPortion p → (v : ℕ) → (hold_of (portion_rights p)).room v ≤ MOST_AMOUNT
 unfolding hold_of
-room_of p l v = amount_of_one key_of_room (λ x. x.amount) (2 ^ 32) p.room (v, 0) (below_is_most p.room l.room)
+room_of p l v = amount_of_one key_of_room (λ x. x.amount) MOST_AMOUNT p.room (v, 0) l.room
 
 spare_of : (p : Portion) → IsSmallPortion p → (s : ℕ) → (hold_of (portion_rights p)).spare s ≤ 1
 unfolding hold_of

@@ -1,6 +1,6 @@
 -- The table of rights by its two columns: what each instruction needs, which is taken out of the hold, and what it
 -- gives, which is put in. A crown keeps its listed server unless the line says another.
-use Rattle.std.specs.Prelude.{◌≡◌, ◌≤◌, ◌<◌, ◌^◌, ℕ, Option, Some, None, Result, Ok, IfSome, if◌then◌else◌}
+use Rattle.std.specs.Prelude.{◌≡◌, ◌≤◌, ℕ, Option, Some, None, Result, Ok, IfSome, if◌then◌else◌}
 use Rattle.sm_server.specs.declared.call.Role.TheVariants as role
 use Rattle.sm_placement.specs.declared.lead.Lead.{Lead}
 use Rattle.sm_placement.specs.declared.lead.Lead.TheVariants.{Gone, At, Ready, Handing, Handed}
@@ -23,6 +23,7 @@ use Rattle.sm_plan_code.specs.declared.instruction.Instr.{Instr}
 use Rattle.sm_plan_code.specs.declared.instruction.Instr.TheVariants.{PrepareAdd, PrepareDrop, Add, Drop, Change, Publish, Unlist, Signal, Wait}
 use Rattle.sm_plan_code.specs.Instr.{IsOwn}
 use Rattle.sm_plan_code.specs.declared.instruction.Why.{Why}
+use Rattle.sm_plan_code.specs.declared.limits.TheConstants.{MOST_AMOUNT}
 use Rattle.sm_plan_code.specs.After.{Line, first_why, unless_refused, after, has_right, listed_of, lead_held, to_list}
 
 -- ---- portions
@@ -196,7 +197,7 @@ LinesExchange = (c : Sizes) (signals : ℕ → Rights) (h h' : Hold) (i : Instr)
 abbrev pub exchanged : Line → Exchange → Result Exchange Why
 exchanged line exchange = unless_refused (first_why line.tests) exchange
 
--- what is got is small: less than 2^32 of room, and at most one spare replica
+-- what is got is small: room within the limit of an amount, and at most one spare replica
 pub record IsSmallPortion (p : Portion) : Type 0 where
-  pub room : IfSome p.room (λ x. x.amount < 2 ^ 32)
+  pub room : IfSome p.room (λ x. x.amount ≤ MOST_AMOUNT)
   pub spare : IfSome p.spare (λ x. x.amount ≤ 1)

@@ -5,6 +5,7 @@ ghost use Rattle.sm_plan_code.specs.Parts.{parts_of};
 
 use crate::Instr;
 use crate::plan::{Parts, Stream};
+use sm_placement::MOST_LOAD;
 use sm_reservation::{Parcel, Room, Spare};
 
 /// How many streams a plan has at most.
@@ -22,8 +23,8 @@ pub const MOST_CALLS: u32 = 262_144;
 /// How many entries each list of a parcel has at most.
 pub const MOST_RIGHTS: usize = 4_096;
 
-/// The greatest amount of room or of spare replicas.
-pub const MOST_AMOUNT: u64 = 4_294_967_295;
+/// The greatest amount of room or of spare replicas. An amount of room can be as great as a server's room.
+pub const MOST_AMOUNT: u64 = MOST_LOAD;
 
 /// How many plans run at a time at most.
 pub const MOST_PLANS: usize = 16;

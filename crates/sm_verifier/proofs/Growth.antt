@@ -10,6 +10,7 @@ use Rattle.sm_reservation.specs.Key.{key_of_room, key_of_spare}
 use Rattle.sm_reservation.specs.Hold.{Hold, plus, plus_cells, plus_crowns, plus_room}
 use Rattle.sm_reservation.specs.HoldOf.{hold_of}
 use Rattle.sm_reservation.proofs.ParcelSums.{more_cells_alone, more_crowns_alone, more_room_alone, more_spare_alone, plus_room_at, plus_spare_at}
+use Rattle.sm_plan_code.specs.declared.limits.TheConstants.{MOST_AMOUNT}
 use Rattle.sm_plan_code.specs.Plan.{IsSmallParcel}
 use Rattle.sm_verifier.specs.Step.{IsAtMost, Grows}
 
@@ -35,14 +36,14 @@ plus_grows h p room spare small =
           let b : (plus_room first p.room).room v ≡ first.room v + amount_at key_of_room (λ x. x.amount) p.room (v, 0) = plus_room_at first p.room v room in
           let d : first.room v ≡ (plus_cells h p.cells).room v = ap (λ (k : Hold). k.room v) crowns in
           let e : (plus_cells h p.cells).room v ≡ h.room v = ap (λ (k : Hold). k.room v) cells in
-          let f : amount_at key_of_room (λ x. x.amount) p.room (v, 0) ≤ 4294967295 = amount_most key_of_room (λ x. x.amount) 4294967295 p.room (v, 0) (recursion_from_All (λ x. x.amount ≤ 4294967295) p.room small.room_amounts) in
+          let f : amount_at key_of_room (λ x. x.amount) p.room (v, 0) ≤ MOST_AMOUNT = amount_most key_of_room (λ x. x.amount) MOST_AMOUNT p.room (v, 0) (recursion_from_All (λ x. x.amount ≤ MOST_AMOUNT) p.room small.room_amounts) in
           omega arith;
       spare = λ s.
           let b : (plus h p).spare s ≡ (plus_room first p.room).spare s + amount_at key_of_spare (λ x. x.amount) p.spare (s, 0) = plus_spare_at (plus_room first p.room) p.spare s spare in
           let a : (plus_room first p.room).spare s ≡ first.spare s = ap (λ (k : Hold). k.spare s) rooms in
           let d : first.spare s ≡ (plus_cells h p.cells).spare s = ap (λ (k : Hold). k.spare s) crowns in
           let e : (plus_cells h p.cells).spare s ≡ h.spare s = ap (λ (k : Hold). k.spare s) cells in
-          let f : amount_at key_of_spare (λ x. x.amount) p.spare (s, 0) ≤ 4294967295 = amount_most key_of_spare (λ x. x.amount) 4294967295 p.spare (s, 0) (recursion_from_All (λ x. x.amount ≤ 4294967295) p.spare small.spare_amounts) in
+          let f : amount_at key_of_spare (λ x. x.amount) p.spare (s, 0) ≤ MOST_AMOUNT = amount_most key_of_spare (λ x. x.amount) MOST_AMOUNT p.spare (s, 0) (recursion_from_All (λ x. x.amount ≤ MOST_AMOUNT) p.spare small.spare_amounts) in
           omega arith;
     }
 
@@ -54,6 +55,6 @@ all_at P xs k x all less is = rw is (all k x less)
 pub small_amounts : (p : Rights) → IsSmallParcel p → IsAtMost (2 ^ 32) (hold_of p)
 unfolding hold_of
 small_amounts p small = record {
-  room = λ v. let m : amount_at key_of_room (λ x. x.amount) p.room (v, 0) ≤ 4294967295 = amount_most key_of_room (λ x. x.amount) 4294967295 p.room (v, 0) (recursion_from_All (λ x. x.amount ≤ 4294967295) p.room small.room_amounts) in omega arith;
-  spare = λ s. let m : amount_at key_of_spare (λ x. x.amount) p.spare (s, 0) ≤ 4294967295 = amount_most key_of_spare (λ x. x.amount) 4294967295 p.spare (s, 0) (recursion_from_All (λ x. x.amount ≤ 4294967295) p.spare small.spare_amounts) in omega arith;
+  room = λ v. let m : amount_at key_of_room (λ x. x.amount) p.room (v, 0) ≤ MOST_AMOUNT = amount_most key_of_room (λ x. x.amount) MOST_AMOUNT p.room (v, 0) (recursion_from_All (λ x. x.amount ≤ MOST_AMOUNT) p.room small.room_amounts) in omega arith;
+  spare = λ s. let m : amount_at key_of_spare (λ x. x.amount) p.spare (s, 0) ≤ MOST_AMOUNT = amount_most key_of_spare (λ x. x.amount) MOST_AMOUNT p.spare (s, 0) (recursion_from_All (λ x. x.amount ≤ MOST_AMOUNT) p.spare small.spare_amounts) in omega arith;
 }

@@ -1,8 +1,9 @@
 -- What is said of a change that is handed out, and of a refusal, by the law of the two columns.
-use Rattle.std.proofs.Common.{◌<◌, ◌^◌, length}
+use Rattle.std.proofs.Common.{◌<◌, ◌≤◌, arith, length}
 use Rattle.sm_placement.specs.Setup.{sizes_of}
 use Rattle.sm_placement.proofs.SizesLemmas.{load_small}
 use Rattle.sm_reservation.specs.HoldOf.{hold_of}
+use Rattle.sm_plan_code.specs.declared.limits.TheConstants.{MOST_AMOUNT}
 use Rattle.sm_plan_code.specs.Instr.{shard_of}
 use Rattle.sm_plan_code.proofs.ChangeLemmas.{each_ok, each_err, is_change, is_refusal, small_got, at_shard}
 use Rattle.sm_plan_code.proofs.change.change_of.Goals as goal
@@ -14,7 +15,7 @@ returns c =
     let instr = c.args.instr.now in
     let answer = c.exchange.result in
     let made = is_change sizes instr hold answer c.exchange.ensures.own c.exchange.ensures.other in
-    let small = at_shard (λ s. s < length c.args.config.now.shards) (λ s. sizes.load s < 2 ^ 32) (shard_of instr) (λ s l. load_small c.args.config.now s c.server_count-servers.ensures.setup) c.requires in
+    let small = at_shard (λ s. s < length c.args.config.now.shards) (λ s. sizes.load s ≤ MOST_AMOUNT) (shard_of instr) (λ s l. let below = load_small c.args.config.now s c.server_count-servers.ensures.setup in omega arith) c.requires in
     record {
       change = each_ok _ answer (λ x e. (made x e).change);
       held = each_ok _ answer (λ x e. (made x e).held);
