@@ -6,7 +6,7 @@ use Rattle.sm_placement.specs.Place.{Place}
 use Rattle.sm_plan_code.specs.declared.instruction.Instr.{Instr}
 use Rattle.sm_plan_code.specs.Instr.{names_of, Mentions}
 use Rattle.sm_plan_code.specs.Plan.{StreamModel}
-use Rattle.sm_verifier.specs.Downs.{lower_server, if_down, down_at, down_in_code, down_in_streams}
+use Rattle.sm_verifier.specs.Downs.{lower_number, if_down, down_at, down_in_code, down_in_streams}
 use Rattle.sm_verifier.specs.Admission.{IsMentioned, IsUpWhereMentioned, AreUp, IsLowest}
 
 -- the least of the numbers with a property, or none where no number has it
@@ -22,7 +22,7 @@ neither : (P Q : ℕ → Type 0) (v : ℕ) → ¬ P v → ¬ Q v → ¬ (P v ⊎
 neither P Q v p q (inl x) = p x
 neither P Q v p q (inr x) = q x
 
-least_lower : (P Q : ℕ → Type 0) (a b : Option ℕ) → IsLeast P a → IsLeast Q b → IsLeast (λ v. P v ⊎ Q v) (lower_server a b)
+least_lower : (P Q : ℕ → Type 0) (a b : Option ℕ) → IsLeast P a → IsLeast Q b → IsLeast (λ v. P v ⊎ Q v) (lower_number a b)
 least_lower P Q None None p q = λ v. neither P Q v (p v) (q v)
 least_lower P Q None (Some w) p q = (inr q.0, λ k l. neither P Q k (p k) (q.1 k l))
 least_lower P Q (Some v) None p q = (inl p.0, λ k l. neither P Q k (p.1 k l) (q k))
@@ -69,7 +69,7 @@ least_at down P o i least =
     let one : ℕ → Type 0 = IsDownOne down (names_of i).first in
     let two : ℕ → Type 0 = IsDownOne down (names_of i).second in
     let first = least_lower P one o (if_down down (names_of i).first) least (least_one down (names_of i).first) in
-    let both = least_lower (λ v. P v ⊎ one v) two (lower_server o (if_down down (names_of i).first)) (if_down down (names_of i).second) first (least_one down (names_of i).second) in
+    let both = least_lower (λ v. P v ⊎ one v) two (lower_number o (if_down down (names_of i).first)) (if_down down (names_of i).second) first (least_one down (names_of i).second) in
     least_same (λ v. (P v ⊎ one v) ⊎ two v) (AtOne down P i) (down_at down o i) to from both
   where
     to : (v : ℕ) → (P v ⊎ IsDownOne down (names_of i).first v) ⊎ IsDownOne down (names_of i).second v → AtOne down P i v

@@ -16,7 +16,7 @@ use Rattle.sm_reservation.specs.Key.{key_of_room, key_of_spare}
 use Rattle.sm_reservation.specs.HoldOf.{hold_of}
 use Rattle.sm_plan_code.specs.Plan.{StreamModel}
 use Rattle.sm_verifier.specs.Admission.{declared_room, declared_spare}
-use Rattle.sm_verifier.specs.Downs.{lower_server}
+use Rattle.sm_verifier.specs.Downs.{lower_number}
 use Rattle.sm_verifier.specs.Next.{IsNextOrNone, next_number}
 
 -- ---- keys of one number each
@@ -92,7 +92,7 @@ next_of_rows number amount (x ∷ xs) from rises positive = elim (cases_Bool (na
 -- ---- two together
 
 -- the next number of two together is the lower one of theirs
-pub next_of_both : (f g : ℕ → ℕ) (from : ℕ) (a b : Option ℕ) → IsNextOrNone f from a → IsNextOrNone g from b → IsNextOrNone (λ m. f m + g m) from (lower_server a b)
+pub next_of_both : (f g : ℕ → ℕ) (from : ℕ) (a b : Option ℕ) → IsNextOrNone f from a → IsNextOrNone g from b → IsNextOrNone (λ m. f m + g m) from (lower_number a b)
 next_of_both f g from None None p q = λ m le. let x = p m le in let y = q m le in omega arith
 next_of_both f g from None (Some w) p q = record {
   behind = q.behind;
@@ -125,9 +125,9 @@ next_of_both f g from (Some v) (Some w) p q = elim (cases_Bool (nat_lt w v)) [
 
 -- the next number of one stream more
 pub next_with : (f : StreamModel → ℕ → ℕ) (xs : List StreamModel) (i : ℕ) (stream : StreamModel) (from : ℕ) (next row : Option ℕ) → i < length xs → stream ≡ get_or xs i stream →
-    IsNextOrNone (λ m. sum_by (λ s. f s m) (take i xs)) from next → IsNextOrNone (f stream) from row → IsNextOrNone (λ m. sum_by (λ s. f s m) (take (i + 1) xs)) from (lower_server next row)
+    IsNextOrNone (λ m. sum_by (λ s. f s m) (take i xs)) from next → IsNextOrNone (f stream) from row → IsNextOrNone (λ m. sum_by (λ s. f s m) (take (i + 1) xs)) from (lower_number next row)
 next_with f xs i stream from next row lt is before here =
-    same_next (λ m. sum_by (λ s. f s m) (take i xs) + f stream m) (λ m. sum_by (λ s. f s m) (take (i + 1) xs)) from (lower_server next row)
+    same_next (λ m. sum_by (λ s. f s m) (take i xs) + f stream m) (λ m. sum_by (λ s. f s m) (take (i + 1) xs)) from (lower_number next row)
     (λ m le. sym (sum_by_more (λ s. f s m) xs i stream lt ∙ ap (λ s. sum_by (λ s. f s m) (take i xs) + f s m) (sym is)))
     (next_of_both (λ m. sum_by (λ s. f s m) (take i xs)) (f stream) from next row before here)
 
@@ -143,22 +143,22 @@ next_spare_of r from rises positive = next_of_rows (λ (x : Spare). x.shard) (λ
 
 -- of streams with one more, by the room of its parcel
 pub next_room_with : (xs : List StreamModel) (i : ℕ) (stream seen : StreamModel) (from : ℕ) (next row both : Option ℕ) (rows : List Room) → i < length xs → stream ≡ get_or xs i stream → seen ≡ stream → rows ≡ seen.holds.room → Rises key_of_room rows → HasPositive (λ x. x.amount) rows →
-    IsNextOrNone (declared_room (take i xs)) from next → row ≡ next_number (λ (x : Room). x.server) rows from → both ≡ lower_server next row → IsNextOrNone (declared_room (take (i + 1) xs)) from both
+    IsNextOrNone (declared_room (take i xs)) from next → row ≡ next_number (λ (x : Room). x.server) rows from → both ≡ lower_number next row → IsNextOrNone (declared_room (take (i + 1) xs)) from both
 next_room_with xs i stream seen from next row both rows lt is same here rises positive before found lower =
     let at : rows ≡ stream.holds.room = here ∙ ap (λ (s : StreamModel). s.holds.room) same in
     let order : Rises key_of_room stream.holds.room = subst (λ r. Rises key_of_room r) at rises in
     let some : HasPositive (λ (x : Room). x.amount) stream.holds.room = subst (λ r. HasPositive (λ (x : Room). x.amount) r) at positive in
     let first : row ≡ next_number (λ (x : Room). x.server) stream.holds.room from = found ∙ ap (λ r. next_number (λ (x : Room). x.server) r from) at in
-    subst (λ o. IsNextOrNone (declared_room (take (i + 1) xs)) from o) (sym (lower ∙ ap (λ r. lower_server next r) first))
+    subst (λ o. IsNextOrNone (declared_room (take (i + 1) xs)) from o) (sym (lower ∙ ap (λ r. lower_number next r) first))
     (next_with (λ s. (hold_of s.holds).room) xs i stream from next (next_number (λ (x : Room). x.server) stream.holds.room from) lt is before (next_room_of stream.holds from order some))
 
 -- the same, by its spare replicas
 pub next_spare_with : (xs : List StreamModel) (i : ℕ) (stream seen : StreamModel) (from : ℕ) (next row both : Option ℕ) (rows : List Spare) → i < length xs → stream ≡ get_or xs i stream → seen ≡ stream → rows ≡ seen.holds.spare → Rises key_of_spare rows → HasPositive (λ x. x.amount) rows →
-    IsNextOrNone (declared_spare (take i xs)) from next → row ≡ next_number (λ (x : Spare). x.shard) rows from → both ≡ lower_server next row → IsNextOrNone (declared_spare (take (i + 1) xs)) from both
+    IsNextOrNone (declared_spare (take i xs)) from next → row ≡ next_number (λ (x : Spare). x.shard) rows from → both ≡ lower_number next row → IsNextOrNone (declared_spare (take (i + 1) xs)) from both
 next_spare_with xs i stream seen from next row both rows lt is same here rises positive before found lower =
     let at : rows ≡ stream.holds.spare = here ∙ ap (λ (s : StreamModel). s.holds.spare) same in
     let order : Rises key_of_spare stream.holds.spare = subst (λ r. Rises key_of_spare r) at rises in
     let some : HasPositive (λ (x : Spare). x.amount) stream.holds.spare = subst (λ r. HasPositive (λ (x : Spare). x.amount) r) at positive in
     let first : row ≡ next_number (λ (x : Spare). x.shard) stream.holds.spare from = found ∙ ap (λ r. next_number (λ (x : Spare). x.shard) r from) at in
-    subst (λ o. IsNextOrNone (declared_spare (take (i + 1) xs)) from o) (sym (lower ∙ ap (λ r. lower_server next r) first))
+    subst (λ o. IsNextOrNone (declared_spare (take (i + 1) xs)) from o) (sym (lower ∙ ap (λ r. lower_number next r) first))
     (next_with (λ s. (hold_of s.holds).spare) xs i stream from next (next_number (λ (x : Spare). x.shard) stream.holds.spare from) lt is before (next_spare_of stream.holds from order some))

@@ -6,11 +6,11 @@ use Rattle.sm_plan_code.specs.declared.instruction.Instr.{Instr}
 use Rattle.sm_plan_code.specs.Instr.{names_of}
 use Rattle.sm_plan_code.specs.Plan.{StreamModel}
 
--- the lower one of two servers, where they are given
-abbrev pub lower_server : Option ℕ → Option ℕ → Option ℕ
-lower_server None b = b
-lower_server (Some v) None = Some v
-lower_server (Some v) (Some w) = if nat_lt w v then Some w else Some v
+-- the lower one of two numbers, where they are given
+abbrev pub lower_number : Option ℕ → Option ℕ → Option ℕ
+lower_number None b = b
+lower_number (Some v) None = Some v
+lower_number (Some v) (Some w) = if nat_lt w v then Some w else Some v
 
 -- the server, where it is down
 abbrev pub if_down : (ℕ → Bool) → Option ℕ → Option ℕ
@@ -19,7 +19,7 @@ if_down down (Some v) = if down v then Some v else None
 
 -- the lowest server that is down, of the one found before and those that this instruction mentions
 abbrev pub down_at : (ℕ → Bool) → Option ℕ → Instr → Option ℕ
-down_at down lowest i = lower_server (lower_server lowest (if_down down (names_of i).first)) (if_down down (names_of i).second)
+down_at down lowest i = lower_number (lower_number lowest (if_down down (names_of i).first)) (if_down down (names_of i).second)
 
 -- the lowest server that is down, of the one found before and those that this code mentions
 abbrev pub down_in_code : (ℕ → Bool) → Option ℕ → List Instr → Option ℕ

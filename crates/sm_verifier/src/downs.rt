@@ -2,43 +2,37 @@
 ghost use Rattle.std.specs.Prelude.{◌≡◌, ◌<◌, All, None, IfSome, IfNone, length};
 ghost use Rattle.sm_placement.specs.Layout.{place_of};
 ghost use Rattle.sm_plan_code.specs.Plan.{IsKnownInstr, IsKnownStream};
-ghost use Rattle.sm_verifier.specs.Downs.{lower_server, if_down, down_at, down_in_code, down_in_streams};
+ghost use Rattle.sm_verifier.specs.Downs.{lower_number, if_down, down_at, down_in_code, down_in_streams};
 ghost use Rattle.sm_verifier.specs.Admission.{IsUpWhereMentioned, AreUp, IsLowest};
 
 use sm_placement::Placement;
 use sm_plan_code::{Instr, Stream, names};
 use sm_server::ServerId;
 
-/// The lower one of two servers, where they are given.
-fn lower(first: Option<ServerId>, second: Option<ServerId>) -> Option<ServerId>
-    ensures { result ≡ lower_server first second }
+/// The lower one of two numbers, where they are given.
+pub(crate) fn lower(first: Option<u32>, second: Option<u32>) -> Option<u32>
+    ensures { result ≡ lower_number first second }
 {
     match (first, second) {
         (None, other) => other,
-        (Some(server), None) => Some(server),
-        (Some(server), Some(other)) => {
-            if other.number() < server.number() {
-                Some(other)
-            } else {
-                Some(server)
-            }
-        }
+        (Some(number), None) => Some(number),
+        (Some(number), Some(other)) => Some(number.min(other)),
     }
 }
 
-/// The server, where it is down.
-fn if_down(placement: &Placement, server: Option<ServerId>) -> Option<ServerId>
+/// The server's number, where it is down.
+fn if_down(placement: &Placement, server: Option<ServerId>) -> Option<u32>
     requires { IfSome server (λ v. v < length placement.now.setup.servers) }
     ensures { result ≡ if_down (place_of placement.now).down server }
 {
     match server {
-        Some(server) if placement.is_down(server) => Some(server),
+        Some(server) if placement.is_down(server) => Some(server.number()),
         _ => None,
     }
 }
 
-/// The lowest server that is down: the one so far, or one that the instruction mentions.
-fn down_at(placement: &Placement, lowest: Option<ServerId>, instr: &Instr) -> Option<ServerId>
+/// The number of the lowest server that is down: the one so far, or one that the instruction mentions.
+fn down_at(placement: &Placement, lowest: Option<u32>, instr: &Instr) -> Option<u32>
     requires { IsKnownInstr (length placement.now.setup.shards) (length placement.now.setup.servers) instr.now }
     ensures { result ≡ down_at (place_of placement.now).down lowest instr.now }
 {
@@ -47,8 +41,8 @@ fn down_at(placement: &Placement, lowest: Option<ServerId>, instr: &Instr) -> Op
     lower(with_first, if_down(placement, names.second))
 }
 
-/// The lowest server that is down: the one so far, or one that the code mentions.
-fn down_in(placement: &Placement, before: Option<ServerId>, code: &[Instr]) -> Option<ServerId>
+/// The number of the lowest server that is down: the one so far, or one that the code mentions.
+fn down_in(placement: &Placement, before: Option<u32>, code: &[Instr]) -> Option<u32>
     requires { All (IsKnownInstr (length placement.now.setup.shards) (length placement.now.setup.servers)) code.now }
     ensures { result ≡ down_in_code (place_of placement.now).down before code.now }
 {
@@ -68,7 +62,7 @@ fn down_of(placement: &Placement, streams: &[Stream]) -> Option<ServerId>
     for stream in streams {
         lowest = down_in(placement, lowest, stream.code.as_slice());
     }
-    lowest
+    lowest.map(ServerId::new)
 }
 
 /// The lowest server that an instruction mentions though it is down.

@@ -2,9 +2,9 @@
 ghost use Rattle.std.specs.Prelude.{◌≡◌, ℕ};
 ghost use Rattle.sm_reservation.specs.Rows.{Rises};
 ghost use Rattle.sm_verifier.specs.Admission.{declared_room, declared_spare};
-ghost use Rattle.sm_verifier.specs.Downs.{lower_server};
 ghost use Rattle.sm_verifier.specs.Next.{next_number, IsNextOrNone};
 
+use crate::downs::lower;
 use sm_plan_code::Stream;
 use sm_reservation::{Room, Spare};
 
@@ -44,17 +44,6 @@ fn next_row<T: Numbered>(rows: &[T], from: u64) -> Option<u32>
     }
     let row = rows[i];
     Some(row.number())
-}
-
-/// The lower one of two numbers, where they are given.
-fn lower(first: Option<u32>, second: Option<u32>) -> Option<u32>
-    ensures { result ≡ lower_server first second }
-{
-    match (first, second) {
-        (None, other) => other,
-        (Some(number), None) => Some(number),
-        (Some(number), Some(other)) => Some(number.min(other)),
-    }
 }
 
 /// The lowest server from a number on of which a stream declares room.
