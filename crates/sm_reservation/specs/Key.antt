@@ -1,5 +1,5 @@
 -- Keys of rights: their keys in the lists, their order, and how often a key stands.
-use Rattle.std.specs.Prelude.{◌≡◌, ℕ, ◌≤◌, ◌<◌, ◌^◌, Bool, true, false, nat_lt, count_by, filter, Contains, List, Option}
+use Rattle.std.specs.Prelude.{◌≡◌, ℕ, ◌≤◌, ◌<◌, ◌^◌, ◌++◌, Bool, true, false, nat_lt, count_by, filter, Contains, List, Option, codes, decimal}
 use Rattle.std.specs.List.Sorted.{IsPermutation}
 use Rattle.std.specs.List.{AllByRecursion}
 use Rattle.std.specs.Option.{option_map, option_or}
@@ -27,6 +27,13 @@ key_of_room x = (x.server, 0)
 -- the key of spare replicas: their shard, and 0
 abbrev pub key_of_spare : Spare → ℕ × ℕ
 key_of_spare x = (x.shard, 0)
+
+-- what a right is of, as an error text names it
+abbrev pub shown_key : Key → List ℕ
+shown_key (key.CellRight s v) = codes "the cell of shard " ++ (decimal s ++ (codes " at server " ++ decimal v))
+shown_key (key.Crown s) = codes "the crown of shard " ++ decimal s
+shown_key (key.Room v) = codes "room of server " ++ decimal v
+shown_key (key.Spare s) = codes "spare replicas of shard " ++ decimal s
 
 -- keys go by their kind, then by shard, then by server
 abbrev pub key_before : Key → Key → Bool

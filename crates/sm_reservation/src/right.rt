@@ -84,6 +84,11 @@ pub enum Key {
 
 /// What the right is of, as an error text names it.
 impl fmt::Display for Key {
+    ghost use Rattle.std.specs.Prelude.{Some};
+    ghost use Rattle.sm_reservation.specs.Key.{shown_key};
+
+    ghost output = { λ key. Some (shown_key key) };
+
     fn fmt<W: fmt::Write>(&self, f: &mut fmt::Formatter<W>) -> fmt::Result {
         match self {
             Key::CellRight { shard, server } => write!(f, "the cell of {shard} at {server}"),

@@ -12,6 +12,10 @@ pub struct StreamId {
 
 /// As an error text names it: `stream 2 of plan 1`.
 impl fmt::Display for StreamId {
+    ghost use Rattle.std.specs.Prelude.{◌++◌, codes, decimal, Some};
+
+    ghost output = { λ id. Some (codes "stream " ++ decimal id.stream ++ codes " of plan " ++ decimal id.plan) };
+
     fn fmt<W: fmt::Write>(&self, f: &mut fmt::Formatter<W>) -> fmt::Result {
         write!(f, "stream {} of plan {}", self.stream, self.plan)
     }
