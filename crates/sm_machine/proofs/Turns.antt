@@ -18,7 +18,7 @@ use Rattle.sm_protocol.specs.declared.event.Passage.TheVariants.{Through, LostBe
 use Rattle.sm_protocol.specs.declared.event.Passage.{Passage}
 use Rattle.sm_protocol.specs.declared.event.Played.TheVariants as played
 use Rattle.sm_protocol.specs.declared.event.Event.TheVariants as event
-use Rattle.sm_protocol.specs.State.{State, progress_of, allowance, free_places, signal_count, parcel_at}
+use Rattle.sm_protocol.specs.State.{State, progress_of, allowance, free_places, signal_count, parcel_at, numbers_end}
 use Rattle.sm_protocol.specs.Steps.{call_to_make, call_number, served_try, behind_call, ahead_of_call, call_lost, entry_added, posted, ended, call_tried}
 use Rattle.sm_protocol.proofs.Cases.{IsBefore, IsTry}
 use Rattle.sm_protocol.proofs.LogRoom.{has_room}
@@ -57,8 +57,8 @@ module _ (x : Whole) (id : StreamId) (i : Instr) (at : IsAt x id (Some i)) where
   pub shard_known : IfSome (shard_of i) (λ s. s < w.sizes.shards)
   shard_known = (can_reach w (kept at.working.setup w at.working.reached) id i here).shard
 
-  -- each shard's highest handover number is below 2^47
-  pub small_numbers : (s : ℕ) → w.numbers s < 2 ^ 47
+  -- each shard's highest handover number is below the numbers' end
+  pub small_numbers : (s : ℕ) → w.numbers s < numbers_end
   small_numbers = (numbers_stay_small at.working.setup w at.working.reached).numbers
 
   -- a stream that hasn't spent its allowance has made fewer tries than a u64 counts

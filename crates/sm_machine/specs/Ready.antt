@@ -10,7 +10,7 @@ use Rattle.sm_plan_code.specs.declared.instruction.Instr.{Instr}
 use Rattle.sm_plan_code.specs.declared.call.ServerCall.{ServerCall}
 use Rattle.sm_plan_code.specs.Instr.{shard_of, IsOwn}
 use Rattle.sm_placement.specs.declared.limits.TheConstants.{VERSIONS_END}
-use Rattle.sm_protocol.specs.State.{State, is_begun, progress_of, signal_count, parcel_at}
+use Rattle.sm_protocol.specs.State.{State, is_begun, progress_of, signal_count, parcel_at, numbers_end}
 use Rattle.sm_machine.specs.Course.{hold_in, rights_in, HasCapacityIn}
 use Rattle.sm_machine.specs.State.{Whole}
 use Rattle.sm_machine.specs.Trade.{CanTrade, CanTradeUnless, CanServe}
@@ -19,7 +19,7 @@ use Rattle.sm_machine.specs.Trade.{CanTrade, CanTradeUnless, CanServe}
 pub record IsReadyToGo (w : State) (id : StreamId) : Type 0 where
   pub begun : is_begun w id ≡ true
   pub running : (progress_of w id).done ≡ false
-  pub at : (progress_of w id).at < 2 ^ 47
+  pub at : (progress_of w id).at < numbers_end
   pub room : length w.log < w.room
 
 -- the stream tries a call, which comes to its server
@@ -29,10 +29,10 @@ pub record IsReadyToCall (x : Whole) (id : StreamId) (i : Instr) (c : ServerCall
   pub own : IsOwn i
   pub can : CanTradeUnless (progress_of x.state id).ahead x.state.sizes i (x.grants id.plan id.stream)
   pub call : CanServe x.state (progress_of x.state id) c
-  pub numbers : (s : ℕ) → x.state.numbers s < 2 ^ 47
-  pub next : x.state.next_number < 2 ^ 47
+  pub numbers : (s : ℕ) → x.state.numbers s < numbers_end
+  pub next : x.state.next_number < numbers_end
   pub tries : (progress_of x.state id).tries < 2 ^ 64 - 1
-  pub effects : (progress_of x.state id).effects < 2 ^ 47
+  pub effects : (progress_of x.state id).effects < numbers_end
 
 -- the stream gives up what its instruction needs
 pub record IsReadyToTrade (x : Whole) (id : StreamId) (i : Instr) : Type 0 where

@@ -4,7 +4,7 @@ ghost use Rattle.sm_placement.specs.Sums.{put2};
 ghost use Rattle.sm_placement.specs.Place.{called_numbered};
 ghost use Rattle.sm_plan_code.specs.Instr.{shard_of, IsOwn};
 ghost use Rattle.sm_plan_code.specs.Acts.{numbers_after};
-ghost use Rattle.sm_protocol.specs.State.{is_begun, progress_of};
+ghost use Rattle.sm_protocol.specs.State.{is_begun, progress_of, numbers_end};
 ghost use Rattle.sm_protocol.specs.Steps.{call_number, number_after_try, call_to_make, served_try, call_lost, behind_call, ahead_of_call};
 ghost use Rattle.sm_protocol.specs.declared.event.Event.TheVariants as event;
 ghost use Rattle.sm_protocol.specs.declared.event.Played.TheVariants as played;
@@ -39,7 +39,7 @@ impl Engine {
     /// The call of a stream's next try.
     pub fn call_to_make(&self, progress: Progress, instr: &Instr) -> Option<ServerCall>
         requires shard { IfSome (shard_of instr.now) (λ s. s < (state_of self.now).sizes.shards) }
-        requires numbers { (s : ℕ) → (state_of self.now).numbers s < 2 ^ 47 }
+        requires numbers { (s : ℕ) → (state_of self.now).numbers s < numbers_end }
         ensures { result ≡ call_to_make (state_of self.now) progress instr.now }
     {
         match shard_of(instr) {
@@ -68,7 +68,7 @@ impl Engine {
 
     /// A try uses its number up.
     fn count_try(&mut self, progress: Progress)
-        requires { (state_of self.old).next_number < 2 ^ 47 }
+        requires { (state_of self.old).next_number < numbers_end }
         ensures { whole_of self.new ≡ with_state (whole_of self.old) (record (state_of self.old) { next_number = number_after_try (state_of self.old) progress }) }
     {
         if progress.pending == 0 {
@@ -80,7 +80,7 @@ impl Engine {
     /// The highest handover numbers rise by an instruction.
     fn raise_numbers(&mut self, instr: &Instr)
         requires shard { IfSome (shard_of instr.now) (λ s. s < (state_of self.old).sizes.shards) }
-        requires numbers { (s : ℕ) → (state_of self.old).numbers s < 2 ^ 47 }
+        requires numbers { (s : ℕ) → (state_of self.old).numbers s < numbers_end }
         ensures { whole_of self.new ≡ with_state (whole_of self.old) (record (state_of self.old) { numbers = numbers_after (state_of self.old).numbers instr.now }) }
     {
         if let Instr::PrepareAdd { shard, .. } = *instr {
@@ -118,8 +118,8 @@ impl Engine {
         requires own { IsOwn instr.now }
         requires can { CanTradeUnless progress.ahead (state_of self.old).sizes instr.now (grant_of self.old id) }
         requires call { CanServe (state_of self.old) progress call.now }
-        requires numbers { (s : ℕ) → (state_of self.old).numbers s < 2 ^ 47 }
-        requires next { (state_of self.old).next_number < 2 ^ 47 }
+        requires numbers { (s : ℕ) → (state_of self.old).numbers s < numbers_end }
+        requires next { (state_of self.old).next_number < numbers_end }
         ensures effect { called_numbered (state_of self.old).sizes (state_of self.old).place call.now.shard call.now.server call.now.call (call_number (state_of self.old) progress) ≡ Ok (record { place = (state_of self.new).place; fresh = result }) }
         ensures whole { whole_of self.new ≡ record (whole_of self.old) { state = record (state_of self.old) { place = (state_of self.new).place; numbers = if result then numbers_after (state_of self.old).numbers instr.now else (state_of self.old).numbers; next_number = number_after_try (state_of self.old) progress }; grants = put2 (whole_of self.old).grants id.plan id.stream (grant_of self.new id) } }
         ensures traded { IsTradedUnless progress.ahead (state_of self.old).sizes instr.now (grant_of self.old id) (grant_of self.new id) }
@@ -170,9 +170,9 @@ impl Engine {
     /// A call that is lost on its way to its server.
     pub fn call_lost(&mut self, id: StreamId)
         requires go { IsReadyToGo (state_of self.old) id }
-        requires next { (state_of self.old).next_number < 2 ^ 47 }
+        requires next { (state_of self.old).next_number < numbers_end }
         requires tries { (progress_of (state_of self.old) id).tries < 2 ^ 64 - 1 }
-        requires effects { (progress_of (state_of self.old) id).effects < 2 ^ 47 }
+        requires effects { (progress_of (state_of self.old) id).effects < numbers_end }
         ensures { whole_of self.new ≡ with_state (whole_of self.old) (call_lost (state_of self.old) id) }
     {
         let progress = self.progress(id);

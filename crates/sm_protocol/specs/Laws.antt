@@ -1,7 +1,7 @@
 -- The laws of the protocol, behind their premises: what holds of every state that events lead to.
-use Rattle.std.specs.Prelude.{◌≡◌, ◌≢◌, ◌≤◌, ◌<◌, ◌↔◌, ℕ, ◌+◌, ◌^◌, ◌==◌, ◌&&◌, ◌++◌, Bool, true, false, Option, Some, None, List, [], ◌∷◌, length, count_by, Contains, nat_lt, slice_index_or, if◌then◌else◌}
+use Rattle.std.specs.Prelude.{◌≡◌, ◌≢◌, ◌≤◌, ◌<◌, ◌↔◌, ℕ, ◌+◌, ◌==◌, ◌&&◌, ◌++◌, Bool, true, false, Option, Some, None, List, [], ◌∷◌, length, count_by, Contains, nat_lt, slice_index_or, if◌then◌else◌}
 pub use Rattle.sm_protocol.specs.Words.{AllByRecursion, Event, IsCheckedPlan, IsPlacement, IsServing, IsSettled, IsSetup, MOST_CALLS, MOST_PLACES, OfRoom, OfSpare, Place, PlanModel, Played, Setup, Sizes, StreamId, VERSIONS_END, bit, down_count, live_at, load_at, places_of, sizes_of}
-use Rattle.sm_protocol.specs.State.{State, opened, progress_of, is_begun, is_unfinished, held, pool, free_places}
+use Rattle.sm_protocol.specs.State.{State, opened, progress_of, is_begun, is_unfinished, held, pool, free_places, numbers_end}
 use Rattle.sm_protocol.specs.Steps.{Outcome, Refused, Answered, call_number}
 use Rattle.sm_protocol.specs.Happens.{Happening, Step, Lose, Refill, Arrive, PassOn, Approve, Done, Begin, has_all_plans, happens, run, outcomes}
 use Rattle.sm_protocol.specs.Hand.{Hand, Game, spends, play, plays, all_given, played_events, or_unknown}
@@ -192,8 +192,8 @@ pub record IsConserved (w : State) : Type 0 where
 -- handover number, the number of the next call, those of calls under way, and the last one of each cell.
 pub record IsSmall (w : State) : Type 0 where
   pub versions : (s : ℕ) → s < w.sizes.shards → w.place.version s < VERSIONS_END
-  pub numbers : (s : ℕ) → w.numbers s < 2 ^ 47
-  pub next_number : w.next_number < 2 ^ 47
-  pub pendings : (id : StreamId) → (progress_of w id).pending < 2 ^ 47
-  pub lasts : (s v : ℕ) → w.place.last s v < 2 ^ 47
+  pub numbers : (s : ℕ) → w.numbers s < numbers_end
+  pub next_number : w.next_number < numbers_end
+  pub pendings : (id : StreamId) → (progress_of w id).pending < numbers_end
+  pub lasts : (s v : ℕ) → w.place.last s v < numbers_end
   pub log : length w.log ≤ w.room

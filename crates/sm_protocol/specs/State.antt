@@ -1,6 +1,6 @@
 -- The state of the protocol: all that calls, starts of plans, requests and restarts have made so far. What changes with
 -- plans, streams and signals is a function of their numbers, with one value for all that are not begun.
-use Rattle.std.specs.Prelude.{ℕ, ◌+◌, Bool, false, not, ◌&&◌, nat_lt, Option, List, [], ◌∷◌, ◌++◌, length, slice_get, slice_index_or, ◌-◌, true, if◌then◌else◌, count_by, drop}
+use Rattle.std.specs.Prelude.{ℕ, ◌+◌, Bool, false, not, ◌&&◌, nat_lt, Option, List, [], ◌∷◌, ◌++◌, length, slice_get, slice_index_or, ◌-◌, ◌^◌, true, if◌then◌else◌, count_by, drop}
 pub use Rattle.sm_protocol.specs.Words.{Entry, Event, Hold, Instr, Logged, OfRoom, OfSpare, Place, PlanModel, Played, Right, Rights, Sizes, StreamId, StreamModel, any_below, count, down_count, forget_numbers, free_cell, free_crown, hold_before, hold_of, is_no_call, no_stream, parcels_of, places_of, put2, stream_at, sum_below, true_rights}
 
 -- A plan that was begun, and the log's length at its start.
@@ -57,6 +57,10 @@ pub record State : Type 0 where
   pub log : List Logged
   pub room : ℕ
   pub halted : Bool
+
+-- above handover numbers, numbers of calls and counts of instructions and effects: nothing comes near it, so that no sum wraps
+abbrev pub numbers_end : ℕ
+numbers_end = 2 ^ 47
 
 -- before any event: no number has been used, and nothing is begun or recorded
 abbrev pub opened : Sizes → Place → ℕ → State

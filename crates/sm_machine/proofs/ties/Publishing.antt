@@ -1,8 +1,9 @@
 -- What a publication asks for, and whom it lists.
-use Rattle.std.proofs.Common.{◌≡◌, ◌<◌, ◌^◌, ℕ, false, refl, sym, ap, ◌∙◌, inl, inr, subst, Option, Some, None, Ok}
+use Rattle.std.proofs.Common.{◌≡◌, ◌<◌, ℕ, false, refl, sym, ap, ◌∙◌, inl, inr, subst, Option, Some, None, Ok}
 use Rattle.std.specs.Option.{ForSome}
 use Rattle.std.proofs.lemmas.Bool.{cases_lt}
 use Rattle.sm_placement.specs.declared.lead.Lead.{Lead}
+use Rattle.sm_placement.specs.declared.limits.TheConstants.{VERSIONS_END}
 use Rattle.sm_placement.specs.declared.lead.Lead.TheVariants.{Gone, At, Ready, Handing, Handed}
 use Rattle.sm_placement.specs.Setup.{Setup, Sizes}
 use Rattle.sm_reservation.specs.declared.stream_id.StreamId.{StreamId}
@@ -34,7 +35,7 @@ use Rattle.sm_machine.proofs.ties.Exchanging.{leaves_behind}
 pub record CanPublish (w : State) (s : ℕ) (server : Option ℕ) : Type 0 where
   pub shard : s < w.sizes.shards
   pub known : ForSome server (λ u. u < w.sizes.servers)
-  pub version : w.place.version s < 2 ^ 47
+  pub version : w.place.version s < VERSIONS_END
 
 -- whom a publication lists under a lead, the lead names
 listed_named : (lead : Lead) (u : ℕ) → to_list lead ≡ Some u → LeadNames lead u
