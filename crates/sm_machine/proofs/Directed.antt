@@ -18,8 +18,8 @@ use Rattle.sm_protocol.specs.declared.event.Played.TheVariants as played
 use Rattle.sm_protocol.specs.State.{State, progress_of, is_begun, allowance, next_instruction}
 use Rattle.sm_protocol.specs.Steps.{Outcome, Answered, unchanged, call_number, call_to_make, tried, call_tried, made, step}
 use Rattle.sm_protocol.specs.Ticket.{Ticket}
-use Rattle.sm_protocol.specs.Happens.{Happening, Step, Lose, Refill, Arrive, PassOn, Approve, Done, Begin, answer_by, happens}
-use Rattle.sm_protocol.proofs.Cases.{OfSteps, IsQuiet, reply, parcel_taken, of_any, of_happens}
+use Rattle.sm_protocol.specs.Happens.{Happening, Step, Lose, Refill, Arrive, PassOn, Approve, Done, Begin, answer_by, reply_of, happens}
+use Rattle.sm_protocol.proofs.Cases.{OfSteps, IsQuiet, parcel_taken, of_any, of_happens}
 use Rattle.sm_protocol.proofs.Reached.{same_machine}
 use Rattle.sm_machine.specs.Machine.{MachineModel}
 use Rattle.sm_machine.specs.State.{state_of}
@@ -152,7 +152,7 @@ HasBegun o = (number : ℕ) → o.0 ≡ Answered (played.Begun number) → numbe
 quiet_begins : (w : State) (answer : Played) → IsQuiet answer → HasBegun (unchanged w answer)
 quiet_begins w answer quiet number e = absurd (subst IsQuiet (let same : answer ≡ played.Begun number = cc in same) quiet)
 
-reply_begins : (w : State) (s server : ℕ) (sent : Option Ticket) (count number : ℕ) → Answered (reply w s server sent) ≡ Answered (played.Begun number) → number < count
+reply_begins : (w : State) (s server : ℕ) (sent : Option Ticket) (count number : ℕ) → Answered (reply_of w s server sent) ≡ Answered (played.Begun number) → number < count
 reply_begins w s server sent count number = by_down (w.place.down server)
   where
     by_cell : (cell : Cell) → Answered (answer_by cell server sent (length w.log)) ≡ Answered (played.Begun number) → number < count

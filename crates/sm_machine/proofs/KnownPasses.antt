@@ -18,9 +18,9 @@ use Rattle.sm_protocol.specs.declared.event.Played.TheVariants as played
 use Rattle.sm_protocol.specs.declared.event.Logged.{Logged}
 use Rattle.sm_protocol.specs.Ticket.{Ticket, passes, pass_of, pass_of_event, is_open_ticket}
 use Rattle.sm_protocol.specs.State.{State}
-use Rattle.sm_protocol.specs.Happens.{Happening, happens}
+use Rattle.sm_protocol.specs.Happens.{Happening, reply_of, happens}
 use Rattle.sm_protocol.specs.Laws.{IsReached, FitsConfig}
-use Rattle.sm_protocol.proofs.Cases.{OfSteps, of_happens, reply}
+use Rattle.sm_protocol.proofs.Cases.{OfSteps, of_happens}
 use Rattle.sm_protocol.proofs.Reached.{by_events}
 use Rattle.sm_protocol.proofs.Replays.{open_ticket}
 use Rattle.sm_protocol.proofs.Requests.{reply_forwards}
@@ -66,7 +66,7 @@ known_by_steps c w id passage h = record {
 }
 
 -- the pass of a request that a server answers so
-pass_known : (w : State) (s v : ℕ) (sent : Option Ticket) (x : Event) (a : Played) → IsPlacement w.sizes w.place → s < w.sizes.shards → reply w s v sent ≡ a →
+pass_known : (w : State) (s v : ℕ) (sent : Option Ticket) (x : Event) (a : Played) → IsPlacement w.sizes w.place → s < w.sizes.shards → reply_of w s v sent ≡ a →
     ((to m place : ℕ) (t : Ticket) → pass_of_event (passes w.log) to m place x ≡ Some t → (t.shard ≡ s) × (t.target ≡ to)) →
     (t : Ticket) → pass_of (passes w.log) a x ≡ Some t → IsKnownTicket w.sizes t
 pass_known w s v sent x (played.Passed to m place) p known e shape t g =
@@ -99,9 +99,9 @@ known_kept w e p fits h = of_happens w (λ e o. FitsConfig w.sizes e → AreKnow
   steps = λ id. add (known_by_steps w.sizes w id Through h);
   loses = λ id after. add (known_by_steps w.sizes w id (if after then LostAfter else LostBefore) h);
   refills = λ id more n f. known_line w.sizes w.log (record { event = event.Refill id more; answer = played.Refilled }) h (λ t e. absurd (cc));
-  arrives = λ s v n f. known_line w.sizes w.log (record { event = event.Arrive s v; answer = reply w s v None }) h (pass_known w s v None (event.Arrive s v) (reply w s v None) p f.0 refl (λ to m place t g. arrived s v to m place t g));
-  passes_on = λ q o n f. known_line w.sizes w.log (record { event = event.PassOn q.place; answer = reply w q.shard q.target (Some q) }) h
-      (pass_known w q.shard q.target (Some q) (event.PassOn q.place) (reply w q.shard q.target (Some q)) p (h q.place q (open_ticket w.log q o).pass).0 refl (λ to m place t g. passed q to m place t o g));
+  arrives = λ s v n f. known_line w.sizes w.log (record { event = event.Arrive s v; answer = reply_of w s v None }) h (pass_known w s v None (event.Arrive s v) (reply_of w s v None) p f.0 refl (λ to m place t g. arrived s v to m place t g));
+  passes_on = λ q o n f. known_line w.sizes w.log (record { event = event.PassOn q.place; answer = reply_of w q.shard q.target (Some q) }) h
+      (pass_known w q.shard q.target (Some q) (event.PassOn q.place) (reply_of w q.shard q.target (Some q)) p (h q.place q (open_ticket w.log q o).pass).0 refl (λ to m place t g. passed q to m place t o g));
   approves = λ v n f. known_line w.sizes w.log (record { event = event.Approve v; answer = played.Approved }) h (λ t e. absurd (cc));
   restarts = λ v n f. known_line w.sizes w.log (record { event = event.Done v; answer = played.Up }) h (λ t e. absurd (cc));
   starts = λ plan n l m f. h;

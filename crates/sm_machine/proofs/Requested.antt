@@ -11,11 +11,11 @@ use Rattle.sm_protocol.specs.declared.event.Event.TheVariants as event
 use Rattle.sm_protocol.specs.Ticket.{Ticket, is_open_ticket}
 use Rattle.sm_protocol.specs.State.{State, recorded, free_places}
 use Rattle.sm_protocol.specs.Steps.{Outcome, Answered, unchanged}
-use Rattle.sm_protocol.specs.Happens.{PassOn, Arrive, answer_by, requested}
+use Rattle.sm_protocol.specs.Happens.{PassOn, Arrive, answer_by, reply_of, requested}
 use Rattle.sm_protocol.proofs.Replays.{open_ticket}
 use Rattle.sm_machine.specs.State.{Whole, with_state}
 use Rattle.sm_machine.specs.Working.{IsWorking}
-use Rattle.sm_machine.specs.Requested.{reply_of, IsRequest, IsReply, IsAsked}
+use Rattle.sm_machine.specs.Requested.{IsRequest, IsReply, IsAsked}
 use Rattle.sm_machine.proofs.KnownPasses.{passes_known}
 use Rattle.sm_machine.proofs.ties.Events.{working_recorded}
 

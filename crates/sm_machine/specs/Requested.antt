@@ -1,5 +1,5 @@
 -- Requests as a machine answers them.
-use Rattle.std.specs.Prelude.{◌≡◌, ◌<◌, ℕ, Option, List, [], ◌∷◌, length, if◌then◌else◌}
+use Rattle.std.specs.Prelude.{◌≡◌, ◌<◌, ℕ, Option, List, [], ◌∷◌}
 use Rattle.std.specs.Option.{option_to_list}
 use Rattle.sm_protocol.specs.declared.event.Event.{Event}
 use Rattle.sm_protocol.specs.declared.event.Played.{Played}
@@ -7,16 +7,12 @@ use Rattle.sm_protocol.specs.declared.event.Played.TheVariants as played
 use Rattle.sm_protocol.specs.Ticket.{Ticket}
 use Rattle.sm_protocol.specs.State.{State}
 use Rattle.sm_protocol.specs.Steps.{Answered}
-use Rattle.sm_protocol.specs.Happens.{Happening, answer_by, requested, happens}
+use Rattle.sm_protocol.specs.Happens.{Happening, requested, happens}
 use Rattle.sm_protocol.specs.Laws.{FitsConfig}
 use Rattle.sm_machine.specs.State.{Whole}
 use Rattle.sm_machine.specs.Working.{IsWorking}
 use Rattle.sm_machine.specs.declared.answer.Answer.{Answer}
 use Rattle.sm_machine.specs.declared.answer.Answer.TheVariants.{Executed, Passed, NotOwner, Unavailable, LogFull, Unknown}
-
--- what a server answers to a request
-abbrev pub reply_of : State → ℕ → ℕ → Option Ticket → Played
-reply_of w s v sent = if w.place.down v then played.Unavailable else answer_by (w.place.cells s v) v sent (length w.log)
 
 -- a request of a known shard comes to a known server, directly or with a ticket
 pub record IsRequest (w : State) (s v : ℕ) (sent : Option Ticket) (event : Event) : Type 0 where

@@ -26,7 +26,7 @@ ghost use Rattle.sm_verifier.specs.FirstHolding.{first_holding};
 ghost use Rattle.sm_machine.specs.Ready.{IsReadyToTrade};
 ghost use Rattle.sm_machine.specs.Starts.{CanFillAll, IsBegunIn, begun_of};
 ghost use Rattle.sm_machine.specs.Trade.{IsTradedBy};
-ghost use Rattle.sm_machine.specs.Requested.{reply_of};
+ghost use Rattle.sm_protocol.specs.Happens.{reply_of};
 ghost use Rattle.std.specs.Prelude.{IsTrue, OnOk, IfErr};
 ghost use Rattle.sm_task_controller.specs.Decision.{denial};
 ghost use Rattle.sm_machine.specs.Engaged.{engaged_by};

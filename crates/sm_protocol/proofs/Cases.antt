@@ -1,6 +1,6 @@
 -- What an event may do to a state, case by case.
 use Rattle.sm_protocol.proofs.Below.{◌≡◌, ℕ, ◌+◌, Bool, true, false, refl, sym, ap, ◌∙◌, Option, Some, None, Result, Ok, Err, ◌==◌, not, if◌then◌else◌, nat_lt, length, Refusal, CallEffect, called_numbered, set_down, put2, leads_of, StreamId, ServerCall, Instr, PrepareAdd, PrepareDrop, Add, Drop, Change, Publish, Unlist, Signal, Wait, to_list, is_call, PlanModel, Holding, first_holding, Denied, denial}
-use Rattle.sm_protocol.proofs.Words.{RefillFault, Ticket, is_open_ticket, spends, Happening, Step, Lose, Refill, Arrive, PassOn, Approve, Done, Begin, refill_fault, refilled, answer_by, requested, engaged, approved, started, begun, has_all_plans, happens, Passage, Through, LostBefore, LostAfter, Played, State, stream_parts, progress_of, is_begun, is_running, next_instruction, allowance, recorded, logged, pool, free_places, places_of, Outcome, Refused, Answered, unchanged, call_number, call_to_make, behind_call, ahead_of_call, served_try, call_lost, tried, call_tried, entry_added, posted, ended, made, behind, step}
+use Rattle.sm_protocol.proofs.Words.{RefillFault, Ticket, is_open_ticket, spends, Happening, Step, Lose, Refill, Arrive, PassOn, Approve, Done, Begin, refill_fault, refilled, reply_of, requested, engaged, approved, started, begun, has_all_plans, happens, Passage, Through, LostBefore, LostAfter, Played, State, stream_parts, progress_of, is_begun, is_running, next_instruction, allowance, recorded, logged, pool, free_places, places_of, Outcome, Refused, Answered, unchanged, call_number, call_to_make, behind_call, ahead_of_call, served_try, call_lost, tried, call_tried, entry_added, posted, ended, made, behind, step}
 use Rattle.sm_protocol.specs.declared.event.BeginFault.TheVariants as fault
 use Rattle.sm_protocol.specs.declared.event.RefillFault.TheVariants as refill
 use Rattle.sm_protocol.specs.declared.event.Event.TheVariants as event
@@ -187,10 +187,6 @@ refill_granted w id more = go (is_running w id) (nat_lt 524288 ((stream_parts w 
     go true false false e = (refl, refl)
     go _ _ _ e = absurd (cc)
 
--- what a server answers to a request
-abbrev pub reply : State → ℕ → ℕ → Option Ticket → Played
-reply w s v sent = if w.place.down v then played.Unavailable else answer_by (w.place.cells s v) v sent (length w.log)
-
 -- why a server may not be restarted, None where it may be
 abbrev pub denied_of : State → ℕ → Option Denied
 denied_of w v = denial w.sizes w.place (pool w) (engaged w v) (free_places w) v
@@ -206,9 +202,9 @@ pub record OfEvents (w : State) (S : StreamId → Passage → (Outcome × State 
   pub steps : (id : StreamId) → S id Through (P (Step id))
   pub loses : (id : StreamId) (after : Bool) → S id (if after then LostAfter else LostBefore) (P (Lose id after))
   pub refills : (id : StreamId) (more : ℕ) → refill_fault w id more ≡ None → P (Refill id more) (refilled w id more None)
-  pub arrives : (s v : ℕ) → (free_places w == 0) ≡ false → P (Arrive s v) (Answered (reply w s v None), recorded w (event.Arrive s v) (reply w s v None))
+  pub arrives : (s v : ℕ) → (free_places w == 0) ≡ false → P (Arrive s v) (Answered (reply_of w s v None), recorded w (event.Arrive s v) (reply_of w s v None))
   pub passes_on : (t : Ticket) → is_open_ticket w.log t ≡ true → (free_places w == 0) ≡ false →
-      P (PassOn t) (Answered (reply w t.shard t.target (Some t)), recorded w (event.PassOn t.place) (reply w t.shard t.target (Some t)))
+      P (PassOn t) (Answered (reply_of w t.shard t.target (Some t)), recorded w (event.PassOn t.place) (reply_of w t.shard t.target (Some t)))
   pub approves : (v : ℕ) → denied_of w v ≡ None → P (Approve v) (approved w v None)
   pub restarts : (v : ℕ) → w.place.down v ≡ true →
       P (Done v) (Answered played.Up, record w { place = set_down w.place v false; log = logged w (event.Done v) played.Up })
@@ -225,12 +221,12 @@ of_events w S by_step P all = by_event
     by_fault id more (Some why) f = all.idle (Refill id more) (played.RefillRefused why) refl
 
     by_room : (s v : ℕ) (b : Bool) → (free_places w == 0) ≡ b →
-        P (Arrive s v) (if b then unchanged w played.LogFull else (Answered (reply w s v None), recorded w (event.Arrive s v) (reply w s v None)))
+        P (Arrive s v) (if b then unchanged w played.LogFull else (Answered (reply_of w s v None), recorded w (event.Arrive s v) (reply_of w s v None)))
     by_room s v true f = all.idle (Arrive s v) played.LogFull refl
     by_room s v false f = all.arrives s v f
 
     by_places : (t : Ticket) → is_open_ticket w.log t ≡ true → (b : Bool) → (free_places w == 0) ≡ b →
-        P (PassOn t) (if b then unchanged w played.LogFull else (Answered (reply w t.shard t.target (Some t)), recorded w (event.PassOn t.place) (reply w t.shard t.target (Some t))))
+        P (PassOn t) (if b then unchanged w played.LogFull else (Answered (reply_of w t.shard t.target (Some t)), recorded w (event.PassOn t.place) (reply_of w t.shard t.target (Some t))))
     by_places t o true f = all.idle (PassOn t) played.LogFull refl
     by_places t o false f = all.passes_on t o f
 

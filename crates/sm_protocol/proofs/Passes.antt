@@ -1,10 +1,10 @@
 -- The passes that the log records, who executes requests, and that each ticket is spent by one answer at most: that answer is
 -- recorded, and a ticket whose passing on is recorded is not open.
 use Rattle.sm_protocol.proofs.Below.{◌≡◌, ℕ, true, false, refl, sym, ap, ◌∙◌, subst, Option, Some, None, [], ◌∷◌, ◌++◌, if◌then◌else◌, slice_index_or, option_map, same_Some, none-some, Setup, sizes_of, Place, StreamId, one_serves, CanBePassed, passed_by_lead, forwarding_passes, inl, inr, arith, List, ◌==◌, and_parts, eqb-true, eq-eqb, cases_Bool, list_any-append, bit}
-use Rattle.sm_protocol.proofs.Words.{Event, Passage, Through, LostBefore, LostAfter, Played, Logged, Ticket, passes, pass_of, pass_of_event, is_open_ticket, State, opened, Answered, Happening, happens, spends, IsServing, IsOpening, asked, is_pass_on, is_passed_on, PassOn, spends_at, times_spent, TicketsOnce}
+use Rattle.sm_protocol.proofs.Words.{Event, Passage, Through, LostBefore, LostAfter, Played, Logged, Ticket, passes, pass_of, pass_of_event, is_open_ticket, State, opened, Answered, Happening, reply_of, happens, spends, IsServing, IsOpening, asked, is_pass_on, is_passed_on, PassOn, spends_at, times_spent, TicketsOnce}
 use Rattle.sm_protocol.specs.declared.event.Event.TheVariants as event
 use Rattle.sm_protocol.specs.declared.event.Played.TheVariants as played
-use Rattle.sm_protocol.proofs.Cases.{OfSteps, IsQuiet, of_happens, reply, of_any}
+use Rattle.sm_protocol.proofs.Cases.{OfSteps, IsQuiet, of_happens, of_any}
 use Rattle.sm_protocol.proofs.Scripts.{pass_push}
 use Rattle.sm_protocol.proofs.Replays.{open_ticket}
 use Rattle.sm_protocol.proofs.Requests.{IsLed, PassesFit, reply_serves, reply_forwards}
@@ -36,7 +36,7 @@ passes_by_steps w id passage h = record {
 }
 
 -- the pass of a request that a server answers so
-pass_fits : (w : State) (s v : ℕ) (sent : Option Ticket) (x : Event) (a : Played) → IsLed w → reply w s v sent ≡ a →
+pass_fits : (w : State) (s v : ℕ) (sent : Option Ticket) (x : Event) (a : Played) → IsLed w → reply_of w s v sent ≡ a →
     ((to m place : ℕ) (t : Ticket) → pass_of_event (passes w.log) to m place x ≡ Some t → (t.shard ≡ s) × (t.number ≡ m)) →
     (t : Ticket) → pass_of (passes w.log) a x ≡ Some t → CanBePassed (w.place.cells t.shard) (w.numbers t.shard) t.number
 pass_fits w s v sent x (played.Passed to m place) led e shape t g =
@@ -54,9 +54,9 @@ passes_kept w e led keeps h = of_happens w (λ e o. KeepsPassable w o.1 → Pass
   steps = λ id. passes_by_steps w id Through h;
   loses = λ id after. passes_by_steps w id (if after then LostAfter else LostBefore) h;
   refills = λ id more n f. line_fits w _ (record { event = event.Refill id more; answer = played.Refilled }) refl f h (λ t e. absurd (cc));
-  arrives = λ s v n f. line_fits w _ (record { event = event.Arrive s v; answer = reply w s v None }) refl f h (pass_fits w s v None (event.Arrive s v) (reply w s v None) led refl (λ to m place t g. arrived s v to m place t g));
-  passes_on = λ q o n f. line_fits w _ (record { event = event.PassOn q.place; answer = reply w q.shard q.target (Some q) }) refl f h
-      (pass_fits w q.shard q.target (Some q) (event.PassOn q.place) (reply w q.shard q.target (Some q)) led refl (λ to m place t g. passed q to m place t o g));
+  arrives = λ s v n f. line_fits w _ (record { event = event.Arrive s v; answer = reply_of w s v None }) refl f h (pass_fits w s v None (event.Arrive s v) (reply_of w s v None) led refl (λ to m place t g. arrived s v to m place t g));
+  passes_on = λ q o n f. line_fits w _ (record { event = event.PassOn q.place; answer = reply_of w q.shard q.target (Some q) }) refl f h
+      (pass_fits w q.shard q.target (Some q) (event.PassOn q.place) (reply_of w q.shard q.target (Some q)) led refl (λ to m place t g. passed q to m place t o g));
   approves = λ v n f. line_fits w _ (record { event = event.Approve v; answer = played.Approved }) refl f h (λ t e. absurd (cc));
   restarts = λ v n f. line_fits w _ (record { event = event.Done v; answer = played.Up }) refl f h (λ t e. absurd (cc));
   starts = λ plan n l m f. record { fit = h.fit };
@@ -80,10 +80,10 @@ serves_by_passes w led h e = of_happens w (λ e o. (s v : ℕ) → asked e ≡ S
   steps = λ id. by_steps id Through;
   loses = λ id after. by_steps id (if after then LostAfter else LostBefore);
   refills = λ id more n s v a q. absurd (cc);
-  arrives = λ r u n s v a q. requests r u None s v (same_Some r s a) (λ t g. absurd (cc)) (answered (reply w r u None) v q);
+  arrives = λ r u n s v a q. requests r u None s v (same_Some r s a) (λ t g. absurd (cc)) (answered (reply_of w r u None) v q);
   passes_on = λ t o n s v a q. requests t.shard t.target (Some t) s v (same_Some t.shard s a)
       (λ y g. subst (λ z. CanBePassed (w.place.cells t.shard) (w.numbers t.shard) z) (ap (λ (x : Ticket). x.number) (same_Some t y g)) (h.fit t.place t (open_ticket w.log t o).pass))
-      (answered (reply w t.shard t.target (Some t)) v q);
+      (answered (reply_of w t.shard t.target (Some t)) v q);
   approves = λ u n s v a q. absurd (cc);
   restarts = λ u n s v a q. absurd (cc);
   starts = λ plan n l m s v a q. absurd (cc);
@@ -105,7 +105,7 @@ serves_by_passes w led h e = of_happens w (λ e o. (s v : ℕ) → asked e ≡ S
       unanswered = λ i x effect t f p s v a q. absurd (cc);
     }
 
-    requests : (r u : ℕ) (sent : Option Ticket) (s v : ℕ) → r ≡ s → ((t : Ticket) → sent ≡ Some t → CanBePassed (w.place.cells r) (w.numbers r) t.number) → reply w r u sent ≡ played.Executed v →
+    requests : (r u : ℕ) (sent : Option Ticket) (s v : ℕ) → r ≡ s → ((t : Ticket) → sent ≡ Some t → CanBePassed (w.place.cells r) (w.numbers r) t.number) → reply_of w r u sent ≡ played.Executed v →
         IsServing w.place s v × ((x : ℕ) → IsServing w.place s x → x ≡ v)
     requests r u sent s v same given q =
         let a = reply_serves w r u sent led given v q in
@@ -148,7 +148,7 @@ spent_by w e place = of_happens w (λ e o. spends_at place e o.0 ≡ true → (i
   passes_on = λ t o f s.
       let here : t.place ≡ place = eqb-true t.place place (and_parts (t.place == place) _ s).0 in
       let unspent = (open_ticket w.log t o).unspent in
-      let line : Logged = record { event = event.PassOn t.place; answer = reply w t.shard t.target (Some t) } in
+      let line : Logged = record { event = event.PassOn t.place; answer = reply_of w t.shard t.target (Some t) } in
       subst (λ k. (is_passed_on w.log k ≡ false) × (is_passed_on (w.log ++ line ∷ []) k ≡ true)) here
       (unspent, list_any-append (λ (y : Logged). is_pass_on t.place y.event) w.log (line ∷ []) ∙ rw (unspent, eq-eqb t.place t.place refl) refl);
   approves = λ u f s. absurd (cc);

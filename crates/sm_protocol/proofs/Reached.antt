@@ -1,10 +1,10 @@
 -- What holds at every opening and is kept by every event holds of every state that events lead to.
 use Rattle.sm_protocol.proofs.Below.{◌≡◌, ◌⊎◌, ℕ, Bool, true, false, refl, sym, ap, ◌∙◌, inl, inr, subst, Option, Some, None, List, [], ◌∷◌, ◌++◌, length, if◌then◌else◌, cases_Bool, Setup, Sizes, sizes_of, Place, forget_numbers, set_down, StreamId, PlanModel}
-use Rattle.sm_protocol.proofs.Words.{Event, Passage, Through, LostBefore, LostAfter, Ticket, State, opened, is_begun, progress_of, next_instruction, logged, recorded, Answered, unchanged, made, step, Happening, Step, Lose, refilled, requested, approved, begun, started, has_all_plans, happens, run, unhalted, IsOpening, IsReached, FitsConfig, AllFit}
+use Rattle.sm_protocol.proofs.Words.{Event, Passage, Through, LostBefore, LostAfter, Ticket, State, opened, is_begun, progress_of, next_instruction, logged, recorded, Answered, unchanged, made, step, Happening, Step, Lose, refilled, reply_of, requested, approved, begun, started, has_all_plans, happens, run, unhalted, IsOpening, IsReached, FitsConfig, AllFit}
 use Rattle.sm_protocol.specs.declared.event.BeginFault.TheVariants as fault
 use Rattle.sm_protocol.specs.declared.event.Event.TheVariants as event
 use Rattle.sm_protocol.specs.declared.event.Played.TheVariants as played
-use Rattle.sm_protocol.proofs.Cases.{OfSteps, of_happens, of_any, reply}
+use Rattle.sm_protocol.proofs.Cases.{OfSteps, of_happens, of_any}
 
 -- what no event changes
 pub record IsOfOneMachine (w new : State) : Type 0 where
@@ -109,7 +109,7 @@ alike_by_events w e = of_happens w (λ e o. IsOfStream e ⊎ IsAlike w e o.1) (r
 }) e
   where
     request : (s v : ℕ) (sent : Option Ticket) (x : Event) (full : Bool) → State
-    request s v sent x full = (if full then unchanged (unhalted w) played.LogFull else (Answered (reply w s v sent), recorded (unhalted w) x (reply w s v sent))).1
+    request s v sent x full = (if full then unchanged (unhalted w) played.LogFull else (Answered (reply_of w s v sent), recorded (unhalted w) x (reply_of w s v sent))).1
 
     start : (plan : PlanModel) (full many : Bool) → State
     start plan full many = (if full then unchanged (unhalted w) (played.NotBegun fault.LogFull)

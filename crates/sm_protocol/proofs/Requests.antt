@@ -1,8 +1,7 @@
 -- A request is executed by the one server that serves its shard.
 use Rattle.sm_protocol.proofs.Below.{◌≡◌, ℕ, Bool, true, false, refl, sym, subst, Option, Some, None, length, ◌==◌, ◌&&◌, if◌then◌else◌, slice_index_or, and_parts, eqb-true, Cell, Absent, Prepared, Secondary, Primary, Forwarding, Lead, serves, Describes, MayHavePassed, CanBePassed, passed_of_lead, prepared_serves}
-use Rattle.sm_protocol.proofs.Words.{Ticket, passes, State, answer_by}
+use Rattle.sm_protocol.proofs.Words.{Ticket, passes, State, answer_by, reply_of}
 use Rattle.sm_protocol.specs.declared.event.Played.TheVariants as played
-use Rattle.sm_protocol.proofs.Cases.{reply}
 
 -- ---- answers
 
@@ -17,7 +16,7 @@ pub record PassesFit (w : State) : Type 0 where
 
 -- a server executes a request only if it serves
 pub reply_serves : (w : State) (s v : ℕ) (sent : Option Ticket) → IsLed w → ((t : Ticket) → sent ≡ Some t → CanBePassed (w.place.cells s) (w.numbers s) t.number) → (b : ℕ) →
-    reply w s v sent ≡ played.Executed b → (b ≡ v) × (serves (w.place.cells s) v ≡ true)
+    reply_of w s v sent ≡ played.Executed b → (b ≡ v) × (serves (w.place.cells s) v ≡ true)
 reply_serves w s v sent led given b = up (w.place.down v)
   where
     row : ℕ → Cell
@@ -44,7 +43,7 @@ reply_serves w s v sent led given b = up (w.place.down v)
     up false h = by_cell (row v) refl sent refl h
 
 -- a server passes a request on only if it forwards, and the pass is recorded at the next place of the log
-pub reply_forwards : (w : State) (s v : ℕ) (sent : Option Ticket) (to m place : ℕ) → reply w s v sent ≡ played.Passed to m place →
+pub reply_forwards : (w : State) (s v : ℕ) (sent : Option Ticket) (to m place : ℕ) → reply_of w s v sent ≡ played.Passed to m place →
     (w.place.cells s v ≡ Forwarding to m) × (place ≡ length w.log)
 reply_forwards w s v sent to m place = up (w.place.down v)
   where

@@ -1,9 +1,9 @@
 -- An event changes nothing, or is recorded, or starts a plan.
 use Rattle.sm_protocol.proofs.Below.{◌≡◌, ℕ, Bool, true, false, refl, sym, ap, ◌∙◌, inl, inr, ◌⊎◌, arith, Option, Some, None, List, [], ◌∷◌, length-append, length, if◌then◌else◌, StreamId, Signal, Wait, PlanModel, first_holding}
-use Rattle.sm_protocol.proofs.Words.{Event, Passage, Through, LostBefore, LostAfter, Played, Ticket, is_open_ticket, State, logged, pool, Outcome, Answered, step, Happening, Step, Lose, Refill, Arrive, PassOn, Approve, Done, Begin, started, happens, happening_of, IsAcceptedStart, UnrecordedChangesNothing}
+use Rattle.sm_protocol.proofs.Words.{Event, Passage, Through, LostBefore, LostAfter, Played, Ticket, is_open_ticket, State, logged, pool, Outcome, Answered, step, Happening, Step, Lose, Refill, Arrive, PassOn, Approve, Done, Begin, reply_of, started, happens, happening_of, IsAcceptedStart, UnrecordedChangesNothing}
 use Rattle.sm_protocol.specs.declared.event.Event.TheVariants as event
 use Rattle.sm_protocol.specs.declared.event.Played.TheVariants as played
-use Rattle.sm_protocol.proofs.Cases.{OfSteps, of_happens, same_step, same_end, reply}
+use Rattle.sm_protocol.proofs.Cases.{OfSteps, of_happens, same_step, same_end}
 use Rattle.sm_protocol.proofs.Requests.{reply_forwards}
 
 -- the recorded event is what happened: either by itself, or as the pass of an open ticket
@@ -86,11 +86,11 @@ turns w e = of_happens w (λ e o. happens w e ≡ o → IsTurn w e o) (record {
   steps = λ id. step_turns w (Step id) id Through;
   loses = λ id after. step_turns w (Lose id after) id (if after then LostAfter else LostBefore);
   refills = λ id more f q. inr (inl (by_itself (Refill id more) (event.Refill id more) played.Refilled q refl refl (λ tickets. refl) tt (λ to m n h. absurd (cc))));
-  arrives = λ s v f q. inr (inl (by_itself (Arrive s v) (event.Arrive s v) (reply w s v None) q refl refl (λ tickets. refl) tt (λ to m n h. (reply_forwards w s v None to m n h).1)));
+  arrives = λ s v f q. inr (inl (by_itself (Arrive s v) (event.Arrive s v) (reply_of w s v None) q refl refl (λ tickets. refl) tt (λ to m n h. (reply_forwards w s v None to m n h).1)));
   passes_on = λ t o f q. inr (inl (record {
     happening = PassOn t;
     event = event.PassOn t.place;
-    answer = reply w t.shard t.target (Some t);
+    answer = reply_of w t.shard t.target (Some t);
     made = q;
     log = refl;
     plans = refl;

@@ -1,6 +1,6 @@
 -- The words of this crate that its lemmas speak of, from where they are defined.
 pub use Rattle.sm_protocol.specs.Hand.{Game, Hand, all_given, given, hand_after, hand_by, is_token, or_unknown, play, played_events, plays, spends, tickets_of, turn, turn_by, without_first}
-pub use Rattle.sm_protocol.specs.Happens.{Approve, Arrive, Begin, Done, Happening, Lose, PassOn, Refill, Step, answer_by, approved, begun, engaged, engages, happens, has_all_plans, is_mentioned, outcomes, refill_fault, refilled, requested, run, started}
+pub use Rattle.sm_protocol.specs.Happens.{Approve, Arrive, Begin, Done, Happening, Lose, PassOn, Refill, Step, answer_by, approved, begun, engaged, engages, happens, has_all_plans, is_mentioned, outcomes, refill_fault, refilled, reply_of, requested, run, started}
 pub use Rattle.sm_protocol.specs.Laws.{AllFit, ApprovedWhereReserved, AreChecked, AsksNoLoss, BegunWhereAccepted, EachReached, EffectsOnce, EndsAreReached, ExecutedServes, FitsConfig, HasLost, HasNoLost, Headline, IsCheckedPlan, IsConserved, IsOpening, IsReached, IsSmall, LosesNothing, NamesKnown, PlaysAreRuns, PlaysAreSafe, TicketsOnce, UnrecordedChangesNothing, WithLosses, asked, effect_numbers, effect_numbers_at, effect_of_stream, spends_at, times_spent}
 pub use Rattle.sm_protocol.specs.Log.{IsAcceptedStart, IsInLog, IsLegal, IsPass, IsRequestTo, Replays, down_after, down_by, ends_of, lines_at, happening_of, is_step_of, script, script_to, starts_at, steps_in}
 pub use Rattle.sm_protocol.specs.Safe.{CanStep, HasSpent, IsAccepted, IsApproved, IsSafe, IsSafePlace, IsServing, IsStep, SomeCanStep, SomeCanStepOrSpent, unhalted}

@@ -38,12 +38,16 @@ answer_by (Cell.Forwarding to number) v sent place = Played.Passed to number pla
 answer_by (Cell.Prepared from number) v (Some t) place = if (from == t.sender) && (number == t.number) then Played.Executed v else Played.NotOwner
 answer_by _ v sent place = Played.NotOwner
 
+-- what a server answers to a request: Unavailable where it is down, and else by its cell
+abbrev pub reply_of : State → ℕ → ℕ → Option Ticket → Played
+reply_of w s v sent = if w.place.down v then Played.Unavailable else answer_by (w.place.cells s v) v sent (length w.log)
+
 -- a request for a shard comes to a server
 abbrev pub requested : State → ℕ → ℕ → Option Ticket → Event → Outcome × State
 requested w s v sent event =
     if free_places w == 0 then unchanged w Played.LogFull
     else
-    let answer = if w.place.down v then Played.Unavailable else answer_by (w.place.cells s v) v sent (length w.log) in
+    let answer = reply_of w s v sent in
     (Answered answer, recorded w event answer)
 
 -- the stream is unfinished, and its code mentions the server
