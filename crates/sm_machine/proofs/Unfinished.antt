@@ -11,7 +11,7 @@ use Rattle.sm_machine.specs.Begun.{BegunModel, no_begun}
 use Rattle.sm_machine.specs.Unfinished.{unfinished_below, unfinished_of, AreUnfinished}
 use Rattle.std.specs.Prelude.{◌&&◌}
 use Rattle.std.specs.List.{list_any}
-use Rattle.sm_placement.specs.Sums.{count_below}
+use Rattle.sm_placement.proofs.Searches.{any_none, any_by_count}
 use Rattle.sm_placement.proofs.Sums.{same_sum}
 use Rattle.sm_protocol.specs.State.{State, stream_id, stream_count, stream_parts}
 use Rattle.sm_protocol.specs.Happens.{engaged, is_mentioned}
@@ -206,21 +206,12 @@ none_from : {A : Type 0} (f : ℕ → Option A) (a n : ℕ) → ((k : ℕ) → k
 none_from f a zero none = refl
 none_from f a (suc n) none = first_at f a n None (none a (omega arith)) ∙ none_from f (a + 1) n (λ k l. none k (omega arith))
 
-none_counted : (n : ℕ) (t : ℕ → Bool) → count_below n t ≡ 0 → (i : ℕ) → i < n → t i ≡ false
-none_counted zero t e i l = absurd (omega arith)
-none_counted (suc n) t e i l = elim (cases_eq i n) [
-  | inl here ↦ ap t here ∙ by_bit (t n) (omega arith)
-  | inr apart ↦ none_counted n t (omega arith) i (omega arith)
-]
-  where
-    by_bit : (b : Bool) → bit b ≡ 0 → b ≡ false
-    by_bit false z = refl
-    by_bit true z = absurd (omega arith)
-
 -- no stream of a plan without unfinished ones engages a server
 none_engages : (w : State) (v k : ℕ) → unfinished_count w k ≡ 0 → engaged_by w v k ≡ None
-none_engages w v k e = none_from _ 0 (stream_count w k) (λ i l.
-    ap (λ b. if b && list_any (is_mentioned v) (stream_parts w (stream_id k i)).code then Some (stream_id k i) else None) (none_counted (stream_count w k) (λ j. not (w.progress k j).done) e i (omega arith)))
+none_engages w v k e =
+    let none = any_by_count (stream_count w k) (λ j. not (w.progress k j).done) ∙ le-ltb 0 (unfinished_count w k) (omega arith) in
+    none_from _ 0 (stream_count w k) (λ i l.
+    ap (λ b. if b && list_any (is_mentioned v) (stream_parts w (stream_id k i)).code then Some (stream_id k i) else None) (any_none (stream_count w k) (λ j. not (w.progress k j).done) none i (omega arith)))
 
 -- the lowest stream that engages a server is found in the unfinished plans
 pub all_engaged : (x : Whole) → IsWorking x → (v : ℕ) → first_in (engaged_by x.state v) (unfinished_below x.unfinished (length x.state.plans)) ≡ engaged x.state v
