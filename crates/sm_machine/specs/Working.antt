@@ -1,4 +1,6 @@
 -- What every machine keeps.
+-- Steps of the code's own way, which private functions' contracts cite, and what a `Machine` keeps: no reader of the public ones must
+-- believe them.
 use Rattle.std.specs.Prelude.{◌≡◌, ◌<◌, ◌≤◌, ℕ, Option, Some, None, true, false, length}
 use Rattle.sm_placement.specs.Setup.{Setup}
 use Rattle.sm_reservation.specs.Rights.{Rights, no_rights}
