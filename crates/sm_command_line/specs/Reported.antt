@@ -1,6 +1,6 @@
 -- What the program writes, by the word of its command line.
 use Rattle.std.specs.Prelude.{◌≡◌, ℕ, List, Option}
-use Rattle.sm_report.specs.declared.reporting.TheConstants.{MOST_BYTES}
+use Rattle.sm_report.specs.declared.limits.TheConstants.{MOST_BYTES}
 use Rattle.sm_command_line.specs.declared.words.Word.{Word}
 use Rattle.sm_command_line.specs.declared.words.Word.TheVariants.{Report, Run}
 use Rattle.sm_report.specs.Report.{Output}

@@ -13,6 +13,7 @@ mod early;
 mod ending;
 mod given;
 mod input;
+mod limits;
 mod made;
 mod names;
 mod opening;

@@ -4,6 +4,7 @@ ghost use Rattle.std.specs.Io.KnownBytes.{Appends, Keeps};
 ghost use Rattle.sm_plan_text.specs.Documents.{IsDocument};
 ghost use Rattle.sm_plan_text.specs.Reading.{rows_of};
 ghost use Rattle.sm_report.specs.declared.command.Command.{Command};
+ghost use Rattle.sm_report.specs.declared.limits.TheConstants.{MOST_BYTES};
 ghost use Rattle.sm_report.specs.Status.{code_of};
 ghost use Rattle.sm_report.specs.Early.{IfEnded, IfMade, IfReadEnded, IfReadMade};
 ghost use Rattle.sm_report.specs.Report.{Output};
@@ -15,6 +16,7 @@ use crate::checks::report_check;
 use crate::command::Command;
 use crate::early::Early;
 use crate::input::{InputFault, take_input};
+use crate::limits::MOST_BYTES;
 use crate::made::Made;
 use crate::planning::report_plan;
 use crate::plays::report_play;
@@ -27,9 +29,6 @@ use std::io::{Read, Write};
 
 /// How many reads may be made of an input.
 const READ_TURNS: u32 = 134_217_728;
-
-/// How many bytes an input may have.
-pub const MOST_BYTES: u32 = 67_108_864;
 
 /// The document that the bytes of an input are.
 fn read_bytes(alloc: Global, bytes: &[u8]) -> Result<Document, Early>

@@ -9,7 +9,7 @@ ghost use Rattle.sm_plan_code.specs.Plan.{IsKnownPlan};
 ghost use Rattle.sm_protocol.specs.State.{opened};
 ghost use Rattle.sm_plan_text.specs.Documents.{IsDocument};
 ghost use Rattle.sm_plan_text.specs.Reading.{rows_of};
-ghost use Rattle.sm_report.specs.declared.reporting.TheConstants.{MOST_BYTES};
+ghost use Rattle.sm_report.specs.declared.limits.TheConstants.{MOST_BYTES};
 ghost use Rattle.sm_report.specs.declared.unmade.Unrun.{Unrun};
 ghost use Rattle.sm_report.specs.Report.{Output};
 ghost use Rattle.sm_report.specs.Running.{IsStartedForRun, IsLoggedForRun, IsPlacedForRun, IsOpenedForRun, IsRunReport, IsRunReportOf, IsWritten};

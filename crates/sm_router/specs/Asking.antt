@@ -7,7 +7,7 @@ use Rattle.sm_machine.specs.declared.answer.Answer.{Answer}
 use Rattle.sm_machine.specs.declared.answer.Answer.TheVariants as answer
 use Rattle.sm_router.specs.declared.asking.Asked.{Asked}
 use Rattle.sm_router.specs.declared.asking.Asked.TheVariants as asked
-use Rattle.sm_router.specs.declared.asking.TheConstants.{MOST_HOPS}
+use Rattle.sm_router.specs.declared.limits.TheConstants.{MOST_HOPS}
 use Rattle.sm_router.specs.declared.asking.Next.{Next}
 use Rattle.sm_router.specs.declared.asking.Next.TheVariants.{Look, PassOn, End}
 

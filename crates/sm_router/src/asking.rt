@@ -3,12 +3,10 @@ ghost use Rattle.std.specs.Prelude.{◌≡◌, ◌<◌};
 ghost use Rattle.sm_router.specs.Asking.{HasAsked, after_answer, asked_after};
 
 use crate::desk::Desk;
+use crate::limits::MOST_HOPS;
 use sm_machine::{Answer, Ticket};
 use sm_server::{ServerId, ShardId};
 use std::sync::Wait;
-
-/// How many hops an ask makes at most. Each request that comes to a server is a hop, directly or passed on.
-pub const MOST_HOPS: u32 = 8;
 
 /// What an ask is answered.
 #[derive(Clone, Copy, Debug, PartialEq, Eq)]

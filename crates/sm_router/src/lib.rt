@@ -3,6 +3,8 @@
 
 mod asking;
 mod desk;
+mod limits;
 
-pub use asking::{Asked, MOST_HOPS, ask};
+pub use asking::{Asked, ask};
 pub use desk::Desk;
+pub use limits::MOST_HOPS;

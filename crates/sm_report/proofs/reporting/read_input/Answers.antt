@@ -1,5 +1,5 @@
 use Rattle.std.proofs.Common.{Err, ap, ◌∙◌}
-use Rattle.sm_report.specs.declared.reporting.TheConstants.{MOST_BYTES}
+use Rattle.sm_report.specs.declared.limits.TheConstants.{MOST_BYTES}
 use Rattle.sm_report.proofs.Inputs.{too_long_read}
 use Rattle.sm_report.proofs.reporting.read_input.Goals as goal
 

@@ -1,6 +1,6 @@
 use Rattle.std.proofs.Common.{◌≡◌, Err, rules}
 use Rattle.sm_plan_text.specs.Reading.{rows_of}
-use Rattle.sm_report.specs.declared.reporting.TheConstants.{MOST_BYTES}
+use Rattle.sm_report.specs.declared.limits.TheConstants.{MOST_BYTES}
 use Rattle.sm_report.proofs.Inputs.{read_ended, read_went_on}
 use Rattle.sm_report.proofs.reporting.report_reader.Goals as goal
 

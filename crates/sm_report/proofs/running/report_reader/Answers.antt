@@ -1,6 +1,6 @@
 use Rattle.std.proofs.Common.{◌≡◌, Err, rules}
 use Rattle.sm_plan_text.specs.Reading.{rows_of}
-use Rattle.sm_report.specs.declared.reporting.TheConstants.{MOST_BYTES}
+use Rattle.sm_report.specs.declared.limits.TheConstants.{MOST_BYTES}
 use Rattle.sm_report.specs.declared.unmade.Unmade.TheVariants as unmade
 use Rattle.sm_report.proofs.RunStages.{run_unread, run_read}
 use Rattle.sm_report.proofs.running.report_reader.Goals as goal
