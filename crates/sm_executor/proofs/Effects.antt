@@ -25,7 +25,7 @@ use Rattle.sm_protocol.specs.declared.event.Logged.{Logged}
 use Rattle.sm_protocol.specs.State.{State, progress_of, is_begun, next_instruction, allowance, logged, recorded, free_places, pool}
 use Rattle.sm_protocol.specs.Steps.{Outcome, Refused, Answered, unchanged, call_number, tried, call_tried, entry_added, posted, made, step}
 use Rattle.sm_protocol.specs.Ticket.{Ticket, is_open_ticket}
-use Rattle.sm_protocol.specs.Happens.{Arrive, PassOn, Approve, Done, Refill, happens, requested, answer_by, approved, engaged, refilled, refill_fault}
+use Rattle.sm_protocol.specs.Happens.{Arrive, PassOn, Approve, Done, Refill, happens, requested, reply_of, approved, engaged, refilled, refill_fault}
 use Rattle.sm_task_controller.specs.declared.decision.Denied.{Denied}
 use Rattle.sm_task_controller.specs.Decision.{denial}
 use Rattle.sm_protocol.specs.declared.event.RefillFault.{RefillFault}
@@ -37,6 +37,7 @@ use Rattle.sm_machine.specs.declared.step.Step.{Step}
 use Rattle.sm_machine.specs.declared.step.Step.TheVariants as taken
 use Rattle.sm_machine.specs.Losses.{event_over}
 use Rattle.sm_protocol.proofs.Cases.{IsBefore, answer_to, parcel_taken}
+use Rattle.sm_protocol.proofs.LogRoom.{ok_is}
 use Rattle.sm_executor.specs.Counting.{is_step, is_executed, is_refused, executes, refuses, Counts}
 use Rattle.sm_executor.specs.Stepping.{is_waiting}
 use Rattle.sm_executor.specs.Tied.{IsQuiet, Publishes}
@@ -61,9 +62,6 @@ pub record IsRecorded (ended : Bool) (old new : State) (answer : Played) : Type 
 abbrev pub Made : Bool → State → Outcome → State → Type 0
 Made ended old Refused new = new ≡ old
 Made ended old (Answered answer) new = IsIdle ended old new answer ⊎ IsRecorded ended old new answer
-
-ok_is : (x y : CallEffect) → ◌≡◌ {A = Result CallEffect Refusal} (Ok x) (Ok y) → x ≡ y
-ok_is x y e = cc
 
 -- a call changes nothing of the map
 pub record IsOffMap (p : Place) (effect : CallEffect) : Type 0 where
@@ -192,7 +190,7 @@ requested_made : (w : State) (s v : ℕ) (sent : Option Ticket) (x : Event) → 
 requested_made w s v sent x e = go (free_places w == 0)
   where
     answer : Played
-    answer = if w.place.down v then played.Unavailable else answer_by (w.place.cells s v) v sent (length w.log)
+    answer = reply_of w s v sent
 
     go : (b : Bool) → Asked w (if b then unchanged w played.LogFull else (Answered answer, recorded w x answer)).0 (if b then unchanged w played.LogFull else (Answered answer, recorded w x answer)).1
     go true = inl (record { same = refl; executed = refl; refused = refl })
