@@ -1,5 +1,5 @@
 -- What was tested of each element of a list, one after the other.
-use Rattle.std.proofs.Common.{◌≡◌, ◌<◌, ◌≤◌, ◌+◌, ℕ, zero, suc, List, [], ◌∷◌, Option, None, length, refl, ap, sym, subst, ◌∙◌, arith, inl, inr}
+use Rattle.std.proofs.Common.{◌≡◌, ◌<◌, ◌≤◌, ◌+◌, ℕ, List, Option, None, length, ap, sym, subst, ◌∙◌, arith, inl, inr}
 use Rattle.std.specs.Prelude.{slice_index_or, IfSome}
 use Rattle.std.specs.List.{AllByRecursion}
 use Rattle.std.proofs.lemmas.Bool.{cases_eq, cases_lt}
@@ -8,6 +8,7 @@ use Rattle.std.proofs.lemmas.List.Elements.{recursion_from_All}
 use Rattle.sm_placement.specs.Setup.{Setup}
 use Rattle.sm_verifier.specs.Checked.{CheckedModel}
 use Rattle.sm_machine.specs.Hand.{AreFor}
+use Rattle.sm_machine.proofs.HandStarts.{beyond}
 
 -- the fact holds of the elements before a place
 abbrev pub AllBefore : {T : Type 0} → (T → Type 0) → List T → ℕ → Type 0
@@ -21,11 +22,6 @@ more P xs i x is l here before k d m = elim (cases_eq k i) [
 
 pub whole : {T : Type 0} (P : T → Type 0) (xs : List T) (i : ℕ) → length xs ≤ i → AllBefore P xs i → AllByRecursion P xs
 whole P xs i l all = recursion_from_All P xs (λ k d m. all k d (omega arith))
-
-beyond : {T : Type 0} (xs : List (Option T)) (i : ℕ) → length xs ≤ i → slice_index_or xs i None ≡ None
-beyond [] i l = refl
-beyond (x ∷ xs) zero l = absurd (omega arith)
-beyond (x ∷ xs) (suc i) l = beyond xs i (omega arith)
 
 -- the plan was checked for this configuration
 abbrev pub IsFor : Setup → CheckedModel → Type 0
