@@ -1,9 +1,10 @@
 //! A run: a plan begins on a machine, runs on a board that is opened over it, and the board is closed.
-ghost use Rattle.std.specs.Prelude.{◌≡◌, ◌^◌, IfOk};
+ghost use Rattle.std.specs.Prelude.{◌≡◌, IfOk};
 ghost use Rattle.sm_placement.specs.Setup.{sizes_of};
 ghost use Rattle.sm_placement.specs.Layout.{place_of};
 ghost use Rattle.sm_protocol.specs.State.{opened};
 ghost use Rattle.sm_machine.specs.State.{state_of};
+ghost use Rattle.sm_executor.specs.Names.{IsWhole};
 ghost use Rattle.board_runs.specs.Ran.{IsClosedAt, HasRunTo};
 
 use crate::begun::{Begun, Prepared};
@@ -63,9 +64,9 @@ fn run_on_ground<
     G: Gate + Sync,
 >(rt: &R, alloc: Global, prepared: Prepared, workers: &[W], gate: &G) -> Result<Placement, Fault>
     requires names { (prepared.base.words ≡ N.words) × (prepared.base.setup ≡ N.setup) × (state_of prepared.begun.machine ≡ N.opened) }
-    requires steps { (prepared.base.steps ≡ A.name) × (A.parts ≡ 2 ^ 62) × (A.all ≡ 2 ^ 62) }
-    requires executed { (prepared.base.executed ≡ B.name) × (B.parts ≡ 2 ^ 62) × (B.all ≡ 2 ^ 62) }
-    requires refused { (prepared.base.refused ≡ C.name) × (C.parts ≡ 2 ^ 62) × (C.all ≡ 2 ^ 62) }
+    requires steps { IsWhole prepared.base.steps A.name A.parts }
+    requires executed { IsWhole prepared.base.executed B.name B.parts }
+    requires refused { IsWhole prepared.base.refused C.name C.parts }
     ensures setup { IfOk result (λ placement. placement.setup ≡ N.setup) }
     ensures closed { IfOk result (λ placement. IsClosedAt N.opened (place_of placement)) }
 {

@@ -9,7 +9,6 @@ use Rattle.std.proofs.sync.ledger.Share.TheSendSync.{the_send as share_send}
 use Rattle.sm_map.proofs.map.Publisher.TheSendSync.{the_send as publisher_send}
 use Rattle.sm_map.proofs.map.Words.TheSendSync.{the_sync as words_sync}
 use Rattle.sm_placement.proofs.config.Config.TheSendSync.{the_sync as config_sync}
-use Rattle.sm_executor.specs.declared.names.Side as Side
 use Rattle.sm_executor.specs.declared.names.Naming as Naming
 use Rattle.sm_executor.specs.contracts.board.Board as Board
 use Rattle.sm_executor.specs.contracts.gate.Starter as Starter
@@ -21,11 +20,10 @@ use Rattle.sm_executor.proofs.MachineSent.{machine_send}
 pub starter_sync : IsSync Starter.the_row
 starter_sync = search (crosses, sendable) depth 30
 
-module _ (A B C N : RattleType) (a : Side.Ghosts A.Denot) (b : Side.Ghosts B.Denot) (c : Side.Ghosts C.Denot) (n : Naming.Ghosts N.Denot)
-    (la : Ledger.Ghosts A.Denot) (lb : Ledger.Ghosts B.Denot) (lc : Ledger.Ghosts C.Denot) where
-  held_send : IsSend (Held.the_row A B C N a la b lb c lc n)
-  held_send = view_send (Inside.the_row A B C N a la b lb c lc n) _ _ _ _
-      (recorded_send (Inside.the_field A B C N a la b lb c lc n).row _ _ (Inside.the_type A B C N a la b lb c lc n).to_one (struct_send (shape (Inside.the_type A B C N a la b lb c lc n)) (
+module _ (A B C N : RattleType) (n : Naming.Ghosts N.Denot) (a : Ledger.Ghosts A.Denot) (b : Ledger.Ghosts B.Denot) (c : Ledger.Ghosts C.Denot) where
+  held_send : IsSend (Held.the_row A B C N a b c n)
+  held_send = view_send (Inside.the_row A B C N a b c n) _ _ _ _
+      (recorded_send (Inside.the_field A B C N a b c n).row _ _ (Inside.the_type A B C N a b c n).to_one (struct_send (shape (Inside.the_type A B C N a b c n)) (
         machine_send,
         (
           publisher_send,
@@ -52,6 +50,6 @@ module _ (A B C N : RattleType) (a : Side.Ghosts A.Denot) (b : Side.Ghosts B.Den
       )))
 
   -- threads may share a board, whatever its names and those of its ledgers are
-  pub board_sync : IsSync (Board.the_row A B C N a b c n la lb lc)
-  board_sync = recorded_sync (Board.the_field A B C N a b c n la lb lc).row (Board.the_type A B C N a b c n la lb lc).D (Board.the_type A B C N a b c n la lb lc).to (Board.the_type A B C N a b c n la lb lc).to_one (struct_sync (shape (Board.the_type A B C N a b c n la lb lc))
+  pub board_sync : IsSync (Board.the_row A B C N n a b c)
+  board_sync = recorded_sync (Board.the_field A B C N n a b c).row (Board.the_type A B C N n a b c).D (Board.the_type A B C N n a b c).to (Board.the_type A B C N n a b c).to_one (struct_sync (shape (Board.the_type A B C N n a b c))
       (search (held_send, crosses, sendable) depth 10, (search (crosses, sendable) depth 20, (words_sync, (config_sync, (search (crosses, sendable) depth 20, tt))))))

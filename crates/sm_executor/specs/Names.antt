@@ -1,10 +1,11 @@
 -- The name of a board: what it is opened with. And a name of none.
-use Rattle.std.specs.Prelude.{ℕ, [], false, None}
+use Rattle.std.specs.Prelude.{◌≡◌, ℕ, [], false, None}
 use Rattle.sm_server.specs.declared.call.Cell.TheVariants.{Absent}
 use Rattle.sm_placement.specs.Setup.{Setup, sizes_of}
 use Rattle.sm_placement.specs.Place.{Place}
 use Rattle.sm_map.specs.Models.{WordsModel, words_model}
 use Rattle.sm_protocol.specs.State.{State, opened}
+use Rattle.sm_executor.specs.declared.limits.TheConstants.{PARTS}
 
 -- what stands for the words of a map where there is no board
 abbrev pub no_words : WordsModel
@@ -33,3 +34,7 @@ pub record Bases : Type 0 where
 -- a board that is opened with these
 abbrev pub bases : WordsModel → Setup → ℕ → ℕ → ℕ → Bases
 bases words setup steps executed refused = record { words = words; setup = setup; steps = steps; executed = executed; refused = refused }
+
+-- the side of this name is this ledger of a ground, with all the parts that a ledger is cut into
+abbrev pub IsWhole : ℕ → ℕ → ℕ → Type 0
+IsWhole ledger name parts = (ledger ≡ name) × (parts ≡ PARTS)

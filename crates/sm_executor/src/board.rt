@@ -25,7 +25,7 @@ ghost use Rattle.sm_executor.specs.Stepping.{HasMadeStep, HasStepped, is_waiting
 ghost use Rattle.sm_executor.specs.Tied.{HasStood};
 ghost use Rattle.sm_executor.specs.Views.{held_model, state_in, calling};
 ghost use Rattle.sm_plan_code.specs.declared.limits.TheConstants.{MOST_CALLS};
-ghost use Rattle.sm_executor.specs.declared.unfinished.TheConstants.{MOST_UNFINISHED};
+ghost use Rattle.sm_executor.specs.declared.limits.TheConstants.{MOST_UNFINISHED};
 
 use crate::caller::Caller;
 use crate::held::Held;

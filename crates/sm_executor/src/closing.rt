@@ -4,7 +4,7 @@ ghost use Rattle.sm_protocol.specs.Laws.{AreDone};
 ghost use Rattle.sm_machine.specs.State.{state_of};
 ghost use Rattle.sm_executor.specs.Closed.{unfinished_streams, AreAllBack, IsAccount, IsClosed, IsNotClosed, StaysOpenFor, GoesOn};
 ghost use Rattle.sm_executor.specs.Views.{state_in};
-ghost use Rattle.sm_executor.specs.declared.unfinished.TheConstants.{MOST_UNFINISHED};
+ghost use Rattle.sm_executor.specs.declared.limits.TheConstants.{MOST_UNFINISHED};
 
 use crate::board::Board;
 use crate::caller::Caller;

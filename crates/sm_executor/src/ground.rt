@@ -1,18 +1,19 @@
 //! What a board is opened with.
-ghost use Rattle.std.specs.Prelude.{◌≡◌, ◌<◌, ◌≤◌, ◌*◌, ◌^◌, [], All, IfOk, IfErr, length, map, slice_get, vec_capacity, Some, ℕ};
+ghost use Rattle.std.specs.Prelude.{◌≡◌, ◌<◌, ◌≤◌, ◌*◌, [], All, IfOk, IfErr, length, map, slice_get, vec_capacity, Some, ℕ};
 ghost use Rattle.sm_placement.specs.Place.{entry_at};
 ghost use Rattle.sm_map.specs.Entry.{IsInRange};
 ghost use Rattle.sm_machine.specs.State.{state_of};
+ghost use Rattle.sm_executor.specs.Names.{IsWhole};
 ghost use Rattle.sm_executor.specs.Tied.{IsMapOf};
 ghost use Rattle.sm_executor.specs.Views.{held_model, running};
-ghost use Rattle.sm_executor.specs.declared.unfinished.TheConstants.{MOST_UNFINISHED};
+ghost use Rattle.sm_executor.specs.declared.limits.TheConstants.{MOST_UNFINISHED};
 ghost use Rattle.sm_plan_code.specs.declared.limits.TheConstants.{MOST_STREAMS};
 
 use crate::board::Board;
 use crate::held::Held;
-use crate::names::{Naming, PARTS, Side};
+use crate::limits::{MOST_UNFINISHED, PARTS};
+use crate::names::{Naming, Side};
 use crate::runner::Runner;
-use crate::unfinished::MOST_UNFINISHED;
 use sm_machine::{Machine, StreamToken};
 use sm_map::{Entry, Publisher, Words};
 use sm_placement::Config;
@@ -54,8 +55,9 @@ impl Drop for Ground {
 }
 
 impl Model for Ground {
-    ghost use Rattle.std.specs.Prelude.{◌≡◌, ◌^◌, []};
+    ghost use Rattle.std.specs.Prelude.{◌≡◌, []};
     ghost use Rattle.sm_executor.specs.Names.{Bases, bases};
+    ghost use Rattle.sm_executor.specs.declared.limits.TheConstants.{PARTS};
 
     ghost Value = { Bases };
 
@@ -63,7 +65,7 @@ impl Model for Ground {
 
     ghost invariant = { λ g.
         (g.publisher ≡ record { words = g.words; stores = [] })
-        × (g.steps.parts ≡ 2 ^ 62) × (g.executed.parts ≡ 2 ^ 62) × (g.refused.parts ≡ 2 ^ 62) };
+        × (g.steps.parts ≡ PARTS) × (g.executed.parts ≡ PARTS) × (g.refused.parts ≡ PARTS) };
 }
 
 /// The map's entry of each shard.
@@ -118,9 +120,9 @@ impl Ground {
         requires map { IsMapOf self.words (state_of machine) }
         requires setup { self.setup ≡ machine.placement.setup }
         requires names { (self.words ≡ N.words) × (self.setup ≡ N.setup) × (state_of machine ≡ N.opened) }
-        requires steps { (self.steps ≡ A.name) × (A.parts ≡ 2 ^ 62) }
-        requires executed { (self.executed ≡ B.name) × (B.parts ≡ 2 ^ 62) }
-        requires refused { (self.refused ≡ C.name) × (C.parts ≡ 2 ^ 62) }
+        requires steps { IsWhole self.steps A.name A.parts }
+        requires executed { IsWhole self.executed B.name B.parts }
+        requires refused { IsWhole self.refused C.name C.parts }
         ensures held { result.0 ≡ held_model machine 0 0 }
         ensures words { result.1 ≡ N.words }
         ensures config { result.2 ≡ N.setup }
@@ -172,9 +174,9 @@ impl<A: Side, B: Side, C: Side, N: Naming> Board<A, B, C, N> {
         requires setup { ground.setup ≡ machine.placement.setup }
         requires names { (ground.words ≡ N.words) × (ground.setup ≡ N.setup) × (state_of machine ≡ N.opened) }
         requires few { length tokens.items ≤ MOST_STREAMS * length (state_of machine).plans }
-        requires steps { (ground.steps ≡ A.name) × (A.parts ≡ 2 ^ 62) × (A.all ≡ 2 ^ 62) }
-        requires executed { (ground.executed ≡ B.name) × (B.parts ≡ 2 ^ 62) × (B.all ≡ 2 ^ 62) }
-        requires refused { (ground.refused ≡ C.name) × (C.parts ≡ 2 ^ 62) × (C.all ≡ 2 ^ 62) }
+        requires steps { IsWhole ground.steps A.name A.parts }
+        requires executed { IsWhole ground.executed B.name B.parts }
+        requires refused { IsWhole ground.refused C.name C.parts }
         ensures runners { IfOk result (λ opened. opened.1.items ≡ map (λ token. running token 0) tokens.items) }
         ensures back { IfErr result (λ e. (e.machine ≡ machine) × (e.ground ≡ ground) × (e.tokens ≡ tokens)) }
     {

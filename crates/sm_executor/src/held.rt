@@ -2,7 +2,7 @@
 //!
 //! Each method is one event at most, and changes the machine just as the machine's own call does. The books rise with the log,
 //! and what a step publishes is stored in the words before the method returns.
-ghost use Rattle.std.specs.Prelude.{◌≡◌, ◌≢◌, OnOk, OnErr, ◌<◌, ◌≤◌, ◌+◌, ◌*◌, ◌^◌, ◌++◌, ◌∷◌, [], length, map, IfOk, IfErr, IfSome, IfNone, true, false, if◌then◌else◌, vec_len, vec_capacity};
+ghost use Rattle.std.specs.Prelude.{◌≡◌, ◌≢◌, OnOk, OnErr, ◌<◌, ◌≤◌, ◌+◌, ◌*◌, ◌++◌, ◌∷◌, [], length, map, IfOk, IfErr, IfSome, IfNone, true, false, if◌then◌else◌, vec_len, vec_capacity};
 ghost use Rattle.sm_placement.specs.Place.{entry_at};
 ghost use Rattle.sm_map.specs.History.{NoneNewer};
 ghost use Rattle.sm_protocol.specs.State.{progress_of, is_running};
@@ -22,13 +22,15 @@ ghost use Rattle.sm_protocol.specs.declared.event.BeginFault.TheVariants as faul
 ghost use Rattle.sm_protocol.specs.declared.event.Played.TheVariants as played;
 ghost use Rattle.sm_executor.specs.Closed.{GoesOn};
 ghost use Rattle.sm_executor.specs.Counting.{Counts, executes, refuses};
+ghost use Rattle.sm_executor.specs.Names.{IsWhole};
 ghost use Rattle.sm_executor.specs.Stepping.{HasStepped, is_waiting};
 ghost use Rattle.sm_executor.specs.Tied.{IsPublished, IsBehind, HasStood};
 ghost use Rattle.sm_executor.specs.Views.{held_model, state_in, running, recorded_more, calling, AreRunners, end_in};
 ghost use Rattle.sm_plan_code.specs.declared.limits.TheConstants.{MOST_CALLS, MOST_STREAMS};
-ghost use Rattle.sm_executor.specs.declared.held.TheConstants.{MOST_CALLERS};
+ghost use Rattle.sm_executor.specs.declared.limits.TheConstants.{MOST_CALLERS};
 
 use crate::caller::Caller;
+use crate::limits::MOST_CALLERS;
 use crate::names::{Naming, Side};
 use crate::runner::{Ended, Runner};
 use crate::shares::fill_runners;
@@ -41,9 +43,6 @@ use sm_verifier::Checked;
 use std::alloc::Global;
 use std::marker::{Model, PhantomData};
 use std::sync::ledger::{Blank, Book, Share};
-
-/// How many callers a board gives out at most.
-const MOST_CALLERS: u64 = 4_096;
 
 /// The machine, the publisher's seat, the books with the shares that nobody has, and how many runners and callers were given out.
 ///
@@ -64,14 +63,14 @@ pub(crate) struct Held<A: Side, B: Side, C: Side, N: Naming> {
 }
 
 impl<A: Side, B: Side, C: Side, N: Naming> Model for Held<A, B, C, N> {
-    ghost use Rattle.std.specs.Prelude.{◌≡◌, ◌≤◌, ◌+◌, ◌*◌, ◌^◌, length};
+    ghost use Rattle.std.specs.Prelude.{◌≡◌, ◌≤◌, ◌+◌, ◌*◌, length};
     ghost use Rattle.sm_machine.specs.State.{state_of};
     ghost use Rattle.sm_executor.specs.Views.{HeldModel, held_model};
     ghost use Rattle.sm_executor.specs.Tied.{IsPublished};
     ghost use Rattle.sm_executor.specs.Counting.{IsBooked};
     ghost use Rattle.sm_executor.specs.Closed.{HasMorePlans};
     ghost use Rattle.sm_plan_code.specs.declared.limits.TheConstants.{MOST_STREAMS};
-    ghost use Rattle.sm_executor.specs.declared.held.TheConstants.{MOST_CALLERS};
+    ghost use Rattle.sm_executor.specs.declared.limits.TheConstants.{MOST_CALLERS, PARTS};
 
     ghost Value = { HeldModel };
 
@@ -80,9 +79,9 @@ impl<A: Side, B: Side, C: Side, N: Naming> Model for Held<A, B, C, N> {
     ghost invariant = { λ h.
         IsPublished N.words N.opened (state_of h.machine) h.publisher
         × IsBooked N.opened (state_of h.machine) h.steps.total h.executed.total h.refused.total
-        × (h.free_steps.parts + h.runners ≡ A.parts) × (h.free_steps.amount ≡ 0) × (A.parts ≡ 2 ^ 62)
-        × (h.free_executed.parts + h.callers ≡ B.parts) × (h.free_executed.amount ≡ 0) × (B.parts ≡ 2 ^ 62)
-        × (h.free_refused.parts + h.callers ≡ C.parts) × (h.free_refused.amount ≡ 0) × (C.parts ≡ 2 ^ 62)
+        × (h.free_steps.parts + h.runners ≡ A.parts) × (h.free_steps.amount ≡ 0) × (A.parts ≡ PARTS)
+        × (h.free_executed.parts + h.callers ≡ B.parts) × (h.free_executed.amount ≡ 0) × (B.parts ≡ PARTS)
+        × (h.free_refused.parts + h.callers ≡ C.parts) × (h.free_refused.amount ≡ 0) × (C.parts ≡ PARTS)
         × (h.callers ≤ MOST_CALLERS)
         × (h.machine.placement.setup ≡ N.setup)
         × (h.runners ≤ MOST_STREAMS * length (state_of h.machine).plans)
@@ -141,9 +140,9 @@ impl<A: Side, B: Side, C: Side, N: Naming> Held<A, B, C, N> {
         requires opened { state_of machine ≡ N.opened }
         requires setup { machine.placement.setup ≡ N.setup }
         requires tied { IsPublished N.words N.opened N.opened publisher }
-        requires steps { (steps.name ≡ A.name) × (steps.parts ≡ A.parts) × (A.parts ≡ 2 ^ 62) }
-        requires executed { (executed.name ≡ B.name) × (executed.parts ≡ B.parts) × (B.parts ≡ 2 ^ 62) }
-        requires refused { (refused.name ≡ C.name) × (refused.parts ≡ C.parts) × (C.parts ≡ 2 ^ 62) }
+        requires steps { (steps.parts ≡ A.parts) × IsWhole steps.name A.name A.parts }
+        requires executed { (executed.parts ≡ B.parts) × IsWhole executed.name B.name B.parts }
+        requires refused { (refused.parts ≡ C.parts) × IsWhole refused.name C.name C.parts }
         ensures { result ≡ held_model machine 0 0 }
     {
         let (steps, free_steps) = steps.open::<A>();

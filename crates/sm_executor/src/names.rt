@@ -2,22 +2,14 @@
 //!
 //! A board, and all that it gives out, is generic over four names: one for each ledger, and one for what it was opened with.
 //! A value of another board has other names, so it does not fit.
-ghost use Rattle.std.specs.Prelude.{ℕ};
 
 use std::marker::Brand;
 use std::sync::ledger::Ledger;
 
-/// How many parts each ledger is cut into: more than runners and callers can ever be.
-pub(crate) const PARTS: u64 = 1 << 62;
+/// A ledger of a board.
+pub trait Side: Ledger {}
 
-/// A ledger of a board, and how many parts it has.
-pub trait Side: Ledger {
-    ghost all: { ℕ };
-}
-
-impl Side for Brand {
-    ghost all = { 0 };
-}
+impl Side for Brand {}
 
 /// What a board was opened with: the words of its map, the configuration, and the state that its machine was in.
 pub trait Naming {

@@ -3,13 +3,10 @@ ghost use Rattle.std.specs.Prelude.{◌≡◌, ◌≤◌, ◌<◌, ◌+◌, ◌+
 ghost use Rattle.sm_protocol.specs.State.{stream_count};
 ghost use Rattle.sm_machine.specs.State.{state_of};
 ghost use Rattle.sm_executor.specs.Closed.{unfinished_in, unfinished_streams};
-ghost use Rattle.sm_executor.specs.declared.unfinished.TheConstants.{MOST_UNFINISHED};
+ghost use Rattle.sm_executor.specs.declared.limits.TheConstants.{MOST_UNFINISHED};
 
 use sm_machine::Machine;
 use sm_reservation::StreamId;
-
-/// How many streams can be unfinished at once: those of sixteen plans, of 64 streams each.
-pub(crate) const MOST_UNFINISHED: usize = 1_024;
 
 /// Adds the streams of a plan that have not made their ends, each with how many instructions it has made. Takes no memory.
 fn push_unfinished(machine: &Machine, plan: u32, positions: &mut Vec<(StreamId, usize)>)

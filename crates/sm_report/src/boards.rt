@@ -1,9 +1,10 @@
 //! A plan on a board: it begins on a machine, its streams run beside asks on a board over it, and the board is closed.
-ghost use Rattle.std.specs.Prelude.{◌≡◌, ◌≢◌, ◌≤◌, ◌<◌, ◌^◌, ◌++◌, [], All, IfErr, IfOk, OnOk, length, map, string_bytes, true, vec_len, vec_capacity};
+ghost use Rattle.std.specs.Prelude.{◌≡◌, ◌≢◌, ◌≤◌, ◌<◌, ◌++◌, [], All, IfErr, IfOk, OnOk, length, map, string_bytes, true, vec_len, vec_capacity};
 ghost use Rattle.sm_machine.specs.Starts.{AreTokens};
 ghost use Rattle.sm_machine.specs.State.{state_of};
 ghost use Rattle.sm_executor.specs.Clients.{IsClient};
 ghost use Rattle.sm_executor.specs.Closed.{IsClosed};
+ghost use Rattle.sm_executor.specs.Names.{IsWhole};
 ghost use Rattle.sm_executor.specs.Tied.{IsMapOf};
 ghost use Rattle.sm_executor.specs.Views.{AreRunners};
 ghost use Rattle.sm_protocol.specs.State.{State, plan_at, stream_count};
@@ -220,7 +221,6 @@ fn report_ran<A: Side, B: Side, C: Side, N: Naming>(
     accepted: String,
     asked: String,
 ) -> Result<Made, Unmade>
-    requires sides { (A.all ≡ A.parts) × (B.all ≡ B.parts) × (C.all ≡ C.parts) }
     requires none { given.callers.items ≡ [] }
     requires room { vec_len given.clients ≤ vec_capacity given.callers }
     ensures { IfRan result (λ made. (now : State) × IsClosed N.opened now given.ended.items (map (λ client. client.caller) given.clients.items)
@@ -283,7 +283,6 @@ fn report_given<
     accepted: String,
     asks: &[ShardId],
 ) -> Result<Made, Unmade>
-    requires sides { (A.all ≡ A.parts) × (B.all ≡ B.parts) × (C.all ≡ C.parts) }
     requires none { (given.ended.items ≡ []) × (given.clients.items ≡ []) × (given.callers.items ≡ []) × (given.tokens.items ≡ []) }
     requires room { (length asks.now ≤ vec_capacity given.clients) × (length asks.now ≤ vec_capacity given.callers) × (vec_len runners ≤ vec_capacity given.tokens) }
     requires one { length N.opened.plans ≡ 1 }
@@ -312,9 +311,9 @@ fn report_on_ground<
     requires map { IsMapOf ground.words (state_of begun.machine) }
     requires setup { ground.setup ≡ begun.machine.placement.setup }
     requires names { (ground.words ≡ N.words) × (ground.setup ≡ N.setup) × (state_of begun.machine ≡ N.opened) }
-    requires steps { (ground.steps ≡ A.name) × (A.parts ≡ 2 ^ 62) × (A.all ≡ 2 ^ 62) }
-    requires executed { (ground.executed ≡ B.name) × (B.parts ≡ 2 ^ 62) × (B.all ≡ 2 ^ 62) }
-    requires refused { (ground.refused ≡ C.name) × (C.parts ≡ 2 ^ 62) × (C.all ≡ 2 ^ 62) }
+    requires steps { IsWhole ground.steps A.name A.parts }
+    requires executed { IsWhole ground.executed B.name B.parts }
+    requires refused { IsWhole ground.refused C.name C.parts }
     requires one { length (state_of begun.machine).plans ≡ 1 }
     requires tokens { AreTokens 0 (stream_count (state_of begun.machine) 0) begun.tokens.items }
     requires few { length begun.tokens.items ≤ MOST_STREAMS }

@@ -15,6 +15,6 @@ spawn-requires-send-F g c = λ κs b.
     let worker : IsSync (param 4 g.row.W) = search sendable depth 20 in
     let runtime : IsSync (param 5 g.row.R) = search sendable depth 20 in
     let finish : IsSync Finish.the_row = search (crosses, sendable) depth 30 in
-    let board = board_sync (param 0 g.row.A) (param 1 g.row.B) (param 2 g.row.C) (param 3 g.row.N) g.A.Side g.B.Side g.C.Side g.N.Naming g.A.Ledger g.B.Ledger g.C.Ledger in
-    let seat = seat_send (param 1 g.row.B) (param 2 g.row.C) (param 3 g.row.N) g.B.Side g.B.Ledger g.C.Side g.C.Ledger g.N.Naming in
+    let board = board_sync (param 0 g.row.A) (param 1 g.row.B) (param 2 g.row.C) (param 3 g.row.N) g.N.Naming g.A.Ledger g.B.Ledger g.C.Ledger in
+    let seat = seat_send (param 1 g.row.B) (param 2 g.row.C) (param 3 g.row.N) g.B.Ledger g.C.Ledger g.N.Naming in
     captured_send no _ ((_, mut_send _ _ _ seat) ∷ (_, shr_send _ _ _ runtime) ∷ (_, shr_send _ _ _ board) ∷ (_, shr_send _ _ _ finish) ∷ (_, option_send _ (shr_send _ _ _ worker)) ∷ [])

@@ -11,6 +11,6 @@ use Rattle.sm_executor.proofs.clients.start_asks.Goals as goal
 pub spawn-requires-send-F : goal.spawn-requires-send-F
 spawn-requires-send-F g c = λ κs b.
     let runtime : IsSync (param 4 g.row.R) = search sendable depth 20 in
-    let board = board_sync (param 0 g.row.A) (param 1 g.row.B) (param 2 g.row.C) (param 3 g.row.N) g.A.Side g.B.Side g.C.Side g.N.Naming g.A.Ledger g.B.Ledger g.C.Ledger in
-    let client = client_send (param 1 g.row.B) (param 2 g.row.C) (param 3 g.row.N) g.B.Side g.B.Ledger g.C.Side g.C.Ledger g.N.Naming in
+    let board = board_sync (param 0 g.row.A) (param 1 g.row.B) (param 2 g.row.C) (param 3 g.row.N) g.N.Naming g.A.Ledger g.B.Ledger g.C.Ledger in
+    let client = client_send (param 1 g.row.B) (param 2 g.row.C) (param 3 g.row.N) g.B.Ledger g.C.Ledger g.N.Naming in
     captured_send no _ ((_, mut_send _ _ _ client) ∷ (_, shr_send _ _ _ runtime) ∷ (_, shr_send _ _ _ board) ∷ [])
