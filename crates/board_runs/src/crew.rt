@@ -1,5 +1,5 @@
 //! The places of those who work beside the streams of a run.
-ghost use Rattle.std.specs.Prelude.{◌≡◌, ◌≤◌, ◌+◌, [], vec_len, vec_capacity};
+ghost use Rattle.std.specs.Prelude.{◌≡◌, ◌≤◌, ◌+◌, [], IfErr, IfOk, None, vec_len, vec_capacity};
 
 use crate::finish::Finish;
 use crate::worker::Worker;
@@ -17,7 +17,9 @@ pub(crate) struct Seat<B: Side, C: Side, N: Naming> {
 }
 
 impl<B: Side, C: Side, N: Naming> Seat<B, C, N> {
-    fn new(caller: Caller<B, C, N>) -> Seat<B, C, N> {
+    fn new(caller: Caller<B, C, N>) -> Seat<B, C, N>
+        ensures { (result.caller ≡ caller) × (result.left ≡ None) }
+    {
         Seat { caller, left: None }
     }
 
@@ -80,6 +82,10 @@ impl<B: Side, C: Side, N: Naming> Crew<B, C, N> {
         count: usize,
     ) -> Result<Self, Vec<Permit>>
         requires room { vec_len permits + count ≤ vec_capacity permits }
+        ensures seats { IfOk result (λ crew. vec_len crew.seats ≤ count) }
+        ensures callers { IfOk result (λ crew. crew.callers.items ≡ []) }
+        ensures permits { IfOk result (λ crew. crew.permits ≡ permits) }
+        ensures back { IfErr result (λ back. back ≡ permits) }
     {
         let Ok(mut seats) = Vec::with_capacity(alloc, count) else {
             return Err(permits);
@@ -97,7 +103,9 @@ impl<B: Side, C: Side, N: Naming> Crew<B, C, N> {
     }
 
     /// All callers and permits.
-    pub fn into_parts(self) -> (Vec<Caller<B, C, N>>, Vec<Permit>) {
+    pub fn into_parts(self) -> (Vec<Caller<B, C, N>>, Vec<Permit>)
+        ensures { vec_len result.0 ≡ vec_len self.callers + vec_len self.seats }
+    {
         let Crew {
             mut seats,
             mut callers,

@@ -1,5 +1,6 @@
 //! The streams of a run.
-ghost use Rattle.std.specs.Prelude.{◌≡◌, ◌≤◌, ◌+◌, vec_len, vec_capacity};
+ghost use Rattle.std.specs.Prelude.{◌≡◌, ◌≤◌, ◌+◌, ◌++◌, [], vec_len, vec_capacity};
+ghost use Rattle.sm_executor.specs.Views.{streams_run};
 
 use crate::fault::Fault;
 use sm_executor::{Board, Ended, Gate, Naming, NotRun, RunFault, Runner, Side, run, take_tokens};
@@ -32,6 +33,9 @@ impl<A: Side> Streams<A> {
     /// Streams that have not run, and an empty list with room for their tokens.
     pub fn new(alloc: Global, runners: Vec<Runner<A>>, tokens: Vec<StreamToken>) -> Streams<A>
         requires { vec_len tokens + vec_len runners ≤ vec_capacity tokens }
+        ensures runners { result.runners ≡ runners }
+        ensures tokens { result.tokens ≡ tokens }
+        ensures ended { result.ended.items ≡ [] }
     {
         Streams {
             runners,
@@ -44,6 +48,8 @@ impl<A: Side> Streams<A> {
     /// Keeps the ends of streams, where there are none yet, and how the run came out.
     fn keep(&mut self, ended: Vec<Ended<A>>, ran: Result<(), Fault>)
         requires { vec_len self.old.ended ≡ 0 }
+        ensures kept { (self.new.ended ≡ ended) × (self.new.ran ≡ ran) }
+        ensures others { (self.new.runners ≡ self.old.runners) × (self.new.tokens ≡ self.old.tokens) }
     {
         mem::replace(&mut self.ended, ended).destroy_empty();
         self.ran = ran;
@@ -53,6 +59,9 @@ impl<A: Side> Streams<A> {
     fn keep_back(&mut self, back: NotRun<A>)
         requires none { (vec_len self.old.runners ≡ 0) × (vec_len self.old.ended ≡ 0) }
         requires room { vec_len self.old.tokens + vec_len back.runners ≤ vec_capacity self.old.tokens }
+        ensures ended { self.new.ended ≡ back.ended }
+        ensures tokens { self.new.tokens.items ≡ self.old.tokens.items ++ streams_run back.runners.items }
+        ensures runners { self.new.runners ≡ self.old.runners }
     {
         let NotRun {
             fault,
@@ -67,12 +76,13 @@ impl<A: Side> Streams<A> {
     fn take_runners(&mut self, alloc: Global) -> Vec<Runner<A>>
         ensures none { vec_len self.new.runners ≡ 0 }
         ensures room { vec_len self.new.tokens + vec_len result ≤ vec_capacity self.new.tokens }
-        ensures ended { self.new.ended ≡ self.old.ended }
+        ensures runners { result ≡ self.old.runners }
+        ensures others { (self.new.ended ≡ self.old.ended) × (self.new.tokens ≡ self.old.tokens) }
     {
         mem::replace(&mut self.runners, Vec::new(alloc))
     }
 
-    /// Runs the streams, where they have not run yet.
+    /// Runs the streams, where they have not run yet. Of each there is still a runner, an end or a token.
     pub fn run<
         B: Side + Send + Sync,
         C: Side + Send + Sync,
@@ -82,6 +92,7 @@ impl<A: Side> Streams<A> {
     >(&mut self, rt: &R, alloc: Global, board: &Board<A, B, C, N>, gate: &G)
     where
         A: Send + Sync,
+        ensures { vec_len self.new.runners + vec_len self.new.ended + vec_len self.new.tokens ≡ vec_len self.old.runners + vec_len self.old.ended + vec_len self.old.tokens }
     {
         if !self.ended.is_empty() {
             return;
@@ -94,12 +105,17 @@ impl<A: Side> Streams<A> {
     }
 
     /// Whether they ran to their ends.
-    pub fn ran(&self) -> Result<(), Fault> {
+    pub fn ran(&self) -> Result<(), Fault>
+        ensures { result ≡ self.now.ran }
+    {
         self.ran
     }
 
     /// The ends, and the tokens of the streams that came to none.
-    pub fn into_parts(self) -> (Vec<Ended<A>>, Vec<StreamToken>) {
+    pub fn into_parts(self) -> (Vec<Ended<A>>, Vec<StreamToken>)
+        ensures ended { result.0 ≡ self.ended }
+        ensures tokens { result.1.items ≡ self.tokens.items ++ streams_run self.runners.items }
+    {
         let Streams {
             runners,
             ended,
