@@ -1,4 +1,5 @@
 -- Runs that have not come to their end.
+-- Steps of the code's own way, which private functions' contracts cite, and `unrun_text`, which the contract of `report_run` cites.
 use Rattle.std.specs.Prelude.{List, ℕ, [], ◌∷◌, codes, Result, Ok, Err}
 use Rattle.sm_report.specs.declared.unmade.Unrun.{Unrun}
 use Rattle.sm_report.specs.declared.unmade.Unrun.TheVariants.{NoThread, Halted, Spent, NoCaller, OtherAsk, NotClosed}
