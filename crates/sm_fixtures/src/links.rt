@@ -11,11 +11,12 @@ pub struct Loses {
 }
 
 impl Link for Loses {
-    ghost use Rattle.std.specs.Prelude.{⊤};
+    ghost use Rattle.std.specs.Prelude.{◌≡◌, ◌≢◌, ◌-◌, ◌^◌, if◌then◌else◌};
+    ghost use Rattle.sm_protocol.specs.declared.event.Passage.TheVariants.{LostBefore, LostAfter};
 
     ghost losses = { λ link. link.lost };
 
-    ghost asked = { λ _ _ _ _ _. ⊤ };
+    ghost asked = { λ old stream number passage new. (new.after ≡ old.after) × (old.lost ≢ 2 ^ 64 - 1 → passage ≡ if old.after then LostAfter else LostBefore) };
 
     fn passage(&mut self, _stream: StreamId, _number: u64) -> Passage {
         if self.lost == u64::MAX {
@@ -42,11 +43,12 @@ pub struct LosesEverySecond {
 }
 
 impl Link for LosesEverySecond {
-    ghost use Rattle.std.specs.Prelude.{⊤};
+    ghost use Rattle.std.specs.Prelude.{◌≡◌, ◌≢◌, ◌-◌, ◌^◌, not, if◌then◌else◌};
+    ghost use Rattle.sm_protocol.specs.declared.event.Passage.TheVariants.{Through, LostAfter};
 
     ghost losses = { λ link. link.lost };
 
-    ghost asked = { λ _ _ _ _ _. ⊤ };
+    ghost asked = { λ old stream number passage new. (new.next ≡ not old.next) × (old.lost ≢ 2 ^ 64 - 1 → passage ≡ if old.next then LostAfter else Through) };
 
     fn passage(&mut self, _stream: StreamId, _number: u64) -> Passage {
         let loses = self.next;

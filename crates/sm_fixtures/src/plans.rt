@@ -1,5 +1,9 @@
 //! Plans of handovers over the worked placements, each with its check, and plans whose streams have no code.
-ghost use Rattle.std.specs.Prelude.{◌≡◌, IsTrue};
+ghost use Rattle.std.specs.Prelude.{◌≡◌, ◌↔◌, ◌+◌, ◌-◌, ◌^◌, ◌∷◌, [], All, IsTrue, IfOk, length, min, replicate};
+ghost use Rattle.sm_fixtures.specs.Plans.{worked_handover, worked_hold, room_alone, worked_stream, idle_stream, worked_signalled};
+ghost use Rattle.sm_fixtures.specs.Worlds.{worked_setup};
+ghost use Rattle.sm_fixtures.specs.declared.worlds.World.TheVariants.{Wide};
+ghost use Rattle.sm_reservation.specs.InOrder.{in_order};
 
 use super::worlds::World;
 use sm_placement::Config;
@@ -70,7 +74,9 @@ fn parcel_of(
     cells: Vec<CellRight>,
     crowns: Vec<Crown>,
     room: Vec<Room>,
-) -> Result<Parcel, AllocError> {
+) -> Result<Parcel, AllocError>
+    ensures { IfOk result (λ parcel. parcel ≡ in_order (record { cells = cells.items; crowns = crowns.items; room = room.items; spare = [] })) }
+{
     let lists = Lists {
         cells,
         crowns,
@@ -81,7 +87,9 @@ fn parcel_of(
 }
 
 /// What holds so much of a server's room, and nothing else.
-fn room_of(alloc: Global, server: u32, amount: u64) -> Result<Parcel, AllocError> {
+fn room_of(alloc: Global, server: u32, amount: u64) -> Result<Parcel, AllocError>
+    ensures { IfOk result (λ parcel. parcel ≡ room_alone server amount) }
+{
     let room = Room {
         server: ServerId::new(server),
         amount,
@@ -91,7 +99,9 @@ fn room_of(alloc: Global, server: u32, amount: u64) -> Result<Parcel, AllocError
 }
 
 /// What a handover holds at its start.
-fn held(alloc: Global, moved: WorkedMove) -> Result<Parcel, AllocError> {
+fn held(alloc: Global, moved: WorkedMove) -> Result<Parcel, AllocError>
+    ensures { IfOk result (λ parcel. parcel ≡ worked_hold moved) }
+{
     let shard = ShardId::new(moved.shard);
     let (old, new) = (ServerId::new(moved.from), ServerId::new(moved.to));
     let cell = CellRight {
@@ -115,7 +125,9 @@ fn held(alloc: Global, moved: WorkedMove) -> Result<Parcel, AllocError> {
 }
 
 /// The instructions of a handover.
-pub const fn handover(moved: WorkedMove) -> [Instr; 5] {
+pub const fn handover(moved: WorkedMove) -> [Instr; 5]
+    ensures { result ≡ worked_handover moved }
+{
     let shard = ShardId::new(moved.shard);
     let (old, new) = (ServerId::new(moved.from), ServerId::new(moved.to));
     [
@@ -145,7 +157,9 @@ pub fn stream_of(
     moved: WorkedMove,
     budget: u32,
     code: Vec<Instr>,
-) -> Result<Stream, AllocError> {
+) -> Result<Stream, AllocError>
+    ensures { IfOk result (λ stream. stream ≡ worked_stream moved budget code.items) }
+{
     Ok(Stream {
         budget,
         retries: moved.retries,
@@ -161,13 +175,18 @@ pub fn checked_of(
     budget: u32,
     streams: Vec<Stream>,
     signals: Vec<Parcel>,
-) -> Result<Checked, AllocError> {
+) -> Result<Checked, AllocError>
+    ensures plan { IfOk result (λ checked. checked.plan ≡ record { budget = budget; streams = streams.items; signals = signals.items }) }
+    ensures setup { IfOk result (λ checked. checked.setup ≡ worked_setup world) }
+{
     let parts = Parts {
         budget,
         streams,
         signals,
     };
-    let plan = Plan::new(parts).map_err(|_| AllocError)?;
+    let Ok(plan) = Plan::new(parts) else {
+        return Err(AllocError);
+    };
     let config = world.config(alloc)?;
     if !plan.fits(&config) {
         return Err(AllocError);
@@ -189,7 +208,10 @@ pub fn one_stream_plan(
     moved: WorkedMove,
     budget: u32,
     code: Vec<Instr>,
-) -> Result<Checked, AllocError> {
+) -> Result<Checked, AllocError>
+    ensures plan { IfOk result (λ checked. checked.plan ≡ record { budget = min (budget + min moved.retries 100) (2 ^ 32 - 1); streams = worked_stream moved budget code.items ∷ []; signals = [] }) }
+    ensures setup { IfOk result (λ checked. checked.setup ≡ worked_setup world) }
+{
     let mut streams = Vec::new(alloc);
     streams.push(stream_of(alloc, moved, budget, code)?)?;
     let budget = budget.saturating_add(moved.retries.min(100));
@@ -197,24 +219,28 @@ pub fn one_stream_plan(
 }
 
 /// The plan of a handover by one stream.
-pub fn handover_plan(
-    alloc: Global,
-    world: World,
-    moved: WorkedMove,
-) -> Result<Checked, AllocError> {
+pub fn handover_plan(alloc: Global, world: World, moved: WorkedMove) -> Result<Checked, AllocError>
+    ensures plan { IfOk result (λ checked. checked.plan ≡ record { budget = 4 + min moved.retries 100; streams = worked_stream moved 4 (worked_handover moved) ∷ []; signals = [] }) }
+    ensures setup { IfOk result (λ checked. checked.setup ≡ worked_setup world) }
+{
     let code = Vec::from_array(alloc, handover(moved))?;
     one_stream_plan(alloc, world, moved, 4, code)
 }
 
 /// The plan is that of one handover.
-pub fn is_handover(checked: &Checked) -> bool {
+pub fn is_handover(checked: &Checked) -> bool
+    ensures { IsTrue result ↔ (length checked.now.plan.streams ≡ 1) × (length checked.now.order ≡ 6) }
+{
     let streams = checked.plan().streams();
     streams.len() == 1 && checked.order().len() == 6
 }
 
 /// The plan by which shard t goes to a in one stream, which then posts the room that t had at b, and x goes to b in another one, which
 /// waits for it and fills the room; with so many retries for each.
-pub fn signalled_plan(alloc: Global, retries: u32) -> Result<Checked, AllocError> {
+pub fn signalled_plan(alloc: Global, retries: u32) -> Result<Checked, AllocError>
+    ensures plan { IfOk result (λ checked. checked.plan ≡ worked_signalled retries) }
+    ensures setup { IfOk result (λ checked. checked.setup ≡ worked_setup Wide) }
+{
     let first = WorkedMove { retries, ..T_TO_A };
     let second = WorkedMove { retries, ..X_TO_B };
     let mut posts = Vec::from_array(alloc, handover(first))?;
@@ -233,7 +259,10 @@ pub fn signalled_plan(alloc: Global, retries: u32) -> Result<Checked, AllocError
 }
 
 /// The plan is that of two streams with a signal between them, without retries.
-pub fn is_signalled(checked: &Checked) -> bool {
+pub fn is_signalled(checked: &Checked) -> bool
+    ensures numbers { IsTrue result → (checked.now.plan.budget ≡ 8) × (length checked.now.plan.streams ≡ 2) × (length checked.now.plan.signals ≡ 1) × (length checked.now.order ≡ 14) }
+    ensures codes { IsTrue result → All (λ stream. length stream.code ≡ 6) checked.now.plan.streams }
+{
     let plan = checked.plan();
     plan.budget() == 8
         && plan.streams().len() == 2
@@ -243,7 +272,10 @@ pub fn is_signalled(checked: &Checked) -> bool {
 }
 
 /// The plan of so many streams without code.
-pub fn idle_plan(alloc: Global, world: World, count: u32) -> Result<Checked, AllocError> {
+pub fn idle_plan(alloc: Global, world: World, count: u32) -> Result<Checked, AllocError>
+    ensures plan { IfOk result (λ checked. checked.plan ≡ record { budget = 0; streams = replicate count idle_stream; signals = [] }) }
+    ensures setup { IfOk result (λ checked. checked.setup ≡ worked_setup world) }
+{
     let mut streams = Vec::new(alloc);
     for _ in 0..count {
         streams.push(Stream {
