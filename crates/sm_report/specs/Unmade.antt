@@ -1,5 +1,6 @@
 -- Runs that have not come to their end.
--- Steps of the code's own way, which private functions' contracts cite, and `unrun_text`, which the contract of `report_run` cites.
+-- Steps of the code's own way, which private functions' contracts cite, and `unrun_text`, which the contracts of `report_run` and of
+-- `report_word` above it cite.
 use Rattle.std.specs.Prelude.{List, ℕ, [], ◌∷◌, codes, Result, Ok, Err}
 use Rattle.sm_report.specs.declared.unmade.Unrun.{Unrun}
 use Rattle.sm_report.specs.declared.unmade.Unrun.TheVariants.{NoThread, Halted, Spent, NoCaller, OtherAsk, NotClosed}

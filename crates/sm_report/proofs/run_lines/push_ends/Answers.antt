@@ -1,8 +1,5 @@
 use Rattle.std.proofs.Common.{◌≡◌, ◌<◌, ◌∙◌, length, ap, arith}
-use Rattle.std.specs.Prelude.{slice_index_or}
-use Rattle.std.proofs.lemmas.List.{get_or_default}
 use Rattle.sm_plan_code.specs.Plan.{PlanModel}
-use Rattle.sm_verifier.specs.Stream.{no_stream}
 use Rattle.sm_protocol.specs.State.{plan_at, stream_id, stream_count}
 use Rattle.sm_machine.specs.State.{state_of}
 use Rattle.sm_report.specs.RunLines.{end_line}
