@@ -1,4 +1,5 @@
 -- Placed moves as they are drafted for a plan: in their order, with their stretches, and the room that they hand on.
+-- Steps of the code's own way, which private functions' contracts cite: no reader of the public ones must believe them.
 use Rattle.std.specs.Prelude.{◌≡◌, ◌≤◌, ◌<◌, ◌==◌, ◌*◌, ◌^◌, ℕ, ◌++◌, None, List, [], All, length, map, sum_by, slice_index, if◌then◌else◌}
 use Rattle.std.specs.List.{flat_map, range_with_len}
 use Rattle.sm_placement.specs.Place.{Place}
