@@ -54,7 +54,7 @@ pub(crate) struct Crew<B: Side, C: Side, N: Naming> {
     ghost permits_room: { vec_len permits + vec_len seats ≤ vec_capacity permits },
 }
 
-/// Adds so many seats to a list with room for them, if the board has callers for all.
+/// Adds as many seats to a list as the board has callers for, so many at most.
 fn add_seats<A: Side, B: Side, C: Side, N: Naming, R: Wait>(
     rt: &R,
     board: &Board<A, B, C, N>,
@@ -73,7 +73,8 @@ fn add_seats<A: Side, B: Side, C: Side, N: Naming, R: Wait>(
 }
 
 impl<B: Side, C: Side, N: Naming> Crew<B, C, N> {
-    /// So many seats at a board, beside permits that were given out already and come back where memory is short.
+    /// As many seats at a board as it has callers for, so many at most, beside permits that were given out already and come back where memory is
+    /// short.
     pub fn new<A: Side, R: Wait>(
         rt: &R,
         alloc: Global,
@@ -102,9 +103,10 @@ impl<B: Side, C: Side, N: Naming> Crew<B, C, N> {
         })
     }
 
-    /// All callers and permits.
+    /// All callers, and the permits with those that workers have left over.
     pub fn into_parts(self) -> (Vec<Caller<B, C, N>>, Vec<Permit>)
-        ensures { vec_len result.0 ≡ vec_len self.callers + vec_len self.seats }
+        ensures callers { vec_len result.0 ≡ vec_len self.callers + vec_len self.seats }
+        ensures permits { vec_len self.permits ≤ vec_len result.1 }
     {
         let Crew {
             mut seats,

@@ -1,6 +1,8 @@
 //! The streams of a run.
-ghost use Rattle.std.specs.Prelude.{◌≡◌, ◌≤◌, ◌+◌, ◌++◌, [], vec_len, vec_capacity};
+ghost use Rattle.std.specs.Prelude.{◌≡◌, ◌≤◌, ◌+◌, ◌++◌, [], Err, vec_len, vec_capacity};
 ghost use Rattle.sm_executor.specs.Views.{streams_run};
+ghost use Rattle.board_runs.specs.declared.fault.Fault.{Fault};
+ghost use Rattle.board_runs.specs.declared.fault.Fault.TheVariants.{NoThread};
 
 use crate::fault::Fault;
 use sm_executor::{Board, Ended, Gate, Naming, NotRun, RunFault, Runner, Side, run, take_tokens};
@@ -36,6 +38,7 @@ impl<A: Side> Streams<A> {
         ensures runners { result.runners ≡ runners }
         ensures tokens { result.tokens ≡ tokens }
         ensures ended { result.ended.items ≡ [] }
+        ensures ran { result.ran ≡ Err NoThread }
     {
         Streams {
             runners,
@@ -62,6 +65,7 @@ impl<A: Side> Streams<A> {
         ensures ended { self.new.ended ≡ back.ended }
         ensures tokens { self.new.tokens.items ≡ self.old.tokens.items ++ streams_run back.runners.items }
         ensures runners { self.new.runners ≡ self.old.runners }
+        ensures ran { (why : Fault) × (self.new.ran ≡ Err why) }
     {
         let NotRun {
             fault,
@@ -82,7 +86,7 @@ impl<A: Side> Streams<A> {
         mem::replace(&mut self.runners, Vec::new(alloc))
     }
 
-    /// Runs the streams, where they have not run yet. Of each there is still a runner, an end or a token.
+    /// Runs the streams, where they have not run yet. There are as many runners, ends and tokens together as before.
     pub fn run<
         B: Side + Send + Sync,
         C: Side + Send + Sync,
