@@ -16,7 +16,7 @@ use crate::checks::report_check;
 use crate::command::Command;
 use crate::early::Early;
 use crate::input::{InputFault, take_input};
-use crate::limits::MOST_BYTES;
+use crate::limits::{MOST_BYTES, READ_TURNS};
 use crate::made::Made;
 use crate::planning::report_plan;
 use crate::plays::report_play;
@@ -26,9 +26,6 @@ use sm_planner::rule_answers_once;
 use sm_verifier::{finds_fault, finds_holding, one_fault, one_holding};
 use std::alloc::Global;
 use std::io::{Read, Write};
-
-/// How many reads may be made of an input.
-const READ_TURNS: u32 = 134_217_728;
 
 /// The document that the bytes of an input are.
 fn read_bytes(alloc: Global, bytes: &[u8]) -> Result<Document, Early>
