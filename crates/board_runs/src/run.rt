@@ -4,7 +4,7 @@ ghost use Rattle.sm_placement.specs.Setup.{sizes_of};
 ghost use Rattle.sm_placement.specs.Layout.{place_of};
 ghost use Rattle.sm_protocol.specs.State.{opened};
 ghost use Rattle.sm_machine.specs.State.{state_of};
-ghost use Rattle.sm_executor.specs.Names.{IsWhole};
+ghost use Rattle.sm_executor.specs.Names.{IsSideOf};
 ghost use Rattle.board_runs.specs.Ran.{IsClosedAt, HasRunTo};
 
 use crate::begun::{Begun, Prepared};
@@ -64,9 +64,9 @@ fn run_on_ground<
     G: Gate + Sync,
 >(rt: &R, alloc: Global, prepared: Prepared, workers: &[W], gate: &G) -> Result<Placement, Fault>
     requires names { (prepared.base.words ≡ N.words) × (prepared.base.setup ≡ N.setup) × (state_of prepared.begun.machine ≡ N.opened) }
-    requires steps { IsWhole prepared.base.steps A.name A.parts }
-    requires executed { IsWhole prepared.base.executed B.name B.parts }
-    requires refused { IsWhole prepared.base.refused C.name C.parts }
+    requires steps { IsSideOf prepared.base.steps A.name A.parts }
+    requires executed { IsSideOf prepared.base.executed B.name B.parts }
+    requires refused { IsSideOf prepared.base.refused C.name C.parts }
     ensures setup { IfOk result (λ placement. placement.setup ≡ N.setup) }
     ensures closed { IfOk result (λ placement. IsClosedAt N.opened (place_of placement)) }
 {

@@ -2,7 +2,7 @@
 ghost use Rattle.std.specs.Prelude.{◌≡◌, ◌≤◌, ◌+◌, IfOk, vec_len, vec_capacity};
 ghost use Rattle.sm_placement.specs.Layout.{place_of};
 ghost use Rattle.sm_machine.specs.State.{state_of};
-ghost use Rattle.sm_executor.specs.Names.{IsWhole};
+ghost use Rattle.sm_executor.specs.Names.{IsSideOf};
 ghost use Rattle.board_runs.specs.Ran.{IsClosedAt};
 
 use crate::begun::{Begun, Prepared};
@@ -69,9 +69,9 @@ impl<A: Side, B: Side, C: Side, N: Naming> Stage<A, B, C, N> {
     /// Opens a board over a machine on which a plan has begun, under the names of its ground.
     pub fn open<R: Wait>(rt: &R, alloc: Global, prepared: Prepared) -> Result<Self, Fault>
         requires names { (prepared.base.words ≡ N.words) × (prepared.base.setup ≡ N.setup) × (state_of prepared.begun.machine ≡ N.opened) }
-        requires steps { IsWhole prepared.base.steps A.name A.parts }
-        requires executed { IsWhole prepared.base.executed B.name B.parts }
-        requires refused { IsWhole prepared.base.refused C.name C.parts }
+        requires steps { IsSideOf prepared.base.steps A.name A.parts }
+        requires executed { IsSideOf prepared.base.executed B.name B.parts }
+        requires refused { IsSideOf prepared.base.refused C.name C.parts }
     {
         let Prepared {
             begun,

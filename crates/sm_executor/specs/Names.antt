@@ -1,4 +1,4 @@
--- The name of a board: what it is opened with. And a name of none.
+-- The name of a board: what it is opened with. And a name of none: `no_words`, `no_setup`, `no_place` and `no_state`, which no contract cites.
 use Rattle.std.specs.Prelude.{◌≡◌, ℕ, [], false, None}
 use Rattle.sm_server.specs.declared.call.Cell.TheVariants.{Absent}
 use Rattle.sm_placement.specs.Setup.{Setup, sizes_of}
@@ -35,6 +35,6 @@ pub record Bases : Type 0 where
 abbrev pub bases : WordsModel → Setup → ℕ → ℕ → ℕ → Bases
 bases words setup steps executed refused = record { words = words; setup = setup; steps = steps; executed = executed; refused = refused }
 
--- the side of this name is this ledger of a ground, with all the parts that a ledger is cut into
-abbrev pub IsWhole : ℕ → ℕ → ℕ → Type 0
-IsWhole ledger name parts = (ledger ≡ name) × (parts ≡ PARTS)
+-- this ledger of a ground is the side of this name, with all the parts that a ledger is cut into
+abbrev pub IsSideOf : ℕ → ℕ → ℕ → Type 0
+IsSideOf ledger name parts = (ledger ≡ name) × (parts ≡ PARTS)

@@ -3,7 +3,7 @@ ghost use Rattle.std.specs.Prelude.{◌≡◌, ◌<◌, ◌≤◌, ◌*◌, [], 
 ghost use Rattle.sm_placement.specs.Place.{entry_at};
 ghost use Rattle.sm_map.specs.Entry.{IsInRange};
 ghost use Rattle.sm_machine.specs.State.{state_of};
-ghost use Rattle.sm_executor.specs.Names.{IsWhole};
+ghost use Rattle.sm_executor.specs.Names.{IsSideOf};
 ghost use Rattle.sm_executor.specs.Tied.{IsMapOf};
 ghost use Rattle.sm_executor.specs.Views.{held_model, running};
 ghost use Rattle.sm_executor.specs.declared.limits.TheConstants.{MOST_UNFINISHED};
@@ -120,9 +120,9 @@ impl Ground {
         requires map { IsMapOf self.words (state_of machine) }
         requires setup { self.setup ≡ machine.placement.setup }
         requires names { (self.words ≡ N.words) × (self.setup ≡ N.setup) × (state_of machine ≡ N.opened) }
-        requires steps { IsWhole self.steps A.name A.parts }
-        requires executed { IsWhole self.executed B.name B.parts }
-        requires refused { IsWhole self.refused C.name C.parts }
+        requires steps { IsSideOf self.steps A.name A.parts }
+        requires executed { IsSideOf self.executed B.name B.parts }
+        requires refused { IsSideOf self.refused C.name C.parts }
         ensures held { result.0 ≡ held_model machine 0 0 }
         ensures words { result.1 ≡ N.words }
         ensures config { result.2 ≡ N.setup }
@@ -174,9 +174,9 @@ impl<A: Side, B: Side, C: Side, N: Naming> Board<A, B, C, N> {
         requires setup { ground.setup ≡ machine.placement.setup }
         requires names { (ground.words ≡ N.words) × (ground.setup ≡ N.setup) × (state_of machine ≡ N.opened) }
         requires few { length tokens.items ≤ MOST_STREAMS * length (state_of machine).plans }
-        requires steps { IsWhole ground.steps A.name A.parts }
-        requires executed { IsWhole ground.executed B.name B.parts }
-        requires refused { IsWhole ground.refused C.name C.parts }
+        requires steps { IsSideOf ground.steps A.name A.parts }
+        requires executed { IsSideOf ground.executed B.name B.parts }
+        requires refused { IsSideOf ground.refused C.name C.parts }
         ensures runners { IfOk result (λ opened. opened.1.items ≡ map (λ token. running token 0) tokens.items) }
         ensures back { IfErr result (λ e. (e.machine ≡ machine) × (e.ground ≡ ground) × (e.tokens ≡ tokens)) }
     {

@@ -22,7 +22,7 @@ ghost use Rattle.sm_protocol.specs.declared.event.BeginFault.TheVariants as faul
 ghost use Rattle.sm_protocol.specs.declared.event.Played.TheVariants as played;
 ghost use Rattle.sm_executor.specs.Closed.{GoesOn};
 ghost use Rattle.sm_executor.specs.Counting.{Counts, executes, refuses};
-ghost use Rattle.sm_executor.specs.Names.{IsWhole};
+ghost use Rattle.sm_executor.specs.Names.{IsSideOf};
 ghost use Rattle.sm_executor.specs.Stepping.{HasStepped, is_waiting};
 ghost use Rattle.sm_executor.specs.Tied.{IsPublished, IsBehind, HasStood};
 ghost use Rattle.sm_executor.specs.Views.{held_model, state_in, running, recorded_more, calling, AreRunners, end_in};
@@ -140,9 +140,9 @@ impl<A: Side, B: Side, C: Side, N: Naming> Held<A, B, C, N> {
         requires opened { state_of machine ≡ N.opened }
         requires setup { machine.placement.setup ≡ N.setup }
         requires tied { IsPublished N.words N.opened N.opened publisher }
-        requires steps { (steps.parts ≡ A.parts) × IsWhole steps.name A.name A.parts }
-        requires executed { (executed.parts ≡ B.parts) × IsWhole executed.name B.name B.parts }
-        requires refused { (refused.parts ≡ C.parts) × IsWhole refused.name C.name C.parts }
+        requires steps { (steps.parts ≡ A.parts) × IsSideOf steps.name A.name A.parts }
+        requires executed { (executed.parts ≡ B.parts) × IsSideOf executed.name B.name B.parts }
+        requires refused { (refused.parts ≡ C.parts) × IsSideOf refused.name C.name C.parts }
         ensures { result ≡ held_model machine 0 0 }
     {
         let (steps, free_steps) = steps.open::<A>();

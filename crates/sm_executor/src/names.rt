@@ -6,7 +6,7 @@
 use std::marker::Brand;
 use std::sync::ledger::Ledger;
 
-/// A ledger of a board.
+/// A ledger of a board. It asks for no more than std's: what a board is generic over has this name.
 pub trait Side: Ledger {}
 
 impl Side for Brand {}

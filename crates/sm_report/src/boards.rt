@@ -4,7 +4,7 @@ ghost use Rattle.sm_machine.specs.Starts.{AreTokens};
 ghost use Rattle.sm_machine.specs.State.{state_of};
 ghost use Rattle.sm_executor.specs.Clients.{IsClient};
 ghost use Rattle.sm_executor.specs.Closed.{IsClosed};
-ghost use Rattle.sm_executor.specs.Names.{IsWhole};
+ghost use Rattle.sm_executor.specs.Names.{IsSideOf};
 ghost use Rattle.sm_executor.specs.Tied.{IsMapOf};
 ghost use Rattle.sm_executor.specs.Views.{AreRunners};
 ghost use Rattle.sm_protocol.specs.State.{State, plan_at, stream_count};
@@ -311,9 +311,9 @@ fn report_on_ground<
     requires map { IsMapOf ground.words (state_of begun.machine) }
     requires setup { ground.setup ≡ begun.machine.placement.setup }
     requires names { (ground.words ≡ N.words) × (ground.setup ≡ N.setup) × (state_of begun.machine ≡ N.opened) }
-    requires steps { IsWhole ground.steps A.name A.parts }
-    requires executed { IsWhole ground.executed B.name B.parts }
-    requires refused { IsWhole ground.refused C.name C.parts }
+    requires steps { IsSideOf ground.steps A.name A.parts }
+    requires executed { IsSideOf ground.executed B.name B.parts }
+    requires refused { IsSideOf ground.refused C.name C.parts }
     requires one { length (state_of begun.machine).plans ≡ 1 }
     requires tokens { AreTokens 0 (stream_count (state_of begun.machine) 0) begun.tokens.items }
     requires few { length begun.tokens.items ≤ MOST_STREAMS }

@@ -1,7 +1,7 @@
 //! Boards: how one is opened for what is done with it, how a plan begins there, and how it ends.
 ghost use Rattle.std.specs.Prelude.{◌≡◌};
 ghost use Rattle.sm_machine.specs.State.{state_of};
-ghost use Rattle.sm_executor.specs.Names.{IsWhole};
+ghost use Rattle.sm_executor.specs.Names.{IsSideOf};
 ghost use Rattle.sm_executor.specs.Tied.{IsMapOf};
 
 use super::begun_boards::{halt_by_unknown, run_both};
@@ -109,9 +109,9 @@ fn on_ground<
     requires map { IsMapOf ground.words (state_of machine) }
     requires setup { ground.setup ≡ machine.placement.setup }
     requires names { (ground.words ≡ N.words) × (ground.setup ≡ N.setup) × (state_of machine ≡ N.opened) }
-    requires steps { IsWhole ground.steps A.name A.parts }
-    requires executed { IsWhole ground.executed B.name B.parts }
-    requires refused { IsWhole ground.refused C.name C.parts }
+    requires steps { IsSideOf ground.steps A.name A.parts }
+    requires executed { IsSideOf ground.executed B.name B.parts }
+    requires refused { IsSideOf ground.refused C.name C.parts }
 {
     assert!(rt; tokens.is_empty() || tokens.len() <= 2 && machine.plan_count() >= 1);
     match Board::<A, B, C, N>::open(alloc, machine, ground, tokens) {
