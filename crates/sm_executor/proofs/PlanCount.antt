@@ -4,6 +4,7 @@ use Rattle.std.specs.Prelude.{if◌then◌else◌, nat_le, ◌||◌}
 use Rattle.std.proofs.lemmas.Bool.{ltb-false}
 use Rattle.sm_placement.specs.Setup.{Setup}
 use Rattle.sm_reservation.specs.declared.stream_id.StreamId.{StreamId}
+use Rattle.sm_plan_code.specs.declared.limits.TheConstants.{MOST_NUMBER, MOST_PLANS}
 use Rattle.sm_protocol.specs.declared.event.Passage.{Passage}
 use Rattle.sm_protocol.specs.declared.event.Passage.TheVariants.{Through, LostBefore, LostAfter}
 use Rattle.sm_protocol.specs.State.{State}
@@ -39,7 +40,7 @@ few_kept w e h = of_happens w (λ e o. FewPlans o.1) (record {
   passes_on = λ q o n. h;
   approves = λ v n. h;
   restarts = λ v n. h;
-  starts = λ plan n l m. let c = count_started w plan in let few = ltb-false 4294967295 (length w.plans) (second (nat_le 16 (running_plans w)) _ m) in omega arith;
+  starts = λ plan n l m. let c = count_started w plan in let few = ltb-false MOST_NUMBER (length w.plans) (second (nat_le MOST_PLANS (running_plans w)) _ m) in omega arith;
 }) e
   where
     second : (a b : Bool) → (a || b) ≡ false → b ≡ false

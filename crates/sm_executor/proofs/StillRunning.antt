@@ -7,6 +7,7 @@ use Rattle.sm_placement.specs.Sums.{bit, sum_below, any_below}
 use Rattle.sm_placement.specs.Setup.{Setup}
 use Rattle.sm_reservation.specs.declared.stream_id.StreamId.{StreamId}
 use Rattle.sm_plan_code.specs.Plan.{PlanModel}
+use Rattle.sm_plan_code.specs.declared.limits.TheConstants.{MOST_PLANS}
 use Rattle.sm_protocol.specs.declared.event.Passage.{Passage}
 use Rattle.sm_protocol.specs.declared.event.Passage.TheVariants.{Through, LostBefore, LostAfter}
 use Rattle.sm_protocol.specs.State.{State, Progress, is_begun, is_running, progress_of, set_progress, stream_count, stream_id, is_unfinished}
@@ -24,20 +25,20 @@ use Rattle.sm_executor.specs.Closed.{unfinished_in, unfinished_to, unfinished_st
 -- ---- at most sixteen plans
 
 abbrev FewRun : State → Type 0
-FewRun w = running_plans w ≤ 16
+FewRun w = running_plans w ≤ MOST_PLANS
 
 module _ (w : State) (h : FewRun w) where
   -- a stream that goes on
-  goes_on : (id : StreamId) → is_begun w id ≡ true → (y : Progress) → y.done ≡ (progress_of w id).done → running_plans (record w { progress = set_progress w id y }) ≤ 16
-  goes_on id b y d = subst (λ n. n ≤ 16) (sym (running_same w id (begun w id b) y d)) h
+  goes_on : (id : StreamId) → is_begun w id ≡ true → (y : Progress) → y.done ≡ (progress_of w id).done → running_plans (record w { progress = set_progress w id y }) ≤ MOST_PLANS
+  goes_on id b y d = subst (λ n. n ≤ MOST_PLANS) (sym (running_same w id (begun w id b) y d)) h
 
   -- and one that makes its end
-  ends : (id : StreamId) → is_begun w id ≡ true → (progress_of w id).done ≡ false → running_plans (record w { progress = set_progress w id (record (progress_of w id) { done = true }) }) ≤ 16
+  ends : (id : StreamId) → is_begun w id ≡ true → (progress_of w id).done ≡ false → running_plans (record w { progress = set_progress w id (record (progress_of w id) { done = true }) }) ≤ MOST_PLANS
   ends id b d =
       let e = (running_end w id (begun w id b) (record (progress_of w id) { done = true }) d refl).1 in
-      subst (λ n. n ≤ 16) (sym e) (less (unfinished_count w id.plan == 1))
+      subst (λ n. n ≤ MOST_PLANS) (sym e) (less (unfinished_count w id.plan == 1))
     where
-      less : (t : Bool) → (if t then running_plans w - 1 else running_plans w) ≤ 16
+      less : (t : Bool) → (if t then running_plans w - 1 else running_plans w) ≤ MOST_PLANS
       less true = omega arith
       less false = h
 
@@ -64,7 +65,7 @@ module _ (w : State) (h : FewRun w) where
     passes_on = λ q o n. h;
     approves = λ v n. h;
     restarts = λ v n. h;
-    starts = λ plan n l m. starts plan (leb-false 16 (running_plans w) (first (nat_le 16 (running_plans w)) _ m));
+    starts = λ plan n l m. starts plan (leb-false MOST_PLANS (running_plans w) (first (nat_le MOST_PLANS (running_plans w)) _ m));
   }) e
     where
       first : (a b : Bool) → (a || b) ≡ false → a ≡ false
@@ -74,14 +75,14 @@ module _ (w : State) (h : FewRun w) where
       and_begun : (id : StreamId) → is_running w id ≡ true → is_begun w id ≡ true
       and_begun id e = (and_parts (is_begun w id) _ e).0
 
-      starts : (plan : PlanModel) → running_plans w < 16 → FewRun (started w plan)
-      starts plan l = subst (λ n. n ≤ 16) (sym (running_start w v plan)) (more (nat_lt 0 (length plan.streams)))
+      starts : (plan : PlanModel) → running_plans w < MOST_PLANS → FewRun (started w plan)
+      starts plan l = subst (λ n. n ≤ MOST_PLANS) (sym (running_start w v plan)) (more (nat_lt 0 (length plan.streams)))
         where
-          more : (t : Bool) → running_plans w + bit t ≤ 16
+          more : (t : Bool) → running_plans w + bit t ≤ MOST_PLANS
           more true = omega arith
           more false = omega arith
 
-pub few_run : (setup : Setup) (w : State) → IsReached setup w → running_plans w ≤ 16
+pub few_run : (setup : Setup) (w : State) → IsReached setup w → running_plans w ≤ MOST_PLANS
 few_run setup w reached = by_events setup FewRun (λ p room o. omega arith) (λ u e at f h. few_next u h (kept setup u at) e) w reached
 
 -- ---- of 64 streams each

@@ -9,6 +9,7 @@ use Rattle.std.proofs.lemmas.List.Elements.{All-get_or}
 use Rattle.sm_placement.proofs.NamedLemmas.{or_first, or_second}
 use Rattle.sm_reservation.proofs.ParcelSums.{plus_none}
 use Rattle.sm_plan_code.specs.Plan.{StreamModel, PlanModel, IsOrderedParcel}
+use Rattle.sm_plan_code.specs.declared.limits.TheConstants.{MOST_NUMBER, MOST_PLANS}
 use Rattle.sm_machine.proofs.ties.Carrying.{no_rights_hold}
 use Rattle.sm_verifier.specs.Checked.{CheckedModel}
 use Rattle.sm_verifier.specs.Stream.{no_stream, stream_at, Course}
@@ -45,25 +46,25 @@ some_not_none e = cc
 record Passes (x : Whole) (plan : PlanModel) (o : Option Holding) : Type 0 where
   held : o ≡ None
   places : nat_lt x.free (places_of plan) ≡ false
-  plans : (nat_le 16 x.running || nat_lt 4294967295 (length x.state.plans)) ≡ false
+  plans : (nat_le MOST_PLANS x.running || nat_lt MOST_NUMBER (length x.state.plans)) ≡ false
 
 passes : (x : Whole) (plan : PlanModel) (o : Option Holding) → fault_after x plan o ≡ None → Passes x plan o
 passes x plan (Some why) e = absurd (some_not_none e)
-passes x plan None e = go (nat_lt x.free (places_of plan)) refl (nat_le 16 x.running || nat_lt 4294967295 (length x.state.plans)) refl e
+passes x plan None e = go (nat_lt x.free (places_of plan)) refl (nat_le MOST_PLANS x.running || nat_lt MOST_NUMBER (length x.state.plans)) refl e
   where
-    go : (s : Bool) → nat_lt x.free (places_of plan) ≡ s → (t : Bool) → (nat_le 16 x.running || nat_lt 4294967295 (length x.state.plans)) ≡ t →
+    go : (s : Bool) → nat_lt x.free (places_of plan) ≡ s → (t : Bool) → (nat_le MOST_PLANS x.running || nat_lt MOST_NUMBER (length x.state.plans)) ≡ t →
         (if s then Some fault.LogFull else if t then Some fault.TooManyPlans else None) ≡ None → Passes x plan None
     go true a t b e = absurd (some_not_none e)
     go false a true b e = absurd (some_not_none e)
     go false a false b e = record { held = refl; places = a; plans = b }
 
 -- where nothing holds a plan up, another number is left
-pub few_by : (x : Whole) (plan : PlanModel) → begin_fault x plan ≡ None → length x.state.plans ≤ 4294967295
-few_by x plan e = ltb-false 4294967295 (length x.state.plans) (or_second (nat_le 16 x.running) _ (passes x plan (first_holding x.state.sizes x.state.place x.pool plan) e).plans)
+pub few_by : (x : Whole) (plan : PlanModel) → begin_fault x plan ≡ None → length x.state.plans ≤ MOST_NUMBER
+few_by x plan e = ltb-false MOST_NUMBER (length x.state.plans) (or_second (nat_le MOST_PLANS x.running) _ (passes x plan (first_holding x.state.sizes x.state.place x.pool plan) e).plans)
 
 -- and another plan may run
-pub runs_by : (x : Whole) (plan : PlanModel) → begin_fault x plan ≡ None → x.running < 16
-runs_by x plan e = leb-false 16 x.running (or_first (nat_le 16 x.running) _ (passes x plan (first_holding x.state.sizes x.state.place x.pool plan) e).plans)
+pub runs_by : (x : Whole) (plan : PlanModel) → begin_fault x plan ≡ None → x.running < MOST_PLANS
+runs_by x plan e = leb-false MOST_PLANS x.running (or_first (nat_le MOST_PLANS x.running) _ (passes x plan (first_holding x.state.sizes x.state.place x.pool plan) e).plans)
 
 module _ (x : Whole) (g : IsWorking x) (p : CheckedModel) (checked : IsCheckedPlan x.state.sizes p.plan) where
   abbrev w : State
@@ -89,7 +90,7 @@ module _ (x : Whole) (g : IsWorking x) (p : CheckedModel) (checked : IsCheckedPl
     roomy = subst (λ n. nat_lt n (places_of p.plan) ≡ false) g.counted.places tests.places
 
     not_all : has_all_plans w ≡ false
-    not_all = subst (λ n. (nat_le 16 n || nat_lt 4294967295 (length w.plans)) ≡ false) g.counted.plans tests.plans
+    not_all = subst (λ n. (nat_le MOST_PLANS n || nat_lt MOST_NUMBER (length w.plans)) ≡ false) g.counted.plans tests.plans
 
     pub enough : places_of p.plan ≤ free_places w
     enough = ltb-false (free_places w) (places_of p.plan) roomy

@@ -8,6 +8,7 @@ use Rattle.std.proofs.lemmas.List.Sums.{sum_by-set}
 use Rattle.sm_placement.proofs.NamedLemmas.{or_second}
 use Rattle.sm_reservation.specs.declared.stream_id.StreamId.{StreamId}
 use Rattle.sm_plan_code.specs.Plan.{PlanModel}
+use Rattle.sm_plan_code.specs.declared.limits.TheConstants.{MOST_NUMBER, MOST_PLANS}
 use Rattle.sm_verifier.specs.declared.admission.Holding.{Holding}
 use Rattle.sm_verifier.specs.Checked.{CheckedModel}
 use Rattle.sm_verifier.specs.FirstHolding.{first_holding}
@@ -48,7 +49,7 @@ not_all_by w plan n (Some why) e = absurd (cc)
 -- where a plan begins, fewer than 2^32 plans were begun before it
 pub number_fits : (w : State) (plan : PlanModel) (n : ℕ) → (happens w (Begin plan)).0 ≡ Answered (played.Begun n) → length w.plans < 2 ^ 32
 number_fits w plan n e =
-    let few = ltb-false 4294967295 (length w.plans) (or_second (nat_le 16 (running_plans w)) _ (not_all_by w plan n (first_holding w.sizes w.place (pool w) plan) e)) in
+    let few = ltb-false MOST_NUMBER (length w.plans) (or_second (nat_le MOST_PLANS (running_plans w)) _ (not_all_by w plan n (first_holding w.sizes w.place (pool w) plan) e)) in
     omega arith
 
 -- ---- the tokens that a start gives

@@ -8,6 +8,7 @@ use Rattle.sm_machine.specs.Working.{IsWorking}
 use Rattle.sm_machine.specs.Starts.{CanFillAll, IsBegunIn, begun_of, begin_fault}
 use Rattle.sm_placement.specs.Setup.{sizes_of}
 use Rattle.sm_plan_code.specs.Plan.{PlanModel, IsPlan, IsKnownPlan}
+use Rattle.sm_plan_code.specs.declared.limits.TheConstants.{MOST_NUMBER, MOST_PLANS}
 use Rattle.sm_verifier.specs.Plan.{IsSound}
 use Rattle.sm_verifier.specs.Checked.{CheckedModel}
 use Rattle.sm_protocol.specs.Laws.{IsCheckedPlan}
@@ -40,11 +41,11 @@ module _ (m : MachineModel) (p q : CheckedModel) (same : q ≡ p) (setup : p.set
   no_fault = ap (λ (r : CheckedModel). begin_fault (whole_of m) r.plan) (sym same) ∙ sym f ∙ none
 
   -- where nothing is against the start, 2^32 - 1 plans at most were begun before
-  pub few_here : length (whole_of m).state.plans ≤ 4294967295
+  pub few_here : length (whole_of m).state.plans ≤ MOST_NUMBER
   few_here = few_by (whole_of m) p.plan no_fault
 
   -- and fewer than 16 of them are unfinished
-  pub place_here : length (unfinished_below (whole_of m).unfinished (length (whole_of m).state.plans)) < 16
+  pub place_here : length (unfinished_below (whole_of m).unfinished (length (whole_of m).state.plans)) < MOST_PLANS
   place_here = place_left (whole_of m) g (runs_by (whole_of m) p.plan no_fault)
 
   -- and each stream in its turn can take what it declares out of the pool

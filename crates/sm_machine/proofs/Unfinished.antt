@@ -6,6 +6,7 @@ use Rattle.std.proofs.lemmas.Bool.{cases_eq, cases_lt, eq-eqb, ne_eqb, eqb-true,
 use Rattle.std.proofs.lemmas.List.{append-nil, length-set, get_or-set_same, get_or-set_other, drop_more, drop_all}
 use Rattle.std.proofs.lemmas.List.Elements.{filter-append}
 use Rattle.sm_placement.specs.Sums.{bit, first_from}
+use Rattle.sm_plan_code.specs.declared.limits.TheConstants.{MOST_PLANS}
 use Rattle.sm_protocol.proofs.Starts.{length_push, get_push_old, get_push_new}
 use Rattle.sm_machine.specs.Begun.{BegunModel, no_begun}
 use Rattle.sm_machine.specs.Unfinished.{unfinished_below, unfinished_of, AreUnfinished}
@@ -218,7 +219,7 @@ pub all_engaged : (x : Whole) → IsWorking x → (v : ℕ) → first_in (engage
 all_engaged x g v = first_unfinished (engaged_by x.state v) x.unfinished (length x.state.plans) (λ k l e. none_engages x.state v k (sym (g.counted.streams k l) ∙ e))
 
 -- where a plan more may run, the list has a place for it
-pub place_left : (x : Whole) → IsWorking x → x.running < 16 → length (unfinished_below x.unfinished (length x.state.plans)) < 16
+pub place_left : (x : Whole) → IsWorking x → x.running < MOST_PLANS → length (unfinished_below x.unfinished (length x.state.plans)) < MOST_PLANS
 place_left x g few =
     let n : ℕ = length x.state.plans in
     let a = count_unfinished x.unfinished n in

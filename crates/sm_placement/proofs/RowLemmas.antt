@@ -11,6 +11,7 @@ use Rattle.sm_placement.specs.Layout.{entries_of}
 use Rattle.sm_placement.specs.Sums.{put, sum_below, bit}
 use Rattle.sm_placement.specs.Rows.{IsKnownCell, forwards, serves_as, serves, is_live, live_in, serving_in}
 use Rattle.sm_placement.specs.Counts.{has_replica, target_of, party_of, at_both, counts_at, counts_in, CanCorrect, corrected}
+use Rattle.sm_placement.specs.declared.limits.TheConstants.{MOST_SERVERS}
 use Rattle.sm_placement.proofs.Sums.{put-here, put-apart, count-le, sum_apart, sum_two_apart, bit-le-one}
 
 -- a cell that doesn't forward to a server doesn't forward to it under any number
@@ -107,7 +108,7 @@ same_counts : (a b c d : ℕ) → a ≡ b → c ≡ d → ◌≡◌ {A = Counts}
 same_counts a b c d e f = cc
 
 -- the counts of a row are exchanged with the parts: the parts of the cell's server and of the other party are exchanged
-pub CanCorrect-put : (n : ℕ) (row : ℕ → Cell) (down : ℕ → Bool) (v : ℕ) (next : Cell) (counts before after : Counts) → n ≤ 1024 → v < n →
+pub CanCorrect-put : (n : ℕ) (row : ℕ → Cell) (down : ℕ → Bool) (v : ℕ) (next : Cell) (counts before after : Counts) → n ≤ MOST_SERVERS → v < n →
     IsKnownCell n (row v) → IsKnownCell n next → (is_forwarding (row v) && is_forwarding next) ≡ false →
     counts ≡ counts_in n row down →
     before ≡ counts_at row down v (party_of (row v) next v) →
@@ -133,7 +134,7 @@ CanCorrect-put n row down v next counts before after b l h k o e d a =
     )
 
 -- the same, from what each step of the code gives: the row that is read, the old cell, the other party, and the row that is there then
-pub CanCorrect-steps : (n : ℕ) (row read now : ℕ → Cell) (down : ℕ → Bool) (v u : ℕ) (old next : Cell) (counts before after : Counts) → n ≤ 1024 → v < n →
+pub CanCorrect-steps : (n : ℕ) (row read now : ℕ → Cell) (down : ℕ → Bool) (v u : ℕ) (old next : Cell) (counts before after : Counts) → n ≤ MOST_SERVERS → v < n →
     IsKnownCell n (row v) → IsKnownCell n next → (is_forwarding (row v) && is_forwarding next) ≡ false →
     counts ≡ counts_in n row down →
     read ≡ row → now ≡ put row v next →

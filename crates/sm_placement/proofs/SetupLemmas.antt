@@ -4,6 +4,7 @@ use Rattle.std.specs.List.{list_all}
 use Rattle.std.proofs.lemmas.List.Sums.{AllPass-from_list_all}
 use Rattle.std.proofs.lemmas.Bool.Decides.{nat_tests}
 use Rattle.sm_placement.specs.Setup.{Setup, ServerRow, ShardRow, IsSetup, is_too_large, has_good_names, has_doubled_name, has_good_numbers, is_good_server, is_good_shard}
+use Rattle.sm_placement.specs.declared.limits.TheConstants.{MOST_LOAD, MOST_REPLICAS, MOST_SERVERS, MOST_SHARDS}
 
 -- where both hold the first one does
 pub and_first : (a b : Bool) → (a && b) ≡ true → a ≡ true
@@ -15,29 +16,29 @@ pub and_second : (a b : Bool) → (a && b) ≡ true → b ≡ true
 and_second true b h = h
 and_second false b h = absurd (true≢false (sym h))
 
-server_within : (r : ServerRow) → is_good_server r ≡ true → r.room ≤ 4294967295
-server_within r h = leb-true r.room 4294967295 h
+server_within : (r : ServerRow) → is_good_server r ≡ true → r.room ≤ MOST_LOAD
+server_within r h = leb-true r.room MOST_LOAD h
 
 -- the numbers of a good shard
 record IsWithin (r : ShardRow) : Type 0 where
-  load : r.load ≤ 4294967295
-  want : r.want ≤ 1024
+  load : r.load ≤ MOST_LOAD
+  want : r.want ≤ MOST_REPLICAS
   cap : r.cap ≤ r.want
-  spread : r.spread ≤ 1024
+  spread : r.spread ≤ MOST_REPLICAS
 
 shard_within : (r : ShardRow) → is_good_shard r ≡ true → IsWithin r
 shard_within r h =
-    let h1 = and_second (nat_le r.load 4294967295) _ h in
-    let h2 = and_second (nat_le r.want 1024) _ h1 in
-    let h3 = and_second (nat_le r.cap 1024) _ h2 in
+    let h1 = and_second (nat_le r.load MOST_LOAD) _ h in
+    let h2 = and_second (nat_le r.want MOST_REPLICAS) _ h1 in
+    let h3 = and_second (nat_le r.cap MOST_REPLICAS) _ h2 in
     record {
-      load = leb-true _ _ (and_first (nat_le r.load 4294967295) _ h);
-      want = leb-true _ _ (and_first (nat_le r.want 1024) _ h1);
-      cap = leb-true _ _ (and_second (nat_le r.spread 1024) _ h3);
-      spread = leb-true _ _ (and_first (nat_le r.spread 1024) _ h3);
+      load = leb-true _ _ (and_first (nat_le r.load MOST_LOAD) _ h);
+      want = leb-true _ _ (and_first (nat_le r.want MOST_REPLICAS) _ h1);
+      cap = leb-true _ _ (and_second (nat_le r.spread MOST_REPLICAS) _ h3);
+      spread = leb-true _ _ (and_first (nat_le r.spread MOST_REPLICAS) _ h3);
     }
 
-sizes_within : (a b : ℕ) → (nat_lt 1024 a || nat_lt 4096 b) ≡ false → (a ≤ 1024) × (b ≤ 4096)
+sizes_within : (a b : ℕ) → (nat_lt MOST_SERVERS a || nat_lt MOST_SHARDS b) ≡ false → (a ≤ MOST_SERVERS) × (b ≤ MOST_SHARDS)
 sizes_within a b h = grind (arith, nat_tests)
 
 -- servers and shards that pass each of these tests are a configuration

@@ -14,6 +14,7 @@ use Rattle.sm_placement.specs.Rows.{live_in, serving_in, serves, is_live, IsKnow
 use Rattle.sm_placement.specs.Place.{weight, load_of}
 use Rattle.sm_placement.specs.Layout.{grid_of, entries_of}
 use Rattle.sm_placement.specs.Grid.{TableModel, Totals, IsCounted, IsGrid, cells_of, lasts_of, down_of}
+use Rattle.sm_placement.specs.declared.limits.TheConstants.{MOST_LOAD, MOST_SERVERS, MOST_SHARDS}
 use Rattle.sm_placement.proofs.Sums.{put-here, put-apart, put2-here, put2-row, put2-apart, sum_apart, count-le, sum-le, sum_zero}
 use Rattle.sm_placement.proofs.Calls.{load_of-put, load_of-apart, weight_within}
 use Rattle.sm_placement.proofs.SizesLemmas.{load_small}
@@ -24,22 +25,22 @@ pub load-small : (setup : Setup) (cells : ℕ → ℕ → Cell) (v : ℕ) → Is
 load-small setup cells v h =
     let c = sizes_of setup in
     let a : load_of c cells v ≤ length setup.shards * 2 ^ 32 = sum-le (length setup.shards) (2 ^ 32) (λ s. weight (cells s v) (c.load s))
-    (λ s l. let p : c.load s < 2 ^ 32 = load_small setup s h in let q : weight (cells s v) (c.load s) ≤ c.load s = weight_within (cells s v) (c.load s) in omega arith) in
-    let b : length setup.shards ≤ 4096 = h.shards in
+    (λ s l. let p : c.load s ≤ MOST_LOAD = load_small setup s h in let q : weight (cells s v) (c.load s) ≤ c.load s = weight_within (cells s v) (c.load s) in omega arith) in
+    let b : length setup.shards ≤ MOST_SHARDS = h.shards in
     omega arith
 
 -- of the servers of a configuration at most 1,024 pass a test
-pub down-small : (setup : Setup) (down : ℕ → Bool) → IsSetup setup → count_below (length setup.servers) down ≤ 1024
+pub down-small : (setup : Setup) (down : ℕ → Bool) → IsSetup setup → count_below (length setup.servers) down ≤ MOST_SERVERS
 down-small setup down h =
     let a : count_below (length setup.servers) down ≤ length setup.servers = count-le (length setup.servers) down in
-    let b : length setup.servers ≤ 1024 = h.servers in
+    let b : length setup.servers ≤ MOST_SERVERS = h.servers in
     omega arith
 
 -- a shard of a configuration has at most 1,024 live replicas
-pub live-small : (setup : Setup) (row : ℕ → Cell) (down : ℕ → Bool) → IsSetup setup → live_in (length setup.servers) row down ≤ 1024
+pub live-small : (setup : Setup) (row : ℕ → Cell) (down : ℕ → Bool) → IsSetup setup → live_in (length setup.servers) row down ≤ MOST_SERVERS
 live-small setup row down h = down-small setup (is_live row down) h
 
-pub serving-small : (setup : Setup) (row : ℕ → Cell) → IsSetup setup → serving_in (length setup.servers) row ≤ 1024
+pub serving-small : (setup : Setup) (row : ℕ → Cell) → IsSetup setup → serving_in (length setup.servers) row ≤ MOST_SERVERS
 serving-small setup row h = down-small setup (serves row) h
 
 -- what callers know of each table
@@ -285,7 +286,7 @@ load_of-corrected {g} {t} s v next load added removed h l m a b d =
     let e : load_of c (put2 (cells_of g) s v next) v + weight (cells_of g s v) (c.load s) ≡ load_of c (cells_of g) v + weight next (c.load s) = load_of-put c (cells_of g) s v next l in
     let p : load_of c (cells_of g) v < 2 ^ 45 = load-small g.setup (cells_of g) v h.setup in
     let q : weight next (c.load s) ≤ c.load s = weight_within next (c.load s) in
-    let r : c.load s < 2 ^ 32 = load_small g.setup s h.setup in
+    let r : c.load s ≤ MOST_LOAD = load_small g.setup s h.setup in
     record { fits = omega arith; enough = omega arith; is = omega arith }
 
 -- a write in a pair's slot changes the cell of that pair alone
@@ -334,7 +335,7 @@ down-toggled {g} {old} {t} v b was h e l r w =
     k ∙ ap (λ (n : ℕ). n + bit b) (sym h.down)
 
 -- in a counted table at most 1,024 servers are down
-pub down_count-small : {g : TableModel} {t : Totals} → IsCounted g t → t.down ≤ 1024
+pub down_count-small : {g : TableModel} {t : Totals} → IsCounted g t → t.down ≤ MOST_SERVERS
 down_count-small {g} {t} h = rw h.down (down-small g.setup (down_of g) h.setup)
 
 -- the table with corrected counts

@@ -1,5 +1,5 @@
 //! The servers and shards that placements are of.
-ghost use Rattle.std.specs.Prelude.{◌≡◌, ◌≢◌, ◌≤◌, ◌<◌, ◌^◌, ◌-◌, ◌++◌, ◌∷◌, ◌&&◌, [], not, map, Some, None, length, position, string_bytes, is_none, IsTrue, IfOk, OnOk, IfErr, IfSome};
+ghost use Rattle.std.specs.Prelude.{◌≡◌, ◌≢◌, ◌≤◌, ◌<◌, ◌-◌, ◌++◌, ◌∷◌, ◌&&◌, [], not, map, Some, None, length, position, string_bytes, is_none, IsTrue, IfOk, OnOk, IfErr, IfSome};
 ghost use Rattle.std.specs.List.{list_any, list_all};
 ghost use Rattle.std.specs.Cmp.Lexicographic.{pointwise};
 ghost use Rattle.std.specs.Str.{bytes_eq};
@@ -430,7 +430,7 @@ impl Config {
         requires { server < length self.now.servers }
         ensures row { server_row result.now ≡ slice_index_or self.now.servers server no_server }
         ensures room { result.now.room ≡ (sizes_of self.now).room server }
-        ensures fits { result.now.room < 2 ^ 32 }
+        ensures fits { result.now.room ≤ MOST_LOAD }
         ensures named { server_named self.now (string_bytes result.now.name) ≡ Some server }
     {
         &self.servers[server.number() as usize]
@@ -442,7 +442,7 @@ impl Config {
         requires { shard < length self.now.shards }
         ensures row { shard_row result.now ≡ slice_index_or self.now.shards shard no_shard }
         ensures load { result.now.load ≡ (sizes_of self.now).load shard }
-        ensures fits { result.now.load < 2 ^ 32 }
+        ensures fits { result.now.load ≤ MOST_LOAD }
         ensures want { result.now.want ≤ MOST_REPLICAS }
         ensures cap { result.now.cap ≤ result.now.want }
         ensures spread { result.now.spread ≤ MOST_REPLICAS }
@@ -455,7 +455,7 @@ impl Config {
     pub fn room(&self, server: ServerId) -> u64
         requires { server < length self.now.servers }
         ensures room { result ≡ (sizes_of self.now).room server }
-        ensures fits { result < 2 ^ 32 }
+        ensures fits { result ≤ MOST_LOAD }
     {
         self.server(server).room
     }
@@ -464,7 +464,7 @@ impl Config {
     pub fn load(&self, shard: ShardId) -> u64
         requires { shard < length self.now.shards }
         ensures load { result ≡ (sizes_of self.now).load shard }
-        ensures fits { result < 2 ^ 32 }
+        ensures fits { result ≤ MOST_LOAD }
     {
         self.shard(shard).load
     }

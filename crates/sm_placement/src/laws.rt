@@ -1,10 +1,10 @@
 //! What is proved of every placement, for those who reason about one: functions with nothing in them, whose contracts
 //! are the laws.
-ghost use Rattle.std.specs.Prelude.{◌≡◌, ◌<◌, ◌≤◌, ◌^◌, ◌↔◌, ℕ, Ok};
+ghost use Rattle.std.specs.Prelude.{◌≡◌, ◌≤◌, ◌↔◌, ℕ, Ok};
 ghost use Rattle.sm_placement.specs.Setup.{Setup, IsSetup, Sizes, sizes_of};
 ghost use Rattle.sm_placement.specs.Place.{Place, load_at, answer_at, IsAllowed, NumberedAsCalled, LooksAtNoLasts, LiveMoves};
 ghost use Rattle.sm_placement.specs.Lead.{LeadWhereDescribed, ServingByLead};
-ghost use Rattle.sm_placement.specs.declared.limits.TheConstants.{MOST_REPLICAS};
+ghost use Rattle.sm_placement.specs.declared.limits.TheConstants.{MOST_LOAD, MOST_REPLICAS};
 
 use sm_server::{Call, Cell, leads_where_led};
 
@@ -40,7 +40,7 @@ pub fn live_moves()
 
 /// The numbers of a configuration are small.
 pub fn sizes_are_small()
-    ensures room { (setup : Setup) (v : ℕ) → IsSetup setup → (sizes_of setup).room v < 2 ^ 32 }
-    ensures load { (setup : Setup) (s : ℕ) → IsSetup setup → (sizes_of setup).load s < 2 ^ 32 }
+    ensures room { (setup : Setup) (v : ℕ) → IsSetup setup → (sizes_of setup).room v ≤ MOST_LOAD }
+    ensures load { (setup : Setup) (s : ℕ) → IsSetup setup → (sizes_of setup).load s ≤ MOST_LOAD }
     ensures floor { (setup : Setup) (s : ℕ) → IsSetup setup → (sizes_of setup).floor s ≤ MOST_REPLICAS }
 {}

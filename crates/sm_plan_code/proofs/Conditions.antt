@@ -59,7 +59,7 @@ module _ (h : Hold) (x : Exchange) (small : IsSmallPortion x.got) where
   }
 
   -- the room of each server grows by 2^32 at most
-  pub change_grows_room : (v : ℕ) → (plus (minus h (portion_rights x.out)) (portion_rights x.got)).room v ≤ h.room v + 2 ^ 32
+  pub change_grows_room : (v : ℕ) → (plus (minus h (portion_rights x.out)) (portion_rights x.got)).room v ≤ h.room v + MOST_AMOUNT
   change_grows_room v = rw (plus_is (minus h (portion_rights x.out)) (portion_rights x.got) (portion_ordered x.got)) (omega (arith, less_room v, room_of x.got small v))
 
   -- and the spare replicas of each shard by one

@@ -16,6 +16,7 @@ use Rattle.sm_plan_code.specs.declared.moves.Move.{Move}
 use Rattle.sm_planner.specs.Basis.{Basis, IsMoveOf, no_move, move_at, move_load}
 use Rattle.sm_planner.specs.Placing.{is_placed, room_left, taken_by, freed_by, first_fit, first_left, fits}
 use Rattle.sm_planner.specs.Accounts.{is_left, is_next, room_after}
+use Rattle.sm_placement.specs.declared.limits.TheConstants.{MOST_LOAD}
 
 -- what is placed goes in order
 abbrev pub IsGreedy : Basis → List Move → List ℕ → Type 0
@@ -31,7 +32,7 @@ pub record IsKept (b : Basis) (moves : List Move) (placed : List ℕ) (marks : L
   pub marked : (i : ℕ) → get_or marks i false ≡ is_placed placed i
   pub left : (v : ℕ) → v < length room → get_or room v 0 ≡ room_left b moves placed v
   pub paid : (v : ℕ) → v < length room → sum_by (λ i. taken_by b.setup v (move_at moves i)) placed ≤ b.pool.room v + sum_by (λ i. freed_by b.setup v (move_at moves i)) placed
-  pub bounded : (v : ℕ) → get_or room v 0 ≤ 2 ^ 64 + length placed * 2 ^ 32
+  pub bounded : (v : ℕ) → get_or room v 0 ≤ 2 ^ 64 + length placed * MOST_LOAD
 
 -- ---- one entry changed
 
@@ -80,7 +81,7 @@ fewer marks i l e = let s : count_by not (set marks i true) + cond {A = ℕ} (no
 pub record IsWithin (b : Basis) (moves : List Move) (room : List ℕ) (i : ℕ) : Type 0 where
   pub to : (move_at moves i).to < length room
   pub from : (move_at moves i).from < length room
-  pub load : move_load b.setup (move_at moves i) < 2 ^ 32
+  pub load : move_load b.setup (move_at moves i) ≤ MOST_LOAD
 
 pub after_at : (setup : Setup) (m : Move) (room : List ℕ) (v : ℕ) → m.to < length room → m.from < length room →
     get_or (room_after setup m room) v 0 ≡ get_or room v 0 - taken_by setup v m + freed_by setup v m
@@ -193,12 +194,12 @@ next_found b moves placed marks room setup o kept known same e =
 pub kept_next : (b : Basis) (moves : List Move) (placed : List ℕ) (marks : List Bool) (room : List ℕ) (i : ℕ) (m : Move) (setup : Setup)
     (later : List ℕ) (flags : List Bool) (left : List ℕ) →
     IsKept b moves placed marks room → All (IsMoveOf b.setup) moves → first_fit b moves placed ≡ Some i → m ≡ move_at moves i → setup ≡ b.setup →
-    move_load setup m < 2 ^ 32 → later ≡ placed ++ i ∷ [] → flags ≡ set marks i true → left ≡ room_after setup m room →
+    move_load setup m ≤ MOST_LOAD → later ≡ placed ++ i ∷ [] → flags ≡ set marks i true → left ≡ room_after setup m room →
     IsKept b moves later flags left
 kept_next b moves placed marks room i m setup later flags left kept known first is same load p f r =
     let fit = fits_in b moves placed i first in
     let move = known i no_move fit.0 in
-    let small : move_load b.setup (move_at moves i) < 2 ^ 32 = rw (same, is) at load in
+    let small : move_load b.setup (move_at moves i) ≤ MOST_LOAD = rw (same, is) at load in
     let within : IsWithin b moves room i = record { to = (let t = move.to in let w = kept.wide in omega arith); from = (let t = move.from in let w = kept.wide in omega arith); load = small } in
     rw (p, f, r, same, is) (kept_more b moves placed marks room i kept first within)
 

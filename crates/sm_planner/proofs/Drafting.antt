@@ -1,19 +1,20 @@
 -- What placed moves of a draft pay, one move further.
-use Rattle.std.proofs.Common.{◌≡◌, ◌<◌, ◌≤◌, ◌+◌, ◌^◌, ◌∙◌, inl, inr, ℕ, cond, eqb, List, [], length, take, get_or, ap, refl, arith}
-use Rattle.std.proofs.lemmas.Bool.{cases_eq, cases_lt, eq-eqb, ne_eqb}
-use Rattle.std.proofs.lemmas.List.{length-set, length-take-le, get_or_past}
+use Rattle.std.proofs.Common.{◌≡◌, ◌<◌, ◌≤◌, ◌+◌, ◌∙◌, inl, inr, ℕ, cond, eqb, List, [], length, take, get_or, ap, refl, arith}
+use Rattle.std.proofs.lemmas.Bool.{cases_eq, eq-eqb, ne_eqb}
+use Rattle.std.proofs.lemmas.List.{length-set, length-take-le}
 use Rattle.std.proofs.lemmas.List.FromFn.{length-map-range_with_len, get_or-map-range_with_len}
 use Rattle.std.proofs.lemmas.List.Sums.{sum_by_more}
-use Rattle.sm_placement.specs.Setup.{Setup, ShardRow, IsSetup, no_shard}
+use Rattle.sm_placement.specs.Setup.{Setup}
 use Rattle.sm_placement.specs.declared.limits.TheConstants.{MOST_LOAD}
 use Rattle.sm_plan_code.specs.declared.moves.Move.{Move}
 use Rattle.sm_planner.specs.declared.payment.Placed.{Placed}
 use Rattle.sm_planner.specs.declared.writing.Draft.{Draft}
-use Rattle.sm_planner.specs.Basis.{Basis, no_move, move_at, move_load}
+use Rattle.sm_planner.specs.Basis.{Basis, no_move, move_at}
 use Rattle.sm_planner.specs.Payment.{overlap, from_pool}
 use Rattle.sm_planner.specs.Stretches.{stretch}
 use Rattle.sm_planner.specs.Draft.{IsDraft, ArePayments}
 use Rattle.sm_planner.specs.Accounts.{no_amounts, room_freed}
+use Rattle.sm_placement.proofs.SizesLemmas.{load_small}
 use Rattle.sm_planner.proofs.Stretching.{put_at, no_amount_at}
 
 -- the k-th placed move of a draft
@@ -25,18 +26,11 @@ placed_is b draft k p d l read =
 pub placed_count : (b : Basis) (draft : Draft) → IsDraft b draft → length draft.placed.items ≡ length draft.moves.items
 placed_count b draft d = ap length d.placed ∙ length-map-range_with_len (stretch b draft.moves.items) 0 (length draft.moves.items)
 
--- no move weighs more than a load may
-pub load_small : (setup : Setup) (m : Move) → IsSetup setup → move_load setup m < 2 ^ 32
-load_small setup m valid = elim (cases_lt m.shard (length setup.shards)) [
-  | inl l ↦ let s : (get_or setup.shards m.shard no_shard).load ≤ MOST_LOAD = valid.good_loads m.shard no_shard l in omega arith
-  | inr l ↦ let e : (get_or setup.shards m.shard no_shard).load ≡ 0 = ap (λ (r : ShardRow). r.load) (get_or_past setup.shards m.shard no_shard l) in omega arith
-]
-
 -- what the k-th placed move pays from the pool, and where
 pub record IsPayer (b : Basis) (order : List Move) (k : ℕ) (p : Placed) : Type 0 where
   pub to : p.wanted.to ≡ (move_at order k).to
   pub within : p.wanted.to < length b.setup.servers
-  pub light : p.load < 2 ^ 32
+  pub light : p.load ≤ MOST_LOAD
   pub pays : overlap p.takes_from p.load 0 p.pool ≡ from_pool b order k
 
 -- what is read of the k-th placed move says what it pays from the pool, and where
@@ -44,7 +38,7 @@ pub payer_is : (b : Basis) (draft : Draft) (k : ℕ) (p : Placed) → IsDraft b 
 payer_is b draft k p d l read =
     let is = placed_is b draft k p d l read in
     let move = d.known k no_move l in
-    let light = load_small b.setup (move_at draft.moves.items k) d.setup in
+    let light = load_small b.setup (move_at draft.moves.items k).shard d.setup in
     rw is (record { to = refl; within = move.to; light = light; pays = refl })
 
 -- ---- payments
@@ -60,7 +54,7 @@ paid_none b order setup amounts same is = rw (is, same) (record {
 -- what the next placed move pays, added where it goes, makes the payments one move further
 pub paid_more : (b : Basis) (order : List Move) (numbers : List ℕ) (i k : ℕ) (amounts later : List ℕ) (to amount : ℕ) →
     ArePayments b order (take i numbers) amounts → i < length numbers → k ≡ get_or numbers i k → to ≡ (move_at order k).to → to < length b.setup.servers →
-    amount ≡ from_pool b order k → amount < 2 ^ 32 → later ≡ room_freed amounts to amount → ArePayments b order (take (i + 1) numbers) later
+    amount ≡ from_pool b order k → amount ≤ MOST_LOAD → later ≡ room_freed amounts to amount → ArePayments b order (take (i + 1) numbers) later
 paid_more b order numbers i k amounts later to amount p l read goes within is small e = rw e (record {
   wide = length-set amounts to (get_or amounts to 0 + amount) ∙ p.wide;
   paid = λ v h.

@@ -14,6 +14,7 @@ use Rattle.sm_planner.specs.declared.payment.Placed.{Placed}
 use Rattle.sm_planner.specs.Payment.{takes_from, frees_from}
 use Rattle.sm_planner.specs.Stretches.{stretch}
 use Rattle.sm_planner.specs.Accounts.{no_amounts, room_freed}
+use Rattle.sm_placement.specs.declared.limits.TheConstants.{MOST_LOAD}
 use Rattle.sm_planner.proofs.Accounting.{at_set, freed_small, taken_small}
 
 -- the amounts taken and freed at each server by placed moves
@@ -22,8 +23,8 @@ pub record IsSummed (b : Basis) (order : List Move) (takes frees : List ℕ) : T
   pub freed_wide : length frees ≡ length b.setup.servers
   pub taken : (v : ℕ) → v < length b.setup.servers → get_or takes v 0 ≡ sum_by (taken_by b.setup v) order
   pub freed : (v : ℕ) → v < length b.setup.servers → get_or frees v 0 ≡ b.pool.room v + sum_by (freed_by b.setup v) order
-  pub taken_small : (v : ℕ) → v < length b.setup.servers → get_or takes v 0 ≤ length order * 2 ^ 32
-  pub freed_small : (v : ℕ) → v < length b.setup.servers → get_or frees v 0 ≤ 2 ^ 64 + length order * 2 ^ 32
+  pub taken_small : (v : ℕ) → v < length b.setup.servers → get_or takes v 0 ≤ length order * MOST_LOAD
+  pub freed_small : (v : ℕ) → v < length b.setup.servers → get_or frees v 0 ≤ 2 ^ 64 + length order * MOST_LOAD
 
 -- where nothing is paid or freed, the amount at each server is 0
 pub no_amount_at : (n v : ℕ) → v < n → get_or (no_amounts n) v 0 ≡ 0
@@ -48,7 +49,7 @@ put_at room u amount v l = at_set room u (get_or room u 0 + amount) v 0 l ∙ el
 ]
 
 pub summed_more : (b : Basis) (order : List Move) (taken freed : List ℕ) (m : Move) → IsSummed b order taken freed →
-    m.to < length b.setup.servers → m.from < length b.setup.servers → move_load b.setup m < 2 ^ 32 →
+    m.to < length b.setup.servers → m.from < length b.setup.servers → move_load b.setup m ≤ MOST_LOAD →
     IsSummed b (order ++ m ∷ []) (room_freed taken m.to (move_load b.setup m)) (room_freed freed m.from (move_load b.setup m))
 summed_more b order taken freed m s to from load = record {
   taken_wide = length-set taken m.to (get_or taken m.to 0 + move_load b.setup m) ∙ s.taken_wide;
@@ -84,7 +85,7 @@ stretch_is b setup order k m taken freed load pool t f s same known is a b' c d 
 
 -- the amounts stay right where the next placed move takes its load and frees it
 pub summed_next : (b : Basis) (setup : Setup) (order : List Move) (k : ℕ) (m : Move) (taken freed later after : List ℕ) (load : ℕ) → IsSummed b (take k order) taken freed →
-    k < length order → setup ≡ b.setup → IsMoveOf setup m → m ≡ move_at order k → load ≡ move_load setup m → load < 2 ^ 32 →
+    k < length order → setup ≡ b.setup → IsMoveOf setup m → m ≡ move_at order k → load ≡ move_load setup m → load ≤ MOST_LOAD →
     later ≡ room_freed taken m.to load → after ≡ room_freed freed m.from load → IsSummed b (take (k + 1) order) later after
 summed_next b setup order k m taken freed later after load s l same known is a small t f =
     let move : IsMoveOf b.setup m = rw same at known in
@@ -94,7 +95,7 @@ summed_next b setup order k m taken freed later after load s l same known is a s
 
 -- with the load of one more move the amounts stay below 2^128
 pub fits_more : (b : Basis) (setup : Setup) (order : List Move) (m : Move) (taken freed : List ℕ) (load : ℕ) → IsSummed b order taken freed → setup ≡ b.setup → IsMoveOf setup m →
-    length order < 2 ^ 64 → load < 2 ^ 32 → (get_or taken m.to 0 + load < 2 ^ 128) × (get_or freed m.from 0 + load < 2 ^ 128)
+    length order < 2 ^ 64 → load ≤ MOST_LOAD → (get_or taken m.to 0 + load < 2 ^ 128) × (get_or freed m.from 0 + load < 2 ^ 128)
 fits_more b setup order m taken freed load s same known long small =
     let move : IsMoveOf b.setup m = rw same at known in
     let t = s.taken_small m.to move.to in

@@ -1,6 +1,6 @@
 -- Placed moves as they are drafted for a plan: in their order, with their stretches, and the room that they hand on.
 -- Steps of the code's own way, which private functions' contracts cite: no reader of the public ones must believe them.
-use Rattle.std.specs.Prelude.{◌≡◌, ◌≤◌, ◌<◌, ◌==◌, ◌*◌, ◌^◌, ℕ, ◌++◌, None, List, [], All, length, map, sum_by, slice_index, if◌then◌else◌}
+use Rattle.std.specs.Prelude.{◌≡◌, ◌≤◌, ◌<◌, ◌==◌, ◌*◌, ℕ, ◌++◌, None, List, [], All, length, map, sum_by, slice_index, if◌then◌else◌}
 use Rattle.std.specs.List.{flat_map, range_with_len}
 use Rattle.sm_placement.specs.Place.{Place}
 use Rattle.sm_placement.specs.Setup.{IsSetup}
@@ -18,6 +18,7 @@ use Rattle.sm_planner.specs.Refusal.{in_placed_order, refusal}
 use Rattle.sm_planner.specs.Payment.{Handed, from_pool, signals_of}
 use Rattle.sm_planner.specs.Stretches.{stretch, IsGiven}
 use Rattle.sm_planner.specs.Plan.{instructions, waits_of, posts_of, cells_needed, crowns_of, moves_of}
+use Rattle.sm_placement.specs.declared.limits.TheConstants.{MOST_LOAD}
 
 -- the instructions of the k-th placed move
 abbrev pub drafted_code : Place → List Move → List Handed → ℕ → List Instr
@@ -35,7 +36,7 @@ room_by b order numbers v = record { server = v; amount = paid_by b order number
 pub record ArePayments (b : Basis) (order : List Move) (numbers amounts : List ℕ) : Type 0 where
   pub wide : length amounts ≡ length b.setup.servers
   pub paid : (v : ℕ) → v < length b.setup.servers → slice_index amounts v ≡ paid_by b order numbers v
-  pub small : (v : ℕ) → v < length b.setup.servers → slice_index amounts v ≤ length numbers * 2 ^ 32
+  pub small : (v : ℕ) → v < length b.setup.servers → slice_index amounts v ≤ length numbers * MOST_LOAD
 
 -- what a stream of these placed moves declares, move by move
 abbrev pub needs_by : Basis → List Move → List ℕ → Rights

@@ -5,6 +5,7 @@ ghost use Rattle.sm_planner.specs.Basis.{basis_of, IsMoveOf, move_at, move_load}
 ghost use Rattle.sm_planner.specs.Placing.{IsPlacing, first_left};
 ghost use Rattle.sm_planner.specs.Accounts.{is_next, is_left, room_after};
 ghost use Rattle.sm_planner.specs.Refusal.{in_placed_order};
+ghost use Rattle.sm_placement.specs.declared.limits.TheConstants.{MOST_LOAD};
 
 use crate::marks::{Amounts, is_marked, mark};
 use sm_placement::{Config, Placement};
@@ -63,11 +64,11 @@ impl Placing {
     fn place(&mut self, config: &Config, i: usize, moves: &[Move]) -> Result<(), AllocError>
         requires known { All (IsMoveOf config.now) moves.now }
         requires within { i < length moves.now }
-        requires fits { (v : ℕ) → slice_index self.old.room v + 2 ^ 32 < 2 ^ 128 }
+        requires fits { (v : ℕ) → slice_index self.old.room v + MOST_LOAD < 2 ^ 128 }
         ensures placed { OnOk result (self.new.placed.items ≡ self.old.placed.items ++ i ∷ []) }
         ensures marks { self.new.marks.items ≡ slice_set self.old.marks.items i true }
         ensures room { self.new.room ≡ room_after config.now (move_at moves.now i) self.old.room }
-        ensures load { move_load config.now (move_at moves.now i) < 2 ^ 32 }
+        ensures load { move_load config.now (move_at moves.now i) ≤ MOST_LOAD }
     {
         let Move { shard, from, to } = moves[i];
         let load = u128::from(config.load(shard));

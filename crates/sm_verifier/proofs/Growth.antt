@@ -1,5 +1,5 @@
 -- How far amounts grow by a parcel, and the bounds of a parcel's amounts.
-use Rattle.std.proofs.Common.{◌≡◌, ℕ, ◌+◌, ◌<◌, ◌≤◌, ◌^◌, List, [], ◌∷◌, length, get_or, ap, arith, inl, inr}
+use Rattle.std.proofs.Common.{◌≡◌, ℕ, ◌+◌, ◌<◌, ◌≤◌, List, [], ◌∷◌, length, get_or, ap, arith, inl, inr}
 use Rattle.std.specs.Prelude.{All}
 use Rattle.std.specs.List.{AllByRecursion}
 use Rattle.std.proofs.lemmas.Bool.{cases_Bool}
@@ -23,7 +23,7 @@ amount_most key_of amount n (x ∷ xs) q all = elim (cases_Bool (same (key_of x)
 ]
 
 -- what a parcel of small amounts puts in
-pub plus_grows : (h : Hold) (p : Rights) → Rises key_of_room p.room → Rises key_of_spare p.spare → IsSmallParcel p → Grows (2 ^ 32) h (plus h p)
+pub plus_grows : (h : Hold) (p : Rights) → Rises key_of_room p.room → Rises key_of_spare p.spare → IsSmallParcel p → Grows MOST_AMOUNT h (plus h p)
 plus_grows h p room spare small =
     let cells = more_cells_alone h p.cells in
     let crowns = more_crowns_alone (plus_cells h p.cells) p.crowns in
@@ -52,7 +52,7 @@ pub all_at : {A : Type 0} (P : A → Type 0) (xs : List A) (k : ℕ) (x : A) →
 all_at P xs k x all less is = rw is (all k x less)
 
 -- the amounts of a small parcel
-pub small_amounts : (p : Rights) → IsSmallParcel p → IsAtMost (2 ^ 32) (hold_of p)
+pub small_amounts : (p : Rights) → IsSmallParcel p → IsAtMost MOST_AMOUNT (hold_of p)
 unfolding hold_of
 small_amounts p small = record {
   room = λ v. let m : amount_at key_of_room (λ x. x.amount) p.room (v, 0) ≤ MOST_AMOUNT = amount_most key_of_room (λ x. x.amount) MOST_AMOUNT p.room (v, 0) (recursion_from_All (λ x. x.amount ≤ MOST_AMOUNT) p.room small.room_amounts) in omega arith;

@@ -1,5 +1,5 @@
 -- A stream followed as far as a position, one instruction further, and at its end.
-use Rattle.std.proofs.Common.{◌≡◌, ℕ, ◌+◌, ◌*◌, ◌<◌, ◌≤◌, ◌^◌, suc, add-one, true, ◌&&◌, nat_le, Option, Some, None, Result, Ok, Err, length, get_or, take, refl, ◌∙◌, arith, inl, inr, leb-true, leb-false}
+use Rattle.std.proofs.Common.{◌≡◌, ℕ, ◌+◌, ◌*◌, ◌<◌, ◌≤◌, suc, add-one, true, ◌&&◌, nat_le, Option, Some, None, Result, Ok, Err, length, get_or, take, refl, ◌∙◌, arith, inl, inr, leb-true, leb-false}
 use Rattle.std.specs.Prelude.{IfSome, IsOk, slice_get}
 use Rattle.std.specs.List.{count_by}
 use Rattle.std.proofs.lemmas.Bool.{cases_Bool, cases_eq, cases_lt, and_parts, and_cases}
@@ -19,16 +19,17 @@ use Rattle.sm_verifier.specs.declared.steps.StepFault.TheVariants.{NoMemory, Ref
 use Rattle.sm_verifier.specs.Step.{parcels_of, IsAnswer, IsAtMost, Grows}
 use Rattle.sm_verifier.specs.Bad.{bad_at, IsBad}
 use Rattle.sm_verifier.specs.Stream.{Course, hold_before, final_hold, calls_before, HasCrownsAtRest, IsGood, within_budget, made_at, BreaksBy, BreaksAt, IsFirstBreak}
+use Rattle.sm_plan_code.specs.declared.limits.TheConstants.{MOST_AMOUNT}
 
 -- the stream has been followed to a position: the calls so far, the hold there, and no break before it
 pub record IsFollowed (s : Course) (p n : ℕ) (h : Hold) : Type 0 where
   pub calls : n ≡ calls_before s p
   pub within : n ≤ s.budget
   pub hold : h ≡ hold_before s p
-  pub amounts : IsAtMost ((p + 1) * 2 ^ 32) h
+  pub amounts : IsAtMost ((p + 1) * MOST_AMOUNT) h
   pub made : (q : ℕ) → q < p → IfSome (slice_get s.code q) (λ i. IsOk (made_at s q i))
 
-pub start : (s : Course) → IsAtMost (2 ^ 32) (hold_of s.holds) → IsFollowed s 0 0 (hold_of s.holds)
+pub start : (s : Course) → IsAtMost MOST_AMOUNT (hold_of s.holds) → IsFollowed s 0 0 (hold_of s.holds)
 start s amounts = record {
   calls = refl;
   within = omega arith;
@@ -72,7 +73,7 @@ pub next_hold : (s : Course) (p : ℕ) (i : Instr) (h : Hold) → slice_get s.co
 next_hold s p i h e said = rw e (rw said refl)
 
 -- where the instruction at a position may be made, the stream is followed to the next position
-pub next : (s : Course) (p n : ℕ) (h h' : Hold) (i : Instr) → IsFollowed s p n h → slice_get s.code p ≡ Some i → within_budget s.budget n i (said_of s i h) ≡ Ok h' → Grows (2 ^ 32) h h' → IsFollowed s (p + 1) (n + bit (is_call i)) h'
+pub next : (s : Course) (p n : ℕ) (h h' : Hold) (i : Instr) → IsFollowed s p n h → slice_get s.code p ≡ Some i → within_budget s.budget n i (said_of s i h) ≡ Ok h' → Grows MOST_AMOUNT h h' → IsFollowed s (p + 1) (n + bit (is_call i)) h'
 next s p n h h' i f e made grows =
     let parts = made_of s.budget n i (said_of s i h) h' f.within made in
     record {

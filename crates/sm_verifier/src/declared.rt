@@ -1,10 +1,10 @@
 //! What streams declare: looked up in their parcels, and added up.
-ghost use Rattle.std.specs.Prelude.{◌≡◌, ◌≤◌, ◌^◌, All, is_some, length};
+ghost use Rattle.std.specs.Prelude.{◌≡◌, ◌≤◌, All, is_some, length};
 ghost use Rattle.std.specs.List.{list_any};
 ghost use Rattle.sm_reservation.specs.HoldOf.{hold_of};
 ghost use Rattle.sm_plan_code.specs.Plan.{IsSmallStream, IsSmallParcel};
 ghost use Rattle.sm_verifier.specs.Admission.{declared_room, declared_spare};
-ghost use Rattle.sm_plan_code.specs.declared.limits.TheConstants.{MOST_STREAMS};
+ghost use Rattle.sm_plan_code.specs.declared.limits.TheConstants.{MOST_AMOUNT, MOST_STREAMS};
 
 use sm_plan_code::Stream;
 use sm_reservation::Parcel;
@@ -32,7 +32,7 @@ pub(crate) fn is_crown_declared(streams: &[Stream], shard: ShardId) -> bool
 fn room_of(parcel: &Parcel, server: ServerId) -> u64
     requires { IsSmallParcel parcel.now }
     ensures value { result ≡ (hold_of parcel.now).room server }
-    ensures bound { result ≤ 2 ^ 32 }
+    ensures bound { result ≤ MOST_AMOUNT }
 {
     parcel.room_of(server)
 }
@@ -41,7 +41,7 @@ fn room_of(parcel: &Parcel, server: ServerId) -> u64
 fn spare_of(parcel: &Parcel, shard: ShardId) -> u64
     requires { IsSmallParcel parcel.now }
     ensures value { result ≡ (hold_of parcel.now).spare shard }
-    ensures bound { result ≤ 2 ^ 32 }
+    ensures bound { result ≤ MOST_AMOUNT }
 {
     parcel.spare_of(shard)
 }

@@ -9,7 +9,7 @@ ghost use Rattle.sm_verifier.specs.Step.{parcels_of, IsAnswer, IsAtMost, Grows};
 ghost use Rattle.sm_verifier.specs.Stream.{course, course_of, stream_at, final_hold, HasCrownsAtRest, IsGood, within_budget};
 ghost use Rattle.sm_verifier.specs.Bad.{bad_at, IsBad};
 ghost use Rattle.sm_verifier.specs.Peak.{IsPeak};
-ghost use Rattle.sm_plan_code.specs.declared.limits.TheConstants.{MOST_INSTRUCTIONS};
+ghost use Rattle.sm_plan_code.specs.declared.limits.TheConstants.{MOST_AMOUNT, MOST_INSTRUCTIONS};
 
 use crate::steps::{StepFault, longest_list, step};
 use sm_placement::{Config, Lead};
@@ -92,7 +92,7 @@ fn follow_one(
     requires small { All IsSmallParcel signals.now }
     requires amounts { IsAtMost (2 ^ 63) (hold_of hold.old.rights) }
     ensures answer { IsAnswer result (hold_of hold.new.rights) (within_budget budget calls instr.now (after (sizes_of config.now) (parcels_of signals.now) instr.now (hold_of hold.old.rights))) }
-    ensures grows { Grows (2 ^ 32) (hold_of hold.old.rights) (hold_of hold.new.rights) }
+    ensures grows { Grows MOST_AMOUNT (hold_of hold.old.rights) (hold_of hold.new.rights) }
     ensures capacity { hold.old.capacity < 2 ^ 32 → hold.new.capacity < 2 ^ 32 }
 {
     if is_call(instr) && budget <= calls {
@@ -113,7 +113,7 @@ fn follow_code(
     requires known { All (KnowsSignal (length signals.now)) code.now }
     requires small { All IsSmallParcel signals.now }
     requires short { length code.now ≤ MOST_INSTRUCTIONS }
-    requires amounts { IsAtMost (2 ^ 32) (hold_of hold.old.rights) }
+    requires amounts { IsAtMost MOST_AMOUNT (hold_of hold.old.rights) }
     requires capacity { hold.old.capacity < 2 ^ 32 }
     ensures good { OnOk result (IsGood (course (sizes_of config.now) signals.now budget hold.old.rights code.now)) }
     ensures hold { OnOk result (hold_of hold.new.rights ≡ final_hold (course (sizes_of config.now) signals.now budget hold.old.rights code.now)) }

@@ -11,6 +11,7 @@ ghost use Rattle.sm_plan_code.specs.Instr.{IsOwn};
 ghost use Rattle.sm_plan_code.specs.After.{after, decided, signal_line, wait_line};
 ghost use Rattle.sm_verifier.specs.Step.{outcome, IsAnswer, HasCapacityFor, keys_added, parcels_of, IsAtMost, Grows};
 ghost use Rattle.sm_verifier.specs.Peak.{IsListing};
+ghost use Rattle.sm_plan_code.specs.declared.limits.TheConstants.{MOST_AMOUNT};
 
 use sm_placement::Config;
 use sm_plan_code::{Instr, Why, change_of};
@@ -57,7 +58,7 @@ fn make_own(config: &Config, instr: &Instr, hold: &mut Hold) -> Result<(), Why>
     requires amounts { IsAtMost (2 ^ 63) (hold_of hold.old.rights) }
     ensures answer { (signals : ℕ → Rights) → outcome result (hold_of hold.new.rights) ≡ after (sizes_of config.now) signals instr.now (hold_of hold.old.rights) }
     ensures kept { OnErr result (hold.new ≡ hold.old) }
-    ensures grows { Grows (2 ^ 32) (hold_of hold.old.rights) (hold_of hold.new.rights) }
+    ensures grows { Grows MOST_AMOUNT (hold_of hold.old.rights) (hold_of hold.new.rights) }
     ensures capacity { hold.new.capacity ≡ hold.old.capacity }
 {
     match change_of(config, instr, hold) {
@@ -73,7 +74,7 @@ fn make_own(config: &Config, instr: &Instr, hold: &mut Hold) -> Result<(), Why>
 fn signal(hold: &mut Hold, parcel: &Parcel) -> Result<(), Why>
     ensures answer { outcome result (hold_of hold.new.rights) ≡ decided (signal_line parcel.now (hold_of hold.old.rights)) }
     ensures kept { OnErr result (hold.new ≡ hold.old) }
-    ensures grows { Grows (2 ^ 32) (hold_of hold.old.rights) (hold_of hold.new.rights) }
+    ensures grows { Grows MOST_AMOUNT (hold_of hold.old.rights) (hold_of hold.new.rights) }
     ensures capacity { hold.new.capacity ≡ hold.old.capacity }
 {
     if hold.first_short(parcel).is_some() {
@@ -106,7 +107,7 @@ fn wait(hold: &mut Hold, parcel: &Parcel) -> Result<(), Why>
     requires amounts { IsAtMost (2 ^ 63) (hold_of hold.old.rights) }
     ensures answer { outcome result (hold_of hold.new.rights) ≡ decided (wait_line parcel.now (hold_of hold.old.rights)) }
     ensures kept { OnErr result (hold.new ≡ hold.old) }
-    ensures grows { Grows (2 ^ 32) (hold_of hold.old.rights) (hold_of hold.new.rights) }
+    ensures grows { Grows MOST_AMOUNT (hold_of hold.old.rights) (hold_of hold.new.rights) }
     ensures capacity { hold.new.capacity ≡ hold.old.capacity }
 {
     if !are_cells_apart(hold, parcel.cells()) || !are_crowns_apart(hold, parcel.crowns()) {
@@ -122,7 +123,7 @@ fn put_parcel(hold: &mut Hold, parcel: &Parcel)
     requires capacity { HasCapacityFor (most_keys parcel.now) hold.old }
     requires amounts { IsAtMost (2 ^ 63) (hold_of hold.old.rights) }
     ensures rights { hold_of hold.new.rights ≡ plus (hold_of hold.old.rights) parcel.now }
-    ensures grows { Grows (2 ^ 32) (hold_of hold.old.rights) (hold_of hold.new.rights) }
+    ensures grows { Grows MOST_AMOUNT (hold_of hold.old.rights) (hold_of hold.new.rights) }
     ensures capacity { hold.new.capacity ≡ hold.old.capacity }
 {
     let _room = parcel.room();
@@ -191,7 +192,7 @@ fn make(config: &Config, signals: &[Parcel], instr: &Instr, hold: &mut Hold) -> 
     requires amounts { IsAtMost (2 ^ 63) (hold_of hold.old.rights) }
     ensures answer { outcome result (hold_of hold.new.rights) ≡ after (sizes_of config.now) (parcels_of signals.now) instr.now (hold_of hold.old.rights) }
     ensures kept { OnErr result (hold.new ≡ hold.old) }
-    ensures grows { Grows (2 ^ 32) (hold_of hold.old.rights) (hold_of hold.new.rights) }
+    ensures grows { Grows MOST_AMOUNT (hold_of hold.old.rights) (hold_of hold.new.rights) }
     ensures capacity { hold.new.capacity ≡ hold.old.capacity }
 {
     match *instr {
@@ -216,7 +217,7 @@ pub(crate) fn step(
     requires amounts { IsAtMost (2 ^ 63) (hold_of hold.old.rights) }
     ensures answer { IsAnswer result (hold_of hold.new.rights) (after (sizes_of config.now) (parcels_of signals.now) instr.now (hold_of hold.old.rights)) }
     ensures kept { OnErr result (hold.new.rights ≡ hold.old.rights) }
-    ensures grows { Grows (2 ^ 32) (hold_of hold.old.rights) (hold_of hold.new.rights) }
+    ensures grows { Grows MOST_AMOUNT (hold_of hold.old.rights) (hold_of hold.new.rights) }
     ensures capacity { hold.old.capacity < 2 ^ 32 → hold.new.capacity < 2 ^ 32 }
 {
     reserve(hold, keys_added(signals, instr))?;

@@ -1,7 +1,8 @@
-use Rattle.std.proofs.Common.{◌≡◌, ◌<◌, ◌^◌, ◌∙◌, arith, get_or, length}
+use Rattle.std.proofs.Common.{◌≡◌, ◌<◌, ◌≤◌, ◌∙◌, arith, get_or, length}
 use Rattle.std.proofs.lemmas.List.{get_or_default, length-take}
 use Rattle.sm_planner.specs.Basis.{basis_of}
 use Rattle.sm_planner.specs.Payment.{from_pool}
+use Rattle.sm_placement.specs.declared.limits.TheConstants.{MOST_LOAD}
 use Rattle.sm_planner.proofs.Drafting.{paid_none, paid_more, payer_is, placed_count}
 use Rattle.sm_planner.proofs.writing.payments.Goals as goal
 
@@ -36,6 +37,6 @@ loop-k-preserved c =
     let k = get_or numbers i 0 in
     let p = payer_is b draft k c.index-placed.result.now c.requires.drafted (c.requires.places i 0 c.loop-k-test.true) c.index-placed.ensures in
     let amount : c.from.result ≡ from_pool b draft.moves.items k = c.from.ensures ∙ c.from_pool.ensures.value ∙ p.pays in
-    let small : c.from.result < 2 ^ 32 = (let l = p.light in let e = c.from.ensures in let w = c.from_pool.ensures.within in omega arith) in
+    let small : c.from.result ≤ MOST_LOAD = (let l = p.light in let e = c.from.ensures in let w = c.from_pool.ensures.within in omega arith) in
     paid_more b draft.moves.items numbers i k c.loop-k.paid c.put.new.self c.index-placed.result.now.wanted.to c.from.result c.loop-k.invariant c.loop-k-test.true
     (get_or_default numbers i 0 k c.loop-k-test.true) p.to p.within amount small c.put.ensures
