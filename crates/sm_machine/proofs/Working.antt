@@ -5,7 +5,7 @@ use Rattle.std.proofs.Math.Path.{fun_ext}
 use Rattle.std.proofs.lemmas.Bool.{cases_eq}
 use Rattle.sm_placement.specs.Sums.{put, put2}
 use Rattle.sm_placement.specs.Place.{CallEffect}
-use Rattle.sm_placement.proofs.Sums.{put2-here, put2-row, put2-apart}
+use Rattle.sm_placement.proofs.Sums.{put2-here, put2-row, put2-apart, put2-same}
 use Rattle.sm_reservation.specs.Hold.{Hold, no_hold, plus}
 use Rattle.sm_reservation.specs.HoldOf.{hold_of}
 use Rattle.sm_reservation.specs.Capacity.{HoldModel}
@@ -18,7 +18,6 @@ use Rattle.sm_plan_code.specs.After.{to_list}
 use Rattle.sm_reservation.specs.Pool.{leads_of}
 use Rattle.sm_reservation.specs.Key.{IsOrdered}
 use Rattle.sm_machine.specs.Steps.{ended_whole}
-use Rattle.sm_reservation.proofs.PoolLemmas.{put2_same}
 use Rattle.sm_verifier.specs.Stream.{stream_at}
 use Rattle.sm_protocol.specs.declared.event.Passage.{Passage}
 use Rattle.sm_protocol.specs.declared.event.Passage.TheVariants.{Through, LostBefore, LostAfter}
@@ -183,7 +182,7 @@ module _ (x : Whole) (id : StreamId) (o : Option Instr) (at : IsAt x id o) where
           tied_put new x.pool h (λ k q. hold_in (x.parcels k q)) (hold_behind w id) ((can_trade x g id order there i t.before (call_is_own i t.call) e).1 h u) (first e)
       tied_unless true e new h u first again =
           tied_put new x.pool h (λ k q. hold_in (x.parcels k q)) (hold_in grant) (ap hold_in u)
-          (subst (λ f. IsTied new x.pool f (λ k q. hold_in (x.parcels k q))) (put2_same (λ k i. hold_in (x.grants k i)) id.plan id.stream _ refl) (again e))
+          (subst (λ f. IsTied new x.pool f (λ k q. hold_in (x.parcels k q))) (sym (put2-same (λ k i. hold_in (x.grants k i)) id.plan id.stream _ refl)) (again e))
 
       -- a try that is served and answered is a step: the stream has made its trade, unless the call was ahead
       pub stepped_through : (effect : CallEffect) → answer_to w id c ≡ Ok effect → (h : Option HoldModel) → IsTradedUnless (progress_of w id).ahead w.sizes i grant h →

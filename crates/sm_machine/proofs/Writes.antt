@@ -22,8 +22,7 @@ use Rattle.sm_plan_code.specs.Table.{exchange_of}
 use Rattle.sm_machine.specs.Trade.{IsTradedBy}
 use Rattle.sm_reservation.specs.Hold.{plus}
 use Rattle.sm_reservation.specs.Pool.{PoolModel, pool_hold}
-use Rattle.sm_reservation.proofs.PoolLemmas.{put2_same}
-use Rattle.sm_placement.proofs.Sums.{put2-here}
+use Rattle.sm_placement.proofs.Sums.{put2-here, put2-same}
 use Rattle.sm_reservation.specs.Capacity.{HoldModel}
 use Rattle.sm_reservation.specs.declared.stream_id.StreamId.{StreamId}
 use Rattle.sm_protocol.specs.State.{Progress, Mark, no_start, stream_id, is_begun, progress_of, signal_count, set_progress}
@@ -93,7 +92,7 @@ both-change b k i q x y l m s =
 -- a stream that stands as it stood
 progress-same : (b : MachineModel) (k i : ℕ) → put2 (whole_of b).state.progress k i (course_at (begun_at b.plans k) i).progress ≡ (whole_of b).state.progress
 unfolding whole_of
-progress-same b k i = sym (put2_same (whole_of b).state.progress k i _ refl)
+progress-same b k i = put2-same (whole_of b).state.progress k i _ refl
 
 with_pool : (b : MachineModel) (p : PoolModel) → whole_of (record b { pool = p }) ≡ record (whole_of b) { pool = pool_hold p }
 unfolding whole_of
@@ -210,7 +209,7 @@ module _ (b w : MachineModel) (id : StreamId) (z : b ≡ w) (h : is_begun (state
       whole_of (record b { plans = set b.plans id.plan n' }) ≡ with_state (whole_of w) (record (state_of w) { progress = set_progress (state_of w) id p })
   progress-written p e =
       course-written (record (course_at n id.stream) { progress = p }) e
-      ∙ cc (grant_read, put2_same (whole_of w).grants id.plan id.stream _ refl)
+      ∙ cc (grant_read, put2-same (whole_of w).grants id.plan id.stream _ refl)
 
   -- a stream holds otherwise
   pub grant-written : (g : Option HoldModel) → n' ≡ with_course n id.stream (record (course_at n id.stream) { grant = g }) →
@@ -218,7 +217,7 @@ module _ (b w : MachineModel) (id : StreamId) (z : b ≡ w) (h : is_begun (state
   grant-written g e =
       course-written (record (course_at n id.stream) { grant = g }) e
       ∙ ap (λ f. record (whole_of w) { state = record (state_of w) { progress = f }; grants = put2 (whole_of w).grants id.plan id.stream g })
-      (ap (λ y. put2 (state_of w).progress id.plan id.stream y) progress_read ∙ sym (put2_same (state_of w).progress id.plan id.stream _ refl))
+      (ap (λ y. put2 (state_of w).progress id.plan id.stream y) progress_read ∙ put2-same (state_of w).progress id.plan id.stream _ refl)
 
   -- a stream holds otherwise, as it is read then
   pub grant-kept : (g : Option HoldModel) → n' ≡ with_course n id.stream (record (course_at n id.stream) { grant = g }) →

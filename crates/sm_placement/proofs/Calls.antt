@@ -1,7 +1,6 @@
 -- What a call leaves true of a placement, and which calls are allowed.
 use Rattle.std.proofs.Common.{◌≡◌, ◌≢◌, ℕ, ◌+◌, ◌-◌, ◌<◌, ◌≤◌, Bool, true, false, not, eqb, ltb, refl, sym, ap, ◌∙◌, arith, inl, inr, subst, ◌⊎◌, ◌↔◌, Option, Some, None}
 use Rattle.std.specs.Prelude.{Result, Ok, Err, IfOk}
-use Rattle.std.proofs.Math.Path.{fun_ext}
 use Rattle.std.proofs.lemmas.Bool.{cases_eq, cases_Bool, eq-eqb, ne_eqb, ltb-false, le-ltb, not-true}
 use Rattle.sm_server.specs.declared.call.Cell.{Cell}
 use Rattle.sm_server.specs.declared.call.Cell.TheVariants.{Absent, Prepared, Secondary, Primary, Forwarding}
@@ -19,7 +18,7 @@ use Rattle.sm_placement.specs.Place.{Place, weight, load_of, load_at, set_cell, 
 use Rattle.sm_placement.specs.Lead.{IsSettled}
 use Rattle.sm_placement.specs.Layout.{IsPlacement}
 use Rattle.sm_placement.specs.Sums.{put2}
-use Rattle.sm_placement.proofs.Sums.{put2-here, put2-row, put2-apart, same_sum, sum_apart}
+use Rattle.sm_placement.proofs.Sums.{put2-here, put2-row, put2-apart, put2-same, same_sum, sum_apart}
 
 -- a server's load after one cell of it has changed: what the cell weighed leaves, and what it weighs comes in
 pub load_of-put : (c : Sizes) (cells : ℕ → ℕ → Cell) (s v : ℕ) (x : Cell) → s < c.shards →
@@ -238,18 +237,6 @@ numbered_kept c p s v call number (Ok served) is hs hv known e = λ f. elim (num
   | inr w ↦ absurd (cc (f, w.0))
 ]
 
-put2-same : {A : Type 0} (f : ℕ → ℕ → A) (s v : ℕ) → put2 f s v (f s v) ≡ f
-put2-same {A} f s v = fun_ext (λ r. fun_ext (λ w. at r w))
-  where
-    at : (r w : ℕ) → put2 f s v (f s v) r w ≡ f r w
-    at r w = elim (cases_eq r s) [
-      | inl d ↦ elim (cases_eq w v) [
-        | inl g ↦ rw (d, g) (put2-here f s v (f s v))
-        | inr g ↦ rw d (put2-row f s v (f s v) w g)
-      ]
-      | inr d ↦ put2-apart f s v (f s v) r w d
-    ]
-
 -- a numbered call that had its effect before changes nothing
 pub numbered_before : (c : Sizes) (p : Place) (s v : ℕ) (call : Call) (number : ℕ) (r : Result Served Refusal) → r ≡ numbered_answer_at c p s v call number →
     IfOk r (λ served. served.fresh ≡ false → set_last (set_cell p s v served.cell) s v served.last ≡ p)
@@ -257,8 +244,8 @@ numbered_before c p s v call number (Err why) e = tt
 numbered_before c p s v call number (Ok served) e = λ f. elim (numbered_cases c p s v call number served e) [
   | inl w ↦ absurd (cc (f, w.0))
   | inr w ↦
-      let cells : put2 p.cells s v served.cell ≡ p.cells = ap (put2 p.cells s v) w.1 ∙ put2-same p.cells s v in
-      let lasts : put2 p.last s v served.last ≡ p.last = ap (put2 p.last s v) w.2 ∙ put2-same p.last s v in
+      let cells : put2 p.cells s v served.cell ≡ p.cells = put2-same p.cells s v served.cell (sym w.1) in
+      let lasts : put2 p.last s v served.last ≡ p.last = put2-same p.last s v served.last (sym w.2) in
       ap (λ (g : ℕ → ℕ → Cell). record p { cells = g; last = put2 p.last s v served.last }) cells ∙ ap (λ (g : ℕ → ℕ → ℕ). record p { last = g }) lasts
 ]
 
@@ -280,8 +267,8 @@ numbered_first c p s v call number q d e = with_another c p s v call number d �
 pub numbered_again : (c : Sizes) (p : Place) (s v : ℕ) (call : Call) (number : ℕ) → p.down v ≡ false → number ≡ p.last s v →
     called_numbered c p s v call number ≡ Ok (record { place = p; fresh = false })
 numbered_again c p s v call number up e =
-    let cells : put2 p.cells s v (p.cells s v) ≡ p.cells = put2-same p.cells s v in
-    let lasts : put2 p.last s v (p.last s v) ≡ p.last = put2-same p.last s v in
+    let cells : put2 p.cells s v (p.cells s v) ≡ p.cells = put2-same p.cells s v (p.cells s v) refl in
+    let lasts : put2 p.last s v (p.last s v) ≡ p.last = put2-same p.last s v (p.last s v) refl in
     let same : set_last (set_cell p s v (p.cells s v)) s v (p.last s v) ≡ p =
     ap (λ (g : ℕ → ℕ → Cell). record p { cells = g; last = put2 p.last s v (p.last s v) }) cells ∙ ap (λ (g : ℕ → ℕ → ℕ). record p { last = g }) lasts in
     rw (up, eq-eqb number (p.last s v) e) (ap (λ (q : Place). Ok (record { place = q; fresh = false })) same)

@@ -12,12 +12,16 @@ put-here f k x q e = rw (eq-eqb q k e)
 pub put-apart : {A : Type 0} (f : ℕ → A) (k : ℕ) (x : A) (q : ℕ) → q ≢ k → put f k x q ≡ f q
 put-apart f k x q e = rw (ne_eqb q k e)
 
--- what is there already
+-- a function that is put where it is anyway is what it was
 pub put-same : {A : Type 0} (f : ℕ → A) (k : ℕ) (x : A) → f k ≡ x → put f k x ≡ f
 put-same f k x h = fun_ext (λ q. elim (cases_eq q k) [
   | inl e ↦ put-here f k x q e ∙ sym h ∙ ap f (sym e)
   | inr e ↦ put-apart f k x q e
 ])
+
+-- of a pair
+pub put2-same : {A : Type 0} (f : ℕ → ℕ → A) (s v : ℕ) (x : A) → f s v ≡ x → put2 f s v x ≡ f
+put2-same f s v x h = put-same f s (put (f s) v x) (sym (put-same (f s) v x h))
 
 -- f with another value at a pair has that value at the pair
 pub put2-here : {A : Type 0} (f : ℕ → ℕ → A) (s v : ℕ) (x : A) → put2 f s v x s v ≡ x

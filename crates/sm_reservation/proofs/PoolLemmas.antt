@@ -1,30 +1,16 @@
 -- A pool's lists: what is read in them by key, and what a write makes of the rights in them.
 use Rattle.std.proofs.Common.{◌≡◌, ℕ, ◌+◌, ◌*◌, ◌-◌, ◌<◌, ◌≤◌, length, set, get_or, replicate, refl, sym, ap, subst, ◌∙◌, arith, inl, inr, Option, None, Bor, List, Some}
-use Rattle.std.proofs.Math.Path.{fun_ext}
 use Rattle.std.specs.Slice.{IsItemAt}
 use Rattle.std.specs.Option.{option_copied, option_flatten, option_map, unwrap_or}
-use Rattle.std.proofs.lemmas.Bool.{cases_eq, cases_lt}
+use Rattle.std.proofs.lemmas.Bool.{cases_lt}
 use Rattle.sm_placement.specs.declared.lead.Lead.{Lead}
 use Rattle.sm_placement.specs.Sums.{put, put2}
 use Rattle.sm_placement.specs.Layout.{grid_of, entries_of}
-use Rattle.sm_placement.proofs.Sums.{put-here, put-apart}
+use Rattle.sm_placement.proofs.Sums.{put-same, put2-same}
 use Rattle.sm_placement.proofs.GridLemmas.{grid_of-beside, grid_of-below, grid_of-empty, grid_of-read, grid_of-set, place_within, entries_of-past, entries_of-set, entries_of-empty, entries_of-read, entries_of-is}
 use Rattle.sm_reservation.specs.declared.right.PlainCell.{PlainCell}
 use Rattle.sm_reservation.specs.Hold.{Hold, no_hold, with_cell, without_crown, pay_room, pay_spare}
 use Rattle.sm_reservation.specs.Pool.{PoolModel, IsStocked, IsKnownHold, pool_hold}
-
--- ---- a function that is put where it is anyway
-
--- a function is what it is where it is put to what it gives there
-pub put_same : {A : Type 0} (f : ℕ → A) (k : ℕ) (x : A) → f k ≡ x → f ≡ put f k x
-put_same f k x e = fun_ext (λ q. elim (cases_eq q k) [
-  | inl d ↦ ap f d ∙ e ∙ sym (put-here f k x q d)
-  | inr d ↦ sym (put-apart f k x q d)
-])
-
--- of two numbers
-pub put2_same : {A : Type 0} (f : ℕ → ℕ → A) (s v : ℕ) (x : A) → f s v ≡ x → f ≡ put2 f s v x
-put2_same f s v x e = put_same f s (put (f s) v x) (put_same (f s) v x e)
 
 -- ---- what every pool keeps
 
@@ -134,19 +120,19 @@ spare_put {k} {now} n s slot x y e d l f = subst (λ (w : PoolModel). pool_hold 
 
 -- a hold without the right to a cell stays as it is when that is taken out
 pub no_cell : (h : Hold) (s v : ℕ) → h.cells s v ≡ None → h ≡ with_cell h s v None
-no_cell h s v e = ap (λ (f : ℕ → ℕ → Option PlainCell). record h { cells = f }) (put2_same h.cells s v None e)
+no_cell h s v e = ap (λ (f : ℕ → ℕ → Option PlainCell). record h { cells = f }) (sym (put2-same h.cells s v None e))
 
 -- a hold without a crown stays as it is when that is taken out
 pub no_crown : (h : Hold) (s : ℕ) → h.crowns s ≡ None → h ≡ without_crown h s
-no_crown h s e = ap (λ (f : ℕ → Option (Lead × Option ℕ)). record h { crowns = f }) (put_same h.crowns s None e)
+no_crown h s e = ap (λ (f : ℕ → Option (Lead × Option ℕ)). record h { crowns = f }) (sym (put-same h.crowns s None e))
 
 -- a hold without room of a server stays as it is when it pays some
 pub no_room : (h : Hold) (v n : ℕ) → h.room v ≡ 0 → h ≡ pay_room h v n
-no_room h v n e = ap (λ (f : ℕ → ℕ). record h { room = f }) (put_same h.room v (h.room v - n) (omega arith))
+no_room h v n e = ap (λ (f : ℕ → ℕ). record h { room = f }) (sym (put-same h.room v (h.room v - n) (omega arith)))
 
 -- a hold without spare replicas of a shard stays as it is when it pays some
 pub no_spare : (h : Hold) (s n : ℕ) → h.spare s ≡ 0 → h ≡ pay_spare h s n
-no_spare h s n e = ap (λ (f : ℕ → ℕ). record h { spare = f }) (put_same h.spare s (h.spare s - n) (omega arith))
+no_spare h s n e = ap (λ (f : ℕ → ℕ). record h { spare = f }) (sym (put-same h.spare s (h.spare s - n) (omega arith)))
 
 -- ---- a pool with nothing in it
 

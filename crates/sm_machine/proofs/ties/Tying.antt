@@ -5,7 +5,7 @@ use Rattle.std.proofs.lemmas.Bool.{cases_eq, and_parts, not-true}
 use Rattle.sm_placement.specs.Setup.{Setup}
 use Rattle.sm_placement.specs.Sums.{put2}
 use Rattle.sm_placement.specs.Place.{CallEffect}
-use Rattle.sm_placement.proofs.Sums.{put2-here, put2-row, put2-apart}
+use Rattle.sm_placement.proofs.Sums.{put2-here, put2-row, put2-apart, put2-same}
 use Rattle.sm_reservation.specs.declared.stream_id.StreamId.{StreamId}
 use Rattle.sm_reservation.specs.Rights.{Rights}
 use Rattle.sm_reservation.specs.Hold.{Hold, no_hold, plus}
@@ -13,7 +13,6 @@ use Rattle.sm_reservation.specs.HoldOf.{hold_of}
 use Rattle.sm_reservation.specs.CanJoin.{CanJoin}
 use Rattle.sm_reservation.specs.Key.{IsOrdered}
 use Rattle.sm_reservation.specs.Pool.{leads_of}
-use Rattle.sm_reservation.proofs.PoolLemmas.{put2_same}
 use Rattle.sm_plan_code.specs.declared.call.ServerCall.{ServerCall}
 use Rattle.sm_plan_code.specs.declared.instruction.Instr.{Instr}
 use Rattle.sm_plan_code.specs.declared.instruction.Instr.TheVariants.{Publish, Unlist, Signal, Wait}
@@ -121,7 +120,7 @@ module _ (setup : Setup) (w : State) (reached : IsReached setup w) (p : Hold) (g
     stays_tied : (y : Progress) → (y.done ≡ false → now.done ≡ false) → reach y.at y.ahead ≡ reach now.at now.ahead → is_begun w id ≡ true →
         (a : StreamId) → is_running (record w { progress = set_progress w id y }) a ≡ true → g a.plan a.stream ≡ hold_at_progress w a.plan a.stream (set_progress w id y a.plan a.stream)
     stays_tied y d at b a runs =
-        ap (λ f. f a.plan a.stream) (put2_same g id.plan id.stream _ refl)
+        ap (λ f. f a.plan a.stream) (sym (put2-same g id.plan id.stream _ refl))
         ∙ goes_tied w g t.grants id y (g id.plan id.stream)
         (λ e. t.grants id (ap (λ z. z && not now.done) b ∙ ap not (d e)) ∙ ap (λ q. hold_before (course_at w id) q) (sym at)) a runs
 
