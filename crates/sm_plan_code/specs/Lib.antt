@@ -1,4 +1,5 @@
 pub mod Instr
+pub mod Move
 pub mod After
 pub mod Table
 pub mod Acts

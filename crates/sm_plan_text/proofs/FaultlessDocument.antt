@@ -14,6 +14,7 @@ use Rattle.sm_placement.specs.Names.{is_name, has_double}
 use Rattle.sm_placement.specs.Setup.{is_well_named_server, is_well_named_shard, is_good_server, is_good_shard}
 use Rattle.sm_placement.specs.Opening.{NamedCell}
 use Rattle.sm_placement.specs.Rows.{IsKnownCall}
+use Rattle.sm_plan_code.specs.Move.{IsKnownMove}
 use Rattle.sm_placement.proofs.DoubleLemmas.{has_double_push}
 use Rattle.sm_plan_text.specs.declared.fault.TextFault.{TextFault}
 use Rattle.sm_plan_text.specs.declared.fault.TextFault.TheVariants.{Shape}
@@ -29,7 +30,7 @@ use Rattle.sm_plan_text.specs.Calls.{NamedCall, call_word, word_table, call_tabl
 use Rattle.sm_plan_text.specs.Events.{EventWord}
 use Rattle.sm_plan_text.specs.Events as event_word_of
 use Rattle.sm_plan_text.specs.Events.{IsKnownEvent, event_word, event_table, event_faults, event_of, event_by, event_in}
-use Rattle.sm_plan_text.specs.Moves.{IsKnownMove, move_table, move_faults, move_in}
+use Rattle.sm_plan_text.specs.Moves.{move_table, move_faults, move_in}
 use Rattle.sm_plan_text.proofs.ServerLemmas.{names_in_push}
 use Rattle.sm_plan_text.proofs.Faultless.{nil_left, nil_right, all_entries, walked_entries, walked_front, up_to_below, number_in-le, number_is_read, text_passes, id_known, entries_within}
 use Rattle.sm_placement.proofs.SetupLemmas.{and_first, and_second}

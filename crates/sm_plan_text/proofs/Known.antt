@@ -11,6 +11,7 @@ use Rattle.sm_placement.specs.Names.{has_double}
 use Rattle.sm_placement.specs.Setup.{Setup, is_too_large, has_good_names, has_doubled_name, has_good_numbers}
 use Rattle.sm_placement.specs.Config.{config_fault}
 use Rattle.sm_plan_code.specs.Plan.{IsKnownPlan}
+use Rattle.sm_plan_code.specs.Move.{IsKnownMove}
 use Rattle.sm_plan_text.specs.declared.fault.TextFault.{TextFault}
 use Rattle.sm_plan_text.specs.declared.member.Member.TheVariants as members
 use Rattle.sm_plan_text.specs.Members.{text_of}
@@ -22,7 +23,7 @@ use Rattle.sm_plan_text.specs.Calls.{call_faults, call_in}
 use Rattle.sm_plan_text.specs.Parcels.{HaveIds}
 use Rattle.sm_plan_text.specs.Plans.{faults_within, plan_faults, plan_in}
 use Rattle.sm_plan_text.specs.Events.{IsKnownEvent, event_faults, event_in}
-use Rattle.sm_plan_text.specs.Moves.{IsKnownMove, move_faults, move_in}
+use Rattle.sm_plan_text.specs.Moves.{move_faults, move_in}
 use Rattle.sm_plan_text.specs.Documents.{document_table, document_faults, servers_in, shards_in, server_names_in, shard_names_in, setup_in, rows_in, IsDocument}
 use Rattle.sm_plan_text.proofs.Faultless.{nil_left, nil_right, walked_entries, entries_within, optional_within, names_known, id_within, number_in-le, number_or-le}
 use Rattle.sm_plan_text.proofs.FaultlessPlan.{plan_good}

@@ -6,6 +6,7 @@ use Rattle.sm_placement.specs.Opening.{NamedCell}
 use Rattle.sm_placement.specs.Rows.{IsKnownCall}
 use Rattle.sm_plan_code.specs.Plan.{PlanModel, IsKnownPlan}
 use Rattle.sm_plan_code.specs.declared.moves.Move.{Move}
+use Rattle.sm_plan_code.specs.Move.{IsKnownMove}
 use Rattle.sm_plan_text.specs.declared.fault.TextFault.{TextFault}
 use Rattle.sm_plan_text.specs.declared.member.Member.TheVariants as members
 use Rattle.sm_plan_text.specs.Values.{found, number_in, number_or, list_in, entries_in, names_in, id_named, ids_in}
@@ -16,7 +17,7 @@ use Rattle.sm_plan_text.specs.Calls.{NamedCall, call_faults, call_in}
 use Rattle.sm_plan_text.specs.Plans.{faults_within, plan_faults, plan_in}
 use Rattle.sm_plan_text.specs.declared.event.EventText.{EventText}
 use Rattle.sm_plan_text.specs.Events.{IsKnownEvent, event_faults, event_in}
-use Rattle.sm_plan_text.specs.Moves.{IsKnownMove, move_faults, move_in}
+use Rattle.sm_plan_text.specs.Moves.{move_faults, move_in}
 use Rattle.sm_plan_text.specs.declared.limits.TheConstants.{MOST_EVENTS, MOST_ASKS, LOG_PLACES}
 use Rattle.sm_plan_code.specs.declared.limits.TheConstants.{MOST_MOVES, MOST_PLACES, MOST_PLANS}
 use Rattle.sm_placement.specs.declared.limits.TheConstants.{MOST_SERVERS, MOST_SHARDS, MOST_CELLS}

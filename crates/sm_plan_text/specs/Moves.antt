@@ -1,5 +1,5 @@
 -- The moves of a document, for which a plan is to be made.
-use Rattle.std.specs.Prelude.{◌<◌, ℕ, List, [], ◌∷◌}
+use Rattle.std.specs.Prelude.{ℕ, List, [], ◌∷◌}
 use Rattle.serde_json.specs.Data.{Data}
 use Rattle.sm_plan_code.specs.declared.moves.Move.{Move}
 use Rattle.sm_plan_text.specs.declared.fault.TextFault.{TextFault}
@@ -21,9 +21,3 @@ move_faults shards servers before d = own_faults Moves (move_table shards server
 -- a move, as its object says it
 abbrev pub move_in : List (List ℕ) → List (List ℕ) → Data → Move
 move_in shards servers d = record { shard = id_in shards Shard d; from = id_in servers From d; to = id_in servers To d }
-
--- its shard and both servers are below their counts
-pub record IsKnownMove (shards servers : ℕ) (move : Move) : Type 0 where
-  pub shard : move.shard < shards
-  pub from : move.from < servers
-  pub to : move.to < servers

@@ -8,6 +8,7 @@ use Rattle.sm_placement.specs.Layout.{PlacementModel, place_of}
 use Rattle.sm_reservation.specs.Hold.{Hold}
 use Rattle.sm_reservation.specs.Pool.{PoolModel, pool_hold}
 use Rattle.sm_plan_code.specs.declared.moves.Move.{Move}
+use Rattle.sm_plan_code.specs.Move.{IsKnownMove}
 
 -- a configuration, a placement of it, and the rights that nobody has
 pub record Basis : Type 0 where
@@ -36,10 +37,8 @@ abbrev pub move_load : Setup → Move → ℕ
 move_load setup m = (sizes_of setup).load m.shard
 
 -- the shard and both servers are of the configuration
-pub record IsMoveOf (setup : Setup) (m : Move) : Type 0 where
-  pub shard : m.shard < length setup.shards
-  pub from : m.from < length setup.servers
-  pub to : m.to < length setup.servers
+abbrev pub IsMoveOf : Setup → Move → Type 0
+IsMoveOf setup m = IsKnownMove (length setup.shards) (length setup.servers) m
 
 -- the cell that a move leaves
 abbrev pub left_cell : Place → Move → Cell
