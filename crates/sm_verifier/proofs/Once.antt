@@ -49,8 +49,8 @@ one_part {T} f (x ∷ xs) e =
 
 -- ---- an instruction in a code
 
--- what an instruction that passes, or does not, adds to a count
-abbrev hit : Bool → ℕ
+-- what `count_by` adds for an element that passes, or does not
+abbrev pub hit : Bool → ℕ
 hit b = cond b 1 0
 
 bit_one : (b : Bool) → hit b ≡ 1 → b ≡ true

@@ -1,5 +1,5 @@
 -- Rows in the order of their keys: which row stands at a key, and that no key stands twice.
-use Rattle.std.proofs.Common.{◌≡◌, ◌≢◌, ℕ, zero, suc, ◌<◌, ◌≤◌, Bool, true, false, cond, Some, List, [], ◌∷◌, ◌++◌, length, get_or, refl, sym, ap, ◌∙◌, arith, inl, inr, ◌⊎◌, subst}
+use Rattle.std.proofs.Common.{◌≡◌, ◌≢◌, ℕ, zero, suc, ◌<◌, ◌≤◌, Bool, true, false, Some, List, [], ◌∷◌, ◌++◌, length, get_or, refl, sym, ap, ◌∙◌, arith, inl, inr, ◌⊎◌, subst}
 use Rattle.std.specs.Prelude.{Contains, filter, map, count_by}
 use Rattle.std.proofs.lemmas.Bool.{cases_Bool, cases_eq, both_ways}
 use Rattle.std.proofs.lemmas.List.Sums.{sum_by-cons, sum_by-append}
@@ -8,6 +8,7 @@ use Rattle.sm_reservation.specs.InOrder.{sorted}
 use Rattle.sm_reservation.proofs.Places.{same_here, same_trans, same_is, before_not_same}
 use Rattle.sm_reservation.proofs.ElementLemmas.{later, same_elements}
 use Rattle.sm_reservation.proofs.SortedRows.{sorted_permutes, sorted_rises}
+use Rattle.sm_verifier.proofs.Once.{hit}
 use Rattle.sm_planner.proofs.law.Gathered.{gathered, gathered_own, gathered_other, StandsIn, stands_left, stands_right}
 
 -- ---- elements
@@ -86,10 +87,6 @@ gathered_from class part i (suc n) x s = elim (cases_eq (class n) i) [
 ]
 
 -- ---- keys that stand once
-
--- what `count_by` adds for an element that passes, or does not
-abbrev pub hit : Bool → ℕ
-hit b = cond b 1 0
 
 -- no key stands twice
 abbrev pub IsKeyedOnce : {T : Type 0} → (T → ℕ × ℕ) → List T → Type 0
