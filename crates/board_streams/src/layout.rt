@@ -1,5 +1,6 @@
 //! The servers, the shards, and where each of them stands before a plan and after it.
-ghost use Rattle.std.specs.Prelude.{◌<◌, ◌^◌};
+ghost use Rattle.std.specs.Prelude.{◌≡◌, ◌+◌, ◌<◌, ◌^◌, IfOk};
+ghost use Rattle.sm_placement.specs.Layout.{place_of};
 
 use crate::fault::Fault;
 use sm_placement::{Config, OpenFault, Placement, Server, Shard};
@@ -40,13 +41,16 @@ pub(crate) const fn secondary_of(shard: u32) -> ServerId {
 
 /// How often the primary of each stream's shard is moved in all.
 pub(crate) const fn moves_of(shape: &Shape) -> u64
-    ensures { result < 2 ^ 34 }
+    ensures small { result < 2 ^ 34 }
+    ensures sum { result ≡ shape.now.first + shape.now.second + shape.now.third }
 {
     shape.first as u64 + shape.second as u64 + shape.third as u64
 }
 
 /// How often each stream's shard is published in all: behind each move, and twice at each of two exchanges.
-pub const fn publications_of(shape: &Shape) -> u64 {
+pub const fn publications_of(shape: &Shape) -> u64
+    ensures { result ≡ shape.now.first + shape.now.second + shape.now.third + 4 }
+{
     moves_of(shape) + 4
 }
 
@@ -186,21 +190,30 @@ impl Rows {
     }
 
     /// The placement with these rows. One server may be down at a time.
-    fn placed(&self, alloc: Global, config: &Config) -> Result<Placement, OpenFault> {
+    fn placed(&self, alloc: Global, config: &Config) -> Result<Placement, OpenFault>
+        ensures setup { IfOk result (λ placement. placement.setup ≡ config.now) }
+        ensures limit { IfOk result (λ placement. (place_of placement).limit ≡ 1) }
+    {
         let (cells, listed) = (self.cells.as_slice(), self.listed.as_slice());
         Placement::open(alloc, config, cells, listed, &[], 1)
     }
 }
 
 /// The placement that a plan of this shape starts at. One server may be down at a time.
-pub fn placement_before(alloc: Global, config: &Config, shape: &Shape) -> Result<Placement, Fault> {
+pub fn placement_before(alloc: Global, config: &Config, shape: &Shape) -> Result<Placement, Fault>
+    ensures setup { IfOk result (λ placement. placement.setup ≡ config.now) }
+    ensures limit { IfOk result (λ placement. (place_of placement).limit ≡ 1) }
+{
     let mut rows = Rows::new(alloc);
     rows.push_before(shape)?;
     Ok(rows.placed(alloc, config)?)
 }
 
 /// The placement that a plan of this shape ends at, but for the versions of the published map (`publications_of`).
-pub fn placement_after(alloc: Global, config: &Config, shape: &Shape) -> Result<Placement, Fault> {
+pub fn placement_after(alloc: Global, config: &Config, shape: &Shape) -> Result<Placement, Fault>
+    ensures setup { IfOk result (λ placement. placement.setup ≡ config.now) }
+    ensures limit { IfOk result (λ placement. (place_of placement).limit ≡ 1) }
+{
     let mut rows = Rows::new(alloc);
     rows.push_after(shape)?;
     Ok(rows.placed(alloc, config)?)
