@@ -196,7 +196,7 @@ pub fn checked_of(
 
 /// The plan was checked for the configuration.
 pub fn is_for(config: &Config, checked: &Checked) -> bool
-    ensures { IsTrue result → checked.now.setup ≡ config.now }
+    ensures { IsTrue result ↔ checked.now.setup ≡ config.now }
 {
     checked.config() == config
 }
@@ -260,8 +260,7 @@ pub fn signalled_plan(alloc: Global, retries: u32) -> Result<Checked, AllocError
 
 /// The plan is that of two streams with a signal between them, without retries.
 pub fn is_signalled(checked: &Checked) -> bool
-    ensures numbers { IsTrue result → (checked.now.plan.budget ≡ 8) × (length checked.now.plan.streams ≡ 2) × (length checked.now.plan.signals ≡ 1) × (length checked.now.order ≡ 14) }
-    ensures codes { IsTrue result → All (λ stream. length stream.code ≡ 6) checked.now.plan.streams }
+    ensures { IsTrue result ↔ (checked.now.plan.budget ≡ 8) × (length checked.now.plan.streams ≡ 2) × (length checked.now.plan.signals ≡ 1) × All (λ stream. length stream.code ≡ 6) checked.now.plan.streams × (length checked.now.order ≡ 14) }
 {
     let plan = checked.plan();
     plan.budget() == 8
