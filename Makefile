@@ -19,6 +19,7 @@ test:
 	scripts/check-layout
 	scripts/check-words
 	scripts/check-lemmas
+	scripts/check-vocabulary
 	rt ci
 	mkdir -p build
 	cp crates/smplan/out/smplan build/smplan

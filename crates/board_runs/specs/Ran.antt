@@ -1,4 +1,5 @@
 -- What is so of the placement to which a run comes.
+-- `BeginsAs` is a step of the code's own way, which private functions' contracts cite: no reader of the public ones must believe it.
 use Rattle.std.specs.Prelude.{◌≡◌, List, length}
 use Rattle.sm_placement.specs.Place.{Place}
 use Rattle.sm_plan_code.specs.Plan.{PlanModel}

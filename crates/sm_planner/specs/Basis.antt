@@ -1,5 +1,6 @@
 -- What a plan is made from, and the moves that it is to make.
-use Rattle.std.specs.Prelude.{◌<◌, ℕ, ◌||◌, Bool, List, length, slice_index_or}
+-- `basis_of` is a step of the code's own way, which private functions' contracts cite: no reader of the public ones must believe it.
+use Rattle.std.specs.Prelude.{ℕ, ◌||◌, Bool, List, length, slice_index_or}
 use Rattle.sm_server.specs.declared.call.Cell.{Cell}
 use Rattle.sm_server.specs.Cell.{is_primary, is_secondary}
 use Rattle.sm_placement.specs.Setup.{Setup, sizes_of}

@@ -1,4 +1,5 @@
 -- Laws of the rule's plans.
+-- `HasScene` is a step of the code's own way, which private functions' contracts cite: no reader of the public ones must believe it.
 use Rattle.std.specs.Prelude.{◌≡◌, ◌≢◌, ◌⊎◌, ◌<◌, ℕ, None, List, All, length}
 use Rattle.sm_server.specs.declared.call.Cell.TheVariants as cell
 use Rattle.sm_placement.specs.declared.lead.Lead.{Lead}

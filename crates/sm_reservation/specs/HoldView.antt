@@ -1,4 +1,5 @@
 -- Holds in memory: what contracts see of them.
+-- `IsHold` is what a `Hold` keeps: no reader of public contracts must believe it.
 use Rattle.std.specs.Prelude.{◌≤◌}
 use Rattle.sm_reservation.specs.Rights.{Rights}
 use Rattle.sm_reservation.specs.Key.{IsPositive, AreU64}

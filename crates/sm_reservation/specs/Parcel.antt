@@ -1,4 +1,5 @@
 -- Parcels: what contracts see of them.
+-- `IsParcel` is what a `Parcel` keeps: no reader of public contracts must believe it.
 use Rattle.sm_reservation.specs.Rights.{Rights}
 use Rattle.sm_reservation.specs.Key.{IsOrdered, IsPositive, AreU64}
 use Rattle.sm_reservation.specs.declared.parcel.Parcel.TheInside.{Inside}

@@ -1,6 +1,5 @@
--- The lowest server that is down and mentioned, found along the codes.
--- Steps of the code's own way, which private functions' contracts cite, and `first_holding`: what that finds, the law `finds_holding`
--- says without them, so that no reader of the public ones must believe them.
+-- The lowest server that is down and mentioned, found along the codes, as `first_holding` finds it. What that finds, the law `finds_holding`
+-- says without any of this.
 use Rattle.std.specs.Prelude.{ℕ, Bool, Option, Some, None, List, [], ◌∷◌, nat_lt, if◌then◌else◌}
 use Rattle.sm_plan_code.specs.declared.instruction.Instr.{Instr}
 use Rattle.sm_plan_code.specs.Instr.{names_of}
