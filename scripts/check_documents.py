@@ -1,5 +1,6 @@
 """Documents, their schema and the built program: see scripts/check-documents."""
 import copy
+import importlib.machinery
 import json
 import pathlib
 import subprocess
@@ -12,6 +13,7 @@ schema = json.loads((root / "docs/document.schema.json").read_text())
 Draft202012Validator.check_schema(schema)
 validator = Draft202012Validator(schema)
 whole = json.loads((root / "tests/documents/every-member.json").read_text())
+find_fault = importlib.machinery.SourceFileLoader("find_fault", str(root / "scripts/find-fault")).load_module()
 failed = []
 
 
@@ -52,30 +54,34 @@ def with_value(path, value):
 
 
 def broken():
-    """Documents that are each wrong in one place, with what is wrong."""
+    """Documents that are each wrong in one place: what is wrong, and where."""
     for path in objects(whole):
-        yield f"unknown member at {path}", with_value(path + ("unknown",), 0)
+        yield "unknown member", path, with_value(path + ("unknown",), 0)
     for path in members(whole):
-        yield f"no list, number or text at {path}", with_value(path, {"what": [None]})
+        yield "no list, number or text", path, with_value(path, {"what": [None]})
         value = at(whole, path)
         if isinstance(value, int) and not isinstance(value, bool):
-            yield f"negative number at {path}", with_value(path, -1)
-            yield f"fraction at {path}", with_value(path, 0.5)
-            yield f"too large a number at {path}", with_value(path, 4294967296)
+            yield "negative number", path, with_value(path, -1)
+            yield "fraction", path, with_value(path, 0.5)
+            yield "too large a number", path, with_value(path, 4294967296)
         if isinstance(value, list):
-            yield f"a null in the list at {path}", with_value(path, value + [None])
+            yield "a null in the list", path + (len(value),), with_value(path, value + [None])
     for path, limit in LIMITS:
-        yield f"number above its limit at {path}", with_value(path, limit + 1)
+        yield "number above its limit", path, with_value(path, limit + 1)
     for path, limit in LISTS:
         entry = at(whole, path)[0]
-        yield f"too long a list at {path}", with_value(path, [entry] * (limit + 1))
+        yield "too long a list", path, with_value(path, [entry] * (limit + 1))
     for path in WORDS:
-        yield f"a word that is not listed at {path}", with_value(path, "Absent ")
+        yield "a word that is not listed", path, with_value(path, "Absent ")
     for path, members_of in REQUIRED:
         for member in members_of:
             document = copy.deepcopy(whole)
             del at(document, path)[member]
-            yield f"no {member} at {path}", document
+            yield f"no {member}", path, document
+
+
+def json_path(path):
+    return "$" + "".join(f"[{key}]" if isinstance(key, int) else f".{key}" for key in path)
 
 
 OTHER_MEMBERS = ["log", "plan", "plans", "events", "moves", "drain", "asks"]
@@ -112,13 +118,14 @@ for path in examples:
         failed.append(f"the schema refuses {path.name}")
 
 count = 0
-for what, document in broken():
+for what, path, document in broken():
     count += 1
-    if validator.is_valid(document):
-        failed.append(f"the schema takes {what}")
+    places = [place for place, _ in find_fault.faults_of(document)]
+    if not places or not all(place.startswith(json_path(path)) for place in places):
+        failed.append(f"find-fault does not find {what} at {json_path(path)}, but at {places}")
     printed, status = answer(document)
     if not printed.startswith("bad input: ") or status != 2:
-        failed.append(f"the program takes {what}: {printed}, status {status}")
+        failed.append(f"the program takes {what} at {json_path(path)}: {printed}, status {status}")
 
 plain = {member: whole[member] for member in ("limit", "servers", "shards", "calls")}
 printed_of_plain = answer(plain)
