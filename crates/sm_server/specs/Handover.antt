@@ -1,8 +1,8 @@
 -- The graceful handover of a primary (Lee et al. 2021): prepared at the new server, forwarding at the old one,
 -- added at the new one, dropped at the old one.
-use Rattle.std.specs.Prelude.{◌≡◌, ◌≤◌, ℕ, true, Ok}
+use Rattle.std.specs.Prelude.{◌≡◌, ◌≤◌, ◌==◌, ℕ, true, Ok, if◌then◌else◌}
 use Rattle.sm_server.specs.declared.call.Cell.{Cell}
-use Rattle.sm_server.specs.declared.call.Cell.TheVariants.{Prepared, Primary, Forwarding}
+use Rattle.sm_server.specs.declared.call.Cell.TheVariants.{Absent, Prepared, Primary, Forwarding}
 use Rattle.sm_server.specs.declared.call.Call.{Call}
 use Rattle.sm_server.specs.declared.handover.HandoverCells.{HandoverCells}
 use Rattle.sm_server.specs.Call.{served}
@@ -11,6 +11,10 @@ use Rattle.sm_server.specs.Call.{served}
 pub record SteadyModel : Type 0 where
   pub shard : ℕ
   pub server : ℕ
+
+-- a server's cell where the primary stands at one (SM 2021): that one's is the primary's, any other has nothing of it
+abbrev pub steady_cell : SteadyModel → ℕ → Cell
+steady_cell t v = if v == t.server then Primary else Absent
 
 -- a handover under way (SM 2021): who has the primary, who is to have it, and the handover's number
 pub record HandoverModel : Type 0 where

@@ -15,17 +15,19 @@ pub struct Handed {
 }
 
 impl Model for Handed {
+    ghost use Rattle.std.specs.Prelude.{◌≢◌};
     ghost use Rattle.sm_server.specs.Handover.{HandoverModel};
 
     ghost Value = { HandoverModel };
 
     ghost view = { λ t. record { shard = t.shard; owner = t.owner; new_server = t.new_server; number = t.number } };
+
+    ghost invariant = { λ t. t.owner ≢ t.new_server };
 }
 
 impl Handed {
     ghost use Rattle.std.specs.Prelude.{◌≡◌};
-    ghost use Rattle.sm_server.specs.declared.call.Cell.TheVariants.{Absent, Primary};
-    ghost use Rattle.sm_server.specs.Handover.{handed_cells, Serves};
+    ghost use Rattle.sm_server.specs.Handover.{steady_cell, handed_cells, Serves};
 
     /// The shard whose primary is handed over.
     pub const fn shard(&self) -> ShardId
@@ -71,8 +73,8 @@ impl Handed {
     /// Ends the handover: `drop_shard` at the old owner. The primary stands at the new server.
     pub fn settle(self) -> Steady
         ensures state { result ≡ record { shard = self.shard; server = self.new_server } }
-        ensures at_owner { Serves (handed_cells self).owner Call.Drop Absent }
-        ensures at_new_server { (handed_cells self).new_server ≡ Primary }
+        ensures at_owner { Serves (handed_cells self).owner Call.Drop (steady_cell result self.owner) }
+        ensures at_new_server { steady_cell result self.new_server ≡ (handed_cells self).new_server }
     {
         let Handed {
             shard,

@@ -15,11 +15,14 @@ pub struct Handing {
 }
 
 impl Model for Handing {
+    ghost use Rattle.std.specs.Prelude.{◌≢◌};
     ghost use Rattle.sm_server.specs.Handover.{HandoverModel};
 
     ghost Value = { HandoverModel };
 
     ghost view = { λ t. record { shard = t.shard; owner = t.owner; new_server = t.new_server; number = t.number } };
+
+    ghost invariant = { λ t. t.owner ≢ t.new_server };
 }
 
 impl Handing {

@@ -15,17 +15,19 @@ pub struct Ready {
 }
 
 impl Model for Ready {
+    ghost use Rattle.std.specs.Prelude.{◌≢◌};
     ghost use Rattle.sm_server.specs.Handover.{HandoverModel};
 
     ghost Value = { HandoverModel };
 
     ghost view = { λ t. record { shard = t.shard; owner = t.owner; new_server = t.new_server; number = t.number } };
+
+    ghost invariant = { λ t. t.owner ≢ t.new_server };
 }
 
 impl Ready {
     ghost use Rattle.std.specs.Prelude.{◌≡◌};
-    ghost use Rattle.sm_server.specs.declared.call.Cell.TheVariants.{Absent, Primary};
-    ghost use Rattle.sm_server.specs.Handover.{ready_cells, handing_cells, Serves};
+    ghost use Rattle.sm_server.specs.Handover.{steady_cell, ready_cells, handing_cells, Serves};
 
     /// The shard whose primary is handed over.
     pub const fn shard(&self) -> ShardId
@@ -71,8 +73,8 @@ impl Ready {
     /// Gives the handover up: `drop_shard` at the new server. The owner stays the primary.
     pub fn cancel(self) -> Steady
         ensures state { result ≡ record { shard = self.shard; server = self.owner } }
-        ensures at_owner { (ready_cells self).owner ≡ Primary }
-        ensures at_new_server { Serves (ready_cells self).new_server Call.Drop Absent }
+        ensures at_owner { steady_cell result self.owner ≡ (ready_cells self).owner }
+        ensures at_new_server { Serves (ready_cells self).new_server Call.Drop (steady_cell result self.new_server) }
     {
         let Ready { shard, owner, .. } = self;
         Steady {

@@ -22,8 +22,7 @@ impl Model for Steady {
 
 impl Steady {
     ghost use Rattle.std.specs.Prelude.{◌≡◌, ◌≢◌};
-    ghost use Rattle.sm_server.specs.declared.call.Cell.TheVariants.{Absent, Primary};
-    ghost use Rattle.sm_server.specs.Handover.{ready_cells, Serves};
+    ghost use Rattle.sm_server.specs.Handover.{steady_cell, ready_cells, Serves};
 
     /// The shard's primary stands at the server.
     pub const fn new(shard: ShardId, server: ServerId) -> Self
@@ -48,7 +47,7 @@ impl Steady {
 
     /// The cell of the one server. Any other server has nothing of the primary.
     pub const fn cells(&self) -> Cell
-        ensures { result ≡ Primary }
+        ensures { result ≡ steady_cell self.now self.now.server }
     {
         Cell::Primary
     }
@@ -62,8 +61,11 @@ impl Steady {
           new_server = new_server;
           number = number;
         } }
-        ensures at_owner { (ready_cells result).owner ≡ Primary }
-        ensures at_new_server { Serves Absent (Call.PrepareAdd self.server number) (ready_cells result).new_server }
+        ensures at_owner { (ready_cells result).owner ≡ steady_cell self result.owner }
+        ensures at_new_server { Serves
+            (steady_cell self result.new_server)
+            (Call.PrepareAdd self.server number)
+            (ready_cells result).new_server }
     {
         let Steady { shard, server } = self;
         Ready {
