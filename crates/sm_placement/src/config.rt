@@ -1,5 +1,5 @@
 //! The servers and shards that placements are of.
-ghost use Rattle.std.specs.Prelude.{◌≡◌, ◌≢◌, ◌≤◌, ◌<◌, ◌-◌, ◌++◌, ◌∷◌, ◌&&◌, [], not, map, Some, None, length, position, string_bytes, is_none, IsTrue, IfOk, OnOk, IfErr, IfSome};
+ghost use Rattle.std.specs.Prelude.{◌≡◌, ◌≢◌, ◌≤◌, ◌<◌, ◌-◌, ◌++◌, ◌∷◌, ◌&&◌, [], true, false, not, map, Some, None, length, position, string_bytes, is_none, IsTrue, IfOk, OnOk, IfErr, IfSome};
 ghost use Rattle.std.specs.List.{list_any, list_all};
 ghost use Rattle.std.specs.Cmp.Lexicographic.{pointwise};
 ghost use Rattle.std.specs.Str.{bytes_eq};
@@ -352,6 +352,7 @@ impl Config {
         ensures ok { IfOk result (λ config. config ≡ setup_of servers.now shards.now) }
         ensures valid { OnOk result (config_fault (setup_of servers.now shards.now) ≡ None) }
         ensures refused { IfErr result (λ why. why ≢ ConfigFault.NoMemory → config_fault (setup_of servers.now shards.now) ≡ Some why) }
+        ensures early { IfErr result (λ why. why ≡ ConfigFault.NoMemory → (is_too_large (setup_of servers.now shards.now) ≡ false) × (has_good_names (setup_of servers.now shards.now) ≡ true)) }
     {
         if is_too_large(servers, shards) {
             return Err(ConfigFault::TooMany);

@@ -6,7 +6,7 @@ ghost use Rattle.sm_placement.specs.Setup.{sizes_of};
 ghost use Rattle.sm_placement.specs.Sums.{bit, first_from};
 ghost use Rattle.sm_placement.specs.Layout.{grid_of, entries_of, place_of};
 ghost use Rattle.sm_placement.specs.Grid.{cells_of, lasts_of, down_of};
-ghost use Rattle.sm_placement.specs.Opening.{is_of, is_unknown, is_unknown_cell, AreKnown, IsNamedOnce, first_below, double_of, is_handing, lead_cells, put_all, cell_named, opened_place, has_bad_lead, first_fault, list_faults, standing_faults, open_fault, unpublished};
+ghost use Rattle.sm_placement.specs.Opening.{is_of, is_unknown, is_unknown_cell, AreKnown, IsNamedOnce, first_below, double_of, is_handing, lead_cells, put_all, cell_named, opened_place, has_bad_lead, is_wrong_size, has_unknown_id, first_fault, list_faults, standing_faults, open_fault, unpublished};
 
 use crate::config::Config;
 use crate::faults;
@@ -286,6 +286,7 @@ fn check_lists(
 ) -> Result<(), OpenFault>
     ensures ok { OnOk result (first_fault (list_faults (sizes_of config.now) (record { cells = cells.now; listed = listed.now; down = down.now; limit = limit })) ≡ None) }
     ensures refused { IfErr result (λ why. why ≢ OpenFault.NoMemory → first_fault (list_faults (sizes_of config.now) (record { cells = cells.now; listed = listed.now; down = down.now; limit = limit })) ≡ Some why) }
+    ensures early { IfErr result (λ why. why ≡ OpenFault.NoMemory → (is_wrong_size (sizes_of config.now) (record { cells = cells.now; listed = listed.now; down = down.now; limit = limit }) ≡ false) × (has_unknown_id (sizes_of config.now) (record { cells = cells.now; listed = listed.now; down = down.now; limit = limit }) ≡ false)) }
 {
     if cells.len() > MOST_CELLS || listed.len() != config.shard_count() as usize {
         return Err(OpenFault::TooMany);
@@ -354,7 +355,7 @@ impl Placement {
 
     /// A placement with these cells, listed servers and servers down, and no other cell. A refusal is the first that
     /// applies in the order of the faults, and of one fault that of the lowest shard, then server; want of memory may
-    /// stand before any other.
+    /// stand before any other, but for `TooMany` and `UnknownName`.
     pub fn open(
         alloc: Global,
         config: &Config,
@@ -368,6 +369,7 @@ impl Placement {
         ensures valid { OnOk result (open_fault (sizes_of config.now) (record { cells = cells.now; listed = listed.now; down = down.now; limit = limit }) ≡ None) }
         ensures settled { IfOk result (λ p. IsSettled (sizes_of config.now) (place_of p)) }
         ensures refused { IfErr result (λ why. why ≢ OpenFault.NoMemory → open_fault (sizes_of config.now) (record { cells = cells.now; listed = listed.now; down = down.now; limit = limit }) ≡ Some why) }
+        ensures early { IfErr result (λ why. why ≡ OpenFault.NoMemory → (is_wrong_size (sizes_of config.now) (record { cells = cells.now; listed = listed.now; down = down.now; limit = limit }) ≡ false) × (has_unknown_id (sizes_of config.now) (record { cells = cells.now; listed = listed.now; down = down.now; limit = limit }) ≡ false)) }
     {
         check_lists(alloc, config, cells, listed, down, limit)?;
         let table = placed(alloc, config, cells, down)?;
