@@ -1,5 +1,5 @@
 //! Grants: rights that must be spent.
-ghost use Rattle.std.specs.Prelude.{◌≡◌, ◌↔◌, ◌+◌, IsTrue, ℕ, None, Some, max, IfOk, OnOk, IfErr, OnErr};
+ghost use Rattle.std.specs.Prelude.{◌≡◌, ◌↔◌, ◌+◌, ◌≤◌, IsTrue, ℕ, None, Some, max, IsOk, IfOk, OnOk, IfErr, OnErr};
 ghost use Rattle.sm_reservation.specs.Rights.{no_rights};
 ghost use Rattle.sm_reservation.specs.Hold.{minus, plus};
 ghost use Rattle.sm_reservation.specs.HoldOf.{hold_of};
@@ -111,6 +111,7 @@ impl Grant {
         ensures rights { self.new.rights ≡ self.old.rights }
         ensures ok { OnOk result (self.new.capacity ≡ max self.old.capacity capacity) }
         ensures err { OnErr result (self.new.capacity ≡ self.old.capacity) }
+        ensures there { capacity ≤ self.old.capacity → IsOk result }
     {
         self.hold.reserve(capacity)
     }

@@ -1,7 +1,7 @@
 //! Holds: rights that are read and changed by their keys.
 #![tactic(auto, unfolding(crate::specs::HoldOf::hold_of))]
 
-ghost use Rattle.std.specs.Prelude.{◌≡◌, ◌↔◌, IsTrue, ◌+◌, ◌<◌, ◌≤◌, ◌==◌, ◌&&◌, ◌^◌, None, Some, nat_lt, is_none, is_some, max, IfOk, OnOk, OnErr, length};
+ghost use Rattle.std.specs.Prelude.{◌≡◌, ◌↔◌, IsTrue, ◌+◌, ◌<◌, ◌≤◌, ◌==◌, ◌&&◌, ◌^◌, None, Some, nat_lt, is_none, is_some, max, IsOk, IfOk, OnOk, OnErr, length};
 ghost use Rattle.sm_placement.specs.Sums.{bit};
 ghost use Rattle.sm_reservation.specs.Rights.{no_rights};
 ghost use Rattle.std.specs.List.{AllByRecursion};
@@ -112,6 +112,7 @@ impl Hold {
         ensures rights { self.new.rights ≡ self.old.rights }
         ensures ok { OnOk result (self.new.capacity ≡ max self.old.capacity capacity) }
         ensures err { OnErr result (self.new.capacity ≡ self.old.capacity) }
+        ensures there { capacity ≤ self.old.capacity → IsOk result }
     {
         let capacity = capacity as usize;
         if capacity <= self.capacity {
