@@ -24,6 +24,7 @@ pub mod TurnLemmas
 pub mod ShortLemmas
 pub mod ParcelMoves
 pub mod ParcelSums
+pub mod Spent
 pub mod Joins
 pub mod ParcelRows
 pub mod PoolLemmas

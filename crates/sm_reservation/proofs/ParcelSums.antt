@@ -91,7 +91,8 @@ apart_second s w v d = grind (arith, nat_tests)
 apart_first : (t w s v : ℕ) → t ≢ s → same (s, v) (t, w) ≡ false
 apart_first t w s v d = grind (arith, nat_tests)
 
-put_at : {A : Type 0} (f : ℕ → A) (k : ℕ) (x : A) (q : ℕ) → put f k x q ≡ cond (same (k, 0) (q, 0)) x (f q)
+-- a function changed at one number, by the test of keys
+pub put_at : {A : Type 0} (f : ℕ → A) (k : ℕ) (x : A) (q : ℕ) → put f k x q ≡ cond (same (k, 0) (q, 0)) x (f q)
 put_at f k x q = rw (same_first k q, eqb_sym k q) refl
 
 put2_at : {A : Type 0} (f : ℕ → ℕ → A) (s v : ℕ) (x : A) (t w : ℕ) → put2 f s v x t w ≡ cond (same (s, v) (t, w)) x (f t w)
@@ -111,12 +112,14 @@ worked_row key_of work x xs q here once = elim (cases_Bool (same (key_of x) q)) 
   | inr e ↦ ap (work (row_at key_of xs q)) (rw e at here) ∙ rw e refl
 ]
 
+-- a cell that the list has a row of has no right left, and others are as they were
 pub minus_cells_at : (h : Hold) (xs : List CellRight) (s v : ℕ) → (minus_cells h xs).cells s v ≡ left (plain_state_of (row_at key_of_cell xs (s, v))) (h.cells s v)
 minus_cells_at h [] s v = refl
 minus_cells_at h (x ∷ xs) s v =
     minus_cells_at (with_cell h x.shard x.server None) xs s v
     ∙ worked_row key_of_cell (λ o. left (plain_state_of o)) x xs (s, v) (put2_at h.cells x.shard x.server None s v) (λ e. left_none (plain_state_of (row_at key_of_cell xs (s, v))))
 
+-- a shard that the list has a row of has no crown left, and others are as they were
 pub minus_crowns_at : (h : Hold) (xs : List Crown) (s : ℕ) → (minus_crowns h xs).crowns s ≡ left (crown_of (row_at key_of_crown xs (s, 0))) (h.crowns s)
 minus_crowns_at h [] s = refl
 minus_crowns_at h (x ∷ xs) s =

@@ -19,6 +19,10 @@ use Rattle.sm_reservation.specs.Pool.{IsKnownHold, IsKnownRight}
 abbrev pub NoRightsAreNoHold : Type 0
 NoRightsAreNoHold = hold_of no_rights ≡ no_hold
 
+-- Rights less themselves are nothing: so a grant that was given back, or joined to another one, has nothing left.
+abbrev pub SpentIsNothing : Type 0
+SpentIsNothing = (r : Rights) → minus (hold_of r) r ≡ no_hold
+
 -- ---- what is short, and what is there
 
 -- a hold is short of nothing of a parcel exactly where it has all of it

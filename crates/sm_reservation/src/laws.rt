@@ -1,9 +1,14 @@
 //! Laws of holds, as the machine uses them.
-ghost use Rattle.sm_reservation.specs.Laws.{NoRightsAreNoHold, NotShortIsCovered, RightsStayKnown, JoinsInPlacement, CapacityByHold};
+ghost use Rattle.sm_reservation.specs.Laws.{NoRightsAreNoHold, SpentIsNothing, NotShortIsCovered, RightsStayKnown, JoinsInPlacement, CapacityByHold};
 
 /// No rights are a hold of nothing.
 pub fn no_rights_are_no_hold()
     ensures { NoRightsAreNoHold }
+{}
+
+/// A grant that was given back, or joined to another one, has nothing left: rights less themselves are nothing.
+pub fn a_spent_grant_has_nothing()
+    ensures { SpentIsNothing }
 {}
 
 /// A hold is short of nothing of a parcel exactly where it has all of it.

@@ -28,8 +28,8 @@ pub use crate::conservation::{rights_add_up, rights_keep_one_holder};
 pub use crate::grant::Grant;
 pub use crate::hold::Hold;
 pub use crate::laws::{
-    capacity_by_hold, joins_in_placement, no_rights_are_no_hold, not_short_is_covered,
-    rights_stay_known,
+    a_spent_grant_has_nothing, capacity_by_hold, joins_in_placement, no_rights_are_no_hold,
+    not_short_is_covered, rights_stay_known,
 };
 pub use crate::parcel::{Lists, Parcel, ParcelFault};
 pub use crate::pool::{Pool, TakeFault};

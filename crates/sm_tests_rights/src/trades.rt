@@ -4,9 +4,9 @@ ghost use Rattle.sm_reservation.specs.Change.{portion_rights};
 
 use super::fixture::*;
 use sm_reservation::{
-    Change, Grant, Hold, Lists, Parcel, PlainCell, Pool, Portion, Room, Spare, capacity_by_hold,
-    joins_in_placement, no_rights_are_no_hold, not_short_is_covered, rights_add_up,
-    rights_keep_one_holder, rights_stay_known,
+    Change, Grant, Hold, Lists, Parcel, PlainCell, Pool, Portion, Room, Spare,
+    a_spent_grant_has_nothing, capacity_by_hold, joins_in_placement, no_rights_are_no_hold,
+    not_short_is_covered, rights_add_up, rights_keep_one_holder, rights_stay_known,
 };
 use std::alloc::{AllocError, Global};
 use std::process::Abort;
@@ -179,6 +179,7 @@ fn laws_are_called(_rt: HostRuntime) {
     rights_add_up();
     rights_keep_one_holder();
     no_rights_are_no_hold();
+    a_spent_grant_has_nothing();
     not_short_is_covered();
     rights_stay_known();
     joins_in_placement();
