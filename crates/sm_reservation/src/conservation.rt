@@ -1,4 +1,5 @@
-//! What all calls of a pool and its grants keep, whatever their order.
+//! What all calls of a pool and its grants keep, whatever their order, but for `ClosedPool::end`: it ends grants with what
+//! they hold.
 ghost use Rattle.sm_reservation.specs.Conservation.{RightsAddUp, RightsKeepOneHolder};
 
 /// Of each right, the pool and all grants have together what they had, less what trades gave up and with what they got.
