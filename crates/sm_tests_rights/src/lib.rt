@@ -12,6 +12,8 @@ mod joins;
 #[cfg(test)]
 mod memory;
 #[cfg(test)]
+mod orders;
+#[cfg(test)]
 mod parcels;
 #[cfg(test)]
 mod pools;

@@ -1,6 +1,6 @@
 //! Parcels by example, with each expected value written out by hand.
 use super::fixture::*;
-use sm_reservation::{Key, Lead, Lists, Parcel, ParcelFault, PlainCell, StreamId};
+use sm_reservation::{Key, Lead, Lists, Parcel, ParcelFault, PlainCell};
 use sm_server::{ServerId, ShardId};
 use std::alloc::{AllocError, Global};
 use std::process::Abort;
@@ -132,34 +132,4 @@ fn the_lowest_key_that_stands_twice_is_refused(rt: HostRuntime) -> Result<(), Fa
     let shard = ShardId::new(0);
     test_double(&rt, alloc, 3, Key::Spare { shard })?;
     Ok(())
-}
-
-#[test]
-fn keys_go_by_kind_then_shard_then_server(rt: HostRuntime) {
-    let (low, high) = (1, 2);
-    let keys = [
-        Key::CellRight {
-            shard: ShardId::new(low),
-            server: ServerId::new(high),
-        },
-        Key::CellRight {
-            shard: ShardId::new(high),
-            server: ServerId::new(low),
-        },
-        Key::Crown {
-            shard: ShardId::new(low),
-        },
-        Key::Room {
-            server: ServerId::new(low),
-        },
-        Key::Spare {
-            shard: ShardId::new(low),
-        },
-    ];
-    for i in 1..keys.len() {
-        assert!(rt; keys[i - 1] < keys[i]);
-    }
-    let first = StreamId { plan: 0, stream: 9 };
-    let second = StreamId { plan: 1, stream: 0 };
-    assert!(rt; first < second);
 }
