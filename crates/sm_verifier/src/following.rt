@@ -1,5 +1,5 @@
 //! A stream followed through its code.
-ghost use Rattle.std.specs.Prelude.{◌≡◌, true, ◌≤◌, ◌<◌, ◌^◌, ◌↔◌, IsTrue, All, IfOk, IfErr, OnOk, length};
+ghost use Rattle.std.specs.Prelude.{◌≡◌, true, ◌≤◌, ◌<◌, ◌+◌, ◌^◌, ◌↔◌, IsTrue, All, IfOk, IfErr, OnOk, length};
 ghost use Rattle.sm_placement.specs.Lead.{is_at_rest};
 ghost use Rattle.sm_placement.specs.Setup.{sizes_of};
 ghost use Rattle.sm_reservation.specs.HoldOf.{hold_of};
@@ -9,7 +9,7 @@ ghost use Rattle.sm_verifier.specs.Step.{parcels_of, IsAnswer, IsAtMost, Grows};
 ghost use Rattle.sm_verifier.specs.Stream.{course, course_of, stream_at, final_hold, HasCrownsAtRest, IsGood, within_budget};
 ghost use Rattle.sm_verifier.specs.Bad.{bad_at, IsBad};
 ghost use Rattle.sm_verifier.specs.Peak.{IsPeak};
-ghost use Rattle.sm_plan_code.specs.declared.limits.TheConstants.{MOST_AMOUNT, MOST_INSTRUCTIONS};
+ghost use Rattle.sm_plan_code.specs.declared.limits.TheConstants.{MOST_RIGHTS, MOST_AMOUNT, MOST_INSTRUCTIONS};
 
 use crate::steps::{StepFault, longest_list, step};
 use sm_placement::{Config, Lead};
@@ -91,9 +91,10 @@ fn follow_one(
     requires signal { KnowsSignal (length signals.now) instr.now }
     requires small { All IsSmallParcel signals.now }
     requires amounts { IsAtMost (2 ^ 63) (hold_of hold.old.rights) }
+    requires few { hold.old.capacity + MOST_RIGHTS < 2 ^ 32 }
     ensures answer { IsAnswer result (hold_of hold.new.rights) (within_budget budget calls instr.now (after (sizes_of config.now) (parcels_of signals.now) instr.now (hold_of hold.old.rights))) }
     ensures grows { Grows MOST_AMOUNT (hold_of hold.old.rights) (hold_of hold.new.rights) }
-    ensures capacity { hold.old.capacity < 2 ^ 32 → hold.new.capacity < 2 ^ 32 }
+    ensures capacity { hold.new.capacity ≤ hold.old.capacity + MOST_RIGHTS }
 {
     if is_call(instr) && budget <= calls {
         return Err(StepFault::Refused(Why::OverBudget));
@@ -114,7 +115,7 @@ fn follow_code(
     requires small { All IsSmallParcel signals.now }
     requires short { length code.now ≤ MOST_INSTRUCTIONS }
     requires amounts { IsAtMost MOST_AMOUNT (hold_of hold.old.rights) }
-    requires capacity { hold.old.capacity < 2 ^ 32 }
+    requires capacity { hold.old.capacity ≤ MOST_RIGHTS }
     ensures good { OnOk result (IsGood (course (sizes_of config.now) signals.now budget hold.old.rights code.now)) }
     ensures hold { OnOk result (hold_of hold.new.rights ≡ final_hold (course (sizes_of config.now) signals.now budget hold.old.rights code.now)) }
     ensures peak { IfOk result (λ peak. IsPeak (course (sizes_of config.now) signals.now budget hold.old.rights code.now) peak) }

@@ -1,5 +1,5 @@
 //! One instruction of a stream, made with the hold before it.
-ghost use Rattle.std.specs.Prelude.{◌≡◌, ◌≤◌, ◌<◌, ◌^◌, ℕ, is_none, All, OnOk, OnErr, length};
+ghost use Rattle.std.specs.Prelude.{◌≡◌, ◌≤◌, ◌<◌, ◌+◌, ◌^◌, ℕ, is_none, All, OnOk, OnErr, length};
 ghost use Rattle.std.specs.List.{list_all};
 ghost use Rattle.sm_placement.specs.Setup.{sizes_of};
 ghost use Rattle.sm_reservation.specs.Rights.{Rights};
@@ -11,7 +11,7 @@ ghost use Rattle.sm_plan_code.specs.Instr.{IsOwn};
 ghost use Rattle.sm_plan_code.specs.After.{after, decided, signal_line, wait_line};
 ghost use Rattle.sm_verifier.specs.Step.{outcome, IsAnswer, HasCapacityFor, keys_added, parcels_of, IsAtMost, Grows};
 ghost use Rattle.sm_verifier.specs.Peak.{IsListing};
-ghost use Rattle.sm_plan_code.specs.declared.limits.TheConstants.{MOST_AMOUNT};
+ghost use Rattle.sm_plan_code.specs.declared.limits.TheConstants.{MOST_RIGHTS, MOST_AMOUNT};
 
 use sm_placement::Config;
 use sm_plan_code::{Instr, Why, change_of};
@@ -133,8 +133,9 @@ fn put_parcel(hold: &mut Hold, parcel: &Parcel)
 
 /// How many keys the longest list of a parcel has.
 fn longest_of(parcel: &Parcel) -> usize
+    requires small { IsSmallParcel parcel.now }
     ensures count { result ≡ most_keys parcel.now }
-    ensures bound { result < 2 ^ 63 }
+    ensures bound { result ≤ MOST_RIGHTS }
 {
     let cells = parcel.cells().len();
     let crowns = parcel.crowns().len();
@@ -145,9 +146,10 @@ fn longest_of(parcel: &Parcel) -> usize
 
 /// How many keys an instruction adds to a list at most.
 fn keys_added(signals: &[Parcel], instr: &Instr) -> usize
-    requires { KnowsSignal (length signals.now) instr.now }
+    requires signal { KnowsSignal (length signals.now) instr.now }
+    requires small { All IsSmallParcel signals.now }
     ensures count { result ≡ keys_added (parcels_of signals.now) instr.now }
-    ensures bound { result < 2 ^ 63 }
+    ensures bound { result ≤ MOST_RIGHTS }
 {
     match *instr {
         Instr::Wait { signal } => longest_of(&signals[signal as usize]),
@@ -172,15 +174,12 @@ pub(crate) fn longest_list(hold: &Hold) -> usize
 
 /// Makes capacity for `more` keys in each list.
 fn reserve(hold: &mut Hold, more: usize) -> Result<(), AllocError>
-    requires { more < 2 ^ 63 }
+    requires few { hold.old.capacity + more < 2 ^ 32 }
     ensures rights { hold.new.rights ≡ hold.old.rights }
     ensures capacity { OnOk result (HasCapacityFor more hold.new) }
-    ensures small { hold.old.capacity < 2 ^ 32 → hold.new.capacity < 2 ^ 32 }
+    ensures grows { hold.new.capacity ≤ hold.old.capacity + more }
 {
-    match u32::try_from(longest_list(hold) + more) {
-        Ok(capacity) => hold.reserve(capacity),
-        Err(_) => Err(AllocError),
-    }
+    hold.reserve((longest_list(hold) + more) as u32)
 }
 
 /// Makes an instruction with a hold that has capacity for what it adds.
@@ -203,8 +202,6 @@ fn make(config: &Config, signals: &[Parcel], instr: &Instr, hold: &mut Hold) -> 
 }
 
 /// Makes an instruction: the hold becomes the one after it. Where the instruction is not made, the rights stay as they are.
-///
-/// Memory is short for a list of 4,294,967,296 keys too.
 pub(crate) fn step(
     config: &Config,
     signals: &[Parcel],
@@ -215,10 +212,11 @@ pub(crate) fn step(
     requires signal { KnowsSignal (length signals.now) instr.now }
     requires small { All IsSmallParcel signals.now }
     requires amounts { IsAtMost (2 ^ 63) (hold_of hold.old.rights) }
+    requires few { hold.old.capacity + MOST_RIGHTS < 2 ^ 32 }
     ensures answer { IsAnswer result (hold_of hold.new.rights) (after (sizes_of config.now) (parcels_of signals.now) instr.now (hold_of hold.old.rights)) }
     ensures kept { OnErr result (hold.new.rights ≡ hold.old.rights) }
     ensures grows { Grows MOST_AMOUNT (hold_of hold.old.rights) (hold_of hold.new.rights) }
-    ensures capacity { hold.old.capacity < 2 ^ 32 → hold.new.capacity < 2 ^ 32 }
+    ensures capacity { hold.new.capacity ≤ hold.old.capacity + MOST_RIGHTS }
 {
     reserve(hold, keys_added(signals, instr))?;
     Ok(make(config, signals, instr, hold)?)

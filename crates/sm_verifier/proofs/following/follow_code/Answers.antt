@@ -32,7 +32,7 @@ loop-instr-preserved c =
       at = rw c.loop-instr.invariant.at refl;
       peak = rw top (peak_next s c.loop-instr.instr-index c.loop-instr.peak c.longest_list.result c.follow_one.new.hold.rights c.loop-instr.invariant.peak listing c.longest_list.ensures.count);
       small = omega arith;
-      capacity = c.follow_one.ensures.capacity c.loop-instr.invariant.capacity;
+      capacity = let grown = c.follow_one.ensures.capacity in let within = c.loop-instr.invariant.capacity in omega arith;
       followed = rw count followed;
     }
 
