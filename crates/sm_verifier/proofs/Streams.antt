@@ -119,7 +119,6 @@ pub first_break : (s : Course) (p : ℕ) (why : Why) → p ≤ length s.code →
 first_break s p why within made here = record {
   here = here;
   before = λ q w l. no_break s q w (slice_get s.code q) (omega arith) (made q l);
-  bad = not_good s p why here;
 }
 
 pub breaks : (s : Course) (p n : ℕ) (h : Hold) (i : Instr) (why : Why) → IsFollowed s p n h → slice_get s.code p ≡ Some i → within_budget s.budget n i (said_of s i h) ≡ Err why → IsFirstBreak s p why

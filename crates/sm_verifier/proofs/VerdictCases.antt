@@ -15,6 +15,7 @@ use Rattle.sm_verifier.specs.Stream.{stream_at, IsFirstBreak}
 use Rattle.sm_verifier.specs.Plan.{KeepsBudget, AreUsedOnce, AreGood, IsSound, IsOverBudget, IsFirstMisused, IsFirstBad, IsFault}
 use Rattle.sm_verifier.specs.Admission.{IsTrueAt, IsFreeAt, HasDeclaredRoom, HasDeclaredSpare, IsUpWhereMentioned, IsAdmitted, IsHolding}
 use Rattle.sm_verifier.specs.Verdict.{IsSameFault}
+use Rattle.sm_verifier.proofs.Streams.{not_good}
 use Rattle.sm_verifier.proofs.Verdicts.{one_lowest, one_first, one_break, one_stuck}
 
 -- ---- faults of one kind
@@ -33,7 +34,7 @@ misused_not_once plan k posted awaited first once = first.here (once k first.sig
 
 -- where a stream breaks off, not all are good
 bad_not_good : (c : Sizes) (plan : PlanModel) (i at : ℕ) (why : Why) → IsFirstBad c plan i at why → ¬ AreGood c plan (length plan.streams)
-bad_not_good c plan i at why first good = first.here.bad (good i first.stream)
+bad_not_good c plan i at why first good = not_good (stream_at c plan i) at why first.here.here (good i first.stream)
 
 -- the lowest misused signal is one, with its counts
 one_misused : (plan : PlanModel) (j p a k q b : ℕ) → IsFirstMisused plan j p a → IsFirstMisused plan k q b → SignalNotOnce j p a ≡ SignalNotOnce k q b
@@ -50,8 +51,8 @@ one_bad : (c : Sizes) (plan : PlanModel) (i p : ℕ) (v : Why) (j q : ℕ) (w : 
 one_bad c plan i p v j q w f g = elim (cases_order i j) [
   | inl same ↦ let both = one_break (stream_at c plan j) p q v w (subst (λ (n : ℕ). IsFirstBreak (stream_at c plan n) p v) same f.here) g.here in let at = both.0 in let why = both.1 in cc
   | inr apart ↦ elim apart [
-    | inl less ↦ absurd (f.here.bad (g.lower i less))
-    | inr more ↦ absurd (g.here.bad (f.lower j more))
+    | inl less ↦ absurd (not_good (stream_at c plan i) p v f.here.here (g.lower i less))
+    | inr more ↦ absurd (not_good (stream_at c plan j) q w g.here.here (f.lower j more))
   ]
 ]
 

@@ -78,8 +78,7 @@ BreaksBy s p None why = (p ≡ length s.code) × (why ≡ Unsettled) × ¬ HasCr
 abbrev pub BreaksAt : Course → ℕ → Why → Type 0
 BreaksAt s p why = BreaksBy s p (slice_get s.code p) why
 
--- The stream isn't good: it breaks off at this position, and at none before it.
+-- The stream breaks off at this position, and at none before it.
 pub record IsFirstBreak (s : Course) (p : ℕ) (why : Why) : Type 0 where
   pub here : BreaksAt s p why
   pub before : (q : ℕ) (w : Why) → q < p → ¬ BreaksAt s q w
-  pub bad : ¬ IsGood s
