@@ -1,26 +1,17 @@
 -- The numbers of calls that have their effect along a list of events: none is there twice.
-use Rattle.sm_protocol.proofs.Below.{◌≡◌, ◌≢◌, ◌⊎◌, ℕ, ◌+◌, ◌<◌, ◌≤◌, Bool, true, false, Ok, refl, sym, ap, ◌∙◌, inl, inr, arith, subst, List, [], ◌∷◌, ◌++◌, ◌==◌, nat_lt, if◌then◌else◌, count_by, cases_Bool, cases_eq, eq-eqb, ne_eqb, eqb-true, lt-ltb, le-ltb, sum_by-cons, bit, sizes_of, CallEffect, StreamId, ServerCall, Instr}
-use Rattle.sm_protocol.proofs.Words.{Passage, State, Progress, opened, progress_of, set_progress, call_number, number_after_try, tried_more, behind_call, ahead_of_call, Happening, Step, Lose, happens, AllFit, EffectsOnce, effect_numbers, effect_numbers_at, effect_of_stream}
+use Rattle.sm_protocol.proofs.Below.{◌≡◌, ◌≢◌, ◌⊎◌, ℕ, ◌+◌, ◌<◌, ◌≤◌, Bool, true, false, Ok, refl, sym, ap, ◌∙◌, inl, inr, arith, subst, List, [], ◌∷◌, ◌++◌, ◌==◌, nat_lt, if◌then◌else◌, count_by, Contains, Contains-append_cases, Contains-push_cases, cases_Bool, cases_eq, eq-eqb, ne_eqb, eqb-true, lt-ltb, le-ltb, sum_by-cons, bit, CallEffect, StreamId, ServerCall, Instr}
+use Rattle.sm_protocol.proofs.Words.{Passage, State, Progress, progress_of, set_progress, call_number, number_after_try, tried_more, behind_call, ahead_of_call, Happening, Step, Lose, happens, run, AllFit, EffectsOnce, HasEffectOnce, IsSpent, effect_numbers, effect_numbers_at, effect_of_stream}
 use Rattle.sm_protocol.proofs.Invariant.{IsKept, code_of}
 use Rattle.sm_protocol.proofs.Numbers.{one_stream, goes_on, IsTryNumber, is_try_number}
 use Rattle.sm_protocol.proofs.Tries.{by_answer}
 use Rattle.sm_protocol.proofs.Cases.{OfSteps, IsTry, answer_to, of_happens}
 use Rattle.sm_protocol.proofs.Reached.{same_machine}
-use Rattle.sm_protocol.proofs.Starts.{open_keeps}
-use Rattle.sm_protocol.proofs.Whole.{happens_keeps}
-
--- no call has its first effect under the number any more: it was used, and a call under way under it has had its effect
-pub record IsSpent (next : ℕ) (x : StreamId → Progress) (n : ℕ) : Type 0 where
-  pub used : n < next
-  pub had : (id : StreamId) → (x id).pending ≡ n → n ≢ 0 → (x id).ahead ≡ true
-
-abbrev pub IsSpentAt : State → ℕ → Type 0
-IsSpentAt w n = IsSpent w.next_number (progress_of w) n
+use Rattle.sm_protocol.proofs.Whole.{happens_keeps, reached_keeps}
 
 -- What an event makes of spent numbers: they are spent still, and one that has its effect now wasn't spent and is now.
 pub record SpendsOnce (w new : State) (numbers : List ℕ) : Type 0 where
-  pub still : (n : ℕ) → IsSpentAt w n → IsSpentAt new n
-  pub now : (numbers ≡ []) ⊎ ((n : ℕ) × (numbers ≡ n ∷ []) × (IsSpentAt w n → ⊥) × IsSpentAt new n)
+  pub still : (n : ℕ) → IsSpent w n → IsSpent new n
+  pub now : (numbers ≡ []) ⊎ ((n : ℕ) × (numbers ≡ n ∷ []) × (IsSpent w n → ⊥) × IsSpent new n)
 
 none_between : (w : State) (id : StreamId) (new : State) → (progress_of new id).effects ≡ (progress_of w id).effects → effect_of_stream w id new ≡ []
 none_between w id new e =
@@ -45,7 +36,7 @@ module _ (w : State) (v : IsKept w) where
     others : (a : StreamId) → a ≢ id → progress_of new a ≡ progress_of w a
     others a e = ap (λ (f : StreamId → Progress). f a) g ∙ (goes_on w id y).others a e
 
-    still_by : w.next_number ≤ new.next_number → ((n : ℕ) → IsSpentAt w n → y.pending ≡ n → n ≢ 0 → y.ahead ≡ true) → (n : ℕ) → IsSpentAt w n → IsSpentAt new n
+    still_by : w.next_number ≤ new.next_number → ((n : ℕ) → IsSpent w n → y.pending ≡ n → n ≢ 0 → y.ahead ≡ true) → (n : ℕ) → IsSpent w n → IsSpent new n
     still_by next own n s = record {
       used = let a = s.used in omega arith;
       had = λ a e z. elim (one_stream a id) [
@@ -55,7 +46,7 @@ module _ (w : State) (v : IsKept w) where
     }
 
     -- without an effect
-    quiet : w.next_number ≤ new.next_number → y.effects ≡ (progress_of w id).effects → ((n : ℕ) → IsSpentAt w n → y.pending ≡ n → n ≢ 0 → y.ahead ≡ true) → SpendsOnce w new (effect_of_stream w id new)
+    quiet : w.next_number ≤ new.next_number → y.effects ≡ (progress_of w id).effects → ((n : ℕ) → IsSpent w n → y.pending ≡ n → n ≢ 0 → y.ahead ≡ true) → SpendsOnce w new (effect_of_stream w id new)
     quiet next e own = record { still = still_by next own; now = inl (none_between w id new (ap (λ b. b.effects) here ∙ e)) }
 
     number : IsTryNumber w.place.last w.next_number (code_of w) (progress_of w) v.numbered id
@@ -85,7 +76,7 @@ module _ (w : State) (v : IsKept w) where
           );
         }
       where
-        unspent : IsSpentAt w (call_number w (progress_of w id)) → ⊥
+        unspent : IsSpent w (call_number w (progress_of w id)) → ⊥
         unspent s = elim (cases_eq (progress_of w id).pending 0) [
           | inl z ↦ let m : call_number w (progress_of w id) ≡ w.next_number = rw (eq-eqb (progress_of w id).pending 0 z) refl in let u = s.used in absurd (omega arith)
           | inr z ↦
@@ -95,7 +86,7 @@ module _ (w : State) (v : IsKept w) where
 
   -- ---- steps
 
-  spent_still : (n : ℕ) (id : StreamId) (y : Progress) → y.pending ≡ (progress_of w id).pending → y.ahead ≡ (progress_of w id).ahead → IsSpentAt w n → y.pending ≡ n → n ≢ 0 → y.ahead ≡ true
+  spent_still : (n : ℕ) (id : StreamId) (y : Progress) → y.pending ≡ (progress_of w id).pending → y.ahead ≡ (progress_of w id).ahead → IsSpent w n → y.pending ≡ n → n ≢ 0 → y.ahead ≡ true
   spent_still n id y p a s e z = a ∙ s.had id (sym p ∙ e) z
 
   -- nothing happens
@@ -193,7 +184,7 @@ times_cons : (n x : ℕ) (xs : List ℕ) → times n (x ∷ xs) ≡ one_if (x ==
 times_cons n x xs = sum_by-cons (λ m. one_if (m == n)) x xs
 
 -- a spent number has its effect no more
-none_more : (w : State) (v : IsKept w) (es : List Happening) (n : ℕ) → AllFit w.sizes es → IsSpentAt w n → times n (effect_numbers es w) ≡ 0
+none_more : (w : State) (v : IsKept w) (es : List Happening) (n : ℕ) → AllFit w.sizes es → IsSpent w n → times n (effect_numbers es w) ≡ 0
 none_more w v [] n all s = refl
 none_more w v (e ∷ es) n all s =
     let k = happens_keeps w v e all.0 in
@@ -202,14 +193,19 @@ none_more w v (e ∷ es) n all s =
     elim x.now [
       | inl none ↦ ap (λ l. times n (l ++ effect_numbers es (happens w e).1)) none ∙ rest
       | inr one ↦
-          let other : one_if (one.0 == n) ≡ 0 = ap one_if (ne_eqb one.0 n (λ q. one.2 (subst (IsSpentAt w) (sym q) s))) in
+          let other : one_if (one.0 == n) ≡ 0 = ap one_if (ne_eqb one.0 n (λ q. one.2 (subst (IsSpent w) (sym q) s))) in
           let all : times n (effect_numbers_at w e ++ effect_numbers es (happens w e).1) ≡ times n (one.0 ∷ effect_numbers es (happens w e).1) = ap (λ l. times n (l ++ effect_numbers es (happens w e).1)) one.1 in
           let parts = times_cons n one.0 (effect_numbers es (happens w e).1) in
           omega arith
     ]
 
--- from each state that keeps the invariant, no number has its effect twice along a list of events
-pub one_at_most : (w : State) (v : IsKept w) (es : List Happening) (n : ℕ) → AllFit w.sizes es → times n (effect_numbers es w) ≤ 1
+-- and it is spent still
+still_spent : (w : State) (v : IsKept w) (es : List Happening) (n : ℕ) → AllFit w.sizes es → IsSpent w n → IsSpent (run es w) n
+still_spent w v [] n all s = s
+still_spent w v (e ∷ es) n all s = still_spent (happens w e).1 (happens_keeps w v e all.0).1 es n (subst (λ c. AllFit c es) (sym (same_machine w e).sizes) all.1) ((spends_once w v e).still n s)
+
+-- no number has its effect twice along a list of events
+one_at_most : (w : State) (v : IsKept w) (es : List Happening) (n : ℕ) → AllFit w.sizes es → times n (effect_numbers es w) ≤ 1
 one_at_most w v [] n all = omega arith
 one_at_most w v (e ∷ es) n all =
     let k = happens_keeps w v e all.0 in
@@ -223,13 +219,38 @@ one_at_most w v (e ∷ es) n all =
           let parts = times_cons n one.0 (effect_numbers es (happens w e).1) in
           elim (cases_Bool (one.0 == n)) [
             | inl same ↦
-                let last = none_more (happens w e).1 k.1 es n fits (subst (IsSpentAt (happens w e).1) (eqb-true one.0 n same) one.3) in
+                let last = none_more (happens w e).1 k.1 es n fits (subst (IsSpent (happens w e).1) (eqb-true one.0 n same) one.3) in
                 let one_is : one_if (one.0 == n) ≡ 1 = ap one_if same in
                 omega arith
             | inr other ↦ let none_is : one_if (one.0 == n) ≡ 0 = ap one_if other in omega arith
           ]
     ]
 
--- no number has its effect twice
+-- what is in no list, and what is alone in one
+in_none : (n : ℕ) → Contains {X = ℕ} [] n → ⊥
+in_none n c = let l = c.1 in absurd (omega arith)
+
+in_one : (x n : ℕ) → Contains (x ∷ []) n → x ≡ n
+in_one x n c = elim (Contains-push_cases [] x n c) [ inl none ↦ absurd (in_none n none) | inr same ↦ same ]
+
+-- a number that has its effect along the list is spent afterwards
+then_spent : (w : State) (v : IsKept w) (es : List Happening) (n : ℕ) → AllFit w.sizes es → Contains (effect_numbers es w) n → IsSpent (run es w) n
+then_spent w v [] n all c = absurd (in_none n c)
+then_spent w v (e ∷ es) n all c =
+    let k = happens_keeps w v e all.0 in
+    let fits = subst (λ c. AllFit c es) (sym (same_machine w e).sizes) all.1 in
+    elim (Contains-append_cases (effect_numbers_at w e) (effect_numbers es (happens w e).1) n c) [
+      | inl here ↦ still_spent (happens w e).1 k.1 es n fits (elim (spends_once w v e).now [
+        | inl none ↦ absurd (in_none n (subst (λ l. Contains l n) none here))
+        | inr one ↦ subst (IsSpent (happens w e).1) (in_one one.0 n (subst (λ l. Contains l n) one.1 here)) one.3
+      ])
+      | inr later ↦ then_spent (happens w e).1 k.1 es n fits later
+    ]
+
+-- from each state that keeps the invariant, a number has its effect once at most, and is spent then
+pub effect_once : (w : State) (v : IsKept w) (es : List Happening) (n : ℕ) → AllFit w.sizes es → HasEffectOnce w es n
+effect_once w v es n all = record { once = one_at_most w v es n all; unspent = none_more w v es n all; still = still_spent w v es n all; spent = then_spent w v es n all }
+
+-- and so from each state that events lead to
 pub effects_once : EffectsOnce
-effects_once setup p room es n o all = one_at_most (opened (sizes_of setup) p room) (open_keeps setup p room o) es n all
+effects_once setup w es n reached all = let kept = reached_keeps setup w reached in effect_once w kept.0 es n (subst (λ c. AllFit c es) (sym kept.1) all)

@@ -96,10 +96,22 @@ abbrev pub effect_numbers : List Happening → State → List ℕ
 effect_numbers [] w = []
 effect_numbers (e ∷ es) w = effect_numbers_at w e ++ effect_numbers es (happens w e).1
 
--- no number has its effect twice along a list of events
+-- no call can have its first effect under the number any more: it was given, and a call under way under it has had its effect
+pub record IsSpent (w : State) (n : ℕ) : Type 0 where
+  pub used : n < w.next_number
+  pub had : (id : StreamId) → (progress_of w id).pending ≡ n → n ≢ 0 → (progress_of w id).ahead ≡ true
+
+-- Along a list of events the number has its effect once at most, and never where it is spent before. It is spent afterwards
+-- where it was before, or where it has its effect along the list: so along no later list it has its effect again.
+pub record HasEffectOnce (w : State) (es : List Happening) (n : ℕ) : Type 0 where
+  pub once : count_by (λ m. m == n) (effect_numbers es w) ≤ 1
+  pub unspent : IsSpent w n → count_by (λ m. m == n) (effect_numbers es w) ≡ 0
+  pub still : IsSpent w n → IsSpent (run es w) n
+  pub spent : Contains (effect_numbers es w) n → IsSpent (run es w) n
+
+-- no number of a call has its effect twice, neither along one list of events nor along lists one after the other
 abbrev pub EffectsOnce : Type 0
-EffectsOnce = (setup : Setup) (p : Place) (room : ℕ) (es : List Happening) (n : ℕ) → IsOpening setup p room → AllFit (sizes_of setup) es →
-    count_by (λ m. m == n) (effect_numbers es (opened (sizes_of setup) p room)) ≤ 1
+EffectsOnce = (setup : Setup) (w : State) (es : List Happening) (n : ℕ) → IsReached setup w → AllFit (sizes_of setup) es → HasEffectOnce w es n
 
 -- the answer spends a ticket of this place of the log
 abbrev pub spends_at : ℕ → Happening → Outcome → Bool
@@ -163,9 +175,9 @@ AsksNoLoss _ = Unit {0}
 abbrev pub AreChecked : Sizes → Hand → Type 0
 AreChecked c h = (place : ℕ) (plan : PlanModel) → slice_index_or h.plans place None ≡ Some plan → IsCheckedPlan c plan
 
--- What the hand gave fits, no call was refused, no number of a call had its effect twice, and after the list of events the game
--- is one like before, safe, and goes on as the law on lost calls says, or as the headline does where no unfinished stream had a
--- lost call, and none was asked for.
+-- What the hand gave fits, no call was refused, no number of a call had its effect twice, or had it before, and after the list of
+-- events the game is one like before, safe, and goes on as the law on lost calls says, or as the headline does where no unfinished
+-- stream had a lost call, and none was asked for.
 pub record IsPlayed (setup : Setup) (es : List Event) (g : Game) : Type 0 where
   pub fit : AllFit (sizes_of setup) (played_events es g)
   pub reached : IsReached setup (play es g).state
@@ -173,6 +185,11 @@ pub record IsPlayed (setup : Setup) (es : List Event) (g : Game) : Type 0 where
   pub served : AllByRecursion (λ o. o ≢ Refused) (plays es g)
   -- no number of a call has its effect twice along the events
   pub once : (m : ℕ) → count_by (λ k. k == m) (effect_numbers (played_events es g) g.state) ≤ 1
+  -- one that is spent before has none, and is spent still
+  pub unspent : (m : ℕ) → IsSpent g.state m → count_by (λ k. k == m) (effect_numbers (played_events es g) g.state) ≡ 0
+  pub still : (m : ℕ) → IsSpent g.state m → IsSpent (play es g).state m
+  -- one that has its effect is spent afterwards
+  pub spent : (m : ℕ) → Contains (effect_numbers (played_events es g) g.state) m → IsSpent (play es g).state m
   pub safe : IsSafe (play es g).state
   pub onward : SomeCanStepOrSpent (play es g).state
   pub unlost : HasNoLost g.state → AllByRecursion AsksNoLoss es → SomeCanStep (play es g).state

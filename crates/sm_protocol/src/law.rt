@@ -26,7 +26,7 @@ pub fn with_losses()
     ensures { WithLosses }
 {}
 
-/// No number of a call has its effect twice.
+/// No number of a call has its effect twice, neither along one list of events nor along lists one after the other.
 pub fn effects_once()
     ensures { EffectsOnce }
 {}
