@@ -5,7 +5,7 @@ use Rattle.sm_protocol.proofs.Reached.{run_same, reached_run}
 use Rattle.sm_protocol.proofs.Invariant.{IsKept}
 use Rattle.sm_protocol.proofs.Courses.{good, next_turn}
 use Rattle.sm_protocol.proofs.LogRoom.{has_room}
-use Rattle.sm_protocol.proofs.Whole.{happens_keeps, reached_keeps}
+use Rattle.sm_protocol.proofs.Whole.{happens_keeps, reached_keeps, run_served}
 use Rattle.sm_protocol.proofs.Safety.{is_safe}
 use Rattle.sm_protocol.proofs.Progress.{IsSpentAt, some_onward, some_can_step_or_spent}
 use Rattle.sm_protocol.proofs.Losses.{IsUnlost, all_unlost, run_unlost}
@@ -47,5 +47,9 @@ headline setup w es reached none fit losses =
     let fits : AllFit w.sizes es = subst (λ c. AllFit c es) (sym kept.1) fit in
     let after = reached_run setup es w reached fits in
     let v = (reached_keeps setup (run es w) after).0 in
-    let onward = with_losses setup (run es w) after in
-    (subst (λ c. (e : Happening) → FitsConfig c e → (happens (run es w) e).0 ≢ Refused) (run_same es w).sizes onward.0, onward.1, some_can_step (run es w) v (run_unlost w kept.0 es fits losses (all_unlost setup w reached none)))
+    let onward = with_losses setup (run es w) after in (
+      run_served es w kept.0 fits,
+      subst (λ c. (e : Happening) → FitsConfig c e → (happens (run es w) e).0 ≢ Refused) (run_same es w).sizes onward.0,
+      onward.1,
+      some_can_step (run es w) v (run_unlost w kept.0 es fits losses (all_unlost setup w reached none)),
+    )

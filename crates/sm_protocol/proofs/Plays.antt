@@ -1,11 +1,10 @@
 -- Lists of events that are played with a hand.
-use Rattle.sm_protocol.proofs.Below.{◌≡◌, ◌≢◌, ℕ, zero, suc, Bool, true, false, refl, sym, ap, subst, Option, Some, None, List, [], ◌∷◌, ◌++◌, ◌==◌, find, option_map, slice_index_or, slice_set, if◌then◌else◌, AllByRecursion, list_any, filter_map, Sizes, sizes_of, PlanModel}
+use Rattle.sm_protocol.proofs.Below.{◌≡◌, ℕ, zero, suc, Bool, true, false, refl, sym, ap, subst, Option, Some, None, List, [], ◌∷◌, ◌++◌, ◌==◌, find, option_map, slice_index_or, slice_set, if◌then◌else◌, AllByRecursion, list_any, filter_map, Sizes, sizes_of, PlanModel}
 use Rattle.sm_protocol.proofs.Words.{Event, Played, Ticket, State, Outcome, Refused, Answered, Happening, Step, Lose, Refill, PassOn, Approve, Done, Begin, happens, run, outcomes, Hand, Game, is_token, given, spends, without_first, tickets_of, hand_after, hand_by, turn_by, turn, play, plays, all_given, played_events, or_unknown, SomeCanStep, HasEffectOnce, IsReached, IsSpent, FitsConfig, AllFit, LosesNothing, NamesKnown, AsksNoLoss, AreChecked, PlaysAreRuns, PlaysAreSafe}
 use Rattle.sm_protocol.specs.declared.event.Event.TheVariants as event
 use Rattle.sm_protocol.specs.declared.event.Played.TheVariants as played
-use Rattle.sm_protocol.proofs.Reached.{same_machine, reached_run}
-use Rattle.sm_protocol.proofs.Invariant.{IsKept}
-use Rattle.sm_protocol.proofs.Whole.{happens_keeps, reached_keeps}
+use Rattle.sm_protocol.proofs.Reached.{reached_run}
+use Rattle.sm_protocol.proofs.Whole.{AreServed, reached_keeps, run_served}
 use Rattle.sm_protocol.proofs.Onward.{headline, with_losses}
 use Rattle.sm_protocol.proofs.EffectNumbers.{effect_once}
 
@@ -122,16 +121,7 @@ played_lose : (es : List Event) (g : Game) → AllByRecursion AsksNoLoss es → 
 played_lose [] g n = tt
 played_lose (e ∷ es) g n = all_so LosesNothing (given g.hand e) (all_given es (turn g e).1) (given_loses g.hand e n.0) (played_lose es (turn g e).1 n.1)
 
--- no call is refused
-abbrev AreServed : List Outcome → Type 0
-AreServed os = AllByRecursion (λ (o : Outcome). o ≢ Refused) os
-
-run_served : (es : List Happening) (w : State) → IsKept w → AllFit w.sizes es → AreServed (outcomes es w)
-run_served [] w v fit = tt
-run_served (e ∷ es) w v fit =
-    let k = happens_keeps w v e fit.0 in
-    (k.0, run_served es (happens w e).1 k.1 (subst (λ c. AllFit c es) (sym (same_machine w e).sizes) fit.1))
-
+-- events for which the hand has nothing are not refused
 unknown_served : (xs : List (Option Happening)) (os : List Outcome) → AreServed os → AreServed (or_unknown xs os)
 unknown_served [] os all = tt
 unknown_served (None ∷ xs) os all = ((λ q. cc), unknown_served xs os all)
@@ -160,5 +150,5 @@ plays_are_safe setup es g reached all known =
       spent = λ m c. subst (λ (x : State). IsSpent x m) (sym runs.0) ((effects m).spent c);
       safe = onward.1;
       onward = onward.2;
-      unlost = λ none asked. subst SomeCanStep (sym runs.0) (headline setup g.state there reached none played.0 (played_lose es g asked)).2;
+      unlost = λ none asked. subst SomeCanStep (sym runs.0) (headline setup g.state there reached none played.0 (played_lose es g asked)).3;
     }

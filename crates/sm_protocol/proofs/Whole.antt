@@ -1,10 +1,10 @@
 -- Every event keeps what holds of every state, so it holds of all that events lead to; no call is refused.
-use Rattle.sm_protocol.proofs.Below.{◌≡◌, if◌then◌else◌, Setup, sizes_of}
-use Rattle.sm_protocol.proofs.Words.{Through, LostBefore, LostAfter, State, Happening, happens, unhalted, IsReached, FitsConfig}
+use Rattle.sm_protocol.proofs.Below.{◌≡◌, ◌≢◌, sym, subst, List, [], ◌∷◌, if◌then◌else◌, AllByRecursion, Setup, sizes_of}
+use Rattle.sm_protocol.proofs.Words.{Through, LostBefore, LostAfter, State, Outcome, Refused, Happening, happens, outcomes, unhalted, IsReached, AllFit, FitsConfig}
 use Rattle.sm_protocol.proofs.Invariant.{IsKept}
 use Rattle.sm_protocol.proofs.Cases.{of_known_happens, refill_granted}
 use Rattle.sm_protocol.proofs.Keeping.{Keeps}
-use Rattle.sm_protocol.proofs.Reached.{by_events, of_opening}
+use Rattle.sm_protocol.proofs.Reached.{by_events, of_opening, same_machine}
 use Rattle.sm_protocol.proofs.Steps.{kept_by_steps}
 use Rattle.sm_protocol.proofs.Restarts.{log_keeps, refill_keeps, approve_keeps, restart_keeps}
 use Rattle.sm_protocol.proofs.Starts.{begin_keeps, open_keeps}
@@ -22,6 +22,17 @@ happens_keeps w v = of_known_happens w (λ e o. FitsConfig w.sizes e → Keeps o
   restarts = λ u f fits. ((λ h. cc), restart_keeps w v u _ f);
   starts = λ plan h f g fits. ((λ e. cc), begin_keeps w v plan fits h);
 })
+
+-- no call is refused
+abbrev pub AreServed : List Outcome → Type 0
+AreServed os = AllByRecursion (λ (o : Outcome). o ≢ Refused) os
+
+-- and so none is along a list of events
+pub run_served : (es : List Happening) (w : State) → IsKept w → AllFit w.sizes es → AreServed (outcomes es w)
+run_served [] w v fit = tt
+run_served (e ∷ es) w v fit =
+    let k = happens_keeps w v e fit.0 in
+    (k.0, run_served es (happens w e).1 k.1 (subst (λ c. AllFit c es) (sym (same_machine w e).sizes) fit.1))
 
 -- ---- all states that events lead to
 

@@ -68,12 +68,12 @@ ApprovedWhereReserved = (setup : Setup) (w : State) (v : ℕ) → IsReached setu
     ((happens w (Approve v)).0 ≡ Answered Played.Approved) ↔ IsApproved w v
 
 -- From a state in whose log no unfinished stream has a lost call, whatever list of starts of checked plans, stream steps,
--- refills, requests and restart events follows: no event that comes next has its call refused, the state is safe, and of each
--- plan that isn't done some stream can step. Each front of the list is such a list too: so this holds after each of its events,
--- and no call of them was refused.
+-- refills, requests and restart events follows: no call of it was refused, no event that comes next has its call refused, the
+-- state is safe, and of each plan that isn't done some stream can step. Each front of the list is such a list too: so this holds
+-- after each of its events.
 abbrev pub Headline : Type 0
 Headline = (setup : Setup) (w : State) (es : List Happening) → IsReached setup w → HasNoLost w → AllFit (sizes_of setup) es → AllByRecursion LosesNothing es →
-    ((e : Happening) → FitsConfig w.sizes e → (happens (run es w) e).0 ≢ Refused) × IsSafe (run es w) × SomeCanStep (run es w)
+    AllByRecursion (λ o. o ≢ Refused) (outcomes es w) × ((e : Happening) → FitsConfig w.sizes e → (happens (run es w) e).0 ≢ Refused) × IsSafe (run es w) × SomeCanStep (run es w)
 
 -- In every state that events lead to, lost calls among them: no event that comes next has its call refused, the state is
 -- safe, and of each plan that isn't done some stream can step, or one that hasn't made its end has spent its allowance.

@@ -14,8 +14,8 @@ pub fn approved_where_reserved()
 {}
 
 /// From a state in whose log no unfinished stream has a lost call, whatever list of starts of checked plans, stream steps,
-/// refills, requests and restart events follows: no call is refused, the state is safe, and of each plan that isn't done some
-/// stream can step.
+/// refills, requests and restart events follows: no call of it is refused, nor one by an event that comes next, the state is
+/// safe, and of each plan that isn't done some stream can step.
 pub fn headline()
     ensures { Headline }
 {}

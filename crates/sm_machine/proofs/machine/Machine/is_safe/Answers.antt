@@ -24,4 +24,4 @@ returns-clause-onward c =
 pub returns-clause-unlost : goal.returns-clause-unlost
 returns-clause-unlost c none =
     let g : IsWorking (whole_of c.args.self.now) = subst (λ m. IsWorking (whole_of m)) c.self.view_is c.self.invariant in
-    (headline g.setup (whole_of c.args.self.now).state [] g.reached none tt tt).2
+    (headline g.setup (whole_of c.args.self.now).state [] g.reached none tt tt).3
