@@ -1,4 +1,4 @@
--- The log keeps within its room, and tries within their allowance.
+-- The log keeps within its room, tries within their allowance, and who is down at once within the limit.
 use Rattle.sm_protocol.proofs.Below.{◌≡◌, ◌≢◌, ℕ, suc, ◌+◌, ◌<◌, ◌≤◌, true, false, not, refl, sym, ap, ◌∙◌, inl, inr, subst, arith, ◌⊎◌, Some, Result, Ok, Err, List, [], ◌∷◌, length, length-append, ◌==◌, nat_lt, if◌then◌else◌, slice_get, slice_index_or, count_by, and_parts, and_from, and_left, eqb-false, ltb-true, ltb-false, not-true, cases_lt, cases_Bool, lt-ltb, le-ltb, get_or_append_left, get_or-append_seam, Refusal, sum_below, count_below, Setup, Sizes, sizes_of, Place, CallEffect, called_numbered, numbered_answer_at, down_count, set_down, publish, StreamId, ServerCall, Instr, Signal, Wait, is_call, StreamModel, PlanModel, no_stream, Entry, Served, Call, same_sum, sum_of_both, KeepsBudget, total_budget, sum_by-below, granted, count_put, count_put_down, sum_below_le}
 use Rattle.sm_protocol.proofs.Words.{Event, Passage, Through, LostBefore, LostAfter, Played, State, Mark, Progress, Start, no_start, fresh, opened, plan_at, stream_count, stream_parts, progress_of, stream_id, is_begun, allowance, set_progress, logged, places_left, places_of, set_aside, free_places, is_no_call, pool, behind_call, ahead_of_call, tried_more, call_number, Happening, engaged, started, happens, IsOpening, IsReached, FitsConfig}
 use Rattle.sm_protocol.specs.declared.event.Event.TheVariants as event
@@ -8,12 +8,13 @@ use Rattle.sm_protocol.proofs.Reached.{by_events}
 use Rattle.sm_protocol.proofs.Places.{each_after, streams_left, left_after, no_calls_from, left_unless_done, past_no_call, past_call}
 
 -- The log has its places, used and set aside. Each stream's tries are within its allowance, nothing has happened to streams
--- that were not begun, the plans begun keep their budgets, and no unknown server is counted.
+-- that were not begun, the plans begun keep their budgets, and no more servers are down than the limit.
 pub record HasRoom (w : State) : Type 0 where
   pub room : length w.log + set_aside w ≤ w.room
   pub tries : (k i : ℕ) → (w.progress k i).tries ≤ allowance w (stream_id k i)
   pub unbegun : (k i : ℕ) → is_begun w (stream_id k i) ≡ false → w.progress k i ≡ fresh
   pub budgets : (k : ℕ) → k < length w.plans → KeepsBudget (plan_at w k)
+  pub cap : down_count w.sizes w.place ≤ w.place.limit
 
 -- ---- what was begun
 
@@ -31,10 +32,10 @@ length_logged w x a = length-append w.log (record { event = x; answer = a } ∷ 
 
 -- A stream stands otherwise, and an event is recorded: it takes a place less, and its tries are within its allowance.
 pub went_on : (w : State) (id : StreamId) (x : Progress) (p : Place) (entries : List (ℕ × Entry)) (numbers : ℕ → ℕ) (n : ℕ) (marks : ℕ → ℕ → Mark) (event : Event) (answer : Played) →
-    HasRoom w → is_begun w id ≡ true → p.down ≡ w.place.down → x.tries ≤ (stream_parts w id).budget + (stream_parts w id).retries + x.refills →
+    HasRoom w → is_begun w id ≡ true → p.limit ≡ w.place.limit → p.down ≡ w.place.down → x.tries ≤ (stream_parts w id).budget + (stream_parts w id).retries + x.refills →
     places_left (stream_parts w id) x + 1 ≤ places_left (stream_parts w id) (progress_of w id) →
     HasRoom (record w { place = p; entries = entries; numbers = numbers; next_number = n; marks = marks; progress = set_progress w id x; log = logged w event answer })
-went_on w id x p entries numbers n marks event answer h b down tries less =
+went_on w id x p entries numbers n marks event answer h b limit down tries less =
     let begun = begun_parts w id b in
     let before = places_left (stream_parts w id) (progress_of w id) in
     let after = places_left (stream_parts w id) x in
@@ -47,6 +48,7 @@ went_on w id x p entries numbers n marks event answer h b down tries less =
       tries = each_after w.progress id x (λ k i y. y.tries ≤ (stream_parts w (stream_id k i)).budget + (stream_parts w (stream_id k i)).retries + y.refills) h.tries tries;
       unbegun = each_after w.progress id x (λ k i y. is_begun w (stream_id k i) ≡ false → y ≡ fresh) h.unbegun (λ f. absurd (cc));
       budgets = h.budgets;
+      cap = let c = h.cap in omega arith;
     }
 
 -- of two answers that are one, the effects are one
@@ -96,18 +98,18 @@ room_by_steps : (w : State) (id : StreamId) (passage : Passage) → HasRoom w �
 room_by_steps w id passage h = record {
   idle = λ answer. h;
   refused = λ i x why t e. h;
-  at_end = λ b. went_on w id (record now { done = true }) w.place w.entries w.numbers w.next_number w.marks (event.Step id) played.Done h b.begun refl (h.tries id.plan id.stream) (end_less (stream_parts w id) now b.running);
-  publishes = λ i s server b c. went_on w id (record now { at = now.at + 1 }) (publish w.place s server) _ w.numbers w.next_number w.marks (event.Step id) played.Moved h b.begun refl (h.tries id.plan id.stream)
+  at_end = λ b. went_on w id (record now { done = true }) w.place w.entries w.numbers w.next_number w.marks (event.Step id) played.Done h b.begun refl refl (h.tries id.plan id.stream) (end_less (stream_parts w id) now b.running);
+  publishes = λ i s server b c. went_on w id (record now { at = now.at + 1 }) (publish w.place s server) _ w.numbers w.next_number w.marks (event.Step id) played.Moved h b.begun refl refl (h.tries id.plan id.stream)
       (no_call_less (stream_parts w id) now i b.running b.next_is c);
-  posts = λ q b. went_on w id (record now { at = now.at + 1 }) w.place w.entries w.numbers w.next_number _ (event.Step id) played.Moved h b.begun refl (h.tries id.plan id.stream)
+  posts = λ q b. went_on w id (record now { at = now.at + 1 }) w.place w.entries w.numbers w.next_number _ (event.Step id) played.Moved h b.begun refl refl (h.tries id.plan id.stream)
       (no_call_less (stream_parts w id) now (Signal q) b.running b.next_is refl);
-  awaits = λ q b e. went_on w id (record now { at = now.at + 1 }) w.place w.entries w.numbers w.next_number _ (event.Step id) played.Moved h b.begun refl (h.tries id.plan id.stream)
+  awaits = λ q b e. went_on w id (record now { at = now.at + 1 }) w.place w.entries w.numbers w.next_number _ (event.Step id) played.Moved h b.begun refl refl (h.tries id.plan id.stream)
       (no_call_less (stream_parts w id) now (Wait q) b.running b.next_is refl);
-  lost = λ i x t p. went_on w id (record (tried_more now false) { pending = call_number w now }) w.place w.entries w.numbers _ w.marks (event.Lose id false) played.Lost h t.before.begun refl (more i x t)
+  lost = λ i x t p. went_on w id (record (tried_more now false) { pending = call_number w now }) w.place w.entries w.numbers _ w.marks (event.Lose id false) played.Lost h t.before.begun refl refl (more i x t)
       (less i x t (record (tried_more now false) { pending = call_number w now }) t.before.running (inl refl) refl refl);
-  through = λ i x effect t a p. went_on w id (behind_call now effect.fresh) effect.place w.entries _ _ w.marks (event.Step id) played.Moved h t.before.begun (downs x effect a) (more i x t)
+  through = λ i x effect t a p. went_on w id (behind_call now effect.fresh) effect.place w.entries _ _ w.marks (event.Step id) played.Moved h t.before.begun (same x effect a).limit (same x effect a).down (more i x t)
       (less i x t (behind_call now effect.fresh) t.before.running (inr refl) refl refl);
-  unanswered = λ i x effect t a p. went_on w id (ahead_of_call w now effect.fresh) effect.place w.entries _ _ w.marks (event.Lose id true) played.Lost h t.before.begun (downs x effect a) (more i x t)
+  unanswered = λ i x effect t a p. went_on w id (ahead_of_call w now effect.fresh) effect.place w.entries _ _ w.marks (event.Lose id true) played.Lost h t.before.begun (same x effect a).limit (same x effect a).down (more i x t)
       (less i x t (ahead_of_call w now effect.fresh) t.before.running (inl refl) refl refl);
 }
   where
@@ -124,8 +126,8 @@ room_by_steps w id passage h = record {
         places_left (stream_parts w id) y + 1 ≤ places_left (stream_parts w id) now
     less i x t y e at refills tries = call_less (stream_parts w id) now y i t.before.running e t.before.next_is t.call at refills tries (h.tries id.plan id.stream) (spare i x t)
 
-    downs : (x : ServerCall) (effect : CallEffect) → answer_to w id x ≡ Ok effect → effect.place.down ≡ w.place.down
-    downs x effect a = (of_call w.sizes w.place x.shard x.server x.call (call_number w now) effect a).down
+    same : (x : ServerCall) (effect : CallEffect) → answer_to w id x ≡ Ok effect → IsOfCall w.place effect
+    same x effect a = of_call w.sizes w.place x.shard x.server x.call (call_number w now) effect a
 
 -- ---- other events
 
@@ -137,7 +139,7 @@ recorded_keeps : (w : State) (event : Event) (answer : Played) → HasRoom w →
 recorded_keeps w event answer h l =
     let a = free_is w 1 h l in
     let b = length_logged w event answer in
-    record { room = omega arith; tries = h.tries; unbegun = h.unbegun; budgets = h.budgets }
+    record { room = omega arith; tries = h.tries; unbegun = h.unbegun; budgets = h.budgets; cap = h.cap }
 
 -- an allowance is raised where the places are free
 refill_keeps : (w : State) (id : StreamId) (more : ℕ) (event : Event) (answer : Played) → HasRoom w → is_begun w id ≡ true → (progress_of w id).done ≡ false → more + 1 ≤ free_places w →
@@ -157,14 +159,15 @@ refill_keeps w id more event answer h b d l =
       tries = each_after w.progress id x (λ k i y. y.tries ≤ (stream_parts w (stream_id k i)).budget + (stream_parts w (stream_id k i)).retries + y.refills) h.tries (omega arith);
       unbegun = each_after w.progress id x (λ k i y. is_begun w (stream_id k i) ≡ false → y ≡ fresh) h.unbegun (λ f. absurd (cc));
       budgets = h.budgets;
+      cap = h.cap;
     }
 
-approve_keeps : (w : State) (v : ℕ) (event : Event) (answer : Played) → HasRoom w → 2 ≤ free_places w → HasRoom (record w { place = set_down w.place v true; log = logged w event answer })
-approve_keeps w v event answer h l =
+approve_keeps : (w : State) (v : ℕ) (event : Event) (answer : Played) → HasRoom w → 2 ≤ free_places w → down_count w.sizes w.place < w.place.limit → HasRoom (record w { place = set_down w.place v true; log = logged w event answer })
+approve_keeps w v event answer h l cap =
     let a = free_is w 2 h l in
     let b = length_logged w event answer in
     let d = count_put w.sizes.servers w.place.down v true in
-    record { room = omega arith; tries = h.tries; unbegun = h.unbegun; budgets = h.budgets }
+    record { room = omega arith; tries = h.tries; unbegun = h.unbegun; budgets = h.budgets; cap = omega arith }
 
 restart_keeps : (w : State) (v : ℕ) (event : Event) (answer : Played) → HasRoom w → v < w.sizes.servers → w.place.down v ≡ true →
     HasRoom (record w { place = set_down w.place v false; log = logged w event answer })
@@ -172,7 +175,7 @@ restart_keeps w v event answer h l e =
     let b = length_logged w event answer in
     let d = count_put_down w.sizes.servers w.place.down v l e in
     let r = h.room in
-    record { room = omega arith; tries = h.tries; unbegun = h.unbegun; budgets = h.budgets }
+    record { room = omega arith; tries = h.tries; unbegun = h.unbegun; budgets = h.budgets; cap = let c = h.cap in omega arith }
 
 -- ---- a start
 
@@ -240,6 +243,7 @@ start_keeps w plan h keeps l = record {
         let e : length w.plans ≡ k = omega arith in
         subst (λ j. KeepsBudget (plan_at (started w plan) j)) e (subst KeepsBudget (sym (plan_started w plan)) keeps)
   ];
+  cap = h.cap;
 }
 
 -- ---- all events
@@ -255,7 +259,7 @@ room_kept w e fits h = of_happens w (λ e o. FitsConfig w.sizes e → HasRoom o.
       refill_keeps w id more (event.Refill id more) played.Refilled h running.0 (not-true (progress_of w id).done running.1) (ltb-false (free_places w) (more + 1) a.1);
   arrives = λ s v n f. recorded_keeps w _ _ h (some_free n);
   passes_on = λ t o n f. recorded_keeps w _ _ h (some_free n);
-  approves = λ v n f. approve_keeps w v (event.Approve v) played.Approved h (granted w.sizes w.place (pool w) (engaged w v) (free_places w) v n).places;
+  approves = λ v n f. let g = granted w.sizes w.place (pool w) (engaged w v) (free_places w) v n in approve_keeps w v (event.Approve v) played.Approved h g.places g.cap;
   restarts = λ v n f. restart_keeps w v (event.Done v) played.Up h f n;
   starts = λ plan n l m f. start_keeps w plan h f.sound.budget (ltb-false (free_places w) (places_of plan) l);
 }) e fits
@@ -269,13 +273,14 @@ room_at_opening setup p room o = record {
   tries = λ k i. omega arith;
   unbegun = λ k i b. refl;
   budgets = λ k l. absurd (omega arith);
+  cap = o.settled.down;
 }
 
 -- the log and the places set aside are within the log's room
 pub has_room : (setup : Setup) (w : State) → IsReached setup w → HasRoom w
 has_room setup w reached =
     let h = by_events setup HasRoom (room_at_opening setup) (λ u e at f v. room_kept u e f v) w reached in
-    record { room = h.room; tries = h.tries; unbegun = h.unbegun; budgets = h.budgets }
+    record { room = h.room; tries = h.tries; unbegun = h.unbegun; budgets = h.budgets; cap = h.cap }
 
 -- the tries of all streams of a plan are within the plan's budget and the refills
 pub plan_tries : (w : State) → HasRoom w → (k : ℕ) → k < length w.plans →

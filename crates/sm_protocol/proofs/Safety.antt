@@ -1,4 +1,4 @@
--- The states that events lead to are safe: who serves, loads, floors, the map, and tries.
+-- The states that events lead to are safe: who serves, loads, floors, the map, who is down, and tries.
 use Rattle.sm_protocol.proofs.Below.{◌≡◌, ◌≤◌, ℕ, ◌⊎◌, true, Some, refl, sym, ap, ◌∙◌, inl, inr, subst, arith, count_by, sum_by-take-le, Cell, Forwarding, Lead, Gone, At, Ready, Handing, Handed, serves, Describes, OfSpare, StreamId, is_call, IsListable, Course, stream_at, calls_before, IsGood, leader_serves, one_serves}
 use Rattle.sm_protocol.proofs.Words.{State, plan_at, stream_parts, progress_of, is_begun, reach, IsSafePlace, IsSafe}
 use Rattle.sm_protocol.proofs.Invariant.{IsRunning, IsKept}
@@ -49,6 +49,7 @@ effects_within w v id e =
 pub is_safe : (w : State) → IsKept w → HasRoom w → IsSafe w
 is_safe w v h = record {
   place = place_safe w v;
+  cap = h.cap;
   tries = λ id e. h.tries id.plan id.stream;
   effects = effects_within w v;
   plan_tries = plan_tries w h;

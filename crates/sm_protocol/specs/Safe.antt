@@ -23,10 +23,12 @@ pub record IsApproved (w : State) (v : ℕ) : Type 0 where
       w.sizes.floor s + held w (OfSpare s) + 1 ≤ live_at w.sizes w.place s
   pub places : 2 ≤ free_places w
 
--- The placement is safe, each stream's tries are within its allowance and the calls that had their effect within its budget,
--- and the tries of all streams of a plan are within the plan's budget and the refills.
+-- The placement is safe, no more servers are down at once than the limit, each stream's tries are within its allowance and the
+-- calls that had their effect within its budget, and the tries of all streams of a plan are within the plan's budget and the
+-- refills.
 pub record IsSafe (w : State) : Type 0 where
   pub place : IsSafePlace w.sizes w.place
+  pub cap : down_count w.sizes w.place ≤ w.place.limit
   pub tries : (id : StreamId) → is_begun w id ≡ true → (progress_of w id).tries ≤ allowance w id
   pub effects : (id : StreamId) → is_begun w id ≡ true → (progress_of w id).effects ≤ (stream_parts w id).budget
   pub plan_tries : (k : ℕ) → k < length w.plans →
