@@ -1,10 +1,8 @@
 -- What the pool keeps, and restarts that keep what is reserved.
-use Rattle.sm_protocol.proofs.Below.{◌≡◌, ℕ, zero, suc, ◌+◌, ◌<◌, ◌≤◌, Bool, true, false, Option, Some, None, refl, ap, arith, length, ◌==◌, ◌&&◌, not, ne_eqb, and_parts, first_from, is_live_at, live_at, StreamId, OfSpare, Denied, denial, first_without_spare, IsGranted, granted, not_denied}
-use Rattle.sm_protocol.proofs.Words.{State, stream_id, stream_count, progress_of, is_begun, is_running, held, pool, free_places, Answered, engages, engaged, approved, Approve, happens, IsApproved, EachReached, IsConserved, ApprovedWhereReserved}
+use Rattle.sm_protocol.proofs.Below.{◌≡◌, ℕ, zero, suc, ◌+◌, ◌<◌, ◌≤◌, Bool, true, false, Option, Some, None, refl, ap, arith, inl, inr, length, slice_index_or, list_any, ◌==◌, ◌&&◌, not, ne_eqb, and_right, cases_lt, get_or_past, first_from, no_stream, StreamModel, is_live_at, live_at, StreamId, OfSpare, Denied, denial, first_without_spare, IsGranted, granted, not_denied}
+use Rattle.sm_protocol.proofs.Words.{State, Start, no_start, plan_at, stream_id, stream_count, stream_parts, progress_of, is_mentioned, held, pool, free_places, Answered, engages, engaged, approved, Approve, happens, IsApproved, EachReached, IsConserved, ApprovedWhereReserved}
 use Rattle.sm_protocol.specs.declared.event.Played.TheVariants as played
 use Rattle.sm_protocol.proofs.Invariant.{IsKept}
-use Rattle.sm_protocol.proofs.Trials.{IsBegun}
-use Rattle.sm_protocol.proofs.Keeping.{begun, is_begun_true}
 use Rattle.sm_protocol.proofs.Pools.{room_conserved, spare_conserved}
 use Rattle.sm_protocol.proofs.Restarts.{free_streams, spare_free}
 use Rattle.sm_protocol.proofs.Whole.{reached_keeps}
@@ -25,15 +23,22 @@ nothing_found f a (suc n) none = rw (none a (omega arith) (omega arith)) (nothin
 -- ---- who is engaged
 
 module _ (w : State) (u : ℕ) where
-  -- where no unfinished stream engages the server, nobody is engaged
-  nobody_engaged : ((id : StreamId) → is_running w id ≡ true → engages w u id ≡ false) → engaged w u ≡ None
-  nobody_engaged free = nothing_found _ 0 (length w.plans) (λ k a l. nothing_found _ 0 (stream_count w k) (λ i b m.
-      let e = engaged_not k i (record { plan = (omega arith); stream = (omega arith) }) (w.progress k i).done refl in
-      rw e refl))
+  -- where no stream engages the server, nobody is engaged
+  nobody_engaged : ((id : StreamId) → engages w u id ≡ false) → engaged w u ≡ None
+  nobody_engaged free = nothing_found _ 0 (length w.plans) (λ k a l. nothing_found _ 0 (stream_count w k) (λ i b m. let e = free (stream_id k i) in rw e refl))
+
+  -- and where nobody is, no stream does: one that was not begun has no code
+  nobody_engages : engaged w u ≡ None → (id : StreamId) → engages w u id ≡ false
+  nobody_engages none id = elim (cases_lt id.plan (length w.plans)) [
+    | inr past ↦ without_code (ap (λ (x : Start). slice_index_or x.plan.streams id.stream no_stream) (get_or_past w.plans id.plan no_start past))
+    | inl plan ↦ elim (cases_lt id.stream (stream_count w id.plan)) [
+      | inr past ↦ without_code (get_or_past (plan_at w id.plan).streams id.stream no_stream past)
+      | inl stream ↦ free_streams w u none id (record { plan = plan; stream = stream })
+    ]
+  ]
     where
-      engaged_not : (k i : ℕ) → IsBegun w (stream_id k i) → (t : Bool) → (w.progress k i).done ≡ t → engages w u (stream_id k i) ≡ false
-      engaged_not k i b true e = rw e refl
-      engaged_not k i b false e = free (stream_id k i) (rw (is_begun_true w (stream_id k i) b, e) refl)
+      without_code : stream_parts w id ≡ no_stream → engages w u id ≡ false
+      without_code e = and_right (not (progress_of w id).done) _ (ap (λ (x : StreamModel). list_any (is_mentioned u) x.code) e)
 
 -- ---- spare replicas
 
@@ -55,7 +60,7 @@ module _ (w : State) (v : IsKept w) (u : ℕ) where
   is_granted = IsGranted w.sizes w.place (pool w) (engaged w u) (free_places w) u
 
   granted_approved : is_granted → IsApproved w u
-  granted_approved g = record { up = g.up; free = λ id runs. free_streams w u g.free id (begun w id (and_parts (is_begun w id) (not (progress_of w id).done) runs).0); cap = g.cap; spare = spare_free w v u g.spare; places = g.places }
+  granted_approved g = record { up = g.up; free = nobody_engages w u g.free; cap = g.cap; spare = spare_free w v u g.spare; places = g.places }
 
   approved_granted : IsApproved w u → is_granted
   approved_granted a = record { up = a.up; free = nobody_engaged w u a.free; cap = a.cap; spare = free_spare a.spare; places = a.places }

@@ -1,7 +1,7 @@
 -- Accepted plans, approved restarts, safe states, and what a state goes on with.
 use Rattle.std.specs.Prelude.{◌≡◌, ◌≤◌, ◌<◌, ℕ, ◌+◌, true, false, ◌⊎◌, length}
 pub use Rattle.sm_protocol.specs.Words.{AreUp, IsSafePlace, IsServing, IsSound, OfSpare, Passage, PlanModel, Played, Right, StreamId, bound, declared_sum, down_count, is_live_at, leads_of, live_at, stock, sum_below}
-use Rattle.sm_protocol.specs.State.{State, is_running, held, free_places, stream_id, plan_at, stream_count, stream_parts, progress_of, allowance, is_begun, is_unfinished}
+use Rattle.sm_protocol.specs.State.{State, held, free_places, stream_id, plan_at, stream_count, stream_parts, progress_of, allowance, is_begun, is_unfinished}
 use Rattle.sm_protocol.specs.Steps.{Outcome, Answered, step}
 use Rattle.sm_protocol.specs.Happens.{engages}
 
@@ -17,7 +17,7 @@ pub record IsAccepted (w : State) (plan : PlanModel) : Type 0 where
 -- at it keeps its floor and what is reserved without it (SM 2021, the caps of the TaskController), and the log has two free places.
 pub record IsApproved (w : State) (v : ℕ) : Type 0 where
   pub up : w.place.down v ≡ false
-  pub free : (id : StreamId) → is_running w id ≡ true → engages w v id ≡ false
+  pub free : (id : StreamId) → engages w v id ≡ false
   pub cap : down_count w.sizes w.place < w.place.limit
   pub spare : (s : ℕ) → s < w.sizes.shards → is_live_at w.place s v ≡ true →
       w.sizes.floor s + held w (OfSpare s) + 1 ≤ live_at w.sizes w.place s
