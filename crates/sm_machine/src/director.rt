@@ -1,5 +1,5 @@
 //! A machine under one who has all rights that it gives away.
-ghost use Rattle.std.specs.Prelude.{◌≡◌, ◌≢◌, ◌≤◌, ◌<◌, ◌⊎◌, None, IfOk, OnOk, IfErr, OnErr, length, option_map, slice_index_or};
+ghost use Rattle.std.specs.Prelude.{◌≡◌, ◌≢◌, ◌≤◌, ◌<◌, ◌↔◌, ◌⊎◌, None, IfOk, OnOk, IfErr, OnErr, length, option_map, slice_index_or};
 ghost use Rattle.sm_placement.specs.Setup.{sizes_of};
 ghost use Rattle.sm_placement.specs.Place.{down_count};
 ghost use Rattle.sm_placement.specs.Layout.{place_of};
@@ -66,7 +66,7 @@ impl Director {
         ensures setup { IfOk result (λ d. d.placement.setup ≡ placement.setup) }
         ensures fits { OnOk result ((log_room ≤ MOST_PLACES) × (down_count (sizes_of placement.setup) (place_of placement) ≤ log_room)) }
         ensures back { IfErr result (λ e. e.0 ≡ placement) }
-        ensures full { IfErr result (λ e. e.1 ≡ LogFull → (MOST_PLACES < log_room) ⊎ (log_room < down_count (sizes_of placement.setup) (place_of placement))) }
+        ensures full { IfErr result (λ e. (e.1 ≡ LogFull) ↔ ((MOST_PLACES < log_room) ⊎ (log_room < down_count (sizes_of placement.setup) (place_of placement)))) }
     {
         let (machine, permits) = Machine::open(alloc, placement, log_room)?;
         close_permits(permits);

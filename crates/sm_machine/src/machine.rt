@@ -1,5 +1,5 @@
 //! Machines.
-ghost use Rattle.std.specs.Prelude.{◌≡◌, ◌≢◌, ◌≤◌, ◌<◌, ◌⊎◌, IfOk, OnOk, IfErr, OnErr, length, true, false, ◌∷◌, [], if◌then◌else◌, ◌+◌, reverse, None, slice_index_or};
+ghost use Rattle.std.specs.Prelude.{◌≡◌, ◌≢◌, ◌≤◌, ◌<◌, ◌↔◌, ◌⊎◌, IfOk, OnOk, IfErr, OnErr, length, true, false, ◌∷◌, [], if◌then◌else◌, ◌+◌, reverse, None, slice_index_or};
 ghost use Rattle.sm_placement.specs.Place.{down_count, entry_at};
 ghost use Rattle.sm_placement.specs.Lead.{IsSettled};
 ghost use Rattle.sm_protocol.specs.State.{opened, is_begun, progress_of, allowance, free_places, stream_count, plan_at};
@@ -83,7 +83,7 @@ impl Machine {
         ensures permits { IfOk result (λ r. r.1.items ≡ passing_below (place_of placement).down (length placement.setup.servers)) }
         ensures fits { OnOk result ((log_room ≤ MOST_PLACES) × (down_count (sizes_of placement.setup) (place_of placement) ≤ log_room)) }
         ensures back { IfErr result (λ e. e.0 ≡ placement) }
-        ensures full { IfErr result (λ e. e.1 ≡ LogFull → (MOST_PLACES < log_room) ⊎ (log_room < down_count (sizes_of placement.setup) (place_of placement))) }
+        ensures full { IfErr result (λ e. (e.1 ≡ LogFull) ↔ ((MOST_PLACES < log_room) ⊎ (log_room < down_count (sizes_of placement.setup) (place_of placement)))) }
     {
         let servers = placement.config().server_count();
         if log_room > MOST_PLACES || log_room < placement.down_count() {
