@@ -103,7 +103,7 @@ module _ (x : Whole) (g : IsWorking x) (p : CheckedModel) (checked : IsCheckedPl
       -- each stream can take what it declares
       pub can_fill_all : CanFillAll (begun_of p 0) x.pool
       can_fill_all i l =
-          let a = can_fill g.setup w g.reached p.plan checked admitted i l (empty_kept (slice_index p.peaks i)) refl (slice_index p.peaks i) (peaks i l) (omega arith) in
+          let a = can_fill x.setup w g.reached p.plan checked admitted i l (empty_kept (slice_index p.peaks i)) refl (slice_index p.peaks i) (peaks i l) (omega arith) in
           let at : course_at (begun_of p 0) i ≡ ready_course (slice_index p.peaks i) = first_at (λ j. slice_index p.peaks j) (length p.plan.streams) i _ l in
           subst (λ h. CanFillAt (pool_left h p.plan.streams i) (course_at (begun_of p 0) i) (declared_rights p.plan.streams i)) (sym g.tied.pool)
           (subst (λ c. CanFillAt (pool_left (pool w) p.plan.streams i) c (declared_rights p.plan.streams i)) (sym at) (record {
@@ -131,7 +131,7 @@ module _ (x : Whole) (g : IsWorking x) (p : CheckedModel) (checked : IsCheckedPl
 
         tied_here : IsTied next y.pool (λ k i. hold_in (y.grants k i)) (λ k q. hold_in (y.parcels k q))
         tied_here = subst (λ h. IsTied next h (λ k i. hold_in (y.grants k i)) (λ k q. hold_in (y.parcels k q))) (sym b.pool)
-            (tied_started g.setup w g.reached p.plan checked admitted x.pool (λ k i. hold_in (x.grants k i)) (λ k q. hold_in (x.parcels k q)) (λ k i. hold_in (y.grants k i)) (λ k q. hold_in (y.parcels k q)) g.tied
+            (tied_started x.setup w g.reached p.plan checked admitted x.pool (λ k i. hold_in (x.grants k i)) (λ k q. hold_in (x.parcels k q)) (λ k i. hold_in (y.grants k i)) (λ k q. hold_in (y.parcels k q)) g.tied
             (λ k i l. ap hold_in (b.grants k i l))
             (λ i l. (b.granted i l).hold ∙ plus_none (declared_rights p.plan.streams i) (All-get_or (λ (s : StreamModel). IsOrderedParcel s.holds) p.plan.streams i no_stream l checked.parts.parcels.streams).ordered)
             (λ k q l. ap hold_in (b.parcels k q l))
@@ -170,14 +170,14 @@ module _ (x : Whole) (g : IsWorking x) (p : CheckedModel) (checked : IsCheckedPl
               (subst (λ o. IsUnsent o (parcels_of p.plan.signals q)) (sym (b.parceled q here)) (refl, omega arith)))
         ]
 
-        reached_here : IsReached g.setup next
-        reached_here = subst (λ z. IsReached g.setup z) (ap (λ z. z.1) happens_so) (reached_next g.setup w (Begin p.plan) g.reached checked)
+        reached_here : IsReached x.setup next
+        reached_here = subst (λ z. IsReached x.setup z) (ap (λ z. z.1) happens_so) (reached_next x.setup w (Begin p.plan) g.reached checked)
 
         counted_here : (free running : ℕ) → free ≡ x.free - places_of p.plan → running ≡ x.running + bit (nat_lt 0 (length p.plan.streams)) → HasCounters next y.unfinished running free
         counted_here free running f r =
             subst (λ n. HasCounters next y.unfinished n free) (sym r)
             (subst (λ n. HasCounters next y.unfinished (x.running + bit (nat_lt 0 (length p.plan.streams))) n) (sym f)
-            (counted_started g.setup w g.reached x.unfinished x.running x.free g.counted p.plan (ltb-false x.free (places_of p.plan) tests.places) y.unfinished b.unfinished b.counted))
+            (counted_started x.setup w g.reached x.unfinished x.running x.free g.counted p.plan (ltb-false x.free (places_of p.plan) tests.places) y.unfinished b.unfinished b.counted))
 
         -- it has started, with this many places free and plans running
         pub started_here : (free running : ℕ) → free ≡ x.free - places_of p.plan → running ≡ x.running + bit (nat_lt 0 (length p.plan.streams)) →
@@ -187,8 +187,7 @@ module _ (x : Whole) (g : IsWorking x) (p : CheckedModel) (checked : IsCheckedPl
           latest = refl;
           setup = b.setup;
           working = record {
-            setup = g.setup;
-            reached = subst (λ z. IsReached g.setup z) (sym b.state) reached_here;
+            reached = subst (λ s. IsReached s y.state) (sym b.setup) (subst (IsReached x.setup) (sym b.state) reached_here);
             tied = subst (λ z. IsTied z y.pool (λ k i. hold_in (y.grants k i)) (λ k q. hold_in (y.parcels k q))) (sym b.state) tied_here;
             capacities = subst (λ (z : State). (id : StreamId) → is_begun z id ≡ true → HasCapacityOn (stream_at z.sizes (plan_at z id.plan) id.stream) (y.grants id.plan id.stream)) (sym b.state) capacities_here;
             unsent = subst (λ (z : State). (k q : ℕ) → k < length z.plans → q < signal_count z k → (z.marks k q).posted ≡ false → IsUnsent (y.parcels k q) (parcel_at z k q)) (sym b.state) unsent_here;

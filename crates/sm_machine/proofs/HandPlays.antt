@@ -6,7 +6,7 @@ use Rattle.std.proofs.lemmas.Bool.{cases_eq, cases_lt}
 use Rattle.std.proofs.lemmas.List.{get_or_default}
 use Rattle.std.proofs.lemmas.List.Sums.{sum_by_more}
 use Rattle.std.proofs.Math.Nat.{min-eq_left, min-eq_right}
-use Rattle.sm_placement.specs.Setup.{Setup, sizes_of}
+use Rattle.sm_placement.specs.Setup.{sizes_of}
 use Rattle.sm_verifier.specs.Checked.{CheckedModel}
 use Rattle.sm_protocol.specs.declared.event.Event.{Event}
 use Rattle.sm_protocol.specs.declared.event.Played.{Played}
@@ -15,7 +15,6 @@ use Rattle.sm_protocol.specs.Safe.{IsSafe, SomeCanStep, SomeCanStepOrSpent}
 use Rattle.sm_protocol.specs.Hand.{Game, play, plays, played_events}
 use Rattle.sm_protocol.specs.Laws.{IsReached, IsCheckedPlan, NamesKnown, AreChecked, IsPlayed, AllFit, AsksNoLoss, HasNoLost, effect_numbers}
 use Rattle.sm_protocol.proofs.Plays.{plays_are_safe}
-use Rattle.sm_protocol.proofs.Whole.{reached_keeps}
 use Rattle.sm_machine.specs.declared.hand.Hand as declared
 use Rattle.sm_machine.specs.Machine.{MachineModel}
 use Rattle.sm_machine.specs.State.{whole_of, state_of}
@@ -106,14 +105,14 @@ plans_checked m h for checked place plan e = by_plan (slice_index_or h.plans.ite
         subst (IsCheckedPlan (state_of m).sizes) same (subst (λ c. IsCheckedPlan c p.plan) (ap sizes_of (for place p q) ∙ sym (sizes_are m)) (checked place p q))
 
 -- each front of the list is played as the laws say
-module _ (m : MachineModel) (h : declared.Hand) (es : List Event) (r : (setup : Setup) × IsReached setup (state_of m)) (names : AllByRecursion (NamesKnown (state_of m).sizes) es) (for : AreFor m.placement.setup h.plans.items)
+module _ (m : MachineModel) (h : declared.Hand) (es : List Event) (r : IsReached m.placement.setup (state_of m)) (names : AllByRecursion (NamesKnown (state_of m).sizes) es) (for : AreFor m.placement.setup h.plans.items)
     (checked : (place : ℕ) (p : CheckedModel) → slice_index_or h.plans.items place None ≡ Some p → IsCheckedPlan (sizes_of p.setup) p.plan) where
-  same : sizes_of r.0 ≡ (state_of m).sizes
-  same = sym (reached_keeps r.0 (state_of m) r.1).1
+  same : sizes_of m.placement.setup ≡ (state_of m).sizes
+  same = sym (sizes_are m)
 
-  front : (n : ℕ) → IsPlayed r.0 (take n es) (game_of m h)
+  front : (n : ℕ) → IsPlayed m.placement.setup (take n es) (game_of m h)
   front n =
-      plays_are_safe r.0 (take n es) (game_of m h) r.1
+      plays_are_safe m.placement.setup (take n es) (game_of m h) r
       (subst (λ c. AreChecked c (hand_of h)) (sym same) (plans_checked m h for checked))
       (subst (λ c. AllByRecursion (NamesKnown c) (take n es)) (sym same) (known_front (NamesKnown (state_of m).sizes) es n names))
 
@@ -121,9 +120,9 @@ module _ (m : MachineModel) (h : declared.Hand) (es : List Event) (r : (setup : 
   pub fronts_fit : (n : ℕ) → AllFit (state_of m).sizes (played_events (take n es) (game_of m h))
   fronts_fit n = subst (λ c. AllFit c (played_events (take n es) (game_of m h))) same (front n).fit
 
-  -- the state after each front is one that events lead to, from an opening of one configuration
-  pub fronts_reached : (setup : Setup) × ((n : ℕ) → IsReached setup (play (take n es) (game_of m h)).state)
-  fronts_reached = (r.0, λ n. (front n).reached)
+  -- the state after each front is one that events lead to, from an opening of the machine's configuration
+  pub fronts_reached : (n : ℕ) → IsReached m.placement.setup (play (take n es) (game_of m h)).state
+  fronts_reached n = (front n).reached
 
   -- the plans that the hand has after a front were checked for these numbers
   pub fronts_checked : (n : ℕ) → AreChecked (state_of m).sizes (play (take n es) (game_of m h)).hand

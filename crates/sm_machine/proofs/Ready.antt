@@ -54,7 +54,7 @@ module _ (x : Whole) (g : IsWorking x) (id : StreamId) where
   grant = x.grants id.plan id.stream
 
   v : IsKept w
-  v = kept g.setup w g.reached
+  v = kept x.setup w g.reached
 
   -- a stream that was begun and has not made its end is running
   pub runs : is_begun w id ≡ true → (progress_of w id).done ≡ false → is_running w id ≡ true
@@ -74,7 +74,7 @@ module _ (x : Whole) (g : IsWorking x) (id : StreamId) where
         begun = b.begun;
         running = b.running;
         at = omega arith;
-        room = room_to_step g.setup w g.reached id (runs b.begun b.running);
+        room = room_to_step x.setup w g.reached id (runs b.begun b.running);
       }
 
   pub fresh_signal : (q : ℕ) → IsBefore w id (Some (Signal q)) → (q < signal_count w id.plan) × ((w.marks id.plan q).posted ≡ false) × ((w.marks id.plan q).awaited ≡ false)
@@ -109,7 +109,7 @@ module _ (x : Whole) (g : IsWorking x) (id : StreamId) where
           go : (k : HoldModel) → IsGrantInOrder (Some k) → hold_of k.rights ≡ hold_of_stream w id.plan id.stream → HasCapacityOn (stream_at w.sizes (plan_at w id.plan) id.stream) (Some k) →
               CanTrade w.sizes i (Some k) × ((h : Option HoldModel) → IsTradedBy w.sizes i (Some k) h → hold_in h ≡ hold_behind w id)
           go k o e r =
-              let c = can_exchange g.setup w g.reached id i b own here k e o.ordered o.positive r.0 r.1 r.2 in (
+              let c = can_exchange x.setup w g.reached id i b own here k e o.ordered o.positive r.0 r.1 r.2 in (
                 record { signals = parcels_of (plan_at w id.plan).signals; made = subst IsOk (sym c.leaves) refl; joins = c.fits; capacity = c.capacity },
                 λ h t. t.hold ∙ c.left,
               )
@@ -126,8 +126,8 @@ module _ (x : Whole) (g : IsWorking x) (id : StreamId) where
     -- all that a call asks for is there, where the stream tries it
     pub ready_to_call : (i : Instr) (c : ServerCall) → IsTry w id i c → (progress_of w id).tries < 2 ^ 64 - 1 → IsReadyToCall x id i c
     ready_to_call i c t few =
-        let safe = is_safe w v (has_room g.setup w g.reached) in
-        let small = numbers_stay_small g.setup w g.reached in
+        let safe = is_safe w v (has_room x.setup w g.reached) in
+        let small = numbers_stay_small x.setup w g.reached in
         let call = can_call w v id i t.before t.call c t.call_is in
         let budget = (small_stream t.before.begun).budget in
         let effects = safe.effects id t.before.begun in
@@ -148,13 +148,13 @@ module _ (x : Whole) (g : IsWorking x) (id : StreamId) where
     -- all that a publish asks for is there, with the server that it lists under the shard's lead
     pub ready_to_publish : (s : ℕ) → IsBefore w id (Some (Publish s)) → IsReadyToPublish w id s (to_list (leads_of w.sizes w.place s))
     ready_to_publish s b =
-        let c = can_publish g.setup w g.reached id s b in
+        let c = can_publish x.setup w g.reached id s b in
         record { go = ready_to_go (Some (Publish s)) b; shard = c.shard; listed = c.known; version = c.version }
 
     -- all that an unlist asks for is there
     pub ready_to_unlist : (s : ℕ) → IsBefore w id (Some (Unlist s)) → IsReadyToPublish w id s None
     ready_to_unlist s b =
-        let c = can_unlist g.setup w g.reached id s b in
+        let c = can_unlist x.setup w g.reached id s b in
         record { go = ready_to_go (Some (Unlist s)) b; shard = c.shard; listed = c.known; version = c.version }
 
     -- whom the change of a publish lists
@@ -162,7 +162,7 @@ module _ (x : Whole) (g : IsWorking x) (id : StreamId) where
     lists s b =
         let k = some_grant b.running in
         let e = g.tied.grants id (runs b.begun b.running) in
-        let f = publish_gives g.setup w g.reached id s b k.0 (ap hold_in (sym k.1) ∙ e) in
+        let f = publish_gives x.setup w g.reached id s b k.0 (ap hold_in (sym k.1) ∙ e) in
         ap (λ o. (gives_of w.sizes (Publish s) (hold_in o)).crown) k.1 ∙ f
 
     -- ---- signals
@@ -184,7 +184,7 @@ module _ (x : Whole) (g : IsWorking x) (id : StreamId) where
         go k e (Some into) f u =
             let empty = subst (λ o. IsUnsent o (parcel_at w id.plan q)) f u in
             let tied = ap hold_in (sym e) ∙ g.tied.grants id (runs b.begun b.running) in
-            let c = can_send g.setup w g.reached id q b k into tied empty.0 empty.1 in (
+            let c = can_send x.setup w g.reached id q b k into tied empty.0 empty.1 in (
               record {
                 go = ready_to_go (Some (Signal q)) b;
                 signal = c.signal;
@@ -217,7 +217,7 @@ module _ (x : Whole) (g : IsWorking x) (id : StreamId) where
             let sent_ordered = subst IsGrantInOrder f parcel_order in
             let tied = ap hold_in (sym e) ∙ g.tied.grants id (runs b.begun b.running) in
             let carries : hold_in (x.parcels id.plan q) ≡ hold_of (parcel_at w id.plan q) = g.tied.parcels id.plan q n.plan once.0 ∙ (rw (posted, once.1) refl) in
-            let c = can_take g.setup w g.reached id q b posted k from tied ordered.ordered ordered.positive (ap hold_in (sym f) ∙ carries) sent_ordered.ordered room.0 room.1 room.2 in (
+            let c = can_take x.setup w g.reached id q b posted k from tied ordered.ordered ordered.positive (ap hold_in (sym f) ∙ carries) sent_ordered.ordered room.0 room.1 room.2 in (
               record {
                 go = ready_to_go (Some (Wait q)) b;
                 signal = c.signal;
@@ -235,7 +235,7 @@ module _ (x : Whole) (g : IsWorking x) (id : StreamId) where
     ready_to_end b =
         let n = begun w id b.begun in
         let tied = g.tied.grants id (runs b.begun b.running) in
-        let c = can_give_back g.setup w g.reached id n b.running in
+        let c = can_give_back x.setup w g.reached id n b.running in
         let go = ready_to_go None b in
         record {
           begun = b.begun;

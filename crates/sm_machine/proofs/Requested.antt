@@ -97,5 +97,5 @@ module _ (x : Whole) (g : IsWorking x) (t : Ticket) where
   -- what is passed on with an open ticket is a request for its shard, which comes to its target
   pub passes_on : is_open_ticket x.state.log t ≡ true → IsRequest x.state t.shard t.target (Some t) (event.PassOn t.place)
   passes_on o =
-      let known = passes_known g.setup x.state g.reached t.place t (open_ticket x.state.log t o).pass in
+      let known = passes_known x.setup x.state g.reached t.place t (open_ticket x.state.log t o).pass in
       record { shard = known.0; server = known.1; made = PassOn t; fits = tt; is = ap by_ticket o }

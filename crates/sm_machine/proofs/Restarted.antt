@@ -26,7 +26,7 @@ module _ (x : Whole) (g : IsWorking x) (u : ℕ) where
   pub few_free : x.free < 2 ^ 32
   few_free =
       let is : x.free ≡ free_places w = g.counted.places in
-      let most : w.room ≤ 1048576 = (of_opening g.setup w g.reached).is_opening.most in
+      let most : w.room ≤ 1048576 = (of_opening x.setup w g.reached).is_opening.most in
       let few : free_places w ≤ w.room = omega arith in
       omega arith
 
@@ -40,14 +40,14 @@ module _ (x : Whole) (g : IsWorking x) (u : ℕ) where
 
       -- the pool can take a spare replica more of each shard that is live at the server once it is up
       pub can_get_live : CanGetLive x.pool (live_there (set_down w.place u false) u) w.sizes.shards
-      can_get_live = subst (λ h. CanGetLive h (live_there (set_down w.place u false) u) w.sizes.shards) (sym g.tied.pool) (can_get g.setup w g.reached u known down)
+      can_get_live = subst (λ h. CanGetLive h (live_there (set_down w.place u false) u) w.sizes.shards) (sym g.tied.pool) (can_get x.setup w g.reached u known down)
 
       -- a place of the log was set aside for it
       pub room_to_restart : length w.log < w.room
       room_to_restart =
           let y = restarted_whole x u in
           let v = restarted_working in
-          let whole = whole_log v.setup y.state v.reached in
+          let whole = whole_log y.setup y.state v.reached in
           let one : length (logged w (event.Done u) played.Up) ≡ length w.log + 1 = length-append w.log (record { event = event.Done u; answer = played.Up } ∷ []) in
           omega arith
 
@@ -66,7 +66,7 @@ module _ (x : Whole) (g : IsWorking x) (u : ℕ) where
 
       -- where nothing is against the restart, the pool has a spare replica of each shard that is live there
       pub can_pay_live : CanPayLive x.pool (live_there w.place u) w.sizes.shards
-      can_pay_live = subst (λ h. CanPayLive h (live_there w.place u) w.sizes.shards) (sym g.tied.pool) (can_pay g.setup w g.reached u known no_denial)
+      can_pay_live = subst (λ h. CanPayLive h (live_there w.place u) w.sizes.shards) (sym g.tied.pool) (can_pay x.setup w g.reached u known no_denial)
 
       -- and the log has a place for the approval
       pub room_to_approve : length w.log < w.room

@@ -51,20 +51,20 @@ module _ (x : Whole) (id : StreamId) (i : Instr) (at : IsAt x id (Some i)) where
   here = before x id (Some i) at
 
   pub not_ahead : is_call i ≡ false → (progress_of w id).ahead ≡ false
-  not_ahead e = none_ahead w (kept at.working.setup w at.working.reached) id i here e
+  not_ahead e = none_ahead w (kept x.setup w at.working.reached) id i here e
 
   -- the instruction's shard, if it has one, is known
   pub shard_known : IfSome (shard_of i) (λ s. s < w.sizes.shards)
-  shard_known = (can_reach w (kept at.working.setup w at.working.reached) id i here).shard
+  shard_known = (can_reach w (kept x.setup w at.working.reached) id i here).shard
 
   -- each shard's highest handover number is below the numbers' end
   pub small_numbers : (s : ℕ) → w.numbers s < numbers_end
-  small_numbers = (numbers_stay_small at.working.setup w at.working.reached).numbers
+  small_numbers = (numbers_stay_small x.setup w at.working.reached).numbers
 
   -- a stream that hasn't spent its allowance has made fewer tries than a u64 counts
   pub few_tries : (n : ℕ) → allowance w id ≡ n → n < 2 ^ 64 → ((progress_of w id).tries ≡ n → ⊥) → (progress_of w id).tries < 2 ^ 64 - 1
   few_tries n e l unspent =
-      let h = has_room at.working.setup w at.working.reached in
+      let h = has_room x.setup w at.working.reached in
       let t : (progress_of w id).tries ≤ allowance w id = h.tries id.plan id.stream in
       omega arith
 
@@ -199,8 +199,8 @@ module _ (x : Whole) (id : StreamId) (at : IsAt x id None) (order : IsGrantInOrd
   pub free_fits : x.free + (allowance x.state id - (progress_of x.state id).tries) < 2 ^ 64
   free_fits =
       let g = at.working in
-      let c = (counted_ended g.setup x.state g.reached x.unfinished x.running x.free g.counted id (before x id None at)).2.places in
-      let most : x.state.room ≤ 1048576 = (of_opening g.setup x.state g.reached).is_opening.most in
+      let c = (counted_ended x.setup x.state g.reached x.unfinished x.running x.free g.counted id (before x id None at)).2.places in
+      let most : x.state.room ≤ 1048576 = (of_opening x.setup x.state g.reached).is_opening.most in
       let few : free_places (ended x.state id).1 ≤ x.state.room = omega arith in
       omega arith
 
@@ -213,12 +213,11 @@ module _ (x : Whole) (id : StreamId) (at : IsAt x id None) (order : IsGrantInOrd
 -- the flag is no part of what every machine keeps
 pub flag_kept : (x : Whole) → IsWorking x → (flag : Bool) (y : Whole) → y ≡ with_state x (record x.state { halted = flag }) → IsWorking y
 flag_kept x g flag y e = subst IsWorking (sym e) (record {
-  setup = g.setup;
-  reached = reached_halted g.setup x.state g.reached flag;
-  tied = tied_halted g.setup x.state g.reached x.pool (λ k i. hold_in (x.grants k i)) (λ k q. hold_in (x.parcels k q)) g.tied flag;
+  reached = reached_halted x.setup x.state g.reached flag;
+  tied = tied_halted x.setup x.state g.reached x.pool (λ k i. hold_in (x.grants k i)) (λ k q. hold_in (x.parcels k q)) g.tied flag;
   capacities = g.capacities;
   unsent = g.unsent;
-  counted = counted_halted g.setup x.state g.reached x.unfinished x.running x.free g.counted flag;
+  counted = counted_halted x.setup x.state g.reached x.unfinished x.running x.free g.counted flag;
 })
 
 -- ---- the opening
@@ -226,7 +225,6 @@ flag_kept x g flag y e = subst IsWorking (sym e) (record {
 -- a machine that is opened has all that every machine keeps
 pub opened_working : (x : Whole) (setup : Setup) (p : Place) (room : ℕ) → IsOpening setup p room → x ≡ opened_whole setup p room → IsWorking x
 opened_working x setup p room o e = subst IsWorking (sym e) (record {
-  setup = setup;
   reached = reached_opened setup p room o;
   tied = tied_opened (sizes_of setup) p room (λ k i. no_hold) (λ k q. no_hold);
   capacities = λ id b. tt;

@@ -73,10 +73,10 @@ module _ (x : Whole) (id : StreamId) (o : Option Instr) (at : IsAt x id o) where
   pub before : IsBefore w id o
   before = record { begun = at.begun; running = at.running; next_is = at.next_is }
 
-  reached_step : (p : Passage) → IsReached g.setup (step w id p).1
-  reached_step Through = reached_next g.setup w (Step id) g.reached tt
-  reached_step LostBefore = reached_next g.setup w (Lose id false) g.reached tt
-  reached_step LostAfter = reached_next g.setup w (Lose id true) g.reached tt
+  reached_step : (p : Passage) → IsReached x.setup (step w id p).1
+  reached_step Through = reached_next x.setup w (Step id) g.reached tt
+  reached_step LostBefore = reached_next x.setup w (Lose id false) g.reached tt
+  reached_step LostAfter = reached_next x.setup w (Lose id true) g.reached tt
 
   -- what has to be shown of a step
   stepped : (p : Passage) (a : Played) (y : Whole) → step w id p ≡ (Answered a, y.state) → IsTied y.state y.pool (λ k i. hold_in (y.grants k i)) (λ k q. hold_in (y.parcels k q)) →
@@ -86,7 +86,7 @@ module _ (x : Whole) (id : StreamId) (o : Option Instr) (at : IsAt x id o) where
   stepped p a y e tied capacities unsent counted setup = record {
     step = e;
     setup = setup;
-    working = record { setup = g.setup; reached = subst (IsReached g.setup) (ap (λ z. z.1) e) (reached_step p); tied = tied; capacities = capacities; unsent = unsent; counted = counted };
+    working = record { reached = subst (λ s. IsReached s y.state) (sym setup) (subst (IsReached x.setup) (ap (λ z. z.1) e) (reached_step p)); tied = tied; capacities = capacities; unsent = unsent; counted = counted };
   }
 
   abbrev grant : Option HoldModel
@@ -137,12 +137,12 @@ module _ (x : Whole) (id : StreamId) (o : Option Instr) (at : IsAt x id o) where
           IsStepped x id p played.Moved (record x { state = (entry_added w id s server).1; grants = put2 x.grants id.plan id.stream h })
       stepped_published s server e f p =
           let b = subst (λ z. IsBefore w id (Some z)) e at_i in
-          let tie = tied_published g.setup w g.reached x.pool (λ k i. hold_in (x.grants k i)) (λ k q. hold_in (x.parcels k q)) g.tied id s b in
+          let tie = tied_published x.setup w g.reached x.pool (λ k i. hold_in (x.grants k i)) (λ k q. hold_in (x.parcels k q)) g.tied id s b in
           stepped p played.Moved (record x { state = (entry_added w id s server).1; grants = put2 x.grants id.plan id.stream h })
           (step_made w id p at.awake (Some (Publish s)) b ∙ ap (entry_added w id s) (sym f))
           (tied_put (entry_added w id s server).1 x.pool h (λ k q. hold_in (x.parcels k q)) (hold_behind w id) behind_is
           (subst (λ v. IsTied (entry_added w id s v).1 x.pool (put2 (λ k i. hold_in (x.grants k i)) id.plan id.stream (hold_behind w id)) (λ k q. hold_in (x.parcels k q))) (sym f) tie))
-          (rooms_after h t.capacity) g.unsent (counted_published g.setup w g.reached x.unfinished x.running x.free g.counted id (Publish s) s server b refl) refl
+          (rooms_after h t.capacity) g.unsent (counted_published x.setup w g.reached x.unfinished x.running x.free g.counted id (Publish s) s server b refl) refl
 
       -- an unlist is a step: the stream has made its trade, and the map lists no server
       pub stepped_unlisted : (s : ℕ) → i ≡ Unlist s → (p : Passage) →
@@ -152,8 +152,8 @@ module _ (x : Whole) (id : StreamId) (o : Option Instr) (at : IsAt x id o) where
           stepped p played.Moved (record x { state = (entry_added w id s None).1; grants = put2 x.grants id.plan id.stream h })
           (step_made w id p at.awake (Some (Unlist s)) b)
           (tied_put (entry_added w id s None).1 x.pool h (λ k q. hold_in (x.parcels k q)) (hold_behind w id) behind_is
-          (tied_unlisted g.setup w g.reached x.pool (λ k i. hold_in (x.grants k i)) (λ k q. hold_in (x.parcels k q)) g.tied id s b))
-          (rooms_after h t.capacity) g.unsent (counted_published g.setup w g.reached x.unfinished x.running x.free g.counted id (Unlist s) s None b refl) refl
+          (tied_unlisted x.setup w g.reached x.pool (λ k i. hold_in (x.grants k i)) (λ k q. hold_in (x.parcels k q)) g.tied id s b))
+          (rooms_after h t.capacity) g.unsent (counted_published x.setup w g.reached x.unfinished x.running x.free g.counted id (Unlist s) s None b refl) refl
 
     -- ---- calls
 
@@ -167,8 +167,8 @@ module _ (x : Whole) (id : StreamId) (o : Option Instr) (at : IsAt x id o) where
       pub stepped_lost : IsStepped x id LostBefore played.Lost (record x { state = call_lost w id })
       stepped_lost =
           stepped LostBefore played.Lost (record x { state = call_lost w id }) (step_tried LostBefore)
-          (tied_lost g.setup w g.reached x.pool (λ k i. hold_in (x.grants k i)) (λ k q. hold_in (x.parcels k q)) g.tied id i c t) g.capacities g.unsent
-          (counted_lost g.setup w g.reached x.unfinished x.running x.free g.counted id i c t) refl
+          (tied_lost x.setup w g.reached x.pool (λ k i. hold_in (x.grants k i)) (λ k q. hold_in (x.parcels k q)) g.tied id i c t) g.capacities g.unsent
+          (counted_lost x.setup w g.reached x.unfinished x.running x.free g.counted id i c t) refl
 
       places_unless : (b : Bool) (h : Option HoldModel) → IsTradedUnless b w.sizes i grant h → capacity_in h ≡ capacity_in grant
       places_unless true h u = ap capacity_in u
@@ -192,10 +192,10 @@ module _ (x : Whole) (id : StreamId) (o : Option Instr) (at : IsAt x id o) where
           stepped Through played.Moved (record x { state = new; grants = put2 x.grants id.plan id.stream h })
           (step_tried Through ∙ ap (tried w id i Through) e)
           (tied_unless (progress_of w id).ahead refl new h u
-          (λ a. tied_through g.setup w g.reached x.pool (λ k i. hold_in (x.grants k i)) (λ k q. hold_in (x.parcels k q)) g.tied id i c t a effect e)
-          (λ a. tied_again g.setup w g.reached x.pool (λ k i. hold_in (x.grants k i)) (λ k q. hold_in (x.parcels k q)) g.tied id i c t a effect e))
+          (λ a. tied_through x.setup w g.reached x.pool (λ k i. hold_in (x.grants k i)) (λ k q. hold_in (x.parcels k q)) g.tied id i c t a effect e)
+          (λ a. tied_again x.setup w g.reached x.pool (λ k i. hold_in (x.grants k i)) (λ k q. hold_in (x.parcels k q)) g.tied id i c t a effect e))
           (rooms_after h (places_unless (progress_of w id).ahead h u)) g.unsent
-          (counted_through g.setup w g.reached x.unfinished x.running x.free g.counted id i c t effect e) refl
+          (counted_through x.setup w g.reached x.unfinished x.running x.free g.counted id i c t effect e) refl
 
       -- the same of a try that is served, and whose answer is lost
       pub stepped_unanswered : (effect : CallEffect) → answer_to w id c ≡ Ok effect → (h : Option HoldModel) → IsTradedUnless (progress_of w id).ahead w.sizes i grant h →
@@ -205,10 +205,10 @@ module _ (x : Whole) (id : StreamId) (o : Option Instr) (at : IsAt x id o) where
           stepped LostAfter played.Lost (record x { state = new; grants = put2 x.grants id.plan id.stream h })
           (step_tried LostAfter ∙ ap (tried w id i LostAfter) e)
           (tied_unless (progress_of w id).ahead refl new h u
-          (λ a. tied_unanswered g.setup w g.reached x.pool (λ k i. hold_in (x.grants k i)) (λ k q. hold_in (x.parcels k q)) g.tied id i c t a effect e)
-          (λ a. tied_unanswered_again g.setup w g.reached x.pool (λ k i. hold_in (x.grants k i)) (λ k q. hold_in (x.parcels k q)) g.tied id i c t a effect e))
+          (λ a. tied_unanswered x.setup w g.reached x.pool (λ k i. hold_in (x.grants k i)) (λ k q. hold_in (x.parcels k q)) g.tied id i c t a effect e)
+          (λ a. tied_unanswered_again x.setup w g.reached x.pool (λ k i. hold_in (x.grants k i)) (λ k q. hold_in (x.parcels k q)) g.tied id i c t a effect e))
           (rooms_after h (places_unless (progress_of w id).ahead h u)) g.unsent
-          (counted_unanswered g.setup w g.reached x.unfinished x.running x.free g.counted id i c t effect e) refl
+          (counted_unanswered x.setup w g.reached x.unfinished x.running x.free g.counted id i c t effect e) refl
 
     -- ---- signals
 
@@ -241,9 +241,9 @@ module _ (x : Whole) (id : StreamId) (o : Option Instr) (at : IsAt x id o) where
         stepped p played.Moved (record x { state = (posted w id q).1; grants = put2 x.grants id.plan id.stream h; parcels = put2 x.parcels id.plan q n })
         (step_made w id p at.awake (Some (Signal q)) b)
         (tied_both (posted w id q).1 q h n (hold_behind w id) (hold_of (parcel_at w id.plan q)) e f
-        (tied_posted g.setup w g.reached x.pool (λ k i. hold_in (x.grants k i)) (λ k q. hold_in (x.parcels k q)) g.tied id q b))
+        (tied_posted x.setup w g.reached x.pool (λ k i. hold_in (x.grants k i)) (λ k q. hold_in (x.parcels k q)) g.tied id q b))
         (rooms_after h capacity) (unsent_after q (record (w.marks id.plan q) { posted = true }) n refl)
-        (counted_posted g.setup w g.reached x.unfinished x.running x.free g.counted id q b) refl
+        (counted_posted x.setup w g.reached x.unfinished x.running x.free g.counted id q b) refl
 
     -- a wait for a posted signal is a step: the stream has the parcel, and the signal carries nothing
     pub stepped_taken : (q : ℕ) → o ≡ Some (Wait q) → (w.marks id.plan q).posted ≡ true → (h : Option HoldModel) → hold_in h ≡ hold_behind w id → capacity_in h ≡ capacity_in grant → (p : Passage) →
@@ -253,9 +253,9 @@ module _ (x : Whole) (id : StreamId) (o : Option Instr) (at : IsAt x id o) where
         stepped p played.Moved (record x { state = parcel_taken w id q; grants = put2 x.grants id.plan id.stream h; parcels = put2 x.parcels id.plan q None })
         (step_made w id p at.awake (Some (Wait q)) b ∙ (rw was refl))
         (tied_both (parcel_taken w id q) q h None (hold_behind w id) no_hold e refl
-        (tied_taken g.setup w g.reached x.pool (λ k i. hold_in (x.grants k i)) (λ k q. hold_in (x.parcels k q)) g.tied id q b was))
+        (tied_taken x.setup w g.reached x.pool (λ k i. hold_in (x.grants k i)) (λ k q. hold_in (x.parcels k q)) g.tied id q b was))
         (rooms_after h capacity) (unsent_after q (record (w.marks id.plan q) { awaited = true }) None was)
-        (counted_taken g.setup w g.reached x.unfinished x.running x.free g.counted id q b) refl
+        (counted_taken x.setup w g.reached x.unfinished x.running x.free g.counted id q b) refl
 
     -- ---- ends
 
@@ -270,6 +270,6 @@ module _ (x : Whole) (id : StreamId) (o : Option Instr) (at : IsAt x id o) where
         stepped p played.Done (ended_whole x id free)
         (step_made w id p at.awake None b)
         (tied_put (ended w id).1 (plus x.pool (rights_in grant)) None (λ k q. hold_in (x.parcels k q)) no_hold refl
-        (tied_ended g.setup w g.reached x.pool (λ k i. hold_in (x.grants k i)) (λ k q. hold_in (x.parcels k q)) g.tied id b (rights_in grant) ordered (same ∙ g.tied.grants id run) no_hold))
+        (tied_ended x.setup w g.reached x.pool (λ k i. hold_in (x.grants k i)) (λ k q. hold_in (x.parcels k q)) g.tied id b (rights_in grant) ordered (same ∙ g.tied.grants id run) no_hold))
         (capacities_put None tt) g.unsent
-        (subst (HasCounters (ended w id).1 (put x.unfinished id.plan (x.unfinished id.plan - 1)) (if x.unfinished id.plan == 1 then x.running - 1 else x.running)) (sym count) (counted_ended g.setup w g.reached x.unfinished x.running x.free g.counted id b).2) refl
+        (subst (HasCounters (ended w id).1 (put x.unfinished id.plan (x.unfinished id.plan - 1)) (if x.unfinished id.plan == 1 then x.running - 1 else x.running)) (sym count) (counted_ended x.setup w g.reached x.unfinished x.running x.free g.counted id b).2) refl

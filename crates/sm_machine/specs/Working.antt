@@ -2,7 +2,6 @@
 -- Steps of the code's own way, which private functions' contracts cite, and what a `Machine` keeps: no reader of the public ones must
 -- believe them.
 use Rattle.std.specs.Prelude.{◌≡◌, ◌<◌, ◌≤◌, ℕ, Option, Some, None, true, false, length}
-use Rattle.sm_placement.specs.Setup.{Setup}
 use Rattle.sm_reservation.specs.Rights.{Rights, no_rights}
 use Rattle.sm_reservation.specs.Capacity.{HoldModel, most_keys}
 use Rattle.sm_reservation.specs.declared.stream_id.StreamId.{StreamId}
@@ -28,11 +27,10 @@ abbrev pub IsUnsent : Option HoldModel → Rights → Type 0
 IsUnsent None p = ⊥
 IsUnsent (Some kept) p = (kept.rights ≡ no_rights) × (most_keys p ≤ kept.capacity)
 
--- Events led to the state, the rights are those of the state, there is capacity for all that streams and signals will have,
+-- Events led to the state from an opening of the machine's own configuration, the rights are those of the state, there is capacity for all that streams and signals will have,
 -- and what is counted is the state's.
 pub record IsWorking (x : Whole) : Type 0 where
-  pub setup : Setup
-  pub reached : IsReached setup x.state
+  pub reached : IsReached x.setup x.state
   pub tied : IsTied x.state x.pool (λ k i. hold_in (x.grants k i)) (λ k q. hold_in (x.parcels k q))
   pub capacities : (id : StreamId) → is_begun x.state id ≡ true → HasCapacityOn (stream_at x.state.sizes (plan_at x.state id.plan) id.stream) (x.grants id.plan id.stream)
   pub unsent : (k q : ℕ) → k < length x.state.plans → q < signal_count x.state k → (x.state.marks k q).posted ≡ false → IsUnsent (x.parcels k q) (parcel_at x.state k q)

@@ -6,7 +6,7 @@ ghost use Rattle.sm_protocol.specs.State.{opened, is_begun, progress_of, allowan
 ghost use Rattle.sm_protocol.specs.Ticket.{passes};
 ghost use Rattle.sm_machine.specs.declared.opened.OpenFault.TheVariants.{LogFull};
 ghost use Rattle.sm_placement.specs.Sums.{bit};
-ghost use Rattle.sm_placement.specs.Setup.{Setup, sizes_of};
+ghost use Rattle.sm_placement.specs.Setup.{sizes_of};
 ghost use Rattle.sm_placement.specs.Layout.{place_of};
 ghost use Rattle.sm_machine.specs.Permits.{passing_below};
 ghost use Rattle.sm_reservation.specs.Pool.{pool_hold, HasSize};
@@ -102,9 +102,10 @@ impl Machine {
         Ok((Machine { engine }, permits))
     }
 
-    /// A law: events led to the state of every machine, so that all laws of the protocol hold of it.
+    /// A law: events led to the state of every machine from an opening of its own configuration, so that all laws of the protocol
+    /// hold of it.
     pub fn is_reached(&self)
-        ensures { (setup : Setup) × IsReached setup (state_of self.now) }
+        ensures { IsReached self.now.placement.setup (state_of self.now) }
     {
         let _ = &self.engine;
     }

@@ -1,7 +1,6 @@
 //! Lists of events, played with a hand.
 ghost use Rattle.std.specs.Prelude.{◌≡◌, ◌≢◌, ◌≤◌, ◌<◌, ◌==◌, ◌↔◌, ℕ, count_by, IsTrue, IfOk, OnOk, OnErr, [], length, map, take};
 ghost use Rattle.std.specs.List.{AllByRecursion};
-ghost use Rattle.sm_placement.specs.Setup.{Setup};
 ghost use Rattle.sm_protocol.specs.declared.event.Event.TheVariants as event;
 ghost use Rattle.sm_protocol.specs.Hand.{play, plays, played_events};
 ghost use Rattle.sm_protocol.specs.Laws.{NamesKnown, AsksNoLoss, IsReached, AreChecked, AllFit, HasNoLost, effect_numbers};
@@ -211,7 +210,7 @@ impl Machine {
         requires names { AllByRecursion (NamesKnown (state_of self.now).sizes) events.now }
         requires plans { AreFor self.now.placement.setup hand.now.plans.items }
         ensures fit { (n : ℕ) → AllFit (state_of self.now).sizes (played_events (take n events.now) (game_of self.now hand.now)) }
-        ensures reached { (setup : Setup) × ((n : ℕ) → IsReached setup (play (take n events.now) (game_of self.now hand.now)).state) }
+        ensures reached { (n : ℕ) → IsReached self.now.placement.setup (play (take n events.now) (game_of self.now hand.now)).state }
         ensures checked { (n : ℕ) → AreChecked (state_of self.now).sizes (play (take n events.now) (game_of self.now hand.now)).hand }
         ensures served { (n : ℕ) → AllByRecursion (λ o. o ≢ Refused) (plays (take n events.now) (game_of self.now hand.now)) }
         ensures once { (n m : ℕ) → count_by (λ k. k == m) (effect_numbers (played_events (take n events.now) (game_of self.now hand.now)) (state_of self.now)) ≤ 1 }
@@ -264,7 +263,7 @@ impl Machine {
         ensures machine { OnErr result (self.new ≡ self.old) }
         ensures hand { OnErr result (IsSameHand hand.old hand.new) }
         ensures fit { (n : ℕ) → AllFit (state_of self.old).sizes (played_events (take n events.now) (game_of self.old hand.old)) }
-        ensures reached { (setup : Setup) × ((n : ℕ) → IsReached setup (play (take n events.now) (game_of self.old hand.old)).state) }
+        ensures reached { (n : ℕ) → IsReached self.old.placement.setup (play (take n events.now) (game_of self.old hand.old)).state }
         ensures checked { (n : ℕ) → AreChecked (state_of self.old).sizes (play (take n events.now) (game_of self.old hand.old)).hand }
         ensures served { (n : ℕ) → AllByRecursion (λ o. o ≢ Refused) (plays (take n events.now) (game_of self.old hand.old)) }
         ensures once { (n m : ℕ) → count_by (λ k. k == m) (effect_numbers (played_events (take n events.now) (game_of self.old hand.old)) (state_of self.old)) ≤ 1 }

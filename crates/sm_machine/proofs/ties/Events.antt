@@ -39,24 +39,22 @@ module _ (x : Whole) (g : IsWorking x) where
   pub working_recorded : (e : Happening) → FitsConfig w.sizes e → (event : Event) (answer : Played) → (happens w e).1 ≡ recorded w event answer → 1 ≤ x.free →
       IsWorking (record x { state = recorded w event answer; free = x.free - 1 })
   working_recorded e fits event answer is enough = record {
-    setup = g.setup;
-    reached = subst (IsReached g.setup) is (reached_next g.setup w e g.reached fits);
-    tied = tied_recorded g.setup w g.reached x.pool holds sent_holds g.tied (logged w event answer);
+    reached = subst (IsReached x.setup) is (reached_next x.setup w e g.reached fits);
+    tied = tied_recorded x.setup w g.reached x.pool holds sent_holds g.tied (logged w event answer);
     capacities = g.capacities;
     unsent = g.unsent;
-    counted = counted_recorded g.setup w g.reached x.unfinished x.running x.free g.counted enough event answer;
+    counted = counted_recorded x.setup w g.reached x.unfinished x.running x.free g.counted enough event answer;
   }
 
   -- a refill
   pub working_refilled : (id : StreamId) (more : ℕ) → more ≤ 262144 → refill_fault w id more ≡ None → is_running w id ≡ true → more + 1 ≤ x.free →
       IsWorking (record x { state = (refilled w id more None).1; free = x.free - (more + 1) })
   working_refilled id more few none runs enough = record {
-    setup = g.setup;
-    reached = subst (λ o. IsReached g.setup (refilled w id more o).1) none (reached_next g.setup w (Refill id more) g.reached few);
-    tied = tied_refilled g.setup w g.reached x.pool holds sent_holds g.tied id runs more (logged w (event.Refill id more) played.Refilled);
+    reached = subst (λ o. IsReached x.setup (refilled w id more o).1) none (reached_next x.setup w (Refill id more) g.reached few);
+    tied = tied_refilled x.setup w g.reached x.pool holds sent_holds g.tied id runs more (logged w (event.Refill id more) played.Refilled);
     capacities = g.capacities;
     unsent = g.unsent;
-    counted = counted_refilled g.setup w g.reached x.unfinished x.running x.free g.counted id runs more enough (event.Refill id more) played.Refilled;
+    counted = counted_refilled x.setup w g.reached x.unfinished x.running x.free g.counted id runs more enough (event.Refill id more) played.Refilled;
   }
 
   -- ---- restarts
@@ -65,25 +63,23 @@ module _ (x : Whole) (g : IsWorking x) where
   pub working_approved : (u : ℕ) → u < w.sizes.servers → denial w.sizes w.place (pool w) (engaged w u) (free_places w) u ≡ None →
       IsWorking (record x { state = record w { place = set_down w.place u true; log = logged w (event.Approve u) played.Approved }; pool = pay_live x.pool (λ s. is_live_at w.place s u) w.sizes.shards; free = x.free - 2 })
   working_approved u known e = record {
-    setup = g.setup;
-    reached = subst (λ o. IsReached g.setup (approved w u o).1) e (reached_next g.setup w (Approve u) g.reached known);
-    tied = tied_approved g.setup w g.reached u known e (logged w (event.Approve u) played.Approved) x.pool holds sent_holds g.tied;
+    reached = subst (λ o. IsReached x.setup (approved w u o).1) e (reached_next x.setup w (Approve u) g.reached known);
+    tied = tied_approved x.setup w g.reached u known e (logged w (event.Approve u) played.Approved) x.pool holds sent_holds g.tied;
     capacities = g.capacities;
     unsent = g.unsent;
     counted = let is = g.counted.places in let t = granted w.sizes w.place (pool w) (engaged w u) (free_places w) u e in let most = t.places in
-        counted_approved g.setup w g.reached x.unfinished x.running x.free g.counted u known t.up (omega arith) (event.Approve u) played.Approved;
+        counted_approved x.setup w g.reached x.unfinished x.running x.free g.counted u known t.up (omega arith) (event.Approve u) played.Approved;
   }
 
   -- the end of a restart, by which it is up and one of each shard that is live there then is in the pool
   pub working_restarted : (u : ℕ) → u < w.sizes.servers → w.place.down u ≡ true →
       IsWorking (record x { state = record w { place = set_down w.place u false; log = logged w (event.Done u) played.Up }; pool = get_live x.pool (λ s. is_live_at (set_down w.place u false) s u) w.sizes.shards })
   working_restarted u known e = record {
-    setup = g.setup;
-    reached = subst (λ t. IsReached g.setup (chosen t).1) e (reached_next g.setup w (Done u) g.reached known);
-    tied = tied_restarted g.setup w g.reached u known e (logged w (event.Done u) played.Up) x.pool holds sent_holds g.tied;
+    reached = subst (λ t. IsReached x.setup (chosen t).1) e (reached_next x.setup w (Done u) g.reached known);
+    tied = tied_restarted x.setup w g.reached u known e (logged w (event.Done u) played.Up) x.pool holds sent_holds g.tied;
     capacities = g.capacities;
     unsent = g.unsent;
-    counted = counted_restarted g.setup w g.reached x.unfinished x.running x.free g.counted u known e (event.Done u) played.Up;
+    counted = counted_restarted x.setup w g.reached x.unfinished x.running x.free g.counted u known e (event.Done u) played.Up;
   }
     where
       chosen : Bool → Outcome × State

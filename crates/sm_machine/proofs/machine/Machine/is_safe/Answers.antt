@@ -9,19 +9,19 @@ use Rattle.sm_machine.proofs.machine.Machine.is_safe.Goals as goal
 pub returns-clause-served : goal.returns-clause-served
 returns-clause-served c =
     let g : IsWorking (whole_of c.args.self.now) = subst (λ m. IsWorking (whole_of m)) c.self.view_is c.self.invariant in
-    (with_losses g.setup (whole_of c.args.self.now).state g.reached).0
+    (with_losses (whole_of c.args.self.now).setup (whole_of c.args.self.now).state g.reached).0
 
 pub returns-clause-safe : goal.returns-clause-safe
 returns-clause-safe c =
     let g : IsWorking (whole_of c.args.self.now) = subst (λ m. IsWorking (whole_of m)) c.self.view_is c.self.invariant in
-    (with_losses g.setup (whole_of c.args.self.now).state g.reached).1
+    (with_losses (whole_of c.args.self.now).setup (whole_of c.args.self.now).state g.reached).1
 
 pub returns-clause-onward : goal.returns-clause-onward
 returns-clause-onward c =
     let g : IsWorking (whole_of c.args.self.now) = subst (λ m. IsWorking (whole_of m)) c.self.view_is c.self.invariant in
-    (with_losses g.setup (whole_of c.args.self.now).state g.reached).2
+    (with_losses (whole_of c.args.self.now).setup (whole_of c.args.self.now).state g.reached).2
 
 pub returns-clause-unlost : goal.returns-clause-unlost
 returns-clause-unlost c none =
     let g : IsWorking (whole_of c.args.self.now) = subst (λ m. IsWorking (whole_of m)) c.self.view_is c.self.invariant in
-    (headline g.setup (whole_of c.args.self.now).state [] g.reached none tt tt).3
+    (headline (whole_of c.args.self.now).setup (whole_of c.args.self.now).state [] g.reached none tt tt).3

@@ -4,4 +4,4 @@ use Rattle.sm_machine.specs.State.{whole_of}
 use Rattle.sm_machine.proofs.machine.Machine.recorded_steps.Goals as goal
 
 pub steps_made-requires-clause-tries : goal.steps_made-requires-clause-tries
-steps_made-requires-clause-tries c = (has_room c.self.invariant.setup (whole_of c.self.inside.engine).state c.self.invariant.reached).tries c.args.id.plan c.args.id.stream
+steps_made-requires-clause-tries c = (has_room (whole_of c.self.inside.engine).setup (whole_of c.self.inside.engine).state c.self.invariant.reached).tries c.args.id.plan c.args.id.stream
