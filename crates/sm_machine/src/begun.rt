@@ -180,6 +180,50 @@ impl Model for Begun {
 }
 
 impl Begun {
+    /// A plan of nothing. Takes no memory.
+    pub fn blank(alloc: Global) -> Begun {
+        let parts = Parts {
+            budget: 0,
+            streams: Vec::new(alloc),
+            signals: Vec::new(alloc),
+        };
+        match Plan::new(parts) {
+            Ok(plan) => Begun {
+                plan,
+                since: 0,
+                courses: Vec::new(alloc),
+                signals: Vec::new(alloc),
+                mentioned: Vec::new(alloc),
+                unfinished: 0,
+            },
+            Err(_) => unreachable!(),
+        }
+    }
+
+    /// A plan that is begun now, with its streams, its signals, and the servers that each stream mentions.
+    pub fn new(
+        plan: Plan,
+        since: u32,
+        courses: Vec<Course>,
+        signals: Vec<Carried>,
+        mentioned: Vec<MentionedServers>,
+    ) -> Begun
+        requires courses { length courses.items ≡ length plan.streams }
+        requires signals { length signals.items ≡ length plan.signals }
+        requires mentioned { AreMentionedBy plan.streams mentioned.items }
+        ensures { result ≡ record { plan = plan; since = since; courses = courses.items; signals = signals.items; unfinished = length plan.streams } }
+    {
+        let unfinished = plan.streams().len() as u32;
+        Begun {
+            plan,
+            since,
+            courses,
+            signals,
+            mentioned,
+            unfinished,
+        }
+    }
+
     /// The plan.
     pub fn plan(&self) -> &Plan
         ensures value { result.now ≡ self.now.plan }
@@ -353,50 +397,6 @@ impl Begun {
         ensures parts { IsBegunParts self.old }
     {
         self.courses[stream].end()
-    }
-
-    /// A plan of nothing. Takes no memory.
-    pub fn blank(alloc: Global) -> Begun {
-        let parts = Parts {
-            budget: 0,
-            streams: Vec::new(alloc),
-            signals: Vec::new(alloc),
-        };
-        match Plan::new(parts) {
-            Ok(plan) => Begun {
-                plan,
-                since: 0,
-                courses: Vec::new(alloc),
-                signals: Vec::new(alloc),
-                mentioned: Vec::new(alloc),
-                unfinished: 0,
-            },
-            Err(_) => unreachable!(),
-        }
-    }
-
-    /// A plan that is begun now, with its streams, its signals, and the servers that each stream mentions.
-    pub fn new(
-        plan: Plan,
-        since: u32,
-        courses: Vec<Course>,
-        signals: Vec<Carried>,
-        mentioned: Vec<MentionedServers>,
-    ) -> Begun
-        requires courses { length courses.items ≡ length plan.streams }
-        requires signals { length signals.items ≡ length plan.signals }
-        requires mentioned { AreMentionedBy plan.streams mentioned.items }
-        ensures { result ≡ record { plan = plan; since = since; courses = courses.items; signals = signals.items; unfinished = length plan.streams } }
-    {
-        let unfinished = plan.streams().len() as u32;
-        Begun {
-            plan,
-            since,
-            courses,
-            signals,
-            mentioned,
-            unfinished,
-        }
     }
 
     /// Each stream takes what it declares out of a pool. Takes no memory.

@@ -1,10 +1,10 @@
 #![tactic(auto, unfolding(crate::specs::State::whole_of))]
 //! The fields of a machine, read and written one at a time.
-ghost use Rattle.std.specs.Prelude.{◌≡◌, ◌<◌, ◌≤◌, ◌-◌, ◌^◌, ◌∷◌, ◌==◌, if◌then◌else◌, suc, not, is_some, Some, None, Ok, IsOk, OnOk, IfErr, [], replicate, reverse, vec_capacity, true, false, length, slice_index_or};
+ghost use Rattle.std.specs.Prelude.{◌≡◌, ◌<◌, ◌≤◌, ◌-◌, ◌∷◌, ◌==◌, if◌then◌else◌, suc, not, is_some, Some, None, Ok, IsOk, [], replicate, reverse, vec_capacity, true, false, length, slice_index_or};
 ghost use Rattle.std.specs.Option.{ForSome};
 ghost use Rattle.sm_placement.specs.Sums.{put, put2};
 ghost use Rattle.sm_placement.specs.Rows.{IsKnownCall};
-ghost use Rattle.sm_placement.specs.Place.{called_numbered, publish};
+ghost use Rattle.sm_placement.specs.Place.{called_numbered, publish, forget_numbers};
 ghost use Rattle.sm_plan_code.specs.declared.limits.TheConstants.{MOST_NUMBER, MOST_PLANS};
 ghost use Rattle.sm_plan_code.specs.Table.{exchange_of};
 ghost use Rattle.sm_protocol.specs.State.{is_begun, progress_of, next_instruction, allowance, plan_at, stream_count, signal_count, parcel_at, set_progress, recorded};
@@ -12,11 +12,9 @@ ghost use Rattle.sm_reservation.specs.Hold.{minus, plus};
 ghost use Rattle.sm_reservation.specs.HoldOf.{hold_of};
 ghost use Rattle.sm_reservation.specs.CanJoin.{CanJoin};
 ghost use Rattle.sm_reservation.specs.Short.{first_short};
-ghost use Rattle.sm_reservation.specs.Pool.{pool_hold, HasSize, IsKnownHold};
+ghost use Rattle.sm_reservation.specs.Pool.{pool_hold, HasSize, IsKnownHold, true_rights};
 ghost use Rattle.sm_placement.specs.Setup.{sizes_of};
 ghost use Rattle.sm_placement.specs.Layout.{place_of};
-ghost use Rattle.sm_placement.specs.Place.{forget_numbers};
-ghost use Rattle.sm_reservation.specs.Pool.{true_rights};
 ghost use Rattle.sm_machine.specs.Opening.{place_of_rows};
 ghost use Rattle.sm_machine.specs.Course.{hold_in, rights_in, capacity_in, HasCapacityIn, IsGrantInOrder};
 ghost use Rattle.sm_machine.specs.State.{whole_of, state_of, grant_of, with_state, with_stream, with_signal, opened_whole};
@@ -27,16 +25,12 @@ ghost use Rattle.sm_machine.specs.Ready.{IsReadyToTrade};
 ghost use Rattle.sm_machine.specs.Starts.{CanFillAll, IsBegunIn, begun_of};
 ghost use Rattle.sm_machine.specs.Trade.{IsTradedBy};
 ghost use Rattle.sm_protocol.specs.Happens.{reply_of};
-ghost use Rattle.std.specs.Prelude.{IsTrue, OnOk, IfErr};
-ghost use Rattle.sm_task_controller.specs.Decision.{denial};
-ghost use Rattle.sm_machine.specs.Engaged.{engaged_by};
-ghost use Rattle.sm_placement.specs.Place.{set_down};
-ghost use Rattle.sm_machine.specs.Restarts.{live_there, CanPayLive, CanGetLive};
-ghost use Rattle.sm_machine.specs.Restarted.{down_whole, up_whole};
 ghost use Rattle.sm_protocol.specs.Ticket.{passes, is_open_ticket};
 ghost use Rattle.sm_machine.specs.Retired.{recorded_steps};
 ghost use Rattle.sm_machine.specs.Unfinished.{unfinished_below};
 ghost use Rattle.sm_placement.specs.declared.limits.TheConstants.{VERSIONS_END};
+
+mod restarts;
 
 use crate::begun::Begun;
 use crate::journal::{Journal, TicketParts};
@@ -46,7 +40,6 @@ use crate::plans::Plans;
 use crate::progress::Progress;
 use crate::ready_plan::ReadyPlan;
 use crate::requests::reply;
-use crate::restarts::{get_live, pay_live};
 use crate::rooms::Rooms;
 use crate::token::StreamToken;
 use sm_placement::{Entry, Placement};
@@ -54,7 +47,6 @@ use sm_plan_code::{Instr, Plan, ServerCall};
 use sm_protocol::{Event, Logged, Played};
 use sm_reservation::{Change, Pool, StreamId};
 use sm_server::{ServerId, ShardId};
-use sm_task_controller::{Approved, Denied, decide};
 use sm_verifier::{Checked, Holding, admit_from_true_pool};
 use std::alloc::Global;
 use std::marker::Model;
@@ -570,65 +562,5 @@ impl Engine {
         plans.close(&closed);
         desk.close(&closed);
         placement
-    }
-
-    /// The server is known, and down.
-    pub fn is_down(&self, server: ServerId) -> bool
-        ensures down { result ≡ (state_of self.now).place.down server }
-        ensures known { IsTrue result → server < (state_of self.now).sizes.servers }
-    {
-        let servers = self.placement.config().server_count();
-        server.number() < servers && self.placement.is_down(server)
-    }
-
-    /// A server is up, and the spare replicas that are live at it are in the pool.
-    pub fn bring_up(&mut self, server: ServerId)
-        requires server { server < (state_of self.old).sizes.servers }
-        requires fits { CanGetLive (whole_of self.old).pool (live_there (set_down (state_of self.old).place server false) server) (state_of self.old).sizes.shards }
-        ensures { whole_of self.new ≡ up_whole (whole_of self.old) server }
-    {
-        self.placement.set_up(server);
-        get_live(&mut self.pool, &self.placement, server);
-    }
-
-    /// A server is down, and the spare replicas that were live at it are out of the pool.
-    pub fn take_down(&mut self, server: ServerId)
-        requires server { server < (state_of self.old).sizes.servers }
-        requires spare { CanPayLive (whole_of self.old).pool (live_there (state_of self.old).place server) (state_of self.old).sizes.shards }
-        ensures { whole_of self.new ≡ down_whole (whole_of self.old) server }
-    {
-        pay_live(&mut self.pool, &self.placement, server);
-        self.placement.set_down(server);
-    }
-
-    /// The unfinished plans, by their numbers, in the order of their starts.
-    pub fn unfinished(&self) -> &[u32]
-        ensures { result.now ≡ unfinished_below (whole_of self.now).unfinished (length (state_of self.now).plans) }
-    {
-        self.unfinished.as_slice()
-    }
-
-    /// The lowest stream of a plan that engages a server.
-    pub fn engaged_by(&self, plan: u32, server: ServerId) -> Option<StreamId>
-        requires { plan < length (state_of self.now).plans }
-        ensures { result ≡ engaged_by (state_of self.now) server plan }
-    {
-        self.plans.at(plan as usize).engaged(plan, server)
-    }
-
-    /// Whether a server may be restarted now, as its lowest engaging stream is this one.
-    pub fn decide(&self, server: ServerId, engaged: Option<StreamId>) -> Result<Approved, Denied>
-        requires server { server < (state_of self.now).sizes.servers }
-        requires free { (whole_of self.now).free < 2 ^ 32 }
-        ensures approved { OnOk result (denial (state_of self.now).sizes (state_of self.now).place (whole_of self.now).pool engaged (whole_of self.now).free server ≡ None) }
-        ensures denied { IfErr result (λ why. denial (state_of self.now).sizes (state_of self.now).place (whole_of self.now).pool engaged (whole_of self.now).free server ≡ Some why) }
-    {
-        decide(
-            &self.placement,
-            &self.pool,
-            engaged,
-            self.free as u32,
-            server,
-        )
     }
 }

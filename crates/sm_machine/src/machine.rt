@@ -3,7 +3,7 @@ ghost use Rattle.std.specs.Prelude.{ℕ, ◌≡◌, ◌≢◌, ◌≤◌, ◌<�
 ghost use Rattle.sm_placement.specs.Place.{down_count, entry_at};
 ghost use Rattle.sm_placement.specs.Lead.{IsSettled};
 ghost use Rattle.sm_placement.specs.SafePlace.{IsServing};
-ghost use Rattle.sm_protocol.specs.State.{opened, is_begun, progress_of, allowance, free_places, stream_count, plan_at};
+ghost use Rattle.sm_protocol.specs.State.{opened, is_begun, progress_of, allowance, free_places, stream_count, plan_at, pool};
 ghost use Rattle.sm_protocol.specs.Ticket.{passes};
 ghost use Rattle.sm_machine.specs.declared.opened.OpenFault.TheVariants.{LogFull};
 ghost use Rattle.sm_placement.specs.Sums.{bit};
@@ -11,10 +11,9 @@ ghost use Rattle.sm_placement.specs.Setup.{sizes_of};
 ghost use Rattle.sm_placement.specs.Layout.{place_of};
 ghost use Rattle.sm_machine.specs.Permits.{passing_below};
 ghost use Rattle.sm_reservation.specs.Pool.{pool_hold, HasSize};
-ghost use Rattle.sm_protocol.specs.State.{pool};
 ghost use Rattle.sm_protocol.specs.Steps.{Answered, Refused, step};
 ghost use Rattle.sm_protocol.specs.Happens as happening;
-ghost use Rattle.sm_protocol.specs.Happens.{Happening, happens};
+ghost use Rattle.sm_protocol.specs.Happens.{Happening, happens, engaged};
 ghost use Rattle.sm_protocol.specs.Safe.{IsSafe, SomeCanStep, SomeCanStepOrSpent};
 ghost use Rattle.sm_protocol.specs.Laws.{IsReached, FitsConfig, HasNoLost, asked};
 ghost use Rattle.sm_machine.specs.State.{whole_of, state_of};
@@ -25,7 +24,6 @@ ghost use Rattle.sm_machine.specs.Starts.{AreTokens};
 ghost use Rattle.sm_machine.specs.Started.{IsNotStarted};
 ghost use Rattle.sm_machine.specs.Requested.{played_by, tickets_in};
 ghost use Rattle.sm_machine.specs.Restarted.{restart_of, approval_of};
-ghost use Rattle.sm_protocol.specs.Happens.{engaged};
 ghost use Rattle.sm_protocol.specs.Hand.{tickets_of, spends};
 ghost use Rattle.sm_machine.specs.Losses.{refill_answer, is_lost_answer, IsStepOver};
 ghost use Rattle.sm_machine.specs.Retired.{has_ended, recorded_steps, made_in};
@@ -183,297 +181,6 @@ impl Machine {
         self.engine.step_by(token.id(), Passage::Through)
     }
 
-    /// Halts the machine: steps are answered Halted until it is resumed. This is no event.
-    pub fn halt(&mut self)
-        ensures state { state_of self.new ≡ record (state_of self.old) { halted = true } }
-        ensures setup { self.new.placement.setup ≡ self.old.placement.setup }
-    {
-        self.engine.set_halted(true);
-    }
-
-    /// Lets a halted machine go on.
-    pub fn resume(&mut self)
-        ensures state { state_of self.new ≡ record (state_of self.old) { halted = false } }
-        ensures setup { self.new.placement.setup ≡ self.old.placement.setup }
-    {
-        self.engine.set_halted(false);
-    }
-
-    /// The placement as it stands.
-    pub fn placement(&self) -> &Placement
-        ensures place { place_of result.now ≡ (state_of self.now).place }
-        ensures sizes { sizes_of result.now.setup ≡ (state_of self.now).sizes }
-        ensures setup { result.now.setup ≡ self.now.placement.setup }
-    {
-        self.engine.placement()
-    }
-
-    /// The rights that no stream holds and no parcel carries.
-    pub fn pool(&self) -> &Pool
-        ensures hold { pool_hold result.now ≡ pool (state_of self.now) }
-        ensures size { HasSize (state_of self.now).sizes result.now }
-    {
-        self.engine.pool()
-    }
-
-    /// The recorded events with their answers, the oldest first.
-    pub fn log(&self) -> &[Logged]
-        ensures { result.now ≡ (state_of self.now).log }
-    {
-        self.engine.log()
-    }
-
-    /// The entries that publications have added to the published map, with their shards, the oldest first.
-    pub fn entries(&self) -> &[(ShardId, Entry)]
-        ensures { reverse result.now ≡ (state_of self.now).entries }
-    {
-        self.engine.entries()
-    }
-
-    /// The stream was begun by this machine.
-    pub fn is_begun(&self, id: StreamId) -> bool
-        ensures { result ≡ is_begun (state_of self.now) id }
-    {
-        self.engine.is_begun(id)
-    }
-
-    /// The stream has made its end.
-    pub fn is_done(&self, id: StreamId) -> bool
-        requires { is_begun (state_of self.now) id ≡ true }
-        ensures { result ≡ (progress_of (state_of self.now) id).done }
-    {
-        self.engine.progress(id).done
-    }
-
-    /// Ends the token of a stream that has made its end, and answers how many recorded steps the stream made: the tries of its
-    /// calls, its other instructions, and its end, which are its steps and lost tries in the log. A token of any other stream comes
-    /// back.
-    pub fn retire(&self, token: StreamToken) -> Result<u64, StreamToken>
-        ensures made { IfOk result (λ steps. steps ≡ recorded_steps (state_of self.now) token) }
-        ensures logged { IfOk result (λ steps. steps ≡ made_in token (state_of self.now).log) }
-        ensures done { OnOk result (has_ended (state_of self.now) token ≡ true) }
-        ensures back { IfErr result (λ t. t ≡ token) }
-        ensures unfinished { OnErr result (has_ended (state_of self.now) token ≡ false) }
-    {
-        let id = token.id();
-        if !self.engine.is_begun(id) || !self.engine.progress(id).done {
-            return Err(token);
-        }
-        let _ = token.into_id();
-        Ok(self.engine.steps_made(id))
-    }
-
-    /// A request for a shard comes to a server.
-    ///
-    /// Takes no memory.
-    pub fn arrive(&mut self, shard: ShardId, server: ServerId) -> Answer
-        requires shard { shard < (state_of self.old).sizes.shards }
-        requires server { server < (state_of self.old).sizes.servers }
-        ensures answer { (happens (state_of self.old) (happening.Arrive shard server)).0 ≡ Answered (played_by result) }
-        ensures state { state_of self.new ≡ (happens (state_of self.old) (happening.Arrive shard server)).1 }
-        ensures tickets { tickets_in result ≡ tickets_of shard server (played_by result) }
-        ensures setup { self.new.placement.setup ≡ self.old.placement.setup }
-    {
-        let event = Event::Arrive { shard, server };
-        let reply = self.engine.ask(shard, server, None, event);
-        answer_to(shard, server, reply)
-    }
-
-    /// A request that was passed on comes to the server that it was passed to. Its ticket is spent by an answer of the server,
-    /// and else comes back.
-    ///
-    /// Takes no memory.
-    pub fn pass_on(&mut self, ticket: Ticket) -> Answer
-        ensures answer { (happens (state_of self.old) (happening.PassOn ticket)).0 ≡ Answered (played_by result) }
-        ensures state { state_of self.new ≡ (happens (state_of self.old) (happening.PassOn ticket)).1 }
-        ensures tickets { tickets_in result ≡ (if spends (played_by result) then tickets_of ticket.shard ticket.target (played_by result) else ticket ∷ []) }
-        ensures setup { self.new.placement.setup ≡ self.old.placement.setup }
-    {
-        let parts = ticket.parts();
-        if !self.engine.is_open(&parts) {
-            return Answer::Unknown(ticket);
-        }
-        let event = Event::PassOn { place: parts.place };
-        let reply = self
-            .engine
-            .ask(parts.shard, parts.target, Some(parts), event);
-        answer_with(ticket, reply)
-    }
-
-    /// Ends the machine, with the rights to go on, and answers its placement as it stands. All that streams hold and
-    /// signals carry ends with the machine's pool. Takes no memory.
-    pub fn give_up(
-        self,
-        tokens: Vec<StreamToken>,
-        permits: Vec<Permit>,
-        tickets: Vec<Ticket>,
-    ) -> Placement
-        ensures place { place_of result ≡ (state_of self).place }
-        ensures sizes { sizes_of result.setup ≡ (state_of self).sizes }
-        ensures setup { result.setup ≡ self.placement.setup }
-    {
-        close_tokens(tokens);
-        close_permits(permits);
-        close_tickets(tickets);
-        self.into_placement()
-    }
-
-    /// Ends the machine, when all rights to go on have ended, and answers its placement as it stands. Takes no memory.
-    pub(crate) fn into_placement(self) -> Placement
-        ensures place { place_of result ≡ (state_of self).place }
-        ensures sizes { sizes_of result.setup ≡ (state_of self).sizes }
-        ensures setup { result.setup ≡ self.placement.setup }
-    {
-        let Machine { engine } = self;
-        engine.into_placement()
-    }
-
-    /// A restart has ended: the server of the permit is up. Where it was not down, the permit comes back.
-    ///
-    /// Takes no memory.
-    pub fn done(&mut self, permit: Permit) -> Result<(), Permit>
-        ensures answer { (happens (state_of self.old) (happening.Done permit)).0 ≡ Answered (restart_of result) }
-        ensures state { state_of self.new ≡ (happens (state_of self.old) (happening.Done permit)).1 }
-        ensures back { IfErr result (λ p. p ≡ permit) }
-        ensures setup { self.new.placement.setup ≡ self.old.placement.setup }
-    {
-        if !self.engine.is_down(permit.server()) {
-            return Err(permit);
-        }
-        let server = permit.into_server();
-        self.engine.end_restart(server);
-        Ok(())
-    }
-
-    /// The lowest unfinished stream whose code mentions the server.
-    pub fn engaged(&self, server: ServerId) -> Option<StreamId>
-        ensures { result ≡ engaged (state_of self.now) server }
-    {
-        self.engine.engaged(server)
-    }
-
-    /// The cluster manager asks whether a server may be restarted. Where it may, it is down then, and the permit ends the restart.
-    ///
-    /// Takes no memory.
-    pub fn approve(&mut self, server: ServerId) -> Result<Permit, Denied>
-        requires { server < (state_of self.old).sizes.servers }
-        ensures answer { (happens (state_of self.old) (happening.Approve server)).0 ≡ Answered (approval_of result) }
-        ensures state { state_of self.new ≡ (happens (state_of self.old) (happening.Approve server)).1 }
-        ensures permit { IfOk result (λ permit. permit ≡ server) }
-        ensures setup { self.new.placement.setup ≡ self.old.placement.setup }
-    {
-        let engaged = self.engine.engaged(server);
-        match self.engine.decide(server, engaged) {
-            Ok(_) => {
-                self.engine.start_restart(server);
-                Ok(Permit::new(server))
-            }
-            Err(why) => Err(why),
-        }
-    }
-
-    /// The configuration.
-    pub fn config(&self) -> &Config
-        ensures setup { result.now ≡ self.now.placement.setup }
-        ensures sizes { sizes_of result.now ≡ (state_of self.now).sizes }
-    {
-        self.engine.placement().config()
-    }
-
-    /// How many of its instructions a stream has made.
-    pub fn position(&self, id: StreamId) -> usize
-        requires { is_begun (state_of self.now) id ≡ true }
-        ensures { result ≡ (progress_of (state_of self.now) id).at }
-    {
-        self.engine.progress(id).at
-    }
-
-    /// How many tries of calls a stream has made.
-    pub fn calls(&self, id: StreamId) -> u64
-        requires { is_begun (state_of self.now) id ≡ true }
-        ensures { result ≡ (progress_of (state_of self.now) id).tries }
-    {
-        self.engine.progress(id).tries
-    }
-
-    /// How many tries of calls a stream may make: its budget, its retries and its refills.
-    pub fn allowance(&self, id: StreamId) -> u64
-        requires { is_begun (state_of self.now) id ≡ true }
-        ensures { result ≡ allowance (state_of self.now) id }
-    {
-        self.engine.allowance(id)
-    }
-
-    /// How many recorded steps a stream makes on its way: the tries of its calls so far, its other instructions, and its end,
-    /// whether or not it has come to those. Of a stream that has made its end it is the number that `retire` answers.
-    pub fn recorded_steps(&self, id: StreamId) -> u64
-        requires { is_begun (state_of self.now) id ≡ true }
-        ensures { result ≡ recorded_steps (state_of self.now) id }
-    {
-        self.engine.steps_made(id)
-    }
-
-    /// The published map's entry of a shard.
-    pub fn entry(&self, shard: ShardId) -> Entry
-        requires { shard < (state_of self.now).sizes.shards }
-        ensures { result ≡ entry_at (state_of self.now).place shard }
-    {
-        self.engine.placement().entry(shard)
-    }
-
-    /// How many places of the log are neither used nor set aside for what was begun.
-    pub fn free_places(&self) -> u64
-        ensures { result ≡ free_places (state_of self.now) }
-    {
-        self.engine.free()
-    }
-
-    /// How many plans were begun.
-    pub fn plan_count(&self) -> u64
-        ensures { result ≡ length (state_of self.now).plans }
-    {
-        self.engine.plan_count() as u64
-    }
-
-    /// How many streams a plan has that was begun.
-    pub fn stream_count(&self, plan: u32) -> u64
-        requires { plan < length (state_of self.now).plans }
-        ensures { result ≡ stream_count (state_of self.now) plan }
-    {
-        self.engine.stream_count(plan) as u64
-    }
-
-    /// The plan of a number.
-    pub fn plan(&self, plan: u32) -> &Plan
-        requires { plan < length (state_of self.now).plans }
-        ensures { result.now ≡ plan_at (state_of self.now) plan }
-    {
-        self.engine.plan(plan)
-    }
-
-    /// A ticket of the pass that is recorded at this place of the log.
-    pub(crate) fn ticket_at(&self, place: u32) -> Option<Ticket>
-        ensures { result ≡ slice_index_or (passes (state_of self.now).log) place None }
-    {
-        match self.engine.pass_at(place) {
-            Some(parts) => Some(Ticket::new(parts)),
-            None => None,
-        }
-    }
-
-    /// Raises a stream's allowance of tries, by 262,144 at most at once.
-    ///
-    /// Takes no memory.
-    pub fn refill(&mut self, token: &mut StreamToken, more: u32) -> Result<(), RefillFault>
-        requires { more ≤ MOST_CALLS }
-        ensures answer { (happens (state_of self.old) (happening.Refill token.old more)).0 ≡ Answered (refill_answer result) }
-        ensures state { state_of self.new ≡ (happens (state_of self.old) (happening.Refill token.old more)).1 }
-        ensures token { token.new ≡ token.old }
-        ensures setup { self.new.placement.setup ≡ self.old.placement.setup }
-    {
-        self.engine.refill(token.id(), more)
-    }
-
     /// A stream makes its next step over a link. The link is asked once, under the number of the try, where the step tries a
     /// call, and else not at all. Lost is answered exactly where the link's count of losses has risen.
     ///
@@ -515,6 +222,19 @@ impl Machine {
         }
     }
 
+    /// Raises a stream's allowance of tries, by 262,144 at most at once.
+    ///
+    /// Takes no memory.
+    pub fn refill(&mut self, token: &mut StreamToken, more: u32) -> Result<(), RefillFault>
+        requires { more ≤ MOST_CALLS }
+        ensures answer { (happens (state_of self.old) (happening.Refill token.old more)).0 ≡ Answered (refill_answer result) }
+        ensures state { state_of self.new ≡ (happens (state_of self.old) (happening.Refill token.old more)).1 }
+        ensures token { token.new ≡ token.old }
+        ensures setup { self.new.placement.setup ≡ self.old.placement.setup }
+    {
+        self.engine.refill(token.id(), more)
+    }
+
     /// A stream's allowance is raised.
     pub(crate) fn refill_by(&mut self, id: StreamId, more: u32) -> Result<(), RefillFault>
         requires { more ≤ MOST_CALLS }
@@ -523,5 +243,283 @@ impl Machine {
         ensures setup { self.new.placement.setup ≡ self.old.placement.setup }
     {
         self.engine.refill(id, more)
+    }
+
+    /// A request for a shard comes to a server.
+    ///
+    /// Takes no memory.
+    pub fn arrive(&mut self, shard: ShardId, server: ServerId) -> Answer
+        requires shard { shard < (state_of self.old).sizes.shards }
+        requires server { server < (state_of self.old).sizes.servers }
+        ensures answer { (happens (state_of self.old) (happening.Arrive shard server)).0 ≡ Answered (played_by result) }
+        ensures state { state_of self.new ≡ (happens (state_of self.old) (happening.Arrive shard server)).1 }
+        ensures tickets { tickets_in result ≡ tickets_of shard server (played_by result) }
+        ensures setup { self.new.placement.setup ≡ self.old.placement.setup }
+    {
+        let event = Event::Arrive { shard, server };
+        let reply = self.engine.ask(shard, server, None, event);
+        answer_to(shard, server, reply)
+    }
+
+    /// A request that was passed on comes to the server that it was passed to. Its ticket is spent by an answer of the server,
+    /// and else comes back.
+    ///
+    /// Takes no memory.
+    pub fn pass_on(&mut self, ticket: Ticket) -> Answer
+        ensures answer { (happens (state_of self.old) (happening.PassOn ticket)).0 ≡ Answered (played_by result) }
+        ensures state { state_of self.new ≡ (happens (state_of self.old) (happening.PassOn ticket)).1 }
+        ensures tickets { tickets_in result ≡ (if spends (played_by result) then tickets_of ticket.shard ticket.target (played_by result) else ticket ∷ []) }
+        ensures setup { self.new.placement.setup ≡ self.old.placement.setup }
+    {
+        let parts = ticket.parts();
+        if !self.engine.is_open(&parts) {
+            return Answer::Unknown(ticket);
+        }
+        let event = Event::PassOn { place: parts.place };
+        let reply = self
+            .engine
+            .ask(parts.shard, parts.target, Some(parts), event);
+        answer_with(ticket, reply)
+    }
+
+    /// The cluster manager asks whether a server may be restarted. Where it may, it is down then, and the permit ends the restart.
+    ///
+    /// Takes no memory.
+    pub fn approve(&mut self, server: ServerId) -> Result<Permit, Denied>
+        requires { server < (state_of self.old).sizes.servers }
+        ensures answer { (happens (state_of self.old) (happening.Approve server)).0 ≡ Answered (approval_of result) }
+        ensures state { state_of self.new ≡ (happens (state_of self.old) (happening.Approve server)).1 }
+        ensures permit { IfOk result (λ permit. permit ≡ server) }
+        ensures setup { self.new.placement.setup ≡ self.old.placement.setup }
+    {
+        let engaged = self.engine.engaged(server);
+        match self.engine.decide(server, engaged) {
+            Ok(_) => {
+                self.engine.start_restart(server);
+                Ok(Permit::new(server))
+            }
+            Err(why) => Err(why),
+        }
+    }
+
+    /// A restart has ended: the server of the permit is up. Where it was not down, the permit comes back.
+    ///
+    /// Takes no memory.
+    pub fn done(&mut self, permit: Permit) -> Result<(), Permit>
+        ensures answer { (happens (state_of self.old) (happening.Done permit)).0 ≡ Answered (restart_of result) }
+        ensures state { state_of self.new ≡ (happens (state_of self.old) (happening.Done permit)).1 }
+        ensures back { IfErr result (λ p. p ≡ permit) }
+        ensures setup { self.new.placement.setup ≡ self.old.placement.setup }
+    {
+        if !self.engine.is_down(permit.server()) {
+            return Err(permit);
+        }
+        let server = permit.into_server();
+        self.engine.end_restart(server);
+        Ok(())
+    }
+
+    /// Halts the machine: steps are answered Halted until it is resumed. This is no event.
+    pub fn halt(&mut self)
+        ensures state { state_of self.new ≡ record (state_of self.old) { halted = true } }
+        ensures setup { self.new.placement.setup ≡ self.old.placement.setup }
+    {
+        self.engine.set_halted(true);
+    }
+
+    /// Lets a halted machine go on.
+    pub fn resume(&mut self)
+        ensures state { state_of self.new ≡ record (state_of self.old) { halted = false } }
+        ensures setup { self.new.placement.setup ≡ self.old.placement.setup }
+    {
+        self.engine.set_halted(false);
+    }
+
+    /// The placement as it stands.
+    pub fn placement(&self) -> &Placement
+        ensures place { place_of result.now ≡ (state_of self.now).place }
+        ensures sizes { sizes_of result.now.setup ≡ (state_of self.now).sizes }
+        ensures setup { result.now.setup ≡ self.now.placement.setup }
+    {
+        self.engine.placement()
+    }
+
+    /// The configuration.
+    pub fn config(&self) -> &Config
+        ensures setup { result.now ≡ self.now.placement.setup }
+        ensures sizes { sizes_of result.now ≡ (state_of self.now).sizes }
+    {
+        self.engine.placement().config()
+    }
+
+    /// The rights that no stream holds and no parcel carries.
+    pub fn pool(&self) -> &Pool
+        ensures hold { pool_hold result.now ≡ pool (state_of self.now) }
+        ensures size { HasSize (state_of self.now).sizes result.now }
+    {
+        self.engine.pool()
+    }
+
+    /// The recorded events with their answers, the oldest first.
+    pub fn log(&self) -> &[Logged]
+        ensures { result.now ≡ (state_of self.now).log }
+    {
+        self.engine.log()
+    }
+
+    /// The entries that publications have added to the published map, with their shards, the oldest first.
+    pub fn entries(&self) -> &[(ShardId, Entry)]
+        ensures { reverse result.now ≡ (state_of self.now).entries }
+    {
+        self.engine.entries()
+    }
+
+    /// The published map's entry of a shard.
+    pub fn entry(&self, shard: ShardId) -> Entry
+        requires { shard < (state_of self.now).sizes.shards }
+        ensures { result ≡ entry_at (state_of self.now).place shard }
+    {
+        self.engine.placement().entry(shard)
+    }
+
+    /// How many places of the log are neither used nor set aside for what was begun.
+    pub fn free_places(&self) -> u64
+        ensures { result ≡ free_places (state_of self.now) }
+    {
+        self.engine.free()
+    }
+
+    /// How many plans were begun.
+    pub fn plan_count(&self) -> u64
+        ensures { result ≡ length (state_of self.now).plans }
+    {
+        self.engine.plan_count() as u64
+    }
+
+    /// How many streams a plan has that was begun.
+    pub fn stream_count(&self, plan: u32) -> u64
+        requires { plan < length (state_of self.now).plans }
+        ensures { result ≡ stream_count (state_of self.now) plan }
+    {
+        self.engine.stream_count(plan) as u64
+    }
+
+    /// The plan of a number.
+    pub fn plan(&self, plan: u32) -> &Plan
+        requires { plan < length (state_of self.now).plans }
+        ensures { result.now ≡ plan_at (state_of self.now) plan }
+    {
+        self.engine.plan(plan)
+    }
+
+    /// The stream was begun by this machine.
+    pub fn is_begun(&self, id: StreamId) -> bool
+        ensures { result ≡ is_begun (state_of self.now) id }
+    {
+        self.engine.is_begun(id)
+    }
+
+    /// The stream has made its end.
+    pub fn is_done(&self, id: StreamId) -> bool
+        requires { is_begun (state_of self.now) id ≡ true }
+        ensures { result ≡ (progress_of (state_of self.now) id).done }
+    {
+        self.engine.progress(id).done
+    }
+
+    /// How many of its instructions a stream has made.
+    pub fn position(&self, id: StreamId) -> usize
+        requires { is_begun (state_of self.now) id ≡ true }
+        ensures { result ≡ (progress_of (state_of self.now) id).at }
+    {
+        self.engine.progress(id).at
+    }
+
+    /// How many tries of calls a stream has made.
+    pub fn calls(&self, id: StreamId) -> u64
+        requires { is_begun (state_of self.now) id ≡ true }
+        ensures { result ≡ (progress_of (state_of self.now) id).tries }
+    {
+        self.engine.progress(id).tries
+    }
+
+    /// How many tries of calls a stream may make: its budget, its retries and its refills.
+    pub fn allowance(&self, id: StreamId) -> u64
+        requires { is_begun (state_of self.now) id ≡ true }
+        ensures { result ≡ allowance (state_of self.now) id }
+    {
+        self.engine.allowance(id)
+    }
+
+    /// How many recorded steps a stream makes on its way: the tries of its calls so far, its other instructions, and its end,
+    /// whether or not it has come to those. Of a stream that has made its end it is the number that `retire` answers.
+    pub fn recorded_steps(&self, id: StreamId) -> u64
+        requires { is_begun (state_of self.now) id ≡ true }
+        ensures { result ≡ recorded_steps (state_of self.now) id }
+    {
+        self.engine.steps_made(id)
+    }
+
+    /// The lowest unfinished stream whose code mentions the server.
+    pub fn engaged(&self, server: ServerId) -> Option<StreamId>
+        ensures { result ≡ engaged (state_of self.now) server }
+    {
+        self.engine.engaged(server)
+    }
+
+    /// A ticket of the pass that is recorded at this place of the log.
+    pub(crate) fn ticket_at(&self, place: u32) -> Option<Ticket>
+        ensures { result ≡ slice_index_or (passes (state_of self.now).log) place None }
+    {
+        match self.engine.pass_at(place) {
+            Some(parts) => Some(Ticket::new(parts)),
+            None => None,
+        }
+    }
+
+    /// Ends the token of a stream that has made its end, and answers how many recorded steps the stream made: the tries of its
+    /// calls, its other instructions, and its end, which are its steps and lost tries in the log. A token of any other stream comes
+    /// back.
+    pub fn retire(&self, token: StreamToken) -> Result<u64, StreamToken>
+        ensures made { IfOk result (λ steps. steps ≡ recorded_steps (state_of self.now) token) }
+        ensures logged { IfOk result (λ steps. steps ≡ made_in token (state_of self.now).log) }
+        ensures done { OnOk result (has_ended (state_of self.now) token ≡ true) }
+        ensures back { IfErr result (λ t. t ≡ token) }
+        ensures unfinished { OnErr result (has_ended (state_of self.now) token ≡ false) }
+    {
+        let id = token.id();
+        if !self.engine.is_begun(id) || !self.engine.progress(id).done {
+            return Err(token);
+        }
+        let _ = token.into_id();
+        Ok(self.engine.steps_made(id))
+    }
+
+    /// Ends the machine, with the rights to go on, and answers its placement as it stands. All that streams hold and
+    /// signals carry ends with the machine's pool. Takes no memory.
+    pub fn give_up(
+        self,
+        tokens: Vec<StreamToken>,
+        permits: Vec<Permit>,
+        tickets: Vec<Ticket>,
+    ) -> Placement
+        ensures place { place_of result ≡ (state_of self).place }
+        ensures sizes { sizes_of result.setup ≡ (state_of self).sizes }
+        ensures setup { result.setup ≡ self.placement.setup }
+    {
+        close_tokens(tokens);
+        close_permits(permits);
+        close_tickets(tickets);
+        self.into_placement()
+    }
+
+    /// Ends the machine, when all rights to go on have ended, and answers its placement as it stands. Takes no memory.
+    pub(crate) fn into_placement(self) -> Placement
+        ensures place { place_of result ≡ (state_of self).place }
+        ensures sizes { sizes_of result.setup ≡ (state_of self).sizes }
+        ensures setup { result.setup ≡ self.placement.setup }
+    {
+        let Machine { engine } = self;
+        engine.into_placement()
     }
 }
