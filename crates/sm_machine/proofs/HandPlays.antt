@@ -1,6 +1,6 @@
 -- Lists of events, played with a hand.
-use Rattle.std.proofs.Common.{◌≡◌, ◌≢◌, ◌<◌, ◌≤◌, ◌+◌, ◌-◌, ◌++◌, ◌∷◌, [], ℕ, zero, suc, List, Option, Some, None, length, map, refl, sym, ap, ◌∙◌, subst, arith, take, drop, inl, inr}
-use Rattle.std.specs.Prelude.{slice_index_or, min, IfSome, ◌^◌, ◌==◌, count_by}
+use Rattle.std.proofs.Common.{◌≡◌, ◌<◌, ◌≤◌, ◌+◌, ◌-◌, ◌++◌, ◌∷◌, [], ℕ, zero, suc, List, Option, Some, None, length, map, refl, sym, ap, ◌∙◌, subst, arith, take, drop, inl, inr}
+use Rattle.std.specs.Prelude.{slice_index_or, min, IfSome, ◌^◌}
 use Rattle.std.specs.List.{AllByRecursion, sum_by}
 use Rattle.std.proofs.lemmas.Bool.{cases_eq, cases_lt}
 use Rattle.std.proofs.lemmas.List.{get_or_default}
@@ -10,10 +10,9 @@ use Rattle.sm_placement.specs.Setup.{sizes_of}
 use Rattle.sm_verifier.specs.Checked.{CheckedModel}
 use Rattle.sm_protocol.specs.declared.event.Event.{Event}
 use Rattle.sm_protocol.specs.declared.event.Played.{Played}
-use Rattle.sm_protocol.specs.Steps.{Outcome, Answered, Refused}
-use Rattle.sm_protocol.specs.Safe.{IsSafe, SomeCanStep, SomeCanStepOrSpent}
-use Rattle.sm_protocol.specs.Hand.{Game, play, plays, played_events}
-use Rattle.sm_protocol.specs.Laws.{IsReached, IsCheckedPlan, NamesKnown, AreChecked, IsPlayed, AllFit, AsksNoLoss, HasNoLost, effect_numbers}
+use Rattle.sm_protocol.specs.Steps.{Outcome, Answered}
+use Rattle.sm_protocol.specs.Hand.{Game, play, plays}
+use Rattle.sm_protocol.specs.Laws.{IsReached, IsCheckedPlan, NamesKnown, AreChecked, IsPlayed}
 use Rattle.sm_protocol.proofs.Plays.{plays_are_safe}
 use Rattle.sm_machine.specs.declared.hand.Hand as declared
 use Rattle.sm_machine.specs.Machine.{MachineModel}
@@ -104,49 +103,17 @@ plans_checked m h for checked place plan e = by_plan (slice_index_or h.plans.ite
         let same : p.plan ≡ plan = cc in
         subst (IsCheckedPlan (state_of m).sizes) same (subst (λ c. IsCheckedPlan c p.plan) (ap sizes_of (for place p q) ∙ sym (sizes_are m)) (checked place p q))
 
--- each front of the list is played as the laws say
 module _ (m : MachineModel) (h : declared.Hand) (es : List Event) (r : IsReached m.placement.setup (state_of m)) (names : AllByRecursion (NamesKnown (state_of m).sizes) es) (for : AreFor m.placement.setup h.plans.items)
     (checked : (place : ℕ) (p : CheckedModel) → slice_index_or h.plans.items place None ≡ Some p → IsCheckedPlan (sizes_of p.setup) p.plan) where
   same : sizes_of m.placement.setup ≡ (state_of m).sizes
   same = sym (sizes_are m)
 
-  front : (n : ℕ) → IsPlayed m.placement.setup (take n es) (game_of m h)
-  front n =
+  -- the laws hold of each front
+  pub front_played : (n : ℕ) → IsPlayed m.placement.setup (take n es) (game_of m h)
+  front_played n =
       plays_are_safe m.placement.setup (take n es) (game_of m h) r
       (subst (λ c. AreChecked c (hand_of h)) (sym same) (plans_checked m h for checked))
       (subst (λ c. AllByRecursion (NamesKnown c) (take n es)) (sym same) (known_front (NamesKnown (state_of m).sizes) es n names))
-
-  -- what the hand gives for the events of a front fits the configuration
-  pub fronts_fit : (n : ℕ) → AllFit (state_of m).sizes (played_events (take n es) (game_of m h))
-  fronts_fit n = subst (λ c. AllFit c (played_events (take n es) (game_of m h))) same (front n).fit
-
-  -- the state after each front is one that events lead to, from an opening of the machine's configuration
-  pub fronts_reached : (n : ℕ) → IsReached m.placement.setup (play (take n es) (game_of m h)).state
-  fronts_reached n = (front n).reached
-
-  -- the plans that the hand has after a front were checked for these numbers
-  pub fronts_checked : (n : ℕ) → AreChecked (state_of m).sizes (play (take n es) (game_of m h)).hand
-  fronts_checked n = subst (λ c. AreChecked c (play (take n es) (game_of m h)).hand) same (front n).checked
-
-  -- no call of a front is refused
-  pub fronts_served : (n : ℕ) → AllByRecursion (λ (o : Outcome). o ≢ Refused) (plays (take n es) (game_of m h))
-  fronts_served n = (front n).served
-
-  -- no number of a call has its effect twice along a front
-  pub fronts_once : (n number : ℕ) → count_by (λ k. k == number) (effect_numbers (played_events (take n es) (game_of m h)) (state_of m)) ≤ 1
-  fronts_once n number = (front n).once number
-
-  -- the state after a front is safe
-  pub fronts_safe : (n : ℕ) → IsSafe (play (take n es) (game_of m h)).state
-  fronts_safe n = (front n).safe
-
-  -- after a front some stream of each plan that isn't done can step, or has spent its allowance
-  pub fronts_onward : (n : ℕ) → SomeCanStepOrSpent (play (take n es) (game_of m h)).state
-  fronts_onward n = (front n).onward
-
-  -- where no unfinished stream had a lost call, and none is asked for, some stream of each such plan can step
-  pub fronts_unlost : HasNoLost (state_of m) → (n : ℕ) → AllByRecursion AsksNoLoss (take n es) → SomeCanStep (play (take n es) (game_of m h)).state
-  fronts_unlost none n asked = (front n).unlost none asked
 
 -- what was found of the plans, one after the other
 pub plans_more : (xs : List (Option CheckedModel)) (i : ℕ) (x : Option CheckedModel) → x ≡ slice_index_or xs i x → i < length xs →

@@ -1,11 +1,10 @@
 //! Lists of events, played with a hand.
-ghost use Rattle.std.specs.Prelude.{◌≡◌, ◌≢◌, ◌≤◌, ◌<◌, ◌==◌, ◌↔◌, ℕ, count_by, IsTrue, IfOk, OnOk, OnErr, [], length, map, take};
+ghost use Rattle.std.specs.Prelude.{◌≡◌, ◌≤◌, ◌<◌, ◌↔◌, ℕ, IsTrue, IfOk, OnOk, OnErr, [], length, map, take};
 ghost use Rattle.std.specs.List.{AllByRecursion};
 ghost use Rattle.sm_protocol.specs.declared.event.Event.TheVariants as event;
-ghost use Rattle.sm_protocol.specs.Hand.{play, plays, played_events};
-ghost use Rattle.sm_protocol.specs.Laws.{NamesKnown, AsksNoLoss, IsReached, AreChecked, AllFit, HasNoLost, effect_numbers, times_spent};
-ghost use Rattle.sm_protocol.specs.Safe.{IsSafe, SomeCanStep, SomeCanStepOrSpent};
-ghost use Rattle.sm_protocol.specs.Steps.{Answered, Refused};
+ghost use Rattle.sm_protocol.specs.Hand.{play, plays};
+ghost use Rattle.sm_protocol.specs.Laws.{NamesKnown, IsPlayed};
+ghost use Rattle.sm_protocol.specs.Steps.{Answered};
 ghost use Rattle.sm_machine.specs.State.{state_of};
 ghost use Rattle.sm_machine.specs.Hand.{AreFor, AreLeft, HasHandRoom, IsSameHand, IsTurn, game_of};
 ghost use Rattle.sm_plan_code.specs.declared.limits.TheConstants.{MOST_CALLS};
@@ -204,20 +203,12 @@ impl Machine {
         Ok(answers.into_list())
     }
 
-    /// A law: what the protocol's headline and its laws on lost calls and on tickets say of a list of events that is played with a
-    /// hand. Each front of the list is such a list too, so the first two say it of the game after each event.
+    /// A law: the protocol's headline, and its laws on lost calls, on their numbers and on tickets, of each front of a list of events that
+    /// is played with a hand, and so of the game after each event.
     fn plays_safely(&self, hand: &Hand, events: &[Event])
         requires names { AllByRecursion (NamesKnown (state_of self.now).sizes) events.now }
         requires plans { AreFor self.now.placement.setup hand.now.plans.items }
-        ensures fit { (n : ℕ) → AllFit (state_of self.now).sizes (played_events (take n events.now) (game_of self.now hand.now)) }
-        ensures reached { (n : ℕ) → IsReached self.now.placement.setup (play (take n events.now) (game_of self.now hand.now)).state }
-        ensures checked { (n : ℕ) → AreChecked (state_of self.now).sizes (play (take n events.now) (game_of self.now hand.now)).hand }
-        ensures served { (n : ℕ) → AllByRecursion (λ o. o ≢ Refused) (plays (take n events.now) (game_of self.now hand.now)) }
-        ensures once { (n m : ℕ) → count_by (λ k. k == m) (effect_numbers (played_events (take n events.now) (game_of self.now hand.now)) (state_of self.now)) ≤ 1 }
-        ensures spent_once { (place : ℕ) → times_spent place (played_events events.now (game_of self.now hand.now)) (state_of self.now) ≤ 1 }
-        ensures safe { (n : ℕ) → IsSafe (play (take n events.now) (game_of self.now hand.now)).state }
-        ensures onward { (n : ℕ) → SomeCanStepOrSpent (play (take n events.now) (game_of self.now hand.now)).state }
-        ensures unlost { HasNoLost (state_of self.now) → (n : ℕ) → AllByRecursion AsksNoLoss (take n events.now) → SomeCanStep (play (take n events.now) (game_of self.now hand.now)).state }
+        ensures { (n : ℕ) → IsPlayed self.now.placement.setup (take n events.now) (game_of self.now hand.now) }
     {
         let _tokens = token_room(hand.plans.as_slice());
         let _count = events.len();
@@ -246,10 +237,10 @@ impl Machine {
     /// which goes what it gives. Where memory is short, nothing has happened: all room is taken before the first event.
     ///
     /// The events name known shards and servers, and each plan of the hand was checked for the machine's configuration. So after
-    /// each event, which is the end of a front of the list: no call was refused, no number of a call had its effect twice, the state
-    /// is safe, and of each plan that isn't done some stream can step, or one that hasn't made its end has spent its allowance; and
-    /// where no lost call was asked for, and no unfinished stream had one in the log, some stream can step. Along the whole list the
-    /// tickets of one place of the log are spent once at most.
+    /// each event, which is the end of a front of the list (`IsPlayed`): no call was refused, no number of a call had its effect twice, nor
+    /// has it along a later list, the tickets of one place of the log were spent once at most, the state is safe, and of each plan that
+    /// isn't done some stream can step, or one that hasn't made its end has spent its allowance; and where no lost call was asked for, and
+    /// no unfinished stream had one in the log, some stream can step.
     pub fn play(
         &mut self,
         alloc: Global,
@@ -264,15 +255,7 @@ impl Machine {
         ensures left { AreLeft hand.old.plans.items hand.new.plans.items }
         ensures machine { OnErr result (self.new ≡ self.old) }
         ensures hand { OnErr result (IsSameHand hand.old hand.new) }
-        ensures fit { (n : ℕ) → AllFit (state_of self.old).sizes (played_events (take n events.now) (game_of self.old hand.old)) }
-        ensures reached { (n : ℕ) → IsReached self.old.placement.setup (play (take n events.now) (game_of self.old hand.old)).state }
-        ensures checked { (n : ℕ) → AreChecked (state_of self.old).sizes (play (take n events.now) (game_of self.old hand.old)).hand }
-        ensures served { (n : ℕ) → AllByRecursion (λ o. o ≢ Refused) (plays (take n events.now) (game_of self.old hand.old)) }
-        ensures once { (n m : ℕ) → count_by (λ k. k == m) (effect_numbers (played_events (take n events.now) (game_of self.old hand.old)) (state_of self.old)) ≤ 1 }
-        ensures spent_once { (place : ℕ) → times_spent place (played_events events.now (game_of self.old hand.old)) (state_of self.old) ≤ 1 }
-        ensures safe { (n : ℕ) → IsSafe (play (take n events.now) (game_of self.old hand.old)).state }
-        ensures onward { (n : ℕ) → SomeCanStepOrSpent (play (take n events.now) (game_of self.old hand.old)).state }
-        ensures unlost { HasNoLost (state_of self.old) → (n : ℕ) → AllByRecursion AsksNoLoss (take n events.now) → SomeCanStep (play (take n events.now) (game_of self.old hand.old)).state }
+        ensures headline { (n : ℕ) → IsPlayed self.old.placement.setup (take n events.now) (game_of self.old hand.old) }
     {
         self.plays_safely(hand, events);
         self.play_all(alloc, hand, events)

@@ -7,6 +7,7 @@ use Rattle.sm_protocol.proofs.Reached.{reached_run}
 use Rattle.sm_protocol.proofs.Whole.{AreServed, reached_keeps, run_served}
 use Rattle.sm_protocol.proofs.Onward.{headline, with_losses}
 use Rattle.sm_protocol.proofs.EffectNumbers.{effect_once}
+use Rattle.sm_protocol.proofs.Passes.{tickets_once}
 
 -- ---- the run that a list of events makes
 
@@ -148,6 +149,7 @@ plays_are_safe setup es g reached all known =
       unspent = λ m. (effects m).unspent;
       still = λ m s. subst (λ (x : State). IsSpent x m) (sym runs.0) ((effects m).still s);
       spent = λ m c. subst (λ (x : State). IsSpent x m) (sym runs.0) ((effects m).spent c);
+      tickets = tickets_once g.state there;
       safe = onward.1;
       onward = onward.2;
       unlost = λ none asked. subst SomeCanStep (sym runs.0) (headline setup g.state there reached none played.0 (played_lose es g asked)).3;

@@ -190,6 +190,8 @@ pub record IsPlayed (setup : Setup) (es : List Event) (g : Game) : Type 0 where
   pub still : (m : ℕ) → IsSpent g.state m → IsSpent (play es g).state m
   -- one that has its effect is spent afterwards
   pub spent : (m : ℕ) → Contains (effect_numbers (played_events es g) g.state) m → IsSpent (play es g).state m
+  -- all tickets of one place of the log together are spent by one answer at most
+  pub tickets : (place : ℕ) → times_spent place (played_events es g) g.state ≤ 1
   pub safe : IsSafe (play es g).state
   pub onward : SomeCanStepOrSpent (play es g).state
   pub unlost : HasNoLost g.state → AllByRecursion AsksNoLoss es → SomeCanStep (play es g).state
