@@ -1,6 +1,6 @@
 //! Boards that are opened, and plans that begin on them and are run, or for which there is no memory. `scripts/check-memory-tests` runs
-//! each of these tests with its first allocation refused, then with its second, and so on; `scripts/check-threads` does so with the threads
-//! of the last one.
+//! each of these tests with its first allocation refused, then with its second, and so on, and wants `reached` to be printed where none is
+//! refused; `scripts/check-threads` does so with the threads of the last one.
 use super::boards::{Deed, End, act_or_not, close, end, machine_or_not, tokens_of};
 use sm_executor::{Board, Naming, NotRun, Open, RunFault, Runner, Side, run};
 use sm_fixtures::{
@@ -113,6 +113,7 @@ fn run_or_not<
         Ok(ended) => {
             let (placement, count) = close(rt, alloc, board, ended, Vec::new(alloc));
             assert!(rt; count == 14 && tokens.is_empty());
+            assert!(rt; println!(rt; "reached").is_ok());
             tokens.destroy_empty();
             return (placement, count);
         }
@@ -179,7 +180,10 @@ pub(crate) fn begin_or_not<
     match begun_or_not(rt, alloc, &board, checked, wanted) {
         None => give_up(rt, alloc, board, Vec::new(alloc), tokens, 0),
         Some(runners) => match wanted {
-            Wanted::Handover => give_up(rt, alloc, board, runners, tokens, 1),
+            Wanted::Handover => {
+                assert!(rt; println!(rt; "reached").is_ok());
+                give_up(rt, alloc, board, runners, tokens, 1)
+            }
             Wanted::Run => run_or_not(rt, alloc, board, runners, tokens),
         },
     }

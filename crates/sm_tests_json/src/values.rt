@@ -90,12 +90,15 @@ fn reads_each_kind(rt: HostRuntime) -> Result<(), Fail> {
     Ok(())
 }
 
-/// `scripts/check-memory-tests` refuses each allocation of this test in turn.
+/// `scripts/check-memory-tests` refuses each allocation of this test in turn, and wants `reached` to be printed where none is refused.
 #[test]
 fn reads_each_kind_or_not(rt: HostRuntime) {
     let mut scratch = Scratch::new(rt.alloc());
     match Tree::read(rt.alloc(), KINDS, &mut scratch) {
-        Ok(tree) => judge_kinds(&rt, &tree),
+        Ok(tree) => {
+            judge_kinds(&rt, &tree);
+            assert!(rt; println!(rt; "reached").is_ok());
+        }
         Err(fault) => assert!(rt; fault == ReadFault::NoMemory),
     }
 }

@@ -1,5 +1,6 @@
 //! Calls that take memory. `scripts/check-memory-tests` runs each of these tests with its first allocation refused, then with its
-//! second, and so on: the answer has to be want of memory, or the right one.
+//! second, and so on: the answer has to be want of memory, or the right one. That one is printed as `reached`, which the script wants
+//! where none is refused.
 use super::fixture::*;
 use sm_placement::{Config, ConfigFault, OpenFault, Placement, Server, Shard};
 use sm_server::Cell;
@@ -25,16 +26,17 @@ fn assert_made_rows(rt: &impl Abort, servers: &[Server], shards: &[Shard]) {
 }
 
 /// Asserts that a copy of the configuration, where it is made, and the configuration are right.
-fn assert_copied(rt: &impl Abort, alloc: Global, config: &Config) {
+fn assert_copied(rt: &(impl Print + Abort), alloc: Global, config: &Config) {
     if let Ok(copy) = config.copy(alloc) {
         assert_made_rows(rt, copy.servers(), copy.shards());
+        assert!(rt; println!(rt; "reached").is_ok());
         drop(copy);
     }
     assert_made_rows(rt, config.servers(), config.shards());
 }
 
 /// Asserts that the configuration of these servers and shards is made and copied, or that memory was refused.
-fn assert_made(rt: &impl Abort, alloc: Global, servers: &[Server], shards: &[Shard]) {
+fn assert_made(rt: &(impl Print + Abort), alloc: Global, servers: &[Server], shards: &[Shard]) {
     match Config::new(alloc, servers, shards) {
         Err(why) => assert_eq!(rt; why, ConfigFault::NoMemory),
         Ok(config) => {
@@ -51,7 +53,7 @@ fn made_servers(alloc: Global) -> Result<[Server; 2], AllocError> {
 }
 
 /// Asserts the same of these servers and a shard, for which there may be no memory.
-fn assert_made_of(rt: &impl Abort, alloc: Global, servers: &[Server]) {
+fn assert_made_of(rt: &(impl Print + Abort), alloc: Global, servers: &[Server]) {
     if let Ok(shard) = shard(alloc, "s", 4, 2, 1) {
         let shards = [shard];
         assert_made(rt, alloc, servers, &shards);
@@ -69,10 +71,11 @@ fn a_configuration_is_made_and_copied_or_not(rt: HostRuntime) {
 }
 
 /// Asserts that the small placement is opened and settled, or that memory was refused.
-fn assert_opened(rt: &impl Abort, alloc: Global, config: &Config) {
+fn assert_opened(rt: &(impl Print + Abort), alloc: Global, config: &Config) {
     match small_placement(alloc, config) {
         Ok(placement) => {
             assert!(rt; placement.settled());
+            assert!(rt; println!(rt; "reached").is_ok());
             drop(placement);
         }
         Err(why) => assert_eq!(rt; why, OpenFault::NoMemory),
@@ -96,9 +99,10 @@ fn assert_small_placement(rt: &impl Abort, placement: &Placement) {
 }
 
 /// Asserts that a copy of the small placement, where it is made, and the placement are right.
-fn assert_copied_placement(rt: &impl Abort, alloc: Global, placement: &Placement) {
+fn assert_copied_placement(rt: &(impl Print + Abort), alloc: Global, placement: &Placement) {
     if let Ok(copy) = copied(alloc, placement) {
         assert_small_placement(rt, &copy);
+        assert!(rt; println!(rt; "reached").is_ok());
         drop(copy);
     }
     assert_small_placement(rt, placement);

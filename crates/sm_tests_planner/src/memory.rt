@@ -1,5 +1,5 @@
 //! Plans that are made, or for which there is no memory. `scripts/check-memory-tests` runs each of these tests with its first
-//! allocation refused, then with its second, and so on.
+//! allocation refused, then with its second, and so on, and wants `reached` to be printed where none is refused.
 use super::run::{Run, open_or_not};
 use super::wanted::{Wanted, plan_wanted};
 use super::worlds::WIDE;
@@ -32,12 +32,20 @@ fn assert_untouched(rt: &impl Abort, run: &Run) {
 }
 
 /// Where an allocation is refused, there is no plan for want of memory; else there is one with so many streams.
-fn assert_planned_or_not(rt: &impl Abort, alloc: Global, wanted: &Wanted, streams: usize) {
+fn assert_planned_or_not(
+    rt: &(impl Print + Abort),
+    alloc: Global,
+    wanted: &Wanted,
+    streams: usize,
+) {
     let Some(run) = open_or_not(rt, alloc, &WIDE) else {
         return;
     };
     match plan_wanted(rt, alloc, &run.machine, wanted) {
-        Ok(checked) => assert_eq!(rt; checked.plan().streams().len(), streams),
+        Ok(checked) => {
+            assert_eq!(rt; checked.plan().streams().len(), streams);
+            assert!(rt; println!(rt; "reached").is_ok());
+        }
         Err(why) => assert_eq!(rt; why, NoPlan::NoMemory),
     }
     assert_untouched(rt, &run);

@@ -1,5 +1,5 @@
 //! Plans that begin, or for which there is no memory. `scripts/check-memory-tests` runs each of these tests with its first
-//! allocation refused, then with its second, and so on.
+//! allocation refused, then with its second, and so on, and wants `reached` to be printed where none is refused.
 use sm_fixtures::{World, is_for, is_signalled, signalled_plan};
 use sm_machine::{BeginFault, Machine, Step, StreamToken};
 use sm_placement::Placement;
@@ -30,7 +30,7 @@ fn assert_goes_on(rt: &impl Abort, machine: &mut Machine, tokens: &mut Vec<Strea
 
 /// Begins a plan at a machine, or asserts that it came back, and that nothing has changed. Returns its tokens.
 fn begun_or_not(
-    rt: &impl Abort,
+    rt: &(impl Print + Abort),
     alloc: Global,
     machine: &mut Machine,
     checked: Checked,
@@ -40,6 +40,7 @@ fn begun_or_not(
         Ok(tokens) => {
             let mut tokens = tokens;
             assert_goes_on(rt, machine, &mut tokens);
+            assert!(rt; println!(rt; "reached").is_ok());
             tokens
         }
         Err((checked, why)) => {
@@ -52,7 +53,7 @@ fn begun_or_not(
 }
 
 /// Begins a plan at a machine over the placement, where there is memory for it.
-fn begin_at(rt: &impl Abort, alloc: Global, placement: Placement, checked: Checked) {
+fn begin_at(rt: &(impl Print + Abort), alloc: Global, placement: Placement, checked: Checked) {
     assert!(rt; placement.settled());
     if let Ok((mut machine, permits)) = Machine::open(alloc, placement, 14) {
         let tokens = begun_or_not(rt, alloc, &mut machine, checked);

@@ -1,5 +1,5 @@
 //! Plans that are made ready and events that are played, or for which there is no memory. `scripts/check-memory-tests` runs each of
-//! these tests with its first allocation refused, then with its second, and so on.
+//! these tests with its first allocation refused, then with its second, and so on, and wants `reached` to be printed where none is refused.
 use super::table::{Table, open};
 use sm_fixtures::{
     S_TO_B, World, approve, arrive, begin, executed, handover_plan, is_handover, pass_on, step,
@@ -12,11 +12,12 @@ use std::alloc::Global;
 use std::process::Abort;
 
 /// Asserts that a plan is made ready, or comes back as it was.
-fn assert_made_ready(rt: &impl Abort, alloc: Global, checked: Checked) {
+fn assert_made_ready(rt: &(impl Print + Abort), alloc: Global, checked: Checked) {
     match make_ready(alloc, checked) {
         Ok(ready) => {
             assert!(rt; is_handover(ready.checked()));
             assert!(rt; is_handover(&ready.back()));
+            assert!(rt; println!(rt; "reached").is_ok());
         }
         Err((checked, _)) => assert!(rt; is_handover(&checked)),
     }
@@ -75,7 +76,10 @@ fn events_are_played_or_not(rt: HostRuntime) {
     };
     if table.add_plan(alloc, S_TO_B).is_ok() {
         match table.play(&rt, alloc, &events()) {
-            Ok(answers) => assert_played(&rt, &table, answers.as_slice()),
+            Ok(answers) => {
+                assert_played(&rt, &table, answers.as_slice());
+                assert!(rt; println!(rt; "reached").is_ok());
+            }
             Err(_) => assert_untouched(&rt, &table),
         }
     }

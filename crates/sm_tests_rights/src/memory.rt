@@ -1,5 +1,6 @@
 //! Calls that take memory. `scripts/check-memory-tests` runs each of these tests with its first allocation refused, then with its
-//! second, and so on: the answer has to be want of memory, or the right one.
+//! second, and so on: the answer has to be want of memory, or the right one. That one is printed as `reached`, which the script wants
+//! where none is refused.
 use super::fixture::*;
 use super::pools::assert_refused;
 use sm_reservation::{
@@ -26,9 +27,12 @@ fn came_back(lists: &Lists) -> bool {
 }
 
 /// Asserts that lists are made a parcel of two cells, or that memory was refused and they come back as they were.
-fn assert_made(rt: &impl Abort, alloc: Global, given: Lists) {
+fn assert_made(rt: &(impl Print + Abort), alloc: Global, given: Lists) {
     match &Parcel::new(alloc, given) {
-        Ok(parcel) => assert!(rt; parcel.cells().len() == 2),
+        Ok(parcel) => {
+            assert!(rt; parcel.cells().len() == 2);
+            assert!(rt; println!(rt; "reached").is_ok());
+        }
         Err((lists, fault)) => {
             assert!(rt; *fault == ParcelFault::NoMemory && came_back(lists));
         }
@@ -47,7 +51,7 @@ fn a_parcel_is_made_or_not(rt: HostRuntime) {
 }
 
 /// Raises the room of a grant of a handover's rights, which keeps them.
-fn assert_raised(rt: &impl Abort, grant: &mut Grant) {
+fn assert_raised(rt: &(impl Print + Abort), grant: &mut Grant) {
     let outcome = grant.reserve(40);
     let capacity = if outcome.is_ok() { 40 } else { 1 };
     assert!(rt;
@@ -55,10 +59,13 @@ fn assert_raised(rt: &impl Abort, grant: &mut Grant) {
             && grant.crown(ShardId::new(0)).is_some()
             && grant.hold().capacity() == capacity
     );
+    if outcome.is_ok() {
+        assert!(rt; println!(rt; "reached").is_ok());
+    }
 }
 
 /// Takes a handover's rights, raises their grant's room, and gives them back.
-fn assert_reserved(rt: &impl Abort, alloc: Global, pool: &mut Pool, asked: &Parcel) {
+fn assert_reserved(rt: &(impl Print + Abort), alloc: Global, pool: &mut Pool, asked: &Parcel) {
     if let Ok(mut grant) = taken(alloc, pool, asked) {
         assert_raised(rt, &mut grant);
         give_back(rt, pool, grant);
@@ -82,13 +89,17 @@ fn a_grant_of_nothing_is_made_or_not(rt: HostRuntime) {
     if let Ok(grant) = Grant::empty(rt.alloc(), 3) {
         assert!(rt; grant.hold().capacity() == 3);
         grant.discard();
+        assert!(rt; println!(rt; "reached").is_ok());
     }
 }
 
 /// Asserts that a handover's rights are taken and given back, or that memory was refused.
-fn assert_taken(rt: &impl Abort, alloc: Global, pool: &mut Pool, asked: &Parcel) {
+fn assert_taken(rt: &(impl Print + Abort), alloc: Global, pool: &mut Pool, asked: &Parcel) {
     match pool.take(alloc, asked) {
-        Ok(grant) => give_back(rt, pool, grant),
+        Ok(grant) => {
+            give_back(rt, pool, grant);
+            assert!(rt; println!(rt; "reached").is_ok());
+        }
         Err(fault) => assert!(rt; fault == TakeFault::NoMemory),
     }
     assert_worked(rt, pool);
@@ -114,6 +125,7 @@ fn a_key_that_is_short_is_told_or_not(rt: HostRuntime) {
         if let Ok(mut pool) = worked_pool(&rt, alloc) {
             let short = short(Key::Room { server }, 0, 1);
             assert_refused(&rt, alloc, &mut pool, &asked, short);
+            assert!(rt; println!(rt; "reached").is_ok());
         }
     }
 }

@@ -259,11 +259,14 @@ fn has_all_counts(document: &Document) -> bool {
         && document.cells.len() == 1
 }
 
-/// `scripts/check-memory-tests` refuses each allocation of this test in turn.
+/// `scripts/check-memory-tests` refuses each allocation of this test in turn, and wants `reached` to be printed where none is refused.
 #[test]
 fn every_member_is_read_or_not(rt: HostRuntime) {
     match read_document(rt.alloc(), EVERYTHING.as_bytes()) {
-        Ok(document) => assert!(rt; has_all_counts(&document)),
+        Ok(document) => {
+            assert!(rt; has_all_counts(&document));
+            assert!(rt; println!(rt; "reached").is_ok());
+        }
         Err(fault) => assert!(rt; fault == TextFault::NoMemory),
     }
 }

@@ -198,14 +198,17 @@ fn reads_plans_of_documents(rt: HostRuntime) -> Result<(), Fail> {
     Ok(())
 }
 
-/// Run with each allocation refused in turn.
+/// With each allocation refused in turn: the plan is read, and `reached` is printed, or there is want of memory.
 #[test]
 fn reads_plans_or_not(rt: HostRuntime) {
     let Ok(document) = read_document(rt.alloc(), PLACEMENT.as_bytes()) else {
         return;
     };
     match read_plan(rt.alloc(), &document.config, HANDOVER.as_bytes()) {
-        Ok(plan) => assert!(rt; is_handover(&plan)),
+        Ok(plan) => {
+            assert!(rt; is_handover(&plan));
+            assert!(rt; println!(rt; "reached").is_ok());
+        }
         Err(fault) => assert!(rt; fault == TextFault::NoMemory),
     }
 }

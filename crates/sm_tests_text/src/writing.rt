@@ -256,6 +256,7 @@ fn writes_retries(rt: HostRuntime) -> Result<(), Fail> {
     Ok(())
 }
 
+/// With each allocation refused in turn: the plan's text, and `reached` is printed, or nothing.
 #[test]
 fn a_plan_is_written_or_not(rt: HostRuntime) {
     let Ok(parts) = handover(rt.alloc()) else {
@@ -263,5 +264,6 @@ fn a_plan_is_written_or_not(rt: HostRuntime) {
     };
     if let Ok(text) = written(rt.alloc(), parts) {
         assert!(rt; is_text(&text, HANDOVER));
+        assert!(rt; println!(rt; "reached").is_ok());
     }
 }

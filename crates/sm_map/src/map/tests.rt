@@ -54,12 +54,14 @@ fn words_stand_for_entries(rt: HostRuntime) {
     }
 }
 
-/// A map whose memory is refused is not opened. `scripts/check-memory-tests` refuses each allocation of this test in turn.
+/// A map whose memory is refused is not opened. `scripts/check-memory-tests` refuses each allocation of this test in turn, and wants
+/// `reached` to be printed where none is refused.
 #[test]
 fn a_map_is_opened_or_not(rt: HostRuntime) {
     if let Ok((words, mut publisher)) = open_one(rt.alloc()) {
         let mut pass = words.pass(&mut publisher);
         assert_eq!(rt; words.look(&mut pass, ShardId::new(0)), entry(0, 0));
+        assert!(rt; println!(rt; "reached").is_ok());
     }
 }
 

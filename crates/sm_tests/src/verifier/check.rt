@@ -160,7 +160,7 @@ fn empty_plan_passes(rt: HostRuntime) {
     assert!(rt; fault_of(alloc, plan(alloc, 0, &[])).is_none());
 }
 
-/// With each allocation refused in turn: a plan passes the check, or it comes back as it was.
+/// With each allocation refused in turn: a plan passes the check, and `reached` is printed, or it comes back as it was.
 #[test]
 fn a_plan_is_checked_or_not(rt: HostRuntime) {
     let alloc = rt.alloc();
@@ -168,7 +168,10 @@ fn a_plan_is_checked_or_not(rt: HostRuntime) {
         return;
     };
     match check_of(alloc, plan) {
-        Ok(checked) => assert!(rt; is_handover(checked.plan())),
+        Ok(checked) => {
+            assert!(rt; is_handover(checked.plan()));
+            assert!(rt; println!(rt; "reached").is_ok());
+        }
         Err((plan, fault)) => assert!(rt; fault == Fault::NoMemory && is_handover(&plan)),
     }
 }
@@ -192,7 +195,7 @@ fn is_signalling(plan: &Plan) -> bool {
         }
 }
 
-/// With each allocation refused in turn: a plan of two streams and a signal passes the check, or it comes back as it was.
+/// With each allocation refused in turn: a plan of two streams and a signal passes the check, and `reached` is printed, or it comes back as it was.
 #[test]
 fn two_streams_are_checked_or_not(rt: HostRuntime) {
     let alloc = rt.alloc();
@@ -200,7 +203,10 @@ fn two_streams_are_checked_or_not(rt: HostRuntime) {
         return;
     };
     match check_of(alloc, plan) {
-        Ok(checked) => assert!(rt; is_signalling(checked.plan())),
+        Ok(checked) => {
+            assert!(rt; is_signalling(checked.plan()));
+            assert!(rt; println!(rt; "reached").is_ok());
+        }
         Err((plan, fault)) => assert!(rt; fault == Fault::NoMemory && is_signalling(&plan)),
     }
 }

@@ -152,7 +152,7 @@ fn cut_handovers(rt: HostRuntime) {
     }
 }
 
-/// With each allocation refused in turn: the stream's end, or want of memory.
+/// With each allocation refused in turn: the stream's end, and `reached` is printed, or want of memory.
 #[test]
 fn a_stream_is_followed_or_not(rt: HostRuntime) {
     let alloc = rt.alloc();
@@ -166,7 +166,11 @@ fn a_stream_is_followed_or_not(rt: HostRuntime) {
     let Ok(want) = beside_others(alloc, &Held(None, At(B), Some(A), 0, 1)) else {
         return;
     };
-    assert!(rt; is_end(&answer, &want) || is_short(&answer));
+    if is_end(&answer, &want) {
+        assert!(rt; println!(rt; "reached").is_ok());
+    } else {
+        assert!(rt; is_short(&answer));
+    }
 }
 
 /// There is no answer for want of memory.
@@ -177,7 +181,7 @@ fn is_short(answer: &Result<Parcel, Bad>) -> bool {
     }
 }
 
-/// With each allocation refused in turn: the place where the stream breaks off, or want of memory.
+/// With each allocation refused in turn: the place where the stream breaks off, and `reached` is printed, or want of memory.
 #[test]
 fn a_stream_breaks_off_or_not(rt: HostRuntime) {
     let before = Held(ABSENT, Gone, Some(A), 3, 0);
@@ -187,5 +191,9 @@ fn a_stream_breaks_off_or_not(rt: HostRuntime) {
         role: Role::Primary,
     };
     let answer = answer_with(rt.alloc(), 1, &before, &[IDLE, instr]);
-    assert!(rt; breaks_at(&answer, 1, Why::NoRoom) || is_short(&answer));
+    if breaks_at(&answer, 1, Why::NoRoom) {
+        assert!(rt; println!(rt; "reached").is_ok());
+    } else {
+        assert!(rt; is_short(&answer));
+    }
 }

@@ -50,7 +50,7 @@ fn wait_comes_after_its_post(rt: HostRuntime) -> Result<(), Fail> {
     Ok(())
 }
 
-/// With each allocation refused in turn: the two streams are put in order, or the plan comes back.
+/// With each allocation refused in turn: the two streams are put in order, and `reached` is printed, or the plan comes back.
 #[test]
 fn streams_with_a_signal_are_checked_or_not(rt: HostRuntime) {
     let alloc = rt.alloc();
@@ -59,7 +59,10 @@ fn streams_with_a_signal_are_checked_or_not(rt: HostRuntime) {
         return;
     };
     match check_of(alloc, plan) {
-        Ok(checked) => assert!(rt; checked.order().len() == 4),
+        Ok(checked) => {
+            assert!(rt; checked.order().len() == 4);
+            assert!(rt; println!(rt; "reached").is_ok());
+        }
         Err((plan, fault)) => {
             assert!(rt;
                 fault == Fault::NoMemory && plan.streams().len() == 2 && plan.signals().len() == 1
