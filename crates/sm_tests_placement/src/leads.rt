@@ -2,10 +2,7 @@
 use super::fixture::*;
 use super::steps::Step::*;
 use super::steps::follow_small;
-use sm_placement::{
-    Lead, answered_where_allowed, lead_where_described, live_moves, numbered_as_called,
-    serving_by_lead, sizes_are_small,
-};
+use sm_placement::Lead;
 use sm_server::{Call, ServerId};
 use std::test::Fail;
 
@@ -134,15 +131,4 @@ fn who_is_live_is_told_server_by_server(rt: HostRuntime) -> Result<(), Fail> {
             HasLive(0, 1),
         ],
     )
-}
-
-/// The laws are functions with nothing in them, which change nothing.
-#[test]
-fn laws_are_called(_rt: HostRuntime) {
-    answered_where_allowed();
-    numbered_as_called();
-    lead_where_described();
-    serving_by_lead();
-    live_moves();
-    sizes_are_small();
 }

@@ -1,7 +1,7 @@
 //! The table of calls, numbered calls and the handover, with each expected value written out by hand.
 use sm_server::{
-    Call, Cell, Handed, Handing, Ready, Refusal, Role, Served, ServerId, ShardId, Steady,
-    leads_where_led, serve, serve_numbered, served_once, served_where_allowed,
+    Call, Cell, Handed, Handing, Ready, Refusal, Role, Served, ServerId, ShardId, Steady, serve,
+    serve_numbered,
 };
 use std::alloc::{AllocError, Global};
 use std::process::Abort;
@@ -351,12 +351,4 @@ fn refusals_in_words(rt: HostRuntime) -> Result<(), Fail> {
         assert_text(&rt, rt.alloc(), refusal, text)?;
     }
     Ok(())
-}
-
-/// The laws are functions with nothing in them, which change nothing.
-#[test]
-fn laws_are_called(_rt: HostRuntime) {
-    leads_where_led();
-    served_where_allowed();
-    served_once();
 }

@@ -3,11 +3,7 @@ ghost use Rattle.std.specs.Prelude.{◌≡◌, ◌<◌, IsTrue, IfOk, IfSome};
 ghost use Rattle.sm_reservation.specs.Change.{portion_rights};
 
 use super::fixture::*;
-use sm_reservation::{
-    Change, Grant, Hold, Lists, Parcel, PlainCell, Pool, Portion, Room, Spare,
-    a_spent_grant_has_nothing, capacity_by_hold, joins_in_placement, no_rights_are_no_hold,
-    not_short_is_covered, rights_add_up, rights_keep_one_holder, rights_stay_known,
-};
+use sm_reservation::{Change, Grant, Hold, Lists, Parcel, PlainCell, Pool, Portion, Room, Spare};
 use std::alloc::{AllocError, Global};
 use std::process::Abort;
 use std::test::Fail;
@@ -171,17 +167,4 @@ fn rights_are_exchanged(rt: HostRuntime) -> Result<(), Fail> {
     let mut pool = worked_pool(&rt, rt.alloc())?;
     exchange_once(&rt, rt.alloc(), &mut pool, &held, &change, &want)?;
     Ok(())
-}
-
-/// The laws are functions with nothing in them, which change nothing.
-#[test]
-fn laws_are_called(_rt: HostRuntime) {
-    rights_add_up();
-    rights_keep_one_holder();
-    no_rights_are_no_hold();
-    a_spent_grant_has_nothing();
-    not_short_is_covered();
-    rights_stay_known();
-    joins_in_placement();
-    capacity_by_hold();
 }

@@ -1,10 +1,9 @@
 //! How faults are shown.
-use sm_plan_text::{Member, TextFault, first_is_answered};
+use sm_plan_text::{Member, TextFault};
 use std::test::Fail;
 
 #[test]
 fn shows_faults(rt: HostRuntime) -> Result<(), Fail> {
-    first_is_answered();
     let document = Member::Document;
     let other = Member::Other;
     let cells = Member::Cells;

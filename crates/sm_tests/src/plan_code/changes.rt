@@ -1,11 +1,7 @@
 //! The table of rights, line by line: what each instruction needs and gives, why it is refused, and the call that it makes.
 use crate::fixture::{config_of, parcel_of};
 use sm_placement::Config;
-use sm_plan_code::{
-    Instr, ServerCall, Why, call_of, change_of, has_numbered_effects, holds_stay_known,
-    is_known_instr, lasts_are_unseen, lines_exchange, number_after, reach_is_exclusive,
-    stays_reachable,
-};
+use sm_plan_code::{Instr, ServerCall, Why, call_of, change_of, is_known_instr, number_after};
 use sm_reservation::{CellRight, Change, Crown, Hold, Lead, PlainCell, Portion, Room, Spare};
 use sm_server::{Call, Role, ServerId, ShardId};
 use std::alloc::{AllocError, Global};
@@ -382,14 +378,4 @@ fn calls(rt: HostRuntime) {
     assert_call(&rt, &change(to), 1, Call::Change { from, to });
     assert!(rt; call_of(&publish(), 8).is_none());
     assert!(rt; number_after(&prepare_add(), 7) == 8 && number_after(&prepare_drop(), 7) == 7);
-}
-
-#[test]
-fn laws(_rt: HostRuntime) {
-    lines_exchange();
-    has_numbered_effects();
-    lasts_are_unseen();
-    reach_is_exclusive();
-    holds_stay_known();
-    stays_reachable();
 }

@@ -1,7 +1,5 @@
 //! What the instructions of a handover mention, and which of them are calls.
-use sm_plan_code::{
-    Instr, NamedServers, Why, has_effects, is_call, names, signal_gives, wait_takes,
-};
+use sm_plan_code::{Instr, NamedServers, Why, is_call, names};
 use sm_server::{Role, ServerId, ShardId};
 use std::process::Abort;
 use std::test::Fail;
@@ -96,8 +94,5 @@ fn reasons_in_words(rt: HostRuntime) -> Result<(), Fail> {
         let printed = format!(in rt.alloc(); "{why}")?;
         assert!(rt; printed.as_str() == *text);
     }
-    has_effects();
-    signal_gives();
-    wait_takes();
     Ok(())
 }

@@ -2,10 +2,7 @@
 use super::handover::{ENOUGH, Numbers, handover, handover_plan, is_end};
 use super::plans::{check_of, checked_of, fault_of, plan};
 use sm_plan_code::{Instr, Plan, Stream, Why};
-use sm_verifier::{
-    Checked, Fault, admitted_is_within, finds_holding, good_streams_go_on, instrs_are_reachable,
-    one_fault, one_holding, signals_stand_once, some_goes_on,
-};
+use sm_verifier::{Checked, Fault};
 use std::alloc::{AllocError, Global};
 use std::test::Fail;
 
@@ -217,16 +214,4 @@ fn streams_without_code_pass(rt: HostRuntime) {
     let alloc = rt.alloc();
     let codes: [&[Instr]; 64] = [&[]; 64];
     assert!(rt; fault_of(alloc, plan(alloc, 0, &codes)).is_none());
-}
-
-#[test]
-fn the_laws_are_called() {
-    one_fault();
-    one_holding();
-    finds_holding();
-    admitted_is_within();
-    signals_stand_once();
-    some_goes_on();
-    good_streams_go_on();
-    instrs_are_reachable();
 }

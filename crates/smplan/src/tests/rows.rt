@@ -1,7 +1,7 @@
 //! A report over memory.
 use super::documents::{REFUSED_CALLS, Row, TWO_STREAMS};
 use sm_command_line::{Word, report_word};
-use sm_report::{Command, Status, one_report};
+use sm_report::{Command, Status};
 use std::process::Abort;
 use std::sync::Wait;
 use std::thread::Threads;
@@ -27,9 +27,4 @@ fn reports_calls(rt: HostRuntime) {
 #[test]
 fn reports_plans(rt: HostRuntime) {
     assert_reported(&rt, Word::Report(Command::Check), &TWO_STREAMS);
-}
-
-#[test]
-fn the_report_of_an_input_is_one() {
-    one_report();
 }
