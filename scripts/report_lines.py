@@ -137,7 +137,10 @@ def wrong(cases):
     for command in EVERY:
         yield from (f"{command}: no case has a line {form!r}" for form in FORMS[command] if (command, form) not in had and form not in ELSEWHERE)
         yield from (f"{command}: a case has a line {form!r}, of which it is said that none has" for form in ELSEWHERE if (command, form) in had)
-    for commands, line in told():
+    lines_told = [*told()]
+    if not lines_told:
+        yield "docs/FORMATS.md has no line of a report in its tables, as they are read here"
+    for commands, line in lines_told:
         yield from (f"docs/FORMATS.md tells of {line!r} of {it}, which has no form here" for it in commands if not forms_of(it, line))
 
 
