@@ -1,8 +1,8 @@
 //! What a look at the map costs, beside a plain atomic load in the same loop.
 //!
 //! It prints the time that a loop of looks takes and that of a loop of loads, and ends with status 1 where the
-//! looks take more than twice as long. With the argument `check` it prints no times, only whether both loops
-//! find the same.
+//! looks take more than twice as long, or find something else. With the argument `check` it prints no times, only
+//! whether both loops find the same.
 #![tactic(auto)]
 
 ghost use Rattle.std.specs.Prelude.{◌≡◌, ◌^◌, ◌<◌, All, IfOk, length, vec_len};
@@ -184,6 +184,10 @@ fn main(rt: HostRuntime) -> io::Result<ExitCode> {
         return Ok(ExitCode::SUCCESS);
     }
     let Compared { look, load } = measure(&rt, rt.alloc(), STEPS, RUNS)?;
+    if look.sum != load.sum {
+        println!(rt; "the looks do not find what the loads find")?;
+        return Ok(ExitCode::FAILURE);
+    }
     let look = picoseconds(look.time);
     let load = picoseconds(load.time);
     println!(rt; "one step of the fastest of {RUNS} runs:")?;
