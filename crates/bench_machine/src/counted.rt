@@ -26,7 +26,7 @@ const NOTHING: Counted = Counted {
 };
 
 /// How many events are made where requests come between the steps.
-const EVENTS: u64 = 1_000_000;
+pub(crate) const EVENTS: u64 = 1_000_000;
 
 /// How many places a machine's log has.
 const PLACES: u32 = 1_048_576;

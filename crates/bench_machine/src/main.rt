@@ -2,13 +2,14 @@
 //!
 //! It prints the time of an event among 1,000,000 steps and requests, and that of a step where 64 streams of 4,096
 //! instructions run beside one where 4 streams of 64 do, and ends with status 1 where the former takes more than four times
-//! as long. With the argument `check` it prints no times, only whether all streams of small plans come to their end.
+//! as long, or where not all events are made. With the argument `check` it prints no times, only whether all streams of
+//! small plans come to their end.
 #![tactic(auto)]
 
 mod counted;
 mod setting;
 
-use counted::{Counted, events_of, steps_of};
+use counted::{Counted, EVENTS, events_of, steps_of};
 use setting::{CHECKED, FEW, MANY, Setting};
 use std::process::ExitCode;
 use std::rt::Env;
@@ -20,6 +21,11 @@ const PLANS: u32 = 200;
 /// How long an event takes on the average.
 fn nanoseconds(counted: Counted) -> u128 {
     counted.time.as_nanos() / u128::from(counted.events.max(1))
+}
+
+/// Whether each stream of so many plans of a setting has made its end once.
+fn all_end(counted: Counted, setting: &Setting, plans: u32) -> bool {
+    counted.ended == setting.streams.wrapping_mul(plans)
 }
 
 fn is_check(rt: &(impl Alloc + Env)) -> io::Result<bool> {
@@ -34,7 +40,7 @@ fn is_check(rt: &(impl Alloc + Env)) -> io::Result<bool> {
 fn main(rt: HostRuntime) -> io::Result<ExitCode> {
     if is_check(&rt)? {
         let few = steps_of(&rt, rt.alloc(), &CHECKED, 2)?;
-        println!(rt; "all streams end: {}", few.ended == 8)?;
+        println!(rt; "all streams end: {}", all_end(few, &CHECKED, 2))?;
         return Ok(ExitCode::SUCCESS);
     }
     let all = events_of(&rt, rt.alloc(), &MANY)?;
@@ -45,6 +51,11 @@ fn main(rt: HostRuntime) -> io::Result<ExitCode> {
     )?;
     let many = steps_of(&rt, rt.alloc(), &MANY, 3)?;
     let few = steps_of(&rt, rt.alloc(), &FEW, PLANS)?;
+    let steps_end = all_end(many, &MANY, 3) && all_end(few, &FEW, PLANS);
+    if all.events != EVENTS || !all_end(all, &MANY, 1) || !steps_end {
+        println!(rt; "not all events were made, or not all streams have come to their end")?;
+        return Ok(ExitCode::FAILURE);
+    }
     println!(rt;
         "64 streams of 4,096 instructions: {} ns a step",
         nanoseconds(many)
