@@ -4,6 +4,7 @@ ghost use Rattle.std.specs.Prelude.{◌≡◌, ◌≤◌, ◌+◌, IsTrue, vec_l
 use crate::setting::{Setting, config_of, home_of, placement_of, plan_of};
 use sm_machine::{Answer, Machine, Permit, Step, StreamToken, Ticket};
 use sm_placement::{Config, Placement};
+use sm_plan_code::MOST_PLACES;
 use sm_server::{ServerId, ShardId};
 use sm_verifier::Checked;
 use std::alloc::{AllocError, Global};
@@ -27,9 +28,6 @@ const NOTHING: Counted = Counted {
 
 /// How many events are made where requests come between the steps.
 pub(crate) const EVENTS: u64 = 1_000_000;
-
-/// How many places a machine's log has.
-const PLACES: u32 = 1_048_576;
 
 /// A machine with the tokens and permits that it has given out, and the tickets that end with it.
 struct Run {
@@ -182,7 +180,7 @@ fn open(alloc: Global, config: &Config, setting: &Setting) -> Result<Run, AllocE
     if !placement.settled() {
         return Err(AllocError);
     }
-    match Machine::open(alloc, placement, PLACES) {
+    match Machine::open(alloc, placement, MOST_PLACES) {
         Ok((machine, permits)) => Ok(Run {
             machine,
             tokens: Vec::new(alloc),

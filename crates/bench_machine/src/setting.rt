@@ -1,6 +1,6 @@
 //! Placements, and plans whose streams add a replica and drop it again.
-use sm_placement::{Config, Placement, Server, Shard};
-use sm_plan_code::{Instr, Parts, Plan, Stream};
+use sm_placement::{Config, MOST_SERVERS, MOST_SHARDS, Placement, Server, Shard};
+use sm_plan_code::{Instr, MOST_INSTRUCTIONS, MOST_STREAMS, Parts, Plan, Stream};
 use sm_reservation::{CellRight, Lists, Parcel, PlainCell, Room};
 use sm_server::{Cell, Role, ServerId, ShardId};
 use sm_verifier::{Checked, check};
@@ -18,16 +18,16 @@ pub(crate) struct Setting {
 
 /// Many long streams: as many as a plan may have, of as many instructions as a stream may.
 pub(crate) const MANY: Setting = Setting {
-    servers: 1_024,
-    shards: 4_096,
-    streams: 64,
-    length: 4_096,
+    servers: MOST_SERVERS as u32,
+    shards: MOST_SHARDS as u32,
+    streams: MOST_STREAMS as u32,
+    length: MOST_INSTRUCTIONS as u32,
 };
 
 /// Few short streams, on a machine of the same size.
 pub(crate) const FEW: Setting = Setting {
-    servers: 1_024,
-    shards: 4_096,
+    servers: MOST_SERVERS as u32,
+    shards: MOST_SHARDS as u32,
     streams: 4,
     length: 64,
 };
@@ -138,7 +138,7 @@ pub(crate) fn plan_of(
         streams.push(stream_of(alloc, stream, setting.length)?)?;
     }
     let parts = Parts {
-        budget: setting.streams.min(64) * setting.length.min(4_096),
+        budget: setting.streams.wrapping_mul(setting.length),
         streams,
         signals: Vec::new(alloc),
     };
