@@ -29,14 +29,18 @@ unfinished_to w (suc k) = unfinished_to w k ++ unfinished_in w k (stream_count w
 abbrev pub unfinished_streams : State → List (StreamId × ℕ)
 unfinished_streams w = unfinished_to w (length w.plans)
 
--- ---- what only grows
+-- ---- what a board keeps of its opening
 
 -- the plans begun since the opening stand behind those that it had
 abbrev pub HasMorePlans : State → State → Type 0
 HasMorePlans opened now = (begun : List Start) × (now.plans ≡ opened.plans ++ begun)
 
--- the log and the list of plans have only grown
+-- The configuration, the placement from which the ends of plans are told, and the log's room are still those of the opening, and
+-- the log and the list of plans have only grown since.
 pub record GoesOn (opened now : State) : Type 0 where
+  pub sizes : now.sizes ≡ opened.sizes
+  pub opening : now.opening ≡ opened.opening
+  pub room : now.room ≡ opened.room
   pub log : (since : List Logged) × (now.log ≡ opened.log ++ since)
   pub plans : HasMorePlans opened now
 

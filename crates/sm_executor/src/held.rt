@@ -68,7 +68,7 @@ impl<A: Side, B: Side, C: Side, N: Naming> Model for Held<A, B, C, N> {
     ghost use Rattle.sm_executor.specs.Views.{HeldModel, held_model};
     ghost use Rattle.sm_executor.specs.Tied.{IsPublished};
     ghost use Rattle.sm_executor.specs.Counting.{IsBooked};
-    ghost use Rattle.sm_executor.specs.Closed.{HasMorePlans};
+    ghost use Rattle.sm_executor.specs.Closed.{GoesOn};
     ghost use Rattle.sm_plan_code.specs.declared.limits.TheConstants.{MOST_STREAMS};
     ghost use Rattle.sm_executor.specs.declared.limits.TheConstants.{MOST_CALLERS, PARTS};
 
@@ -85,7 +85,7 @@ impl<A: Side, B: Side, C: Side, N: Naming> Model for Held<A, B, C, N> {
         × (h.callers ≤ MOST_CALLERS)
         × (h.machine.placement.setup ≡ N.setup)
         × (h.runners ≤ MOST_STREAMS * length (state_of h.machine).plans)
-        × HasMorePlans N.opened (state_of h.machine) };
+        × GoesOn N.opened (state_of h.machine) };
 }
 
 /// Stores the entry that was added behind the first so many, if one was.
@@ -163,8 +163,8 @@ impl<A: Side, B: Side, C: Side, N: Naming> Held<A, B, C, N> {
         }
     }
 
-    /// A law: the log and the list of plans have only grown since the opening, and the configuration is the board's, which has as many
-    /// shards and servers as the words.
+    /// A law: the machine goes on from the opening, and its configuration is the board's, which has as many shards and servers as the
+    /// words.
     pub fn goes_on(&self)
         ensures goes_on { GoesOn N.opened (state_in self.now) }
         ensures setup { self.now.machine.placement.setup ≡ N.setup }

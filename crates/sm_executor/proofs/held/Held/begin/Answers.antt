@@ -1,9 +1,10 @@
 -- A plan begins.
 use Rattle.std.proofs.Common.{◌≡◌, ◌≤◌, ◌∙◌, subst, arith, length}
 use Rattle.sm_plan_code.specs.Plan.{PlanModel}
-use Rattle.sm_protocol.specs.Happens.{started}
+use Rattle.sm_protocol.specs.Happens.{Begin, started}
 use Rattle.sm_machine.specs.State.{state_of}
 use Rattle.sm_executor.specs.Views.{HeldModel, state_in, AreRunners}
+use Rattle.sm_executor.proofs.Keeps.{by_event, goes_further}
 use Rattle.sm_executor.proofs.Starting.{begun_is, started_kept, few_runners, started_more, runners_are}
 use Rattle.sm_executor.proofs.held.Held.begin.Goals as goal
 
@@ -23,7 +24,7 @@ invariant_of-self g c =
     let few : length plan.streams ≤ 64 = subst (λ (p : PlanModel). length p.streams ≤ 64) c.plan.ensures.value c.streams.ensures.plan.small.stream_count in
     let count = ens.tokens.count in
     let most : c.len-count.result ≤ 64 = omega arith in
-    (k.tied, k.counted, omega arith, c.fill_runners.ensures.amount, i.4, i.5, i.6, i.7, i.8, i.9, i.10, i.11, ens.setup ∙ i.12, few_runners w v plan c.self.inside.runners c.len-count.result e most i.13, started_more g.N.Naming.opened w v plan e i.14)
+    (k.tied, k.counted, omega arith, c.fill_runners.ensures.amount, i.4, i.5, i.6, i.7, i.8, i.9, i.10, i.11, ens.setup ∙ i.12, few_runners w v plan c.self.inside.runners c.len-count.result e most i.13, goes_further g.N.Naming.opened w v (by_event w v (Begin plan) ens.state) k.counted (started_more g.N.Naming.opened w v plan e i.14.plans) i.14)
 
 pub returns-in-Ok-begin-clause-runners : goal.returns-in-Ok-begin-clause-runners
 returns-in-Ok-begin-clause-runners g c =

@@ -1,4 +1,4 @@
--- The log and the list of plans have only grown, and the words are of the board's configuration.
+-- The machine goes on from the opening, and the words are of the board's configuration.
 use Rattle.std.proofs.Common.{◌∙◌, ap, length, subst}
 use Rattle.sm_placement.specs.Setup.{Setup, Sizes}
 use Rattle.sm_machine.proofs.HandPlays.{sizes_are}
@@ -8,8 +8,7 @@ use Rattle.sm_executor.proofs.held.Held.goes_on.Goals as goal
 
 pub returns-clause-goes_on : goal.returns-clause-goes_on
 returns-clause-goes_on g c =
-    let k = c.self.invariant.1 in
-    subst (λ (h : HeldModel). GoesOn g.N.Naming.opened (state_in h)) c.self.view_is (record { log = (k.since, k.log); plans = c.self.invariant.14 })
+    subst (λ (h : HeldModel). GoesOn g.N.Naming.opened (state_in h)) c.self.view_is c.self.invariant.14
 
 pub returns-clause-shards : goal.returns-clause-shards
 returns-clause-shards g c =
