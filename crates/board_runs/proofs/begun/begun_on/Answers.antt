@@ -19,7 +19,6 @@ invariant_of-result c =
     let one_more : length v.plans ≡ suc (length w.plans) = ap (λ (x : State). length x.plans) is ∙ count_started w plan in
     let streams : stream_count v (length w.plans) ≡ length plan.streams =
     ap (λ (x : State). stream_count x (length w.plans)) is ∙ ap (λ (p : PlanModel). length p.streams) (plan_started w plan) in
-    let r = c.is_reached.ensures in
-    let few : stream_count v (length w.plans) ≤ 64 = few_streams r.0 v r.1 (length w.plans) (omega (arith, one_more)) in
+    let few : stream_count v (length w.plans) ≤ 64 = few_streams c.begin.new.self.placement.setup v c.is_reached.ensures (length w.plans) (omega (arith, one_more)) in
     let count = e.tokens.count in
     record { few = omega (arith, one_more, streams, few, count) }

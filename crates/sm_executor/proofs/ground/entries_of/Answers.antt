@@ -14,7 +14,6 @@ use Rattle.sm_executor.proofs.ground.entries_of.Goals as goal
 pub loop-number-preserved : goal.loop-number-preserved
 loop-number-preserved c =
     let w = state_of c.args.machine.now in
-    let r = c.is_reached.ensures in
     let n = c.loop-number.number in
     let i = c.loop-number.invariant in
     let old = c.loop-number.entries.items in
@@ -23,7 +22,7 @@ loop-number-preserved c =
     let items = c.push_reserved.ensures.items in
     let t = c.loop-number-test.true in
     let shards : c.shard_count-count.result ≡ w.sizes.shards = c.shard_count-count.ensures.count ∙ ap (λ (x : Sizes). x.shards) c.config.ensures.sizes in
-    let last : IsInRange w.sizes.servers entry = subst (IsInRange w.sizes.servers) (sym e) (in_range r.0 w r.1 n (omega arith)) in (
+    let last : IsInRange w.sizes.servers entry = subst (IsInRange w.sizes.servers) (sym e) (in_range c.args.machine.now.placement.setup w c.is_reached.ensures n (omega arith)) in (
       ap length items ∙ length-append old (entry ∷ []) ∙ ap (λ k. k + 1) i.0,
       λ s l. subst (λ xs. slice_get xs s ≡ Some (entry_at w.place s)) (sym items)
           (one_more (entry_at w.place) old entry (λ k m. i.1 k (let z = i.0 in omega arith)) (e ∙ ap (entry_at w.place) (sym i.0)) s (let z = i.0 in omega arith)),

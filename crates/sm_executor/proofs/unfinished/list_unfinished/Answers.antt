@@ -8,8 +8,7 @@ use Rattle.sm_executor.proofs.unfinished.list_unfinished.Goals as goal
 pub overflow_cast-number : goal.overflow_cast-number
 overflow_cast-number c =
     let w = state_of c.args.machine.now in
-    let r = c.is_reached.ensures in
-    let few = few_plans r.0 w r.1 in
+    let few = few_plans c.args.machine.now.placement.setup w c.is_reached.ensures in
     let t = c.loop-number-test.true in
     let e = c.plan_count-number-end.ensures in
     omega arith
@@ -17,10 +16,9 @@ overflow_cast-number c =
 pub push_unfinished-requires-clause-room : goal.push_unfinished-requires-clause-room
 push_unfinished-requires-clause-room c =
     let w = state_of c.args.machine.now in
-    let r = c.is_reached.ensures in
     let t = c.loop-number-test.true in
     let e = c.plan_count-number-end.ensures in
-    let most = most_so_far r.0 w r.1 c.loop-number.number (omega arith) in
+    let most = most_so_far c.args.machine.now.placement.setup w c.is_reached.ensures c.loop-number.number (omega arith) in
     let v = c.loop-number.positions.ok in
     let i = ap length c.loop-number.invariant.0 in
     let k = c.loop-number.invariant.1 in

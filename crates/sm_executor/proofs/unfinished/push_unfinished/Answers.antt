@@ -13,8 +13,7 @@ use Rattle.sm_executor.proofs.unfinished.push_unfinished.Goals.{then-not-is_done
 pub overflow_cast-id : goal.overflow_cast-id
 overflow_cast-id c =
     let w = state_of c.args.machine.now in
-    let r = c.is_reached.ensures in
-    let few = few_streams r.0 w r.1 c.args.plan c.requires.known in
+    let few = few_streams c.args.machine.now.placement.setup w c.is_reached.ensures c.args.plan c.requires.known in
     let t = c.loop-number-test.true in
     let e = c.stream_count-number-end.ensures in
     omega arith

@@ -12,8 +12,8 @@ use Rattle.sm_planner.proofs.entry.moves.Goals as goal
 
 pub moves_at-requires-clause-scene : goal.moves_at-requires-clause-scene
 moves_at-requires-clause-scene c =
-    scene_at c.is_reached.ensures.0 c.placement.result.now.setup (state_of c.args.machine.now) (place_of c.placement.result.now) (pool_hold c.pool.result.now)
-    c.is_reached.ensures.1 c.placement.ensures.sizes c.placement.ensures.place c.pool.ensures.hold
+    scene_at c.args.machine.now.placement.setup c.placement.result.now.setup (state_of c.args.machine.now) (place_of c.placement.result.now) (pool_hold c.pool.result.now)
+    c.is_reached.ensures c.placement.ensures.sizes c.placement.ensures.place c.pool.ensures.hold
 
 pub returns-clause-memory : goal.returns-clause-memory
 returns-clause-memory c =

@@ -15,8 +15,7 @@ report_on_ground-requires-clause-known g c κs within =
 pub report_on_ground-requires-clause-few : goal.report_on_ground-requires-clause-few
 report_on_ground-requires-clause-few g c =
     let w = state_of c.args.begun.machine in
-    let r = c.is_reached.ensures in
     let count = c.requires.tokens.count in
     let one = c.requires.one in
-    let few : stream_count w 0 ≤ 64 = few_streams r.0 w r.1 0 (omega (arith, one)) in
+    let few : stream_count w 0 ≤ 64 = few_streams c.args.begun.machine.placement.setup w c.is_reached.ensures 0 (omega (arith, one)) in
     omega (arith, count, few)

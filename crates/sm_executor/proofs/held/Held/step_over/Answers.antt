@@ -18,9 +18,8 @@ overflow_sub-made g c =
     let w = state_of c.self.inside.machine in
     let v = state_of c.step_over-step.new.self in
     let id = c.runner.inside.token in
-    let r = c.is_reached.ensures in
     let o = c.step_over-step.ensures.over in
-    let made : Made (progress_of w id).done w (Answered (played_of c.step_over-step.result)) v = made_over w v id o.passage (played_of c.step_over-step.result) (known_shard r.0 w r.1 id) o.event in
+    let made : Made (progress_of w id).done w (Answered (played_of c.step_over-step.result)) v = made_over w v id o.passage (played_of c.step_over-step.result) (known_shard c.self.inside.machine.placement.setup w c.is_reached.ensures id) o.event in
     let s = stepped (progress_of w id).done g.N.Naming.words g.N.Naming.opened w v c.self.inside.publisher c.self.inside.steps.total c.self.inside.executed.total c.self.inside.refused.total _ made i.0 i.1 in
     subst (λ n. length c.log-recorded.result.now ≤ n) (sym (ap length c.log.ensures)) (subst (λ n. n ≤ length v.log) (sym (ap length c.log-recorded.ensures)) s.longer)
 
@@ -30,12 +29,10 @@ store_added-requires-clause-behind g c =
     let w = state_of c.self.inside.machine in
     let v = state_of c.step_over-step.new.self in
     let id = c.runner.inside.token in
-    let r = c.is_reached.ensures in
-    let q = c.is_reached-2.ensures in
     let o = c.step_over-step.ensures.over in
-    let made : Made (progress_of w id).done w (Answered (played_of c.step_over-step.result)) v = made_over w v id o.passage (played_of c.step_over-step.result) (known_shard r.0 w r.1 id) o.event in
+    let made : Made (progress_of w id).done w (Answered (played_of c.step_over-step.result)) v = made_over w v id o.passage (played_of c.step_over-step.result) (known_shard c.self.inside.machine.placement.setup w c.is_reached.ensures id) o.event in
     let s = stepped (progress_of w id).done g.N.Naming.words g.N.Naming.opened w v c.self.inside.publisher c.self.inside.steps.total c.self.inside.executed.total c.self.inside.refused.total _ made i.0 i.1 in
-    s.behind (in_range q.0 v q.1)
+    s.behind (in_range c.step_over-step.new.self.placement.setup v c.is_reached-2.ensures)
 
 pub invariant_of-self : goal.invariant_of-self
 invariant_of-self g c =
@@ -43,9 +40,8 @@ invariant_of-self g c =
     let w = state_of c.self.inside.machine in
     let v = state_of c.step_over-step.new.self in
     let id = c.runner.inside.token in
-    let r = c.is_reached.ensures in
     let o = c.step_over-step.ensures.over in
-    let made : Made (progress_of w id).done w (Answered (played_of c.step_over-step.result)) v = made_over w v id o.passage (played_of c.step_over-step.result) (known_shard r.0 w r.1 id) o.event in
+    let made : Made (progress_of w id).done w (Answered (played_of c.step_over-step.result)) v = made_over w v id o.passage (played_of c.step_over-step.result) (known_shard c.self.inside.machine.placement.setup w c.is_reached.ensures id) o.event in
     let s = stepped (progress_of w id).done g.N.Naming.words g.N.Naming.opened w v c.self.inside.publisher c.self.inside.steps.total c.self.inside.executed.total c.self.inside.refused.total _ made i.0 i.1 in
     let a = ap length c.log-recorded.ensures in
     let b = ap length c.log.ensures in
@@ -59,9 +55,8 @@ returns-clause-counts g c =
     let w = state_of c.self.inside.machine in
     let v = state_of c.step_over-step.new.self in
     let id = c.runner.inside.token in
-    let r = c.is_reached.ensures in
     let o = c.step_over-step.ensures.over in
-    let made : Made (progress_of w id).done w (Answered (played_of c.step_over-step.result)) v = made_over w v id o.passage (played_of c.step_over-step.result) (known_shard r.0 w r.1 id) o.event in
+    let made : Made (progress_of w id).done w (Answered (played_of c.step_over-step.result)) v = made_over w v id o.passage (played_of c.step_over-step.result) (known_shard c.self.inside.machine.placement.setup w c.is_reached.ensures id) o.event in
     let s = stepped (progress_of w id).done g.N.Naming.words g.N.Naming.opened w v c.self.inside.publisher c.self.inside.steps.total c.self.inside.executed.total c.self.inside.refused.total _ made i.0 i.1 in
     let a = ap length c.log-recorded.ensures in
     let b = ap length c.log.ensures in

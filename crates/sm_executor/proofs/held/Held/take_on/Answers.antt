@@ -9,8 +9,7 @@ pub fill_runners-requires-clause-parts : goal.fill_runners-requires-clause-parts
 fill_runners-requires-clause-parts g c =
     let i = c.self.invariant in
     let w = state_of c.self.inside.machine in
-    let r = c.is_reached.ensures in
-    let plans = few_plans r.0 w r.1 in
+    let plans = few_plans c.self.inside.machine.placement.setup w c.is_reached.ensures in
     let parts = i.2 in
     let all = i.4 in
     let few : c.self.inside.runners + length c.args.tokens.items ≤ 64 * length w.plans =
