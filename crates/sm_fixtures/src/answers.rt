@@ -1,5 +1,6 @@
 //! What requests are answered, as lists of events have it, and where their tickets are.
-ghost use Rattle.std.specs.Prelude.{◌≡◌, ◌<◌, length, IfSome};
+ghost use Rattle.std.specs.Prelude.{◌≡◌, ◌≢◌, ◌<◌, All, IfSome, IfNone, Some, length, slice_get};
+ghost use Rattle.sm_protocol.specs.Ticket as ticket;
 ghost use Rattle.sm_machine.specs.Requested.{played_by};
 
 use sm_machine::{Answer, Ticket};
@@ -25,7 +26,8 @@ pub fn answered(answer: &Answer) -> Played
 
 /// Where the ticket of a pass stands among these, by the pass's place of the log.
 pub fn ticket_place(tickets: &[Ticket], place: u32) -> Option<usize>
-    ensures { IfSome result (λ at. at < length tickets.now) }
+    ensures some { IfSome result (λ at. (at < length tickets.now) × ((t : ticket.Ticket) → slice_get tickets.now at ≡ Some t → t.place ≡ place)) }
+    ensures none { IfNone result (All (λ t. t.place ≢ place) tickets.now) }
 {
     for at in 0..tickets.len() {
         if tickets[at].place() == place {
