@@ -131,6 +131,12 @@ names_are_few d h =
     let most_shards = parts.shard_count in
     record { shards = omega arith; servers = omega arith }
 
+-- a document without faults has no more shards than a configuration may have
+pub shards_are_few : (d : Data) → document_faults d ≡ [] → length (rows_in d).setup.shards ≤ 4096
+shards_are_few d h =
+    let parts : IsFaultless d = faultless_parts d h in
+    subst (λ n. n ≤ 4096) (sym (length-map (shards_in d) shard_in)) parts.shard_count
+
 -- what holds of all entries of a list that may be missing holds of them where it is there
 pub each_where_there : {A : Type 0} (P : A → Type 0) (f : Data → A) (o : Option (List Data)) → All P (map f (unwrap_or o [])) → IfSome (option_map (map f) o) (All P)
 each_where_there P f None h = tt

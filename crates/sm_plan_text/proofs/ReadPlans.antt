@@ -1,5 +1,5 @@
--- The plan of a document that was read is one, and it is of the document's configuration.
-use Rattle.std.proofs.Common.{◌≡◌, List, [], length, Option, Some, None, Ok, option_map, ℕ, refl, subst, IfSome, All, map}
+-- The plan of a document that was read is one, and it is of the document's configuration, which has no more shards than it may have.
+use Rattle.std.proofs.Common.{◌≡◌, ◌≤◌, List, [], length, Option, Some, None, Ok, option_map, ℕ, refl, subst, IfSome, All, map}
 use Rattle.std.proofs.lemmas.List.Elements.{All-map}
 use Rattle.serde_json.specs.Data.{Data}
 use Rattle.sm_placement.specs.Setup.{Setup}
@@ -15,17 +15,19 @@ use Rattle.sm_plan_text.specs.Documents.{DocumentModel, document_faults, server_
 use Rattle.sm_plan_text.specs.Reading.{data_of, read_data, read}
 use Rattle.sm_plan_text.proofs.Faultless.{none_noted, walked_entries}
 use Rattle.sm_plan_text.proofs.FaultlessPlan.{plan_good}
-use Rattle.sm_plan_text.proofs.Known.{names_are_few, plan_without_faults, plans_without_faults, each_where_there, document_is_known}
+use Rattle.sm_plan_text.proofs.Known.{names_are_few, shards_are_few, plan_without_faults, plans_without_faults, each_where_there, document_is_known}
 
 -- the parts are a plan, and one of the configuration
 pub record IsPlanOf (setup : Setup) (plan : PlanModel) : Type 0 where
   pub is : IsPlan plan
   pub fits : IsKnownPlan (length setup.shards) (length setup.servers) plan
 
--- The plan that a document has, where it has one, and each of its list of plans are of its configuration.
+-- The plan that a document has, where it has one, and each of its list of plans are of its configuration, which has no more shards than it
+-- may have.
 pub record HasItsPlans (d : DocumentModel) : Type 0 where
   pub plan : IfSome d.plan (IsPlanOf d.setup)
   pub plans : IfSome d.plans (All (IsPlanOf d.setup))
+  pub shards : length d.setup.shards ≤ 4096
 
 plan_is : (shards servers : List (List ℕ)) (o : Option Data) → HaveIds shards servers → faults_within (plan_faults members.Plan shards servers []) o ≡ [] → IfSome (option_map (plan_in shards servers) o) IsPlan
 plan_is shards servers None few h = tt
@@ -51,6 +53,7 @@ in_order d h = record {
       (each_where_there IsPlan (plan_in (shard_names_in d) (server_names_in d)) (list_in members.Plans d)
       (plans_are (shard_names_in d) (server_names_in d) (entries_in members.Plans d) (names_are_few d h) (plans_without_faults d h)))
       (document_is_known d h).plans;
+  shards = shards_are_few d h;
 }
 
 data_has_plan : (o : Option Data) (d : DocumentModel) → read_data o ≡ Ok d → HasItsPlans d
@@ -63,6 +66,6 @@ data_has_plan (Some value) d e = go (answered (document_faults value)) refl
         subst HasItsPlans same (in_order value (none_noted (document_faults value) is))
     go (Some fault) is = absurd (let said = rw is at e in cc)
 
--- the plans of a document that was read are plans, and of the document's configuration
+-- the plans of a document that was read are plans, and of the document's configuration, which has no more shards than it may have
 pub read_has_plan : (bytes : List ℕ) (d : DocumentModel) → read bytes ≡ Ok d → HasItsPlans d
 read_has_plan bytes d e = data_has_plan (data_of bytes) d e

@@ -4,16 +4,17 @@ use Rattle.std.specs.Prelude.{IfErr}
 use Rattle.std.proofs.lemmas.Bool.{cases_Bool, cases_eq, both_ways}
 use Rattle.sm_server.specs.Cell.{is_absent}
 use Rattle.sm_placement.specs.Place.{Place}
-use Rattle.sm_placement.specs.Setup.{Setup, sizes_of}
+use Rattle.sm_placement.specs.Setup.{Setup, IsSetup, sizes_of}
 use Rattle.sm_reservation.specs.Hold.{Hold}
 use Rattle.sm_plan_code.specs.Plan.{PlanModel}
 use Rattle.sm_plan_code.specs.declared.moves.Move.{Move}
 use Rattle.sm_planner.specs.declared.refusal.NoPlan.{NoPlan}
 use Rattle.sm_planner.specs.declared.refusal.NoPlan.TheVariants.{NoMemory}
 use Rattle.sm_planner.specs.Basis.{Basis, basis}
-use Rattle.sm_planner.specs.Refusal.{IsRefused, IsPlanOf, IsNoPlanFor}
-use Rattle.sm_planner.specs.Drain.{may_take, leaving, IsTarget, AreLeaving, IsStuck, IsDrainPlan, IsNoDrainFor}
+use Rattle.sm_planner.specs.Refusal.{IsPlanOf, IsNoPlanFor}
+use Rattle.sm_planner.specs.Drain.{may_take, leaving, IsTarget, AreLeaving, IsStuck, AreDepartures, IsDrainPlan, IsNoDrainFor}
 use Rattle.sm_planner.proofs.law.Existing.{rule_answers}
+use Rattle.sm_planner.proofs.law.Unrefused.{drain_has_plan}
 
 -- the same configuration, placement and pool make the same basis
 pub same_basis : (s t : Setup) (p q : Place) (h k : Hold) → s ≡ t → p ≡ q → h ≡ k → basis s p h ≡ basis t q k
@@ -68,11 +69,14 @@ module _ (b : Basis) (v : ℕ) where
     | inl short ↦ short
     | inr refused ↦ elim refused [
       | inl own ↦ absurd (let wrong = sym by.1.0 ∙ own in cc)
-      | inr more ↦ elim more [
-        | inl stuck ↦ absurd (not_stuck (sizes_of b.setup).shards stuck.0 by.0 stuck.1 stuck.3.known by.1.1 stuck.3)
-        | inr reason ↦
-            let same : reason.0 ≡ by.0 = same_leaving (sizes_of b.setup).shards reason.0 by.0 reason.1.1 by.1.1 in
-            absurd ((rule_answers b by.0).not_both plan why by.2 (subst (λ ms. IsRefused b ms why) same reason.2))
-      ]
+      | inr stuck ↦ absurd (not_stuck (sizes_of b.setup).shards stuck.0 by.0 stuck.1 stuck.3.known by.1.1 stuck.3)
     ]
+  ]
+
+  -- the rule refuses none of the moves that empty a server: nothing but short memory is a reason for no plan of them
+  pub drain_refused : {T : Type 0} (moves : List Move) (r : Result T NoPlan) → IsSetup b.setup → AreDepartures b v moves → IfErr r (IsNoPlanFor b moves) → IfErr r (IsNoDrainFor b v)
+  drain_refused moves (Ok x) setup go said = tt
+  drain_refused moves (Err why) setup go said = elim said [
+    | inl short ↦ inl short
+    | inr reason ↦ (let made = drain_has_plan b v moves setup go.0 go.1 in absurd ((rule_answers b moves).not_both made.0 why made.1 reason))
   ]

@@ -6,11 +6,10 @@ use Rattle.std.proofs.lemmas.Bool.{cases_eq, cases_lt, ltb-true, ltb-false}
 use Rattle.std.proofs.lemmas.List.FromFn.{length-map-range_with_len, get_or-map-range_with_len}
 use Rattle.sm_placement.specs.Setup.{Setup}
 use Rattle.sm_planner.specs.Basis.{Basis}
-use Rattle.sm_planner.specs.Drain.{IsBestOf, IsRoomBeside, AreDepartures, IsDrainPlan, IsNoDrainFor}
-use Rattle.sm_planner.specs.declared.refusal.NoPlan.{NoPlan}
+use Rattle.sm_planner.specs.Drain.{IsBestOf, IsRoomBeside, AreDepartures, IsDrainPlan}
 use Rattle.sm_plan_code.specs.Plan.{PlanModel}
 use Rattle.sm_plan_code.specs.declared.moves.Move.{Move}
-use Rattle.sm_planner.specs.Refusal.{IsPlanOf, IsNoPlanFor}
+use Rattle.sm_planner.specs.Refusal.{IsPlanOf}
 
 -- ---- the best of the first servers
 
@@ -82,15 +81,8 @@ room_none b setup room same is = rw (is, same) (record {
   left = λ w l. get_or-map-range_with_len b.pool.room 0 (length b.setup.servers) w w 0 l (omega arith) ∙ omega arith;
 })
 
--- ---- plans and refusals
+-- ---- plans
 
 -- the rule's plan of the moves that empty a server is its plan for emptying it
 pub drain_planned : (b : Basis) (v : ℕ) (moves : List Move) (plan : PlanModel) → AreDepartures b v moves → IsPlanOf b moves plan → IsDrainPlan b v plan
 drain_planned b v moves plan d p = (moves, d, p)
-
--- why the rule has no plan of the moves that empty a server is why it doesn't empty it
-pub drain_refused : (b : Basis) (v : ℕ) (moves : List Move) (why : NoPlan) → AreDepartures b v moves → IsNoPlanFor b moves why → IsNoDrainFor b v why
-drain_refused b v moves why d r = elim r [
-  | inl e ↦ inl e
-  | inr e ↦ inr (inr (inr (moves, d, e)))
-]

@@ -15,7 +15,7 @@ use Rattle.sm_planner.specs.Basis.{Basis, is_replica}
 use Rattle.sm_planner.specs.Rights.{has_crown_at}
 use Rattle.sm_planner.specs.Placing.{taken_by}
 use Rattle.sm_planner.specs.Spread.{region_count, spread_of}
-use Rattle.sm_planner.specs.Refusal.{IsRefused, IsPlanOf}
+use Rattle.sm_planner.specs.Refusal.{IsPlanOf}
 use Rattle.sm_plan_code.specs.Plan.{PlanModel}
 use Rattle.sm_plan_code.specs.declared.moves.Move.{Move}
 
@@ -113,13 +113,12 @@ AreDepartures b v moves = (drain_refusal b v ≡ None) × AreLeaving b v (sizes_
 abbrev pub IsDrainPlan : Basis → ℕ → PlanModel → Type 0
 IsDrainPlan b v plan = (moves : List Move) × AreDepartures b v moves × IsPlanOf b moves plan
 
--- Why the rule doesn't empty a server: for the server's own reason, for a shard that has no target, or for a reason of the
--- moves to the targets.
+-- Why the rule doesn't empty a server: for the server's own reason, or for a shard that has no target. Of the moves to the targets it refuses
+-- none.
 abbrev pub IsDrainRefused : Basis → ℕ → NoPlan → Type 0
 IsDrainRefused b v why =
     (drain_refusal b v ≡ Some why)
-    ⊎ (((s : ℕ) × (moves : List Move) × (drain_refusal b v ≡ None) × IsStuck b v s moves × (why ≡ NoPlace s))
-    ⊎ ((moves : List Move) × AreDepartures b v moves × IsRefused b moves why))
+    ⊎ ((s : ℕ) × (moves : List Move) × (drain_refusal b v ≡ None) × IsStuck b v s moves × (why ≡ NoPlace s))
 
 -- memory was short, or the rule doesn't empty the server for this reason
 abbrev pub IsNoDrainFor : Basis → ℕ → NoPlan → Type 0

@@ -3,6 +3,7 @@ ghost use Rattle.std.specs.Prelude.{◌≡◌, ◌<◌, ◌+◌, ◌&&◌, ◌||
 ghost use Rattle.std.specs.Bool.{MatchBool};
 ghost use Rattle.sm_server.specs.Cell.{is_absent};
 ghost use Rattle.sm_placement.specs.Layout.{place_of};
+ghost use Rattle.sm_placement.specs.Setup.{IsSetup};
 ghost use Rattle.sm_reservation.specs.Amounts.{is_cell};
 ghost use Rattle.sm_reservation.specs.Pool.{pool_hold};
 ghost use Rattle.sm_planner.specs.Basis.{basis_of, is_replica, move_load, IsMoveOf};
@@ -214,6 +215,7 @@ fn targets_of(
     server: ServerId,
 ) -> Result<Departures, AllocError>
     requires { server < length placement.now.setup.servers }
+    ensures setup { OnOk result (IsSetup placement.now.setup) }
     ensures known { IfOk result (λ leaving. All (IsMoveOf placement.now.setup) leaving.moves.items) }
     ensures leaving { IfOk result (λ leaving. MatchOption leaving.stuck (AreLeaving (basis_of placement.now pool.now) server (length placement.now.setup.shards) leaving.moves.items) (λ s. IsStuck (basis_of placement.now pool.now) server s leaving.moves.items)) }
 {
@@ -238,6 +240,7 @@ pub(crate) fn leaving(
     server: ServerId,
 ) -> Result<Vec<Move>, NoPlan>
     requires { server < length placement.now.setup.servers }
+    ensures setup { OnOk result (IsSetup placement.now.setup) }
     ensures known { IfOk result (λ moves. All (IsMoveOf placement.now.setup) moves.items) }
     ensures leaving { IfOk result (λ moves. AreDepartures (basis_of placement.now pool.now) server moves.items) }
     ensures refused { IfErr result (IsNoDrainFor (basis_of placement.now pool.now) server) }

@@ -95,7 +95,7 @@ pub(crate) fn moves_at(
 }
 
 /// A plan that empties a server, at a placement with its pool.
-#[tactic(auto, using(crate::proofs::Departing::drain_planned, crate::proofs::Departing::drain_refused))]
+#[tactic(auto, using(crate::proofs::Departing::drain_planned))]
 pub(crate) fn drain_at(
     alloc: Global,
     placement: &Placement,

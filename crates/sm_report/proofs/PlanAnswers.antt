@@ -6,14 +6,16 @@ use Rattle.sm_server.specs.Cell.{is_absent}
 use Rattle.sm_placement.specs.Setup.{Setup, sizes_of}
 use Rattle.sm_placement.proofs.Searches.{cases_Option}
 use Rattle.sm_plan_code.specs.Plan.{PlanModel}
+use Rattle.sm_plan_code.specs.declared.limits.TheConstants.{MOST_MOVES}
 use Rattle.sm_plan_code.specs.declared.moves.Move.{Move}
 use Rattle.sm_planner.specs.declared.refusal.NoPlan.{NoPlan}
 use Rattle.sm_planner.specs.declared.refusal.NoPlan.TheVariants.{NoPlace}
 use Rattle.sm_planner.specs.Basis.{Basis}
-use Rattle.sm_planner.specs.Refusal.{IsRefused, IsPlanOf}
+use Rattle.sm_planner.specs.Refusal.{IsPlanOf}
 use Rattle.sm_planner.specs.Drain.{drain_refusal, room_beside, may_take, leaving, IsTarget, AreLeaving, IsStuck, AreDepartures, IsDrainPlan, IsDrainRefused}
 use Rattle.sm_planner.specs.Laws.{RuleAnswersOnce}
 use Rattle.sm_planner.proofs.Answering.{same_leaving}
+use Rattle.sm_planner.proofs.law.Unrefused.{few_have_plan}
 use Rattle.sm_report.specs.Report.{Output, refused, done}
 use Rattle.sm_report.specs.Planning.{Aim, Moving, Emptying, IsPlanFor, IsRefusedFor, made_line, no_plan_line, IsAnswered}
 
@@ -124,9 +126,10 @@ module _ (b : Basis) (v : ℕ) where
 
 -- ---- the rule's answer to an aim
 
--- the rule has a plan for this aim or a reason why not, never both, and never two of either
+-- The rule has a plan for this aim or a reason why not, where there are no more shards than a plan has moves; never both, and never two
+-- of either.
 record AnswersAim (b : Basis) (aim : Aim) : Type 0 where
-  some : ((plan : PlanModel) × IsPlanFor b aim plan) ⊎ ((why : NoPlan) × IsRefusedFor b aim why)
+  some : (sizes_of b.setup).shards ≤ MOST_MOVES → ((plan : PlanModel) × IsPlanFor b aim plan) ⊎ ((why : NoPlan) × IsRefusedFor b aim why)
   one_plan : (plan other : PlanModel) → IsPlanFor b aim plan → IsPlanFor b aim other → plan ≡ other
   one_reason : (why other : NoPlan) → IsRefusedFor b aim why → IsRefusedFor b aim other → why ≡ other
   not_both : (plan : PlanModel) (why : NoPlan) → IsPlanFor b aim plan → IsRefusedFor b aim why → ⊥
@@ -134,7 +137,7 @@ record AnswersAim (b : Basis) (aim : Aim) : Type 0 where
 module _ (law : RuleAnswersOnce) (b : Basis) where
   answers_moves : (moves : List Move) → AnswersAim b (Moving moves)
   answers_moves moves = record {
-    some = (law b moves).some;
+    some = λ few. (law b moves).some;
     one_plan = (law b moves).one_plan;
     one_reason = (law b moves).one_reason;
     not_both = (law b moves).not_both;
@@ -152,30 +155,20 @@ module _ (law : RuleAnswersOnce) (b : Basis) where
 
     drain_not_both : (plan : PlanModel) (why : NoPlan) → IsDrainPlan b v plan → IsDrainRefused b v why → ⊥
     drain_not_both plan why x (inl is) = drain_none why x.0 x.1 is
-    drain_not_both plan why x (inr (inl y)) = stays b v (sizes_of b.setup).shards y.0 x.0 y.1 x.1.1 y.3.known y.3
-    drain_not_both plan why x (inr (inr y)) = (law b y.0).not_both plan why (subst (λ ms. IsPlanOf b ms plan) (departed x.0 y.0 x.1 y.1) x.2) y.2
+    drain_not_both plan why x (inr y) = stays b v (sizes_of b.setup).shards y.0 x.0 y.1 x.1.1 y.3.known y.3
 
     drain_one_reason : (why other : NoPlan) → IsDrainRefused b v why → IsDrainRefused b v other → why ≡ other
     drain_one_reason why other (inl x) (inl y) = same_Some why other (sym x ∙ y)
-    drain_one_reason why other (inl x) (inr (inl y)) = absurd (let e = y.2 in let z : None ≡ Some why = sym e ∙ x in cc)
-    drain_one_reason why other (inl x) (inr (inr y)) = absurd (drain_none why y.0 y.1 x)
-    drain_one_reason why other (inr (inl x)) (inl y) = absurd (let e = x.2 in let z : None ≡ Some other = sym e ∙ y in cc)
-    drain_one_reason why other (inr (inl x)) (inr (inl y)) = x.4 ∙ ap NoPlace (one_stuck b v x.0 y.0 x.1 y.1 x.3 y.3) ∙ sym y.4
-    drain_one_reason why other (inr (inl x)) (inr (inr y)) = absurd (stays b v (sizes_of b.setup).shards x.0 y.0 x.1 y.1.1 x.3.known x.3)
-    drain_one_reason why other (inr (inr x)) (inl y) = absurd (drain_none other x.0 x.1 y)
-    drain_one_reason why other (inr (inr x)) (inr (inl y)) = absurd (stays b v (sizes_of b.setup).shards y.0 x.0 y.1 x.1.1 y.3.known y.3)
-    drain_one_reason why other (inr (inr x)) (inr (inr y)) =
-        (law b y.0).one_reason why other (subst (λ ms. IsRefused b ms why) (departed x.0 y.0 x.1 y.1) x.2) y.2
+    drain_one_reason why other (inl x) (inr y) = absurd (let e = y.2 in let z : None ≡ Some why = sym e ∙ x in cc)
+    drain_one_reason why other (inr x) (inl y) = absurd (let e = x.2 in let z : None ≡ Some other = sym e ∙ y in cc)
+    drain_one_reason why other (inr x) (inr y) = x.4 ∙ ap NoPlace (one_stuck b v x.0 y.0 x.1 y.1 x.3 y.3) ∙ sym y.4
 
-    drain_some : ((plan : PlanModel) × IsDrainPlan b v plan) ⊎ ((why : NoPlan) × IsDrainRefused b v why)
-    drain_some = elim (cases_Option (drain_refusal b v)) [
+    drain_some : (sizes_of b.setup).shards ≤ MOST_MOVES → ((plan : PlanModel) × IsDrainPlan b v plan) ⊎ ((why : NoPlan) × IsDrainRefused b v why)
+    drain_some few = elim (cases_Option (drain_refusal b v)) [
       | inr why ↦ inr (why.0, inl why.1)
       | inl none ↦ elim (some_leave b v (sizes_of b.setup).shards (omega arith)) [
-        | inr stuck ↦ inr (NoPlace stuck.0, inr (inl (stuck.0, stuck.1, none, stuck.2, refl)))
-        | inl left ↦ elim (law b left.0).some [
-          | inl made ↦ inl (made.0, (left.0, (none, left.1), made.1))
-          | inr other ↦ inr (other.0, inr (inr (left.0, (none, left.1), other.1)))
-        ]
+        | inr stuck ↦ inr (NoPlace stuck.0, inr (stuck.0, stuck.1, none, stuck.2, refl))
+        | inl left ↦ (let made = few_have_plan b v left.0 few none left.1 in inl (made.0, (left.0, (none, left.1), made.1)))
       ]
     ]
 
@@ -195,9 +188,9 @@ answered_one law setup b aim x y (inl p) (inr q) = absurd ((answers_aim law b ai
 answered_one law setup b aim x y (inr p) (inl q) = absurd ((answers_aim law b aim).not_both q.0 p.0 q.1 p.1)
 answered_one law setup b aim x y (inr p) (inr q) = p.2 ∙ ap (λ why. refused (no_plan_line setup why)) ((answers_aim law b aim).one_reason p.0 q.0 p.1 q.1) ∙ sym q.2
 
--- and there is one
-pub answered_some : RuleAnswersOnce → (setup : Setup) (b : Basis) (aim : Aim) → (output : Output) × IsAnswered setup b aim output
-answered_some law setup b aim = elim (answers_aim law b aim).some [
+-- and there is one, where there are no more shards than a plan has moves
+pub answered_some : RuleAnswersOnce → (setup : Setup) (b : Basis) (aim : Aim) → (sizes_of b.setup).shards ≤ MOST_MOVES → (output : Output) × IsAnswered setup b aim output
+answered_some law setup b aim few = elim ((answers_aim law b aim).some few) [
   | inl made ↦ (done (made_line setup made.0), inl (made.0, made.1, refl))
   | inr other ↦ (refused (no_plan_line setup other.0), inr (other.0, other.1, refl))
 ]

@@ -99,12 +99,12 @@ play_some verdicts d has =
     checks_some verdicts.fault d.setup (has_list d.plans) 0 (plans_of d.plan d.plans) _ (all_plans d.setup d.plan d.plans has.plan has.plans)
     (begun_some d.setup d.plan d.plans events _)))))
 
-planning_some : HasVerdicts → (d : DocumentModel) → IsMade (IsPlanningReport d)
-planning_some verdicts d =
+planning_some : HasVerdicts → (d : DocumentModel) → HasItsPlans d → IsMade (IsPlanningReport d)
+planning_some verdicts d has =
     then_some (aim_stage d.moves d.drain) (IsOpenedForPlan d) (λ aim there.
     then_some (placement_stage d) (IsPlacedForPlan d aim) (λ p opened.
     then_some (log_stage d p) (IsLoggedForPlan d aim p) (λ room logged.
-    answered_some verdicts.rule d.setup (opened_basis d.setup p d.log) aim)))
+    answered_some verdicts.rule d.setup (opened_basis d.setup p d.log) aim (let few = has.shards in omega arith))))
 
 document_some : HasVerdicts → (command : Command) (d : DocumentModel) → HasItsPlans d → IsMade (IsDocumentReport command d)
 document_some verdicts Calls d has =
@@ -115,7 +115,7 @@ document_some verdicts Check d has =
     then_some (placement_stage d) (IsPlanReport d.setup plan) (λ p opened.
     plan_some verdicts d.setup plan p (member_there (IsPlanOf d.setup) member.Plan d.plan plan there has.plan)))
 document_some verdicts Play d has = play_some verdicts d has
-document_some verdicts Plan d has = planning_some verdicts d
+document_some verdicts Plan d has = planning_some verdicts d has
 
 -- ---- what is read
 

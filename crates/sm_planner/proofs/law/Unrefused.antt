@@ -347,7 +347,7 @@ few_leaving b v (suc n) moves leave = elim (cases_Bool (is_absent (b.place.cells
       omega arith
 ]
 
-module _ (b : Basis) (v : ℕ) (moves : List Move) (setup : IsSetup b.setup) (leave : AreLeaving b v (sizes_of b.setup).shards moves) (free : drain_refusal b v ≡ None) (placed : List ℕ) (is : IsPlacing b moves placed) where
+module _ (b : Basis) (v : ℕ) (moves : List Move) (most : (sizes_of b.setup).shards ≤ MOST_MOVES) (leave : AreLeaving b v (sizes_of b.setup).shards moves) (free : drain_refusal b v ≡ None) (placed : List ℕ) (is : IsPlacing b moves placed) where
   abbrev order : List Move
   order = in_placed_order moves placed
 
@@ -382,12 +382,15 @@ module _ (b : Basis) (v : ℕ) (moves : List Move) (setup : IsSetup b.setup) (le
       (neither_of (no_spread b moves) (too_many b moves placed)
       (ap (option_map (λ s. Spread s)) (none_close b v (sizes_of b.setup).shards moves leave))
       (let few = few_leaving b v (sizes_of b.setup).shards moves leave in
-      let most = setup.shards in
       let none = no_signals in
       rw (le-ltb MOST_MOVES (length moves) (omega arith), le-ltb MOST_SIGNALS (length (signals_of b order)) (omega arith)) refl)))
 
--- a server that may be emptied, and whose replicas have targets, has a plan for emptying it
-pub drain_has_plan : (b : Basis) (v : ℕ) (moves : List Move) → IsSetup b.setup → drain_refusal b v ≡ None → AreLeaving b v (sizes_of b.setup).shards moves → (plan : PlanModel) × IsPlanOf b moves plan
-drain_has_plan b v moves setup free leave =
+-- a server that may be emptied, and whose replicas have targets, has a plan for emptying it, where there are no more shards than a plan has moves
+pub few_have_plan : (b : Basis) (v : ℕ) (moves : List Move) → (sizes_of b.setup).shards ≤ MOST_MOVES → drain_refusal b v ≡ None → AreLeaving b v (sizes_of b.setup).shards moves → (plan : PlanModel) × IsPlanOf b moves plan
+few_have_plan b v moves most free leave =
     let all = are_placed b moves in
-    (planned b (in_placed_order moves all.0), (all.0, all.1, not_refused b v moves setup leave free all.0 all.1, refl))
+    (planned b (in_placed_order moves all.0), (all.0, all.1, not_refused b v moves most leave free all.0 all.1, refl))
+
+-- so it is in each configuration
+pub drain_has_plan : (b : Basis) (v : ℕ) (moves : List Move) → IsSetup b.setup → drain_refusal b v ≡ None → AreLeaving b v (sizes_of b.setup).shards moves → (plan : PlanModel) × IsPlanOf b moves plan
+drain_has_plan b v moves setup = few_have_plan b v moves (let most = setup.shards in omega arith)
