@@ -13,8 +13,7 @@ use Rattle.sm_plan_code.specs.declared.plan.PlanFault.TheVariants.{TooMany, Unkn
 use Rattle.sm_plan_code.specs.Plan.{PlanModel, IsPlan, IsPlanFault}
 use Rattle.sm_plan_code.specs.declared.moves.Move.{Move}
 use Rattle.sm_planner.specs.Basis.{Basis, move_at}
-use Rattle.sm_planner.specs.Plan.{moves_of}
-use Rattle.sm_planner.specs.Draft.{needs_by}
+use Rattle.sm_planner.specs.Plan.{moves_of, needs_by}
 use Rattle.sm_planner.proofs.law.Sorting.{once_single}
 use Rattle.sm_planner.proofs.law.Streams.{AreAllApart}
 use Rattle.sm_planner.proofs.law.Opened.{IsOpened}

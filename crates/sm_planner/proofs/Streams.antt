@@ -26,8 +26,8 @@ use Rattle.sm_planner.specs.declared.writing.Draft.{Draft}
 use Rattle.sm_planner.specs.Basis.{Basis, move_at, left_cell}
 use Rattle.sm_planner.specs.Payment.{Handed, from_move, signals_of}
 use Rattle.sm_planner.specs.Stretches.{stretch, paid_from, IsGiven}
-use Rattle.sm_planner.specs.Plan.{handing_over, copying, instructions, waits_of, posts_of, signal_at, moves_of, stream, handed_parcel}
-use Rattle.sm_planner.specs.Draft.{IsDraft, drafted_code, holds_by}
+use Rattle.sm_planner.specs.Plan.{handing_over, copying, instructions, waits_of, posts_of, signal_at, drafted_code, moves_of, holds_by, stream, handed_parcel}
+use Rattle.sm_planner.specs.Draft.{IsDraft}
 use Rattle.sm_planner.proofs.Drafting.{placed_is}
 
 -- ---- the placed moves of a stream

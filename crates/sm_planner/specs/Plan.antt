@@ -55,10 +55,13 @@ waits_of signals k = map Wait (filter (λ q. (signal_at signals q).payer == k) (
 abbrev pub posts_of : List Handed → ℕ → List Instr
 posts_of signals k = map Signal (filter (λ q. (signal_at signals q).source == k) (range_with_len 0 (length signals)))
 
--- the code of the k-th placed move: its waits, its instructions, its posts
+-- the code of the k-th placed move, where these are the signals: its waits, its instructions, its posts
+abbrev pub drafted_code : Place → List Move → List Handed → ℕ → List Instr
+drafted_code p order signals k = waits_of signals k ++ (instructions p (move_at order k) ++ posts_of signals k)
+
+-- its code with the signals of all placed moves
 abbrev pub move_code : Basis → List Move → ℕ → List Instr
-move_code b order k =
-    waits_of (signals_of b order) k ++ (instructions b.place (move_at order k) ++ posts_of (signals_of b order) k)
+move_code b order k = drafted_code b.place order (signals_of b order) k
 
 -- ---- what a stream declares
 
@@ -77,22 +80,30 @@ abbrev pub crowns_of : Place → Move → List Crown
 crowns_of p m =
     if is_primary (left_cell p m) then record { shard = m.shard; lead = At m.from; listed = p.listed m.shard } ∷ [] else []
 
--- what the moves of a stream pay from the pool's room of a server
-abbrev pub room_paid : Basis → List Move → ℕ → ℕ → ℕ
-room_paid b order i v = sum_by (λ k. if (move_at order k).to == v then from_pool b order k else 0) (moves_of order i)
+-- what these placed moves pay from the pool's room of a server
+abbrev pub paid_by : Basis → List Move → List ℕ → ℕ → ℕ
+paid_by b order numbers v = sum_by (λ k. if (move_at order k).to == v then from_pool b order k else 0) numbers
 
--- what the moves of a stream pay from the pool's room, server by server
-abbrev pub rooms_of : Basis → List Move → ℕ → List Room
-rooms_of b order i = map (λ v. record { server = v; amount = room_paid b order i v }) (range_with_len 0 (sizes_of b.setup).servers)
+-- the same as room of the server
+abbrev pub room_by : Basis → List Move → List ℕ → ℕ → Room
+room_by b order numbers v = record { server = v; amount = paid_by b order numbers v }
+
+-- the rights that these placed moves need, move by move, and what they pay from the pool's room, server by server
+abbrev pub needs_by : Basis → List Move → List ℕ → Rights
+needs_by b order numbers = record {
+  cells = flat_map (λ k. cells_needed b.place (move_at order k)) numbers;
+  crowns = flat_map (λ k. crowns_of b.place (move_at order k)) numbers;
+  room = map (room_by b order numbers) (range_with_len 0 (sizes_of b.setup).servers);
+  spare = [];
+}
+
+-- a stream of these placed moves declares that, in the order of the keys
+abbrev pub holds_by : Basis → List Move → List ℕ → Rights
+holds_by b order numbers = in_order (needs_by b order numbers)
 
 -- a stream declares the rights that its moves need, and what they pay from the pool
 abbrev pub holds_of : Basis → List Move → ℕ → Rights
-holds_of b order i = in_order (record {
-  cells = flat_map (λ k. cells_needed b.place (move_at order k)) (moves_of order i);
-  crowns = flat_map (λ k. crowns_of b.place (move_at order k)) (moves_of order i);
-  room = rooms_of b order i;
-  spare = [];
-})
+holds_of b order i = holds_by b order (moves_of order i)
 
 -- ---- streams and signals
 

@@ -12,8 +12,8 @@ ghost use Rattle.sm_plan_code.specs.Plan.{IsPlan};
 ghost use Rattle.sm_planner.specs.Basis.{basis_of, IsMoveOf, move_at};
 ghost use Rattle.sm_planner.specs.Payment.{stream_of};
 ghost use Rattle.sm_planner.specs.Stretches.{IsGiven};
-ghost use Rattle.sm_planner.specs.Plan.{handing_over, copying, instructions, waits_of, posts_of, cells_needed, crowns_of, stream as stream_of_moves, handed_parcel, planned};
-ghost use Rattle.sm_planner.specs.Draft.{IsDraft, ArePayments, drafted_code, room_by, needs_by, holds_by};
+ghost use Rattle.sm_planner.specs.Plan.{handing_over, copying, instructions, waits_of, posts_of, drafted_code, cells_needed, crowns_of, room_by, needs_by, holds_by, stream as stream_of_moves, handed_parcel, planned};
+ghost use Rattle.sm_planner.specs.Draft.{IsDraft, ArePayments};
 
 use crate::held::is_primary;
 use crate::marks::Amounts;

@@ -23,7 +23,7 @@ use Rattle.sm_verifier.proofs.Judging.{crown_true, crown_self}
 use Rattle.sm_planner.specs.Basis.{Basis, move_at, left_cell}
 use Rattle.sm_planner.specs.Rights.{has_crown_at}
 use Rattle.sm_planner.specs.Payment.{stream_of}
-use Rattle.sm_planner.specs.Plan.{room_paid, planned}
+use Rattle.sm_planner.specs.Plan.{moves_of, paid_by, planned}
 use Rattle.sm_planner.proofs.law.Codes.{width, stream_count, stream_is, stream_known}
 use Rattle.sm_planner.proofs.law.Payments.{to, from, pool_paid, pool_pays_what_it_has}
 use Rattle.sm_planner.proofs.law.Streams.{shard, leads_shard, AreAllApart}
@@ -141,8 +141,8 @@ module _ (b : Basis) (order : List Move) (apart : AreAllApart b order) (opened :
 
   room_within : (v : ℕ) → sum_below (width order) (λ i. (holds i).room v) ≤ b.pool.room v
   room_within v =
-      let most = sum_each (width order) (λ i. (holds i).room v) (λ i. room_paid b order i v) (λ i l. room_most b order apart opened i v) in
-      let same = same_sum (width order) (λ i. room_paid b order i v) (λ i. sum_below (length order) (λ k. cond (stream_of k == i) (pool_paid b order v k) 0)) (λ i l. room_paid_is b order i v) in
+      let most = sum_each (width order) (λ i. (holds i).room v) (λ i. paid_by b order (moves_of order i) v) (λ i l. room_most b order apart opened i v) in
+      let same = same_sum (width order) (λ i. paid_by b order (moves_of order i) v) (λ i. sum_below (length order) (λ k. cond (stream_of k == i) (pool_paid b order v k) 0)) (λ i l. room_paid_is b order i v) in
       let all = sum_of_classes stream_of (pool_paid b order v) (width order) (length order) (λ k l. stream_known order k l) in
       let has = pool_pays_what_it_has b order v in
       omega arith

@@ -30,7 +30,7 @@ use Rattle.sm_plan_code.specs.Plan.{IsOrderedParcel}
 use Rattle.sm_plan_code.specs.declared.moves.Move.{Move}
 use Rattle.sm_planner.specs.Basis.{Basis, move_at, left_cell, is_replica}
 use Rattle.sm_planner.specs.Payment.{stream_of}
-use Rattle.sm_planner.specs.Plan.{cells_needed, crowns_of, room_paid, rooms_of, holds_of}
+use Rattle.sm_planner.specs.Plan.{moves_of, cells_needed, crowns_of, paid_by, room_by, needs_by, holds_of}
 use Rattle.sm_planner.proofs.Ranges.{range_suc}
 use Rattle.sm_planner.proofs.law.Gathered.{gathered, StandsIn, stands_below, stands_in_range}
 use Rattle.sm_planner.proofs.law.Sorting.{IsKeyedOnce, once_both, once_single, once_gathered, stands_gathered, gathered_from, stands_kept, stood, stands_mapped, row_is, row_from, in_sorted, from_sorted, sorted_row_is, sorted_row_from}
@@ -148,7 +148,7 @@ module _ (b : Basis) (order : List Move) (apart : AreAllApart b order) (opened :
     crowns = gathered stream_of crowned (length order) i
 
     abbrev rooms : List Room
-    rooms = rooms_of b order i
+    rooms = (needs_by b order (moves_of order i)).room
 
     abbrev lists : Rights
     lists = record { cells = cells; crowns = crowns; room = rooms; spare = [] }
@@ -164,7 +164,7 @@ module _ (b : Basis) (order : List Move) (apart : AreAllApart b order) (opened :
     crowns_once = once_gathered key_of_crown stream_of crowned i (length order) crowned_once crowned_apart
 
     abbrev room_row : ℕ → Room
-    room_row v = record { server = v; amount = room_paid b order i v }
+    room_row = room_by b order (moves_of order i)
 
     rows_once : (n : ℕ) → IsKeyedOnce key_of_room (map room_row (range_with_len 0 n))
     rows_once zero = λ q. omega arith
@@ -274,14 +274,14 @@ module _ (b : Basis) (order : List Move) (apart : AreAllApart b order) (opened :
     kept_rooms = filter (λ x. nat_lt 0 x.amount) (sorted key_of_room rooms)
 
     -- it declares at least the room that its moves pay from the pool
-    pub room_least : (v : ℕ) → v < (sizes_of b.setup).servers → room_paid b order i v ≤ declares.room v
+    pub room_least : (v : ℕ) → v < (sizes_of b.setup).servers → paid_by b order (moves_of order i) v ≤ declares.room v
     unfolding hold_of
-    room_least v l = elim (cases_lt 0 (room_paid b order i v)) [
+    room_least v l = elim (cases_lt 0 (paid_by b order (moves_of order i) v)) [
       | inl some ↦
           let there : StandsIn (room_row v) rooms = mapped v l in
-          let kept = stands_kept (λ (x : Room). nat_lt 0 x.amount) (room_row v) (sorted key_of_room rooms) (lt-ltb 0 (room_paid b order i v) some) (in_sorted key_of_room rooms (room_row v) there) in
+          let kept = stands_kept (λ (x : Room). nat_lt 0 x.amount) (room_row v) (sorted key_of_room rooms) (lt-ltb 0 (paid_by b order (moves_of order i) v) some) (in_sorted key_of_room rooms (room_row v) there) in
           let row = row_is key_of_room kept_rooms (room_row v) (rises_kept key_of_room (λ x. nat_lt 0 x.amount) (sorted key_of_room rooms) (sorted_rises key_of_room rooms (λ y. rooms_once (key_of_room y)))) kept in
-          let is : amount_of (λ (x : Room). x.amount) (row_at key_of_room kept_rooms (v, 0)) ≡ room_paid b order i v = ap (amount_of (λ (x : Room). x.amount)) row in
+          let is : amount_of (λ (x : Room). x.amount) (row_at key_of_room kept_rooms (v, 0)) ≡ paid_by b order (moves_of order i) v = ap (amount_of (λ (x : Room). x.amount)) row in
           omega arith
       | inr none ↦ omega arith
     ]
@@ -294,19 +294,19 @@ module _ (b : Basis) (order : List Move) (apart : AreAllApart b order) (opened :
         mapped u m = in_map u (range_with_len 0 (sizes_of b.setup).servers) (stands_in_range (sizes_of b.setup).servers u m)
 
     -- it declares at most the room that its moves pay from the pool
-    pub room_most : (v : ℕ) → declares.room v ≤ room_paid b order i v
+    pub room_most : (v : ℕ) → declares.room v ≤ paid_by b order (moves_of order i) v
     unfolding hold_of
     room_most v = go (row_at key_of_room kept_rooms (v, 0)) refl
       where
-        go : (o : Option Room) → row_at key_of_room kept_rooms (v, 0) ≡ o → amount_of (λ (x : Room). x.amount) (row_at key_of_room kept_rooms (v, 0)) ≤ room_paid b order i v
+        go : (o : Option Room) → row_at key_of_room kept_rooms (v, 0) ≡ o → amount_of (λ (x : Room). x.amount) (row_at key_of_room kept_rooms (v, 0)) ≤ paid_by b order (moves_of order i) v
         go None e = let is = ap (amount_of (λ (x : Room). x.amount)) e in omega arith
         go (Some x) e =
             let found = row_from key_of_room kept_rooms (v, 0) x e in
             let from = stands_mapped room_row x (range_with_len 0 (sizes_of b.setup).servers) (from_sorted key_of_room rooms x (stood (λ (y : Room). nat_lt 0 y.amount) x (sorted key_of_room rooms) found.0)) in
             let server : x.server ≡ v = ap (λ (q : ℕ × ℕ). q.0) found.1 in
             let same_one : from.0 ≡ v = ap (λ (z : Room). z.server) from.2 ∙ server in
-            let amount : room_paid b order i from.0 ≡ x.amount = ap (λ (z : Room). z.amount) from.2 in
-            let there : room_paid b order i from.0 ≡ room_paid b order i v = ap (room_paid b order i) same_one in
+            let amount : paid_by b order (moves_of order i) from.0 ≡ x.amount = ap (λ (z : Room). z.amount) from.2 in
+            let there : paid_by b order (moves_of order i) from.0 ≡ paid_by b order (moves_of order i) v = ap (paid_by b order (moves_of order i)) same_one in
             let is = ap (amount_of (λ (z : Room). z.amount)) e in
             omega arith
 

@@ -21,7 +21,7 @@ use Rattle.sm_verifier.specs.Stream.{HasCrownsAtRest, IsGood, course_of, final_h
 use Rattle.sm_verifier.specs.Plan.{AreGood}
 use Rattle.sm_planner.specs.Basis.{Basis, move_at}
 use Rattle.sm_planner.specs.Payment.{stream_of, from_pool}
-use Rattle.sm_planner.specs.Plan.{room_paid, moves_of, stream, planned}
+use Rattle.sm_planner.specs.Plan.{moves_of, paid_by, stream, planned}
 use Rattle.sm_planner.proofs.law.Codes.{code_to, stream_count, stream_is}
 use Rattle.sm_planner.proofs.law.Payments.{to, from, IsAffordable}
 use Rattle.sm_planner.proofs.law.Leading.{Leads, leads_made, leads_end}
@@ -35,13 +35,13 @@ use Rattle.sm_planner.proofs.law.Declared.{needed_cases, needs_absent, needs_sec
 -- ---- room that is paid from the pool
 
 -- what a stream's moves pay from the pool at a server, as a sum over all placed moves
-pub room_paid_is : (b : Basis) (order : List Move) (i v : ℕ) → room_paid b order i v ≡ sum_below (length order) (λ k. cond (stream_of k == i) (cond (to b order k == v) (from_pool b order k) 0) 0)
+pub room_paid_is : (b : Basis) (order : List Move) (i v : ℕ) → paid_by b order (moves_of order i) v ≡ sum_below (length order) (λ k. cond (stream_of k == i) (cond (to b order k == v) (from_pool b order k) 0) 0)
 room_paid_is b order i v =
     ap (sum_by (λ k. cond (to b order k == v) (from_pool b order k) 0)) (sym (map-id (moves_of order i)))
     ∙ sum_of_picked (λ k. cond (to b order k == v) (from_pool b order k) 0) (λ k. k) (λ k. stream_of k == i) (range_with_len 0 (length order))
     ∙ sum_of_range (length order) (λ k. cond (stream_of k == i) (cond (to b order k == v) (from_pool b order k) 0) 0)
 
-owed_first : (b : Basis) (order : List Move) (i v : ℕ) → owed b order i 0 v ≡ room_paid b order i v
+owed_first : (b : Basis) (order : List Move) (i v : ℕ) → owed b order i 0 v ≡ paid_by b order (moves_of order i) v
 owed_first b order i v =
     same_sum (length order) (λ k. cond (comes b order i 0 v k) (own_pay b order i 0 k) 0) (λ k. cond (stream_of k == i) (cond (to b order k == v) (from_pool b order k) 0) 0) (λ k l. one k)
     ∙ sym (room_paid_is b order i v)
@@ -92,7 +92,7 @@ module _ (b : Basis) (order : List Move) (apart : AreAllApart b order) (opened :
         | inr past ↦ (let none = no_such v past in omega arith)
       ]
     where
-      no_such : (v : ℕ) → (sizes_of b.setup).servers ≤ v → room_paid b order i v ≡ 0
+      no_such : (v : ℕ) → (sizes_of b.setup).servers ≤ v → paid_by b order (moves_of order i) v ≡ 0
       no_such v past = room_paid_is b order i v ∙ same_sum (length order) (λ k. cond (stream_of k == i) (cond (to b order k == v) (from_pool b order k) 0) 0) (λ k. 0) (λ k l. rw (ne_eqb (to b order k) v (λ e. (let low = known k l in absurd (omega arith)))) (cond_nothing (stream_of k == i))) ∙ sum_zero (length order) (λ k. 0) (λ k. refl)
 
   pub begins : IsAt b order i 0 start

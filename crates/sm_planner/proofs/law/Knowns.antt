@@ -17,7 +17,7 @@ use Rattle.sm_plan_code.specs.Plan.{IsKnownCellRight, IsKnownCrown, IsKnownParce
 use Rattle.sm_plan_code.specs.declared.moves.Move.{Move}
 use Rattle.sm_planner.specs.Basis.{Basis, IsMoveOf, move_at, left_cell}
 use Rattle.sm_planner.specs.Payment.{Handed, stream_of, signals_of}
-use Rattle.sm_planner.specs.Plan.{signal_at, handed_parcel, handing_over, instructions, waits_of, posts_of, move_code, moves_of, cells_needed, crowns_of, rooms_of, room_paid, holds_of, stream, planned}
+use Rattle.sm_planner.specs.Plan.{signal_at, handed_parcel, handing_over, instructions, waits_of, posts_of, move_code, moves_of, cells_needed, crowns_of, room_by, needs_by, holds_of, stream, planned}
 use Rattle.sm_planner.proofs.law.Gathered.{gathered, StandsIn, stands_below, all_both, all_picked, all_of_parts}
 use Rattle.sm_planner.proofs.law.Codes.{width}
 use Rattle.sm_planner.proofs.law.Signals.{IsHandedOn, are_handed_on}
@@ -84,9 +84,9 @@ module _ (b : Basis) (order : List Move) (known : (k : ℕ) → k < length order
       let it = crown_case b.place (move_at order by.0) x by.3 in
       subst (λ y. IsKnownCrown c.shards c.servers y) it.1 (is.shard, is.from, listed_known (move_at order by.0).shard)
 
-  fits_room : (i : ℕ) (x : Room) → StandsIn x (filter (λ y. nat_lt 0 y.amount) (sorted key_of_room (rooms_of b order i))) → x.server < c.servers
+  fits_room : (i : ℕ) (x : Room) → StandsIn x (filter (λ y. nat_lt 0 y.amount) (sorted key_of_room (needs_by b order (moves_of order i)).room)) → x.server < c.servers
   fits_room i x s =
-      let from = stands_mapped (λ v. record { server = v; amount = room_paid b order i v }) x (range_with_len 0 c.servers) (from_sorted key_of_room (rooms_of b order i) x (stood (λ (y : Room). nat_lt 0 y.amount) x (sorted key_of_room (rooms_of b order i)) s)) in
+      let from = stands_mapped (room_by b order (moves_of order i)) x (range_with_len 0 c.servers) (from_sorted key_of_room (needs_by b order (moves_of order i)).room x (stood (λ (y : Room). nat_lt 0 y.amount) x (sorted key_of_room (needs_by b order (moves_of order i)).room) s)) in
       let low = stands_below c.servers from.0 from.1 in
       let same : from.0 ≡ x.server = ap (λ (y : Room). y.server) from.2 in
       omega arith

@@ -24,7 +24,7 @@ use Rattle.sm_plan_code.specs.Plan.{StreamModel, IsSmallParcel, IsSmallStream, I
 use Rattle.sm_plan_code.specs.declared.moves.Move.{Move}
 use Rattle.sm_planner.specs.Basis.{Basis, IsMoveOf, move_at, left_cell}
 use Rattle.sm_planner.specs.Payment.{Handed, stream_of, from_move, signals_of}
-use Rattle.sm_planner.specs.Plan.{signal_at, handed_parcel, instructions, waits_of, posts_of, move_code, cells_needed, crowns_of, rooms_of, room_paid, holds_of, stream, streams_of, planned}
+use Rattle.sm_planner.specs.Plan.{signal_at, handed_parcel, instructions, waits_of, posts_of, move_code, moves_of, cells_needed, crowns_of, paid_by, room_by, needs_by, holds_of, stream, streams_of, planned}
 use Rattle.sm_planner.proofs.law.Gathered.{gathered, gathered_own, gathered_other, StandsIn, stands_below}
 use Rattle.sm_planner.proofs.law.Codes.{width, stream_count}
 use Rattle.sm_planner.proofs.law.Signals.{IsHandedOn, is_handed_on, are_handed_on}
@@ -180,14 +180,14 @@ module _ (b : Basis) (order : List Move) (few : length order ≤ 4096) (few_sign
 
   short_rooms : (i : ℕ) → length (holds_of b order i).room ≤ (sizes_of b.setup).servers
   short_rooms i =
-      let kept = length-filter (λ (x : Room). nat_lt 0 x.amount) (sorted key_of_room (rooms_of b order i)) in
-      let most = count_by-le-length (λ (x : Room). nat_lt 0 x.amount) (sorted key_of_room (rooms_of b order i)) in
-      let is = length_sorted key_of_room (rooms_of b order i) in
-      let rows : length (rooms_of b order i) ≡ (sizes_of b.setup).servers = length-map-range_with_len (λ v. record { server = v; amount = room_paid b order i v }) 0 (sizes_of b.setup).servers in
+      let kept = length-filter (λ (x : Room). nat_lt 0 x.amount) (sorted key_of_room (needs_by b order (moves_of order i)).room) in
+      let most = count_by-le-length (λ (x : Room). nat_lt 0 x.amount) (sorted key_of_room (needs_by b order (moves_of order i)).room) in
+      let is = length_sorted key_of_room (needs_by b order (moves_of order i)).room in
+      let rows : length (needs_by b order (moves_of order i)).room ≡ (sizes_of b.setup).servers = length-map-range_with_len (room_by b order (moves_of order i)) 0 (sizes_of b.setup).servers in
       omega arith
 
   module _ (setup : IsSetup b.setup) (known : (k : ℕ) → k < length order → IsMoveOf b.setup (move_at order k)) (fits : IsAffordable b order) (rooms : (v : ℕ) → b.pool.room v ≤ MOST_AMOUNT) where
-    paid_small : (i v : ℕ) → room_paid b order i v ≤ MOST_AMOUNT
+    paid_small : (i v : ℕ) → paid_by b order (moves_of order i) v ≤ MOST_AMOUNT
     paid_small i v =
         let is = room_paid_is b order i v in
         let most = sum_each (length order) (λ k. cond (stream_of k == i) (pool_paid b order v k) 0) (pool_paid b order v) (λ k l. part_of (stream_of k == i) (pool_paid b order v k)) in
@@ -197,8 +197,8 @@ module _ (b : Basis) (order : List Move) (few : length order ≤ 4096) (few_sign
 
     small_room : (i : ℕ) (x : Room) → StandsIn x (holds_of b order i).room → x.amount ≤ MOST_AMOUNT
     small_room i x s =
-        let from = stands_mapped (λ v. record { server = v; amount = room_paid b order i v }) x (range_with_len 0 (sizes_of b.setup).servers) (from_sorted key_of_room (rooms_of b order i) x (stood (λ (y : Room). nat_lt 0 y.amount) x (sorted key_of_room (rooms_of b order i)) s)) in
-        let same : room_paid b order i from.0 ≡ x.amount = ap (λ (y : Room). y.amount) from.2 in
+        let from = stands_mapped (room_by b order (moves_of order i)) x (range_with_len 0 (sizes_of b.setup).servers) (from_sorted key_of_room (needs_by b order (moves_of order i)).room x (stood (λ (y : Room). nat_lt 0 y.amount) x (sorted key_of_room (needs_by b order (moves_of order i)).room) s)) in
+        let same : paid_by b order (moves_of order i) from.0 ≡ x.amount = ap (λ (y : Room). y.amount) from.2 in
         let small = paid_small i from.0 in
         omega arith
 

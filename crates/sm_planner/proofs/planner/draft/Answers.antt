@@ -12,8 +12,7 @@ use Rattle.sm_planner.proofs.Refusing.{refused_room, refused_signals, refused_no
 use Rattle.sm_planner.proofs.Signalling.{ordered_known, signals_are, signals_given}
 use Rattle.sm_reservation.specs.Key.{IsOnce}
 use Rattle.sm_planner.specs.Refusal.{refusal, in_placed_order}
-use Rattle.sm_planner.specs.Plan.{moves_of}
-use Rattle.sm_planner.specs.Draft.{needs_by}
+use Rattle.sm_planner.specs.Plan.{moves_of, needs_by}
 use Rattle.sm_planner.proofs.Keys.{declared_once}
 use Rattle.sm_planner.proofs.law.Opened.{order_apart, order_opened}
 use Rattle.sm_planner.proofs.planner.draft.Goals as goal

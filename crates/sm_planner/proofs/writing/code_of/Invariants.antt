@@ -1,7 +1,7 @@
 use Rattle.std.proofs.Common.{◌≡◌, take}
 use Rattle.std.specs.List.{flat_map}
 use Rattle.sm_placement.specs.Layout.{place_of}
-use Rattle.sm_planner.specs.Draft.{drafted_code}
+use Rattle.sm_planner.specs.Plan.{drafted_code}
 use Rattle.sm_planner.proofs.writing.code_of.Given as goal
 
 abbrev pub invariant-loop-k : goal.invariant-loop-k

@@ -2,7 +2,7 @@ use Rattle.std.proofs.Common.{◌≡◌, ◌∙◌, ℕ, ap, get_or, length, ari
 use Rattle.sm_placement.specs.Setup.{Setup}
 use Rattle.sm_reservation.specs.declared.right.Room.{Room}
 use Rattle.sm_planner.specs.Basis.{basis_of}
-use Rattle.sm_planner.specs.Draft.{room_by, paid_by}
+use Rattle.sm_planner.specs.Plan.{paid_by, room_by}
 use Rattle.sm_planner.proofs.Ranges.{pushed_more}
 use Rattle.sm_planner.proofs.writing.rooms_of.Goals as goal
 

@@ -1,7 +1,7 @@
 use Rattle.std.proofs.Common.{◌≡◌, map}
 use Rattle.std.specs.List.{range_with_len}
 use Rattle.sm_planner.specs.Basis.{basis_of}
-use Rattle.sm_planner.specs.Draft.{room_by}
+use Rattle.sm_planner.specs.Plan.{room_by}
 use Rattle.sm_planner.proofs.writing.rooms_of.Given as goal
 
 abbrev pub invariant-loop-number : goal.invariant-loop-number

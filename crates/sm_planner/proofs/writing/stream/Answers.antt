@@ -7,8 +7,7 @@ use Rattle.sm_reservation.specs.Key.{IsOnce}
 use Rattle.sm_plan_code.specs.Instr.{is_call}
 use Rattle.sm_planner.specs.Basis.{basis_of}
 use Rattle.sm_planner.specs.Payment.{stream_of}
-use Rattle.sm_planner.specs.Plan.{moves_of}
-use Rattle.sm_planner.specs.Draft.{drafted_code, needs_by, holds_by}
+use Rattle.sm_planner.specs.Plan.{drafted_code, moves_of, needs_by, holds_by}
 use Rattle.sm_planner.proofs.Streams.{passed_known, passed_few, code_small, stream_is}
 use Rattle.sm_planner.proofs.writing.stream.Goals as goal
 use Rattle.sm_planner.proofs.writing.stream.Goals.{In_ok-numbers, In_ok-code}
