@@ -1,8 +1,8 @@
 //! Clients that ask at a board, each in a thread of its own, beside a run.
 ghost use Rattle.std.specs.Prelude.{◌≡◌, ◌≢◌, ◌<◌, [], None, IfOk, IfErr, OnOk, All, length, true, vec_len};
 ghost use Rattle.sm_executor.specs.Clients.{asking, AsksOnce, IsClient};
-ghost use Rattle.sm_executor.specs.Ending.{HasEnded};
-ghost use Rattle.sm_executor.specs.NotRun.{ComesBack};
+ghost use Rattle.sm_executor.specs.Ending.{HasEnded, HasNotEnded};
+ghost use Rattle.sm_executor.specs.NotRun.{ComesBack, may_have_stepped};
 ghost use Rattle.sm_executor.specs.Views.{calling, streams_ended, streams_run};
 ghost use Rattle.sm_executor.specs.declared.threads.RunFault.TheVariants.{NoMemory};
 
@@ -207,6 +207,7 @@ pub fn run_beside<
     ensures ended { IfOk result (λ ended. streams_ended ended.items ≡ streams_run runners.items) }
     ensures at { IfOk result (λ ended. All (HasEnded N.opened) ended.items) }
     ensures back_at { IfErr result (λ back. All (HasEnded N.opened) back.ended.items) }
+    ensures unfinished { IfErr result (λ back. may_have_stepped back.fault ≡ true → All (HasNotEnded N.opened) back.runners.items) }
     ensures back { IfErr result (ComesBack (vec_len runners)) }
     ensures memory { IfErr result (λ back. back.fault ≡ NoMemory → back.runners.items ≡ runners.items) }
     ensures clients { length clients.new ≡ length clients.old }

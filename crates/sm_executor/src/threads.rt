@@ -4,9 +4,9 @@
 //! thread did to its runner is not told to who joins it: the locked machine says of each runner whether its stream has made its end,
 //! and the ends are compared with the streams that were noted before.
 ghost use Rattle.std.specs.Prelude.{◌≡◌, ◌≢◌, ◌≤◌, ◌+◌, All, IfOk, IfErr, length, [], true, false, vec_len, vec_capacity};
-ghost use Rattle.sm_executor.specs.Ending.{HasEnded};
+ghost use Rattle.sm_executor.specs.Ending.{HasEnded, HasNotEnded};
 ghost use Rattle.sm_executor.specs.Views.{streams_ended, streams_run};
-ghost use Rattle.sm_executor.specs.NotRun.{ComesBack};
+ghost use Rattle.sm_executor.specs.NotRun.{ComesBack, may_have_stepped};
 ghost use Rattle.sm_executor.specs.declared.threads.RunFault.TheVariants.{NoMemory};
 
 use crate::board::Board;
@@ -174,10 +174,11 @@ fn retire_all<A: Side, B: Side, C: Side, N: Naming, R: Wait>(
     ended: &mut Vec<Ended<A>>,
     left: &mut Vec<Runner<A>>,
 )
-    requires none { ended.old.items ≡ [] }
+    requires none { (ended.old.items ≡ []) × (left.old.items ≡ []) }
     requires ended { vec_len ended.old + vec_len runners ≤ vec_capacity ended.old }
     requires left { vec_len left.old + vec_len runners ≤ vec_capacity left.old }
     ensures at { All (HasEnded N.opened) ended.new.items }
+    ensures unfinished { All (HasNotEnded N.opened) left.new.items }
     ensures all { vec_len left.new + vec_len ended.new ≡ vec_len left.old + vec_len ended.old + vec_len runners }
 {
     runners.reverse();
@@ -195,7 +196,7 @@ pub(crate) struct Lists<A: Side> {
     streams: Vec<StreamId>,
     ended: Vec<Ended<A>>,
     left: Vec<Runner<A>>,
-    ghost none: { (ended.items ≡ []) × (vec_len left ≡ 0) },
+    ghost none: { (ended.items ≡ []) × (left.items ≡ []) },
 }
 
 impl<A: Side> Lists<A> {
@@ -249,6 +250,7 @@ impl<A: Side> Lists<A> {
         ensures ended { IfOk result (λ ended. streams_ended ended.items ≡ self.streams.items) }
         ensures at { IfOk result (λ ended. All (HasEnded N.opened) ended.items) }
         ensures back_at { IfErr result (λ back. All (HasEnded N.opened) back.ended.items) }
+        ensures unfinished { IfErr result (λ back. may_have_stepped back.fault ≡ true → All (HasNotEnded N.opened) back.runners.items) }
         ensures back { IfErr result (ComesBack (vec_len runners)) }
         ensures memory { IfErr result (λ back. back.fault ≢ NoMemory) }
     {
@@ -303,6 +305,7 @@ pub fn run_over<
     ensures ended { IfOk result (λ ended. streams_ended ended.items ≡ streams_run runners.items) }
     ensures at { IfOk result (λ ended. All (HasEnded N.opened) ended.items) }
     ensures back_at { IfErr result (λ back. All (HasEnded N.opened) back.ended.items) }
+    ensures unfinished { IfErr result (λ back. may_have_stepped back.fault ≡ true → All (HasNotEnded N.opened) back.runners.items) }
     ensures back { IfErr result (ComesBack (vec_len runners)) }
     ensures memory { IfErr result (λ back. back.fault ≡ NoMemory → back.runners.items ≡ runners.items) }
 {
@@ -312,8 +315,9 @@ pub fn run_over<
 }
 
 /// Makes all steps of the runners' streams, each in a thread of its own. With Ok there is an end for each runner, in their order. Else
-/// as many runners and ends come back as there were runners, with NoMemory the runners as they were. Each end tells what the
-/// machine had of its stream once that had ended.
+/// as many runners and ends come back as there were runners, with NoMemory the runners as they were, and where streams may have
+/// stepped only runners of streams that have not made their ends. Each end tells what the machine had of its stream once that had
+/// ended.
 pub fn run<
     A: Side + Send + Sync,
     B: Side + Send + Sync,
@@ -331,6 +335,7 @@ pub fn run<
     ensures ended { IfOk result (λ ended. streams_ended ended.items ≡ streams_run runners.items) }
     ensures at { IfOk result (λ ended. All (HasEnded N.opened) ended.items) }
     ensures back_at { IfErr result (λ back. All (HasEnded N.opened) back.ended.items) }
+    ensures unfinished { IfErr result (λ back. may_have_stepped back.fault ≡ true → All (HasNotEnded N.opened) back.runners.items) }
     ensures back { IfErr result (ComesBack (vec_len runners)) }
     ensures memory { IfErr result (λ back. back.fault ≡ NoMemory → back.runners.items ≡ runners.items) }
 {
