@@ -3,20 +3,21 @@ ghost use Rattle.std.specs.Prelude.{◌≡◌, ◌≤◌, ◌+◌, [], IfErr, If
 
 use crate::finish::Finish;
 use crate::worker::Worker;
-use sm_executor::{Board, Caller, Naming, Side};
+use sm_executor::{Board, Caller, Naming};
 use sm_machine::Permit;
 use std::alloc::Global;
 use std::mem;
 use std::rt::Clock;
 use std::sync::Wait;
+use std::sync::ledger::Ledger;
 
 /// A worker's place: a caller for it, and the permit that it has left over. It can be neither copied nor dropped.
-pub(crate) struct Seat<B: Side, C: Side, N: Naming> {
+pub(crate) struct Seat<B: Ledger, C: Ledger, N: Naming> {
     caller: Caller<B, C, N>,
     left: Option<Permit>,
 }
 
-impl<B: Side, C: Side, N: Naming> Seat<B, C, N> {
+impl<B: Ledger, C: Ledger, N: Naming> Seat<B, C, N> {
     fn new(caller: Caller<B, C, N>) -> Seat<B, C, N>
         ensures { (result.caller ≡ caller) × (result.left ≡ None) }
     {
@@ -24,7 +25,7 @@ impl<B: Side, C: Side, N: Naming> Seat<B, C, N> {
     }
 
     /// A worker works here, if there is one, and none has left a permit over.
-    pub fn work<A: Side, W: Worker, R: Wait + Clock>(
+    pub fn work<A: Ledger, W: Worker, R: Wait + Clock>(
         &mut self,
         rt: &R,
         board: &Board<A, B, C, N>,
@@ -46,7 +47,7 @@ impl<B: Side, C: Side, N: Naming> Seat<B, C, N> {
 }
 
 /// The seats of a run, with room for the callers and the permits of all. It can be neither copied nor dropped.
-pub(crate) struct Crew<B: Side, C: Side, N: Naming> {
+pub(crate) struct Crew<B: Ledger, C: Ledger, N: Naming> {
     pub seats: Vec<Seat<B, C, N>>,
     callers: Vec<Caller<B, C, N>>,
     permits: Vec<Permit>,
@@ -55,7 +56,7 @@ pub(crate) struct Crew<B: Side, C: Side, N: Naming> {
 }
 
 /// Adds as many seats to a list as the board has callers for, so many at most.
-fn add_seats<A: Side, B: Side, C: Side, N: Naming, R: Wait>(
+fn add_seats<A: Ledger, B: Ledger, C: Ledger, N: Naming, R: Wait>(
     rt: &R,
     board: &Board<A, B, C, N>,
     seats: &mut Vec<Seat<B, C, N>>,
@@ -72,10 +73,10 @@ fn add_seats<A: Side, B: Side, C: Side, N: Naming, R: Wait>(
     }
 }
 
-impl<B: Side, C: Side, N: Naming> Crew<B, C, N> {
+impl<B: Ledger, C: Ledger, N: Naming> Crew<B, C, N> {
     /// As many seats at a board as it has callers for, so many at most, beside permits that were given out already and come back where memory is
     /// short.
-    pub fn new<A: Side, R: Wait>(
+    pub fn new<A: Ledger, R: Wait>(
         rt: &R,
         alloc: Global,
         board: &Board<A, B, C, N>,

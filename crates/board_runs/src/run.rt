@@ -4,7 +4,7 @@ ghost use Rattle.sm_placement.specs.Setup.{sizes_of};
 ghost use Rattle.sm_placement.specs.Layout.{place_of};
 ghost use Rattle.sm_protocol.specs.State.{opened};
 ghost use Rattle.sm_machine.specs.State.{state_of};
-ghost use Rattle.sm_executor.specs.Names.{IsSideOf};
+ghost use Rattle.sm_executor.specs.Names.{IsLedgerOf};
 ghost use Rattle.board_runs.specs.Ran.{IsClosedAt, HasRunTo};
 
 use crate::begun::{Begun, Prepared};
@@ -12,20 +12,21 @@ use crate::fault::Fault;
 use crate::scope::run_all;
 use crate::stage::Stage;
 use crate::worker::Worker;
-use sm_executor::{Gate, Naming, Side};
+use sm_executor::{Gate, Naming};
 use sm_placement::Placement;
 use sm_verifier::Checked;
 use std::alloc::Global;
 use std::marker::Brand;
 use std::rt::Clock;
 use std::sync::Wait;
+use std::sync::ledger::Ledger;
 use std::thread::Threads;
 
 /// Runs the streams of a board beside workers, and closes the board. An end of the run only where each worker has started.
 fn run_on_stage<
-    A: Side + Send + Sync,
-    B: Side + Send + Sync,
-    C: Side + Send + Sync,
+    A: Ledger + Send + Sync,
+    B: Ledger + Send + Sync,
+    C: Ledger + Send + Sync,
     N: Naming + Send + Sync,
     W: Worker + Sync,
     R: Threads + Wait + Clock + Sync,
@@ -55,18 +56,18 @@ fn run_on_stage<
 
 /// Runs the streams that have begun on a machine beside workers, on a board that is opened over the machine under the names of its ground.
 fn run_on_ground<
-    A: Side + Send + Sync,
-    B: Side + Send + Sync,
-    C: Side + Send + Sync,
+    A: Ledger + Send + Sync,
+    B: Ledger + Send + Sync,
+    C: Ledger + Send + Sync,
     N: Naming + Send + Sync,
     W: Worker + Sync,
     R: Threads + Wait + Clock + Sync,
     G: Gate + Sync,
 >(rt: &R, alloc: Global, prepared: Prepared, workers: &[W], gate: &G) -> Result<Placement, Fault>
     requires names { (prepared.base.words ≡ N.words) × (prepared.base.setup ≡ N.setup) × (state_of prepared.begun.machine ≡ N.opened) }
-    requires steps { IsSideOf prepared.base.steps A.name A.parts }
-    requires executed { IsSideOf prepared.base.executed B.name B.parts }
-    requires refused { IsSideOf prepared.base.refused C.name C.parts }
+    requires steps { IsLedgerOf prepared.base.steps A.name A.parts }
+    requires executed { IsLedgerOf prepared.base.executed B.name B.parts }
+    requires refused { IsLedgerOf prepared.base.refused C.name C.parts }
     ensures setup { IfOk result (λ placement. placement.setup ≡ N.setup) }
     ensures closed { IfOk result (λ placement. IsClosedAt N.opened (place_of placement)) }
 {

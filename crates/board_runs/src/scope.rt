@@ -5,10 +5,11 @@ use crate::crew::Seat;
 use crate::finish::Finish;
 use crate::streams::Streams;
 use crate::worker::Worker;
-use sm_executor::{Board, Gate, Naming, Side};
+use sm_executor::{Board, Gate, Naming};
 use std::alloc::Global;
 use std::rt::Clock;
 use std::sync::Wait;
+use std::sync::ledger::Ledger;
 use std::thread;
 use std::thread::{Scope, Threads};
 
@@ -16,9 +17,9 @@ use std::thread::{Scope, Threads};
 fn start_workers<
     's,
     'r: 's,
-    A: Side + Send + Sync,
-    B: Side + Send + Sync,
-    C: Side + Send + Sync,
+    A: Ledger + Send + Sync,
+    B: Ledger + Send + Sync,
+    C: Ledger + Send + Sync,
     N: Naming + Send + Sync,
     W: Worker + Sync,
     R: Threads + Wait + Clock + Sync,
@@ -44,7 +45,7 @@ fn start_workers<
 
 /// What the threads of a run are lent.
 #[derive(Drop)]
-struct Lent<'r, A: Side, B: Side, C: Side, N: Naming> {
+struct Lent<'r, A: Ledger, B: Ledger, C: Ledger, N: Naming> {
     seats: &'r mut [Seat<B, C, N>],
     streams: &'r mut Streams<A>,
 }
@@ -53,9 +54,9 @@ struct Lent<'r, A: Side, B: Side, C: Side, N: Naming> {
 fn start_beside<
     's,
     'r: 's,
-    A: Side + Send + Sync,
-    B: Side + Send + Sync,
-    C: Side + Send + Sync,
+    A: Ledger + Send + Sync,
+    B: Ledger + Send + Sync,
+    C: Ledger + Send + Sync,
     N: Naming + Send + Sync,
     W: Worker + Sync,
     R: Threads + Wait + Clock + Sync,
@@ -81,9 +82,9 @@ fn start_beside<
 
 /// Runs the streams beside the workers, each of which has a seat. True only if each worker has started.
 pub(crate) fn run_all<
-    A: Side + Send + Sync,
-    B: Side + Send + Sync,
-    C: Side + Send + Sync,
+    A: Ledger + Send + Sync,
+    B: Ledger + Send + Sync,
+    C: Ledger + Send + Sync,
     N: Naming + Send + Sync,
     W: Worker + Sync,
     R: Threads + Wait + Clock + Sync,

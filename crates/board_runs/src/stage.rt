@@ -2,21 +2,22 @@
 ghost use Rattle.std.specs.Prelude.{◌≡◌, ◌≤◌, ◌+◌, IfOk, vec_len, vec_capacity};
 ghost use Rattle.sm_placement.specs.Layout.{place_of};
 ghost use Rattle.sm_machine.specs.State.{state_of};
-ghost use Rattle.sm_executor.specs.Names.{IsSideOf};
+ghost use Rattle.sm_executor.specs.Names.{IsLedgerOf};
 ghost use Rattle.board_runs.specs.Ran.{IsClosedAt};
 
 use crate::begun::{Begun, Prepared};
 use crate::crew::Crew;
 use crate::fault::Fault;
 use crate::streams::Streams;
-use sm_executor::{Board, Naming, NotClosed, NotOpened, Side};
+use sm_executor::{Board, Naming, NotClosed, NotOpened};
 use sm_machine::{Permit, StreamToken};
 use sm_placement::Placement;
 use std::alloc::Global;
 use std::sync::Wait;
+use std::sync::ledger::Ledger;
 
 /// A board that is open, with its streams and the seats of those who work beside them. It can be neither copied nor dropped.
-pub(crate) struct Stage<A: Side, B: Side, C: Side, N: Naming> {
+pub(crate) struct Stage<A: Ledger, B: Ledger, C: Ledger, N: Naming> {
     /// The board.
     pub board: Board<A, B, C, N>,
     /// The streams that run on the board.
@@ -26,7 +27,7 @@ pub(crate) struct Stage<A: Side, B: Side, C: Side, N: Naming> {
 }
 
 /// The placement of a board that is not closed, which is given up with all that it and its machine have given out.
-fn given_up<A: Side, B: Side, C: Side, N: Naming>(
+fn given_up<A: Ledger, B: Ledger, C: Ledger, N: Naming>(
     alloc: Global,
     refused: NotClosed<A, B, C, N>,
     tokens: Vec<StreamToken>,
@@ -39,7 +40,7 @@ fn given_up<A: Side, B: Side, C: Side, N: Naming>(
     machine.give_up(tokens, permits, Vec::new(alloc))
 }
 
-impl<A: Side, B: Side, C: Side, N: Naming> Stage<A, B, C, N> {
+impl<A: Ledger, B: Ledger, C: Ledger, N: Naming> Stage<A, B, C, N> {
     /// A board with its streams, and so many seats at it.
     fn with_seats<R: Wait>(
         rt: &R,
@@ -69,9 +70,9 @@ impl<A: Side, B: Side, C: Side, N: Naming> Stage<A, B, C, N> {
     /// Opens a board over a machine on which a plan has begun, under the names of its ground.
     pub fn open<R: Wait>(rt: &R, alloc: Global, prepared: Prepared) -> Result<Self, Fault>
         requires names { (prepared.base.words ≡ N.words) × (prepared.base.setup ≡ N.setup) × (state_of prepared.begun.machine ≡ N.opened) }
-        requires steps { IsSideOf prepared.base.steps A.name A.parts }
-        requires executed { IsSideOf prepared.base.executed B.name B.parts }
-        requires refused { IsSideOf prepared.base.refused C.name C.parts }
+        requires steps { IsLedgerOf prepared.base.steps A.name A.parts }
+        requires executed { IsLedgerOf prepared.base.executed B.name B.parts }
+        requires refused { IsLedgerOf prepared.base.refused C.name C.parts }
     {
         let Prepared {
             begun,

@@ -5,16 +5,17 @@ ghost use Rattle.board_runs.specs.declared.fault.Fault.{Fault};
 ghost use Rattle.board_runs.specs.declared.fault.Fault.TheVariants.{NoThread};
 
 use crate::fault::Fault;
-use sm_executor::{Board, Ended, Gate, Naming, NotRun, RunFault, Runner, Side, run, take_tokens};
+use sm_executor::{Board, Ended, Gate, Naming, NotRun, RunFault, Runner, run, take_tokens};
 use sm_machine::StreamToken;
 use std::alloc::Global;
 use std::mem;
 use std::sync::Wait;
+use std::sync::ledger::Ledger;
 use std::thread::Threads;
 
 /// The runners of streams before they run, and after that their ends, or the tokens of those that came to none. It can be neither
 /// copied nor dropped.
-pub(crate) struct Streams<A: Side> {
+pub(crate) struct Streams<A: Ledger> {
     runners: Vec<Runner<A>>,
     ended: Vec<Ended<A>>,
     tokens: Vec<StreamToken>,
@@ -31,7 +32,7 @@ fn fault_of(why: RunFault) -> Fault {
     }
 }
 
-impl<A: Side> Streams<A> {
+impl<A: Ledger> Streams<A> {
     /// Streams that have not run, and an empty list with room for their tokens.
     pub fn new(alloc: Global, runners: Vec<Runner<A>>, tokens: Vec<StreamToken>) -> Streams<A>
         requires { vec_len tokens + vec_len runners ≤ vec_capacity tokens }
@@ -88,8 +89,8 @@ impl<A: Side> Streams<A> {
 
     /// Runs the streams, where they have not run yet. There are as many runners, ends and tokens together as before.
     pub fn run<
-        B: Side + Send + Sync,
-        C: Side + Send + Sync,
+        B: Ledger + Send + Sync,
+        C: Ledger + Send + Sync,
         N: Naming + Send + Sync,
         R: Threads + Wait + Sync,
         G: Gate + Sync,

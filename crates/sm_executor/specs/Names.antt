@@ -36,6 +36,6 @@ pub record Bases : Type 0 where
 abbrev pub bases : WordsModel → Setup → ℕ → ℕ → ℕ → Bases
 bases words setup steps executed refused = record { words = words; setup = setup; steps = steps; executed = executed; refused = refused }
 
--- this ledger of a ground is the side of this name, with all the parts that a ledger is cut into
-abbrev pub IsSideOf : ℕ → ℕ → ℕ → Type 0
-IsSideOf ledger name parts = (ledger ≡ name) × (parts ≡ PARTS)
+-- this ledger of a ground has the name, and all the parts that a ledger is cut into
+abbrev pub IsLedgerOf : ℕ → ℕ → ℕ → Type 0
+IsLedgerOf ledger name parts = (ledger ≡ name) × (parts ≡ PARTS)

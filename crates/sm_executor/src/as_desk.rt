@@ -3,14 +3,15 @@ ghost use Rattle.std.specs.Prelude.{length};
 
 use crate::board::Board;
 use crate::caller::Caller;
-use crate::names::{Naming, Side};
+use crate::names::Naming;
 use sm_machine::{Answer, Ticket};
 use sm_map::Entry;
 use sm_router::Desk;
 use sm_server::{ServerId, ShardId};
 use std::sync::Wait;
+use std::sync::ledger::Ledger;
 
-impl<A: Side, B: Side, C: Side, N: Naming> Desk for Board<A, B, C, N> {
+impl<A: Ledger, B: Ledger, C: Ledger, N: Naming> Desk for Board<A, B, C, N> {
     ghost use Rattle.std.specs.Prelude.{length};
     ghost use Rattle.sm_executor.specs.Clients.{looked, answer_counted};
 

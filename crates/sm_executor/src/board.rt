@@ -29,7 +29,7 @@ ghost use Rattle.sm_executor.specs.declared.limits.TheConstants.{MOST_UNFINISHED
 
 use crate::caller::Caller;
 use crate::held::Held;
-use crate::names::{Naming, Side};
+use crate::names::Naming;
 use crate::runner::{Ended, Runner};
 use crate::sure::Sure;
 use sm_machine::{Answer, BeginFault, Link, Machine, Permit, Step, Ticket};
@@ -42,10 +42,11 @@ use sm_task_controller::Denied;
 use sm_verifier::Checked;
 use std::alloc::Global;
 use std::marker::Model;
+use std::sync::ledger::Ledger;
 use std::sync::{Condvar, Mutex, MutexGuard, Wait};
 
 /// A machine that threads share.
-pub struct Board<A: Side, B: Side, C: Side, N: Naming> {
+pub struct Board<A: Ledger, B: Ledger, C: Ledger, N: Naming> {
     pub(crate) held: Mutex<Held<A, B, C, N>>,
     pub(crate) moved: Condvar,
     pub(crate) words: Words,
@@ -60,11 +61,11 @@ pub struct Board<A: Side, B: Side, C: Side, N: Naming> {
 
 /// The locked machine. A contract sees what lies behind the lock.
 #[derive(Drop)]
-pub struct Guard<'b, A: Side, B: Side, C: Side, N: Naming> {
+pub struct Guard<'b, A: Ledger, B: Ledger, C: Ledger, N: Naming> {
     held: MutexGuard<'b, Held<A, B, C, N>>,
 }
 
-impl<'b, A: Side, B: Side, C: Side, N: Naming> Model for Guard<'b, A, B, C, N> {
+impl<'b, A: Ledger, B: Ledger, C: Ledger, N: Naming> Model for Guard<'b, A, B, C, N> {
     ghost use Rattle.std.specs.Sync.Mutex.{mutex_guard_value};
     ghost use Rattle.sm_executor.specs.Views.{HeldModel};
 
@@ -83,7 +84,7 @@ fn is_blocked(step: Step) -> bool
     }
 }
 
-impl<A: Side, B: Side, C: Side, N: Naming> Board<A, B, C, N> {
+impl<A: Ledger, B: Ledger, C: Ledger, N: Naming> Board<A, B, C, N> {
     /// A board over what is to lie behind its lock, beside the words, the configuration, and room for the streams that have not
     /// made their ends.
     pub(crate) fn of(
@@ -303,7 +304,7 @@ impl<A: Side, B: Side, C: Side, N: Naming> Board<A, B, C, N> {
     }
 }
 
-impl<'b, A: Side, B: Side, C: Side, N: Naming> Guard<'b, A, B, C, N> {
+impl<'b, A: Ledger, B: Ledger, C: Ledger, N: Naming> Guard<'b, A, B, C, N> {
     /// The machine's call of the same name, on the locked machine.
     pub fn approve(&mut self, server: ServerId) -> Result<Permit, Denied>
         requires { server < N.words.servers }

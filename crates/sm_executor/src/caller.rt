@@ -4,24 +4,24 @@ ghost use Rattle.sm_map.specs.Entry.{IsInRange};
 ghost use Rattle.sm_map.specs.History.{NoneNewer};
 ghost use Rattle.sm_executor.specs.Views.{calling};
 
-use crate::names::{Naming, Side};
+use crate::names::Naming;
 use sm_map::{Entry, Pass, Words};
 use sm_server::ShardId;
 use std::marker::{Model, PhantomData};
-use std::sync::ledger::Share;
+use std::sync::ledger::{Ledger, Share};
 
 /// A pass of the map, and shares of the requests that were executed and of those that were refused. It can be neither copied
 /// nor dropped.
 ///
 /// A contract sees what it has seen of the map, the last first, and both counts.
-pub struct Caller<B: Side, C: Side, N: Naming> {
+pub struct Caller<B: Ledger, C: Ledger, N: Naming> {
     pub(crate) pass: Pass,
     pub(crate) executed: Share<B>,
     pub(crate) refused: Share<C>,
     pub(crate) of: PhantomData<N>,
 }
 
-impl<B: Side, C: Side, N: Naming> Model for Caller<B, C, N> {
+impl<B: Ledger, C: Ledger, N: Naming> Model for Caller<B, C, N> {
     ghost use Rattle.std.specs.Prelude.{◌≡◌};
     ghost use Rattle.sm_executor.specs.Views.{CallerModel, calling};
 
@@ -32,7 +32,7 @@ impl<B: Side, C: Side, N: Naming> Model for Caller<B, C, N> {
     ghost invariant = { λ c. (c.pass.words ≡ N.words) × (c.executed.parts ≡ 1) × (c.refused.parts ≡ 1) };
 }
 
-impl<B: Side, C: Side, N: Naming> Caller<B, C, N> {
+impl<B: Ledger, C: Ledger, N: Naming> Caller<B, C, N> {
     /// The map's entry of a shard, by one load of its word.
     pub(crate) fn look(&mut self, words: &Words, shard: ShardId) -> Entry
         requires words { words.now ≡ N.words }

@@ -9,7 +9,7 @@ ghost use Rattle.sm_executor.specs.declared.threads.RunFault.TheVariants.{NoMemo
 use crate::board::Board;
 use crate::caller::Caller;
 use crate::gate::Gate;
-use crate::names::{Naming, Side};
+use crate::names::Naming;
 use crate::runner::{Ended, Runner};
 use crate::sure::Sure;
 use crate::threads::{Lists, NotRun, Ran, run_all};
@@ -18,19 +18,20 @@ use sm_server::ShardId;
 use std::alloc::Global;
 use std::marker::Model;
 use std::sync::Wait;
+use std::sync::ledger::Ledger;
 use std::thread;
 use std::thread::{Scope, Threads};
 
 /// A client that asks once for a shard. It can be neither copied nor dropped.
 ///
 /// A contract sees the shard, the answer, if it has asked, and what its caller has seen and counted.
-pub struct Client<B: Side, C: Side, N: Naming> {
+pub struct Client<B: Ledger, C: Ledger, N: Naming> {
     caller: Caller<B, C, N>,
     shard: ShardId,
     asked: Option<Asked>,
 }
 
-impl<B: Side, C: Side, N: Naming> Model for Client<B, C, N> {
+impl<B: Ledger, C: Ledger, N: Naming> Model for Client<B, C, N> {
     ghost use Rattle.std.specs.Prelude.{◌<◌, length};
     ghost use Rattle.sm_executor.specs.Clients.{ClientModel, asking, IsClient};
 
@@ -41,7 +42,7 @@ impl<B: Side, C: Side, N: Naming> Model for Client<B, C, N> {
     ghost invariant = { λ c. (c.shard < length N.words.opening) × IsClient (asking c.shard c.asked c.caller) };
 }
 
-impl<B: Side, C: Side, N: Naming> Client<B, C, N> {
+impl<B: Ledger, C: Ledger, N: Naming> Client<B, C, N> {
     /// A client that has not asked yet, with a caller that the board has given out.
     pub fn new(caller: Caller<B, C, N>, shard: ShardId) -> Client<B, C, N>
         requires shard { shard < length N.words.opening }
@@ -63,7 +64,7 @@ impl<B: Side, C: Side, N: Naming> Client<B, C, N> {
     }
 
     /// Asks for its shard, where it has not asked yet.
-    pub fn ask<A: Side, R: Wait>(&mut self, rt: &R, board: &Board<A, B, C, N>)
+    pub fn ask<A: Ledger, R: Wait>(&mut self, rt: &R, board: &Board<A, B, C, N>)
         ensures shard { self.new.shard ≡ self.old.shard }
         ensures asked { self.new.asked ≢ None }
         ensures once { AsksOnce self.old self.new }
@@ -95,7 +96,7 @@ impl<B: Side, C: Side, N: Naming> Client<B, C, N> {
 }
 
 /// Each client that has not asked yet asks.
-fn ask_all<A: Side, B: Side, C: Side, N: Naming, R: Wait>(
+fn ask_all<A: Ledger, B: Ledger, C: Ledger, N: Naming, R: Wait>(
     rt: &R,
     board: &Board<A, B, C, N>,
     clients: &mut [Client<B, C, N>],
@@ -111,9 +112,9 @@ fn ask_all<A: Side, B: Side, C: Side, N: Naming, R: Wait>(
 fn start_asks<
     's,
     'r: 's,
-    A: Side + Send + Sync,
-    B: Side + Send + Sync,
-    C: Side + Send + Sync,
+    A: Ledger + Send + Sync,
+    B: Ledger + Send + Sync,
+    C: Ledger + Send + Sync,
     N: Naming + Send + Sync,
     R: Threads + Wait + Sync,
 >(
@@ -132,7 +133,7 @@ fn start_asks<
 
 /// What the threads of a run beside clients are lent.
 #[derive(Drop)]
-struct Lent<'r, A: Side, B: Side, C: Side, N: Naming> {
+struct Lent<'r, A: Ledger, B: Ledger, C: Ledger, N: Naming> {
     clients: &'r mut [Client<B, C, N>],
     runners: &'r mut [Runner<A>],
 }
@@ -141,9 +142,9 @@ struct Lent<'r, A: Side, B: Side, C: Side, N: Naming> {
 fn start_beside<
     's,
     'r: 's,
-    A: Side + Send + Sync,
-    B: Side + Send + Sync,
-    C: Side + Send + Sync,
+    A: Ledger + Send + Sync,
+    B: Ledger + Send + Sync,
+    C: Ledger + Send + Sync,
     N: Naming + Send + Sync,
     R: Threads + Wait + Sync,
     G: Gate + Sync,
@@ -164,9 +165,9 @@ fn start_beside<
 
 /// As `run_all`, beside the clients.
 fn run_all_beside<
-    A: Side + Send + Sync,
-    B: Side + Send + Sync,
-    C: Side + Send + Sync,
+    A: Ledger + Send + Sync,
+    B: Ledger + Send + Sync,
+    C: Ledger + Send + Sync,
     N: Naming + Send + Sync,
     R: Threads + Wait + Sync,
     G: Gate + Sync,
@@ -190,9 +191,9 @@ fn run_all_beside<
 /// clients' threads start first. What comes back is as of `run`, NoThread where a client's thread can't be started. With Ok each
 /// client has asked.
 pub fn run_beside<
-    A: Side + Send + Sync,
-    B: Side + Send + Sync,
-    C: Side + Send + Sync,
+    A: Ledger + Send + Sync,
+    B: Ledger + Send + Sync,
+    C: Ledger + Send + Sync,
     N: Naming + Send + Sync,
     R: Threads + Wait + Sync,
     G: Gate + Sync,

@@ -9,7 +9,7 @@ ghost use Rattle.sm_executor.specs.declared.limits.TheConstants.{MOST_UNFINISHED
 use crate::board::Board;
 use crate::caller::Caller;
 use crate::held::Held;
-use crate::names::{Naming, Side};
+use crate::names::Naming;
 use crate::runner::Ended;
 use crate::shares::{both_merged, merged, spend_callers, spend_ended};
 use crate::unfinished::list_unfinished;
@@ -17,6 +17,7 @@ use sm_machine::Machine;
 use sm_protocol::ends_are_reached;
 use sm_reservation::StreamId;
 use std::marker::Model;
+use std::sync::ledger::Ledger;
 use thiserror::Error;
 
 /// Why a board is not closed.
@@ -31,14 +32,14 @@ pub enum CloseFault {
 }
 
 /// A board that is not closed, with the ends and the callers that came back, and the streams that have not made their ends.
-pub struct NotClosed<A: Side, B: Side, C: Side, N: Naming> {
+pub struct NotClosed<A: Ledger, B: Ledger, C: Ledger, N: Naming> {
     board: Board<A, B, C, N>,
     ended: Vec<Ended<A>>,
     callers: Vec<Caller<B, C, N>>,
     fault: CloseFault,
 }
 
-impl<A: Side, B: Side, C: Side, N: Naming> Model for NotClosed<A, B, C, N> {
+impl<A: Ledger, B: Ledger, C: Ledger, N: Naming> Model for NotClosed<A, B, C, N> {
     ghost use Rattle.sm_executor.specs.Closed.{NotClosedModel};
 
     ghost Value = { NotClosedModel };
@@ -46,7 +47,7 @@ impl<A: Side, B: Side, C: Side, N: Naming> Model for NotClosed<A, B, C, N> {
     ghost view = { λ n. record { fault = n.fault; ended = n.ended.items; callers = n.callers.items; positions = n.board.positions.items } };
 }
 
-impl<A: Side, B: Side, C: Side, N: Naming> NotClosed<A, B, C, N> {
+impl<A: Ledger, B: Ledger, C: Ledger, N: Naming> NotClosed<A, B, C, N> {
     /// Why.
     pub fn fault(&self) -> CloseFault
         ensures { result ≡ self.now.fault }
@@ -77,14 +78,14 @@ impl<A: Side, B: Side, C: Side, N: Naming> NotClosed<A, B, C, N> {
 }
 
 /// What a board is made of that is not closed, with all that was handed in, and why it is not.
-pub(crate) struct Back<A: Side, B: Side, C: Side, N: Naming> {
+pub(crate) struct Back<A: Ledger, B: Ledger, C: Ledger, N: Naming> {
     held: Held<A, B, C, N>,
     ended: Vec<Ended<A>>,
     callers: Vec<Caller<B, C, N>>,
     fault: CloseFault,
 }
 
-impl<A: Side, B: Side, C: Side, N: Naming> Held<A, B, C, N> {
+impl<A: Ledger, B: Ledger, C: Ledger, N: Naming> Held<A, B, C, N> {
     /// Whether so many ends and callers are all whose runners and callers were given out.
     fn are_all_back(&self, ended: usize, callers: usize) -> bool
         ensures { IsTrue result ↔ AreAllBack self.now ended callers }
@@ -174,7 +175,7 @@ impl<A: Side, B: Side, C: Side, N: Naming> Held<A, B, C, N> {
     }
 }
 
-impl<A: Side, B: Side, C: Side, N: Naming> Board<A, B, C, N> {
+impl<A: Ledger, B: Ledger, C: Ledger, N: Naming> Board<A, B, C, N> {
     /// The machine, where all streams have made their ends, and as many ends and callers are handed in as the board has given runners
     /// and callers out. Else the board comes back with all that was handed in: NotDone where a stream has not made its end, and
     /// else BookDiffers.

@@ -1,10 +1,11 @@
 //! What one thread of a run does.
 use crate::board::Board;
-use crate::names::{Naming, Side};
+use crate::names::Naming;
 use crate::runner::Runner;
 use crate::sure::Sure;
 use sm_machine::{Link, Step};
 use sm_reservation::StreamId;
+use std::sync::ledger::Ledger;
 use std::sync::{Condvar, Mutex, Wait};
 
 /// What a run calls round the steps of its threads, outside the board's lock, with the stream and how many instructions it had made
@@ -90,7 +91,7 @@ impl Starter {
 }
 
 /// Makes a stream's steps, from this position on, until one is neither Moved nor Lost.
-fn step_on<A: Side, B: Side, C: Side, N: Naming, L: Link, R: Wait, G: Gate>(
+fn step_on<A: Ledger, B: Ledger, C: Ledger, N: Naming, L: Link, R: Wait, G: Gate>(
     rt: &R,
     board: &Board<A, B, C, N>,
     gate: &G,
@@ -115,7 +116,7 @@ fn step_on<A: Side, B: Side, C: Side, N: Naming, L: Link, R: Wait, G: Gate>(
 
 /// What a thread of a run does: the steps of one stream, once all threads have started. Where its last step is Unknown or Spent,
 /// it halts the board.
-pub(crate) fn drive<A: Side, B: Side, C: Side, N: Naming, L: Link, R: Wait, G: Gate>(
+pub(crate) fn drive<A: Ledger, B: Ledger, C: Ledger, N: Naming, L: Link, R: Wait, G: Gate>(
     rt: &R,
     board: &Board<A, B, C, N>,
     starter: &Starter,
@@ -141,7 +142,7 @@ pub(crate) fn drive<A: Side, B: Side, C: Side, N: Naming, L: Link, R: Wait, G: G
 }
 
 /// As `drive`, over the stream's own link, which the thread keeps until its last step. Where there is none nothing is lost.
-pub(crate) fn drive_own<A: Side, B: Side, C: Side, N: Naming, L: Link, R: Wait, G: Gate>(
+pub(crate) fn drive_own<A: Ledger, B: Ledger, C: Ledger, N: Naming, L: Link, R: Wait, G: Gate>(
     rt: &R,
     board: &Board<A, B, C, N>,
     starter: &Starter,

@@ -3,7 +3,7 @@ ghost use Rattle.std.specs.Prelude.{◌≡◌, ◌<◌, ◌≤◌, ◌*◌, [], 
 ghost use Rattle.sm_placement.specs.Place.{entry_at};
 ghost use Rattle.sm_map.specs.Entry.{IsInRange};
 ghost use Rattle.sm_machine.specs.State.{state_of};
-ghost use Rattle.sm_executor.specs.Names.{IsSideOf};
+ghost use Rattle.sm_executor.specs.Names.{IsLedgerOf};
 ghost use Rattle.sm_executor.specs.Tied.{IsMapOf};
 ghost use Rattle.sm_executor.specs.Views.{held_model, running};
 ghost use Rattle.sm_executor.specs.declared.limits.TheConstants.{MOST_UNFINISHED};
@@ -12,7 +12,7 @@ ghost use Rattle.sm_plan_code.specs.declared.limits.TheConstants.{MOST_STREAMS};
 use crate::board::Board;
 use crate::held::Held;
 use crate::limits::{MOST_UNFINISHED, PARTS};
-use crate::names::{Naming, Side};
+use crate::names::Naming;
 use crate::runner::Runner;
 use sm_machine::{Machine, StreamToken};
 use sm_map::{Entry, Publisher, Words};
@@ -21,7 +21,7 @@ use sm_reservation::StreamId;
 use sm_server::ShardId;
 use std::alloc::{AllocError, Global};
 use std::marker::Model;
-use std::sync::ledger::Blank;
+use std::sync::ledger::{Blank, Ledger};
 
 /// The words of a machine's map with their publisher, a copy of its configuration, and three ledgers that have counted nothing.
 ///
@@ -113,16 +113,16 @@ impl Ground {
     }
 
     /// What is to lie behind the lock of a board over its machine, with the words and the configuration.
-    fn laid<A: Side, B: Side, C: Side, N: Naming>(
+    fn laid<A: Ledger, B: Ledger, C: Ledger, N: Naming>(
         self,
         machine: Machine,
     ) -> (Held<A, B, C, N>, Words, Config)
         requires map { IsMapOf self.words (state_of machine) }
         requires setup { self.setup ≡ machine.placement.setup }
         requires names { (self.words ≡ N.words) × (self.setup ≡ N.setup) × (state_of machine ≡ N.opened) }
-        requires steps { IsSideOf self.steps A.name A.parts }
-        requires executed { IsSideOf self.executed B.name B.parts }
-        requires refused { IsSideOf self.refused C.name C.parts }
+        requires steps { IsLedgerOf self.steps A.name A.parts }
+        requires executed { IsLedgerOf self.executed B.name B.parts }
+        requires refused { IsLedgerOf self.refused C.name C.parts }
         ensures held { result.0 ≡ held_model machine 0 0 }
         ensures words { result.1 ≡ N.words }
         ensures config { result.2 ≡ N.setup }
@@ -149,7 +149,7 @@ pub struct NotOpened {
 }
 
 /// Room for what a board lists where it is not closed, and for so many runners.
-fn rooms<A: Side>(
+fn rooms<A: Ledger>(
     alloc: Global,
     count: usize,
 ) -> Result<(Vec<(StreamId, usize)>, Vec<Runner<A>>), AllocError>
@@ -161,7 +161,7 @@ fn rooms<A: Side>(
     Ok((positions, runners))
 }
 
-impl<A: Side, B: Side, C: Side, N: Naming> Board<A, B, C, N> {
+impl<A: Ledger, B: Ledger, C: Ledger, N: Naming> Board<A, B, C, N> {
     /// Opens a board over a machine, on the ground of this machine as it stands, under the names of that ground. There is a runner for each
     /// of these tokens, in their order: those of streams that have begun on the machine.
     pub fn open(
@@ -174,9 +174,9 @@ impl<A: Side, B: Side, C: Side, N: Naming> Board<A, B, C, N> {
         requires setup { ground.setup ≡ machine.placement.setup }
         requires names { (ground.words ≡ N.words) × (ground.setup ≡ N.setup) × (state_of machine ≡ N.opened) }
         requires few { length tokens.items ≤ MOST_STREAMS * length (state_of machine).plans }
-        requires steps { IsSideOf ground.steps A.name A.parts }
-        requires executed { IsSideOf ground.executed B.name B.parts }
-        requires refused { IsSideOf ground.refused C.name C.parts }
+        requires steps { IsLedgerOf ground.steps A.name A.parts }
+        requires executed { IsLedgerOf ground.executed B.name B.parts }
+        requires refused { IsLedgerOf ground.refused C.name C.parts }
         ensures runners { IfOk result (λ opened. opened.1.items ≡ map (λ token. running token 0) tokens.items) }
         ensures back { IfErr result (λ e. (e.machine ≡ machine) × (e.ground ≡ ground) × (e.tokens ≡ tokens)) }
     {

@@ -9,9 +9,10 @@ ghost use Rattle.sm_protocol.specs.Laws.{IsReached, FitsConfig, HasNoLost, asked
 ghost use Rattle.sm_executor.specs.Views.{state_in};
 
 use crate::board::Guard;
-use crate::names::{Naming, Side};
+use crate::names::Naming;
+use std::sync::ledger::Ledger;
 
-impl<'b, A: Side, B: Side, C: Side, N: Naming> Guard<'b, A, B, C, N> {
+impl<'b, A: Ledger, B: Ledger, C: Ledger, N: Naming> Guard<'b, A, B, C, N> {
     /// A law: events led to the state of the locked machine; no event that fits is one of which a call is refused, the state is safe,
     /// and of each plan that isn't done some stream can step, or one that hasn't made its end has spent its allowance. Where no
     /// unfinished stream has a lost call in the log, some stream can step. And who executes a request is the one server that serves

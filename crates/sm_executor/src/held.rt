@@ -22,7 +22,7 @@ ghost use Rattle.sm_protocol.specs.declared.event.BeginFault.TheVariants as faul
 ghost use Rattle.sm_protocol.specs.declared.event.Played.TheVariants as played;
 ghost use Rattle.sm_executor.specs.Closed.{GoesOn};
 ghost use Rattle.sm_executor.specs.Counting.{Counts, executes, refuses};
-ghost use Rattle.sm_executor.specs.Names.{IsSideOf};
+ghost use Rattle.sm_executor.specs.Names.{IsLedgerOf};
 ghost use Rattle.sm_executor.specs.Stepping.{HasStepped, is_waiting};
 ghost use Rattle.sm_executor.specs.Tied.{IsPublished, IsBehind, HasStood};
 ghost use Rattle.sm_executor.specs.Views.{held_model, state_in, running, recorded_more, calling, AreRunners, end_in};
@@ -31,7 +31,7 @@ ghost use Rattle.sm_executor.specs.declared.limits.TheConstants.{MOST_CALLERS};
 
 use crate::caller::Caller;
 use crate::limits::MOST_CALLERS;
-use crate::names::{Naming, Side};
+use crate::names::Naming;
 use crate::runner::{Ended, Runner};
 use crate::shares::fill_runners;
 use sm_machine::{Answer, BeginFault, Link, Machine, Permit, Step, StreamToken, Ticket};
@@ -42,13 +42,13 @@ use sm_task_controller::Denied;
 use sm_verifier::Checked;
 use std::alloc::Global;
 use std::marker::{Model, PhantomData};
-use std::sync::ledger::{Blank, Book, Share};
+use std::sync::ledger::{Blank, Book, Ledger, Share};
 
 /// The machine, the publisher's seat, the books with the shares that nobody has, and how many runners and callers were given out.
 ///
 /// What the publisher has stored is what the machine has published since the board was opened, and the books are the counts of its
 /// log since then.
-pub(crate) struct Held<A: Side, B: Side, C: Side, N: Naming> {
+pub(crate) struct Held<A: Ledger, B: Ledger, C: Ledger, N: Naming> {
     pub(crate) machine: Machine,
     pub(crate) publisher: Publisher,
     pub(crate) steps: Book<A>,
@@ -62,7 +62,7 @@ pub(crate) struct Held<A: Side, B: Side, C: Side, N: Naming> {
     pub(crate) of: PhantomData<N>,
 }
 
-impl<A: Side, B: Side, C: Side, N: Naming> Model for Held<A, B, C, N> {
+impl<A: Ledger, B: Ledger, C: Ledger, N: Naming> Model for Held<A, B, C, N> {
     ghost use Rattle.std.specs.Prelude.{◌≡◌, ◌≤◌, ◌+◌, ◌*◌, length};
     ghost use Rattle.sm_machine.specs.State.{state_of};
     ghost use Rattle.sm_executor.specs.Views.{HeldModel, held_model};
@@ -108,7 +108,7 @@ fn store_added<N: Naming>(
 }
 
 /// Counts the answer to a request of a caller.
-fn count_answer<B: Side, C: Side, N: Naming>(
+fn count_answer<B: Ledger, C: Ledger, N: Naming>(
     executed: &mut Book<B>,
     refused: &mut Book<C>,
     caller: &mut Caller<B, C, N>,
@@ -128,7 +128,7 @@ fn count_answer<B: Side, C: Side, N: Naming>(
     }
 }
 
-impl<A: Side, B: Side, C: Side, N: Naming> Held<A, B, C, N> {
+impl<A: Ledger, B: Ledger, C: Ledger, N: Naming> Held<A, B, C, N> {
     /// What lies behind the lock of a new board.
     pub fn open(
         machine: Machine,
@@ -140,9 +140,9 @@ impl<A: Side, B: Side, C: Side, N: Naming> Held<A, B, C, N> {
         requires opened { state_of machine ≡ N.opened }
         requires setup { machine.placement.setup ≡ N.setup }
         requires tied { IsPublished N.words N.opened N.opened publisher }
-        requires steps { (steps.parts ≡ A.parts) × IsSideOf steps.name A.name A.parts }
-        requires executed { (executed.parts ≡ B.parts) × IsSideOf executed.name B.name B.parts }
-        requires refused { (refused.parts ≡ C.parts) × IsSideOf refused.name C.name C.parts }
+        requires steps { (steps.parts ≡ A.parts) × IsLedgerOf steps.name A.name A.parts }
+        requires executed { (executed.parts ≡ B.parts) × IsLedgerOf executed.name B.name B.parts }
+        requires refused { (refused.parts ≡ C.parts) × IsLedgerOf refused.name C.name C.parts }
         ensures { result ≡ held_model machine 0 0 }
     {
         let (steps, free_steps) = steps.open::<A>();

@@ -25,7 +25,7 @@ pub use closing::{CloseFault, NotClosed};
 pub use gate::{Gate, Open};
 pub use ground::{Ground, NotOpened};
 pub use limits::PARTS;
-pub use names::{Naming, Side};
+pub use names::Naming;
 pub use runner::{Ended, Runner, take_tokens};
 pub use sure::Sure;
 pub use threads::{NotRun, RunFault, run, run_over};

@@ -4,12 +4,6 @@
 //! A value of another board has other names, so it does not fit.
 
 use std::marker::Brand;
-use std::sync::ledger::Ledger;
-
-/// A ledger of a board. It asks for no more than std's: what a board is generic over has this name.
-pub trait Side: Ledger {}
-
-impl Side for Brand {}
 
 /// What a board was opened with: the words of its map, the configuration, and the state that its machine was in.
 pub trait Naming {

@@ -2,21 +2,20 @@
 ghost use Rattle.std.specs.Prelude.{◌≡◌, ◌≤◌, ◌+◌, ◌++◌, vec_len, vec_capacity};
 ghost use Rattle.sm_executor.specs.Views.{streams_run};
 
-use crate::names::Side;
 use sm_machine::StreamToken;
 use sm_reservation::StreamId;
 use std::marker::Model;
-use std::sync::ledger::Share;
+use std::sync::ledger::{Ledger, Share};
 
 /// A stream's token, and its share of the steps. It can be neither copied nor dropped.
 ///
 /// A contract sees which stream it is, and how many of its steps were recorded.
-pub struct Runner<A: Side> {
+pub struct Runner<A: Ledger> {
     pub(crate) token: StreamToken,
     pub(crate) share: Share<A>,
 }
 
-impl<A: Side> Model for Runner<A> {
+impl<A: Ledger> Model for Runner<A> {
     ghost use Rattle.std.specs.Prelude.{◌≡◌};
     ghost use Rattle.sm_executor.specs.Views.{RunnerModel, running};
 
@@ -27,7 +26,7 @@ impl<A: Side> Model for Runner<A> {
     ghost invariant = { λ r. r.share.parts ≡ 1 };
 }
 
-impl<A: Side> Runner<A> {
+impl<A: Ledger> Runner<A> {
     /// Which stream it is.
     pub fn id(&self) -> StreamId
         ensures { result ≡ self.now.stream }
@@ -45,7 +44,7 @@ impl<A: Side> Runner<A> {
 }
 
 /// The tokens of runners in their order, behind those of a list with room for all. The shares are given up for good. Takes no memory.
-pub fn take_tokens<A: Side>(mut runners: Vec<Runner<A>>, tokens: &mut Vec<StreamToken>)
+pub fn take_tokens<A: Ledger>(mut runners: Vec<Runner<A>>, tokens: &mut Vec<StreamToken>)
     requires { vec_len tokens.old + vec_len runners ≤ vec_capacity tokens.old }
     ensures items { tokens.new.items ≡ tokens.old.items ++ streams_run runners.items }
     ensures capacity { vec_capacity tokens.new ≡ vec_capacity tokens.old }
@@ -58,7 +57,7 @@ pub fn take_tokens<A: Side>(mut runners: Vec<Runner<A>>, tokens: &mut Vec<Stream
 }
 
 /// A stream that has made its end, with its runner's share of the steps. It can be neither copied nor dropped.
-pub struct Ended<A: Side> {
+pub struct Ended<A: Ledger> {
     pub(crate) stream: StreamId,
     pub(crate) steps: u64,
     pub(crate) calls: u64,
@@ -66,7 +65,7 @@ pub struct Ended<A: Side> {
     pub(crate) share: Share<A>,
 }
 
-impl<A: Side> Model for Ended<A> {
+impl<A: Ledger> Model for Ended<A> {
     ghost use Rattle.std.specs.Prelude.{◌≡◌};
     ghost use Rattle.sm_executor.specs.Views.{EndedModel, finished};
 
@@ -77,7 +76,7 @@ impl<A: Side> Model for Ended<A> {
     ghost invariant = { λ e. e.share.parts ≡ 1 };
 }
 
-impl<A: Side> Ended<A> {
+impl<A: Ledger> Ended<A> {
     /// Which stream it was.
     pub fn stream(&self) -> StreamId
         ensures { result ≡ self.now.stream }

@@ -3,13 +3,13 @@ ghost use Rattle.std.specs.Prelude.{◌≡◌, ◌≤◌, ◌<◌, ◌+◌, leng
 ghost use Rattle.sm_executor.specs.Views.{running};
 
 use crate::caller::Caller;
-use crate::names::{Naming, Side};
+use crate::names::Naming;
 use crate::runner::{Ended, Runner};
 use sm_machine::StreamToken;
-use std::sync::ledger::Share;
+use std::sync::ledger::{Ledger, Share};
 
 /// Runners for tokens, each with a part of what is left, into a list with room for them. Takes no memory.
-pub(crate) fn fill_runners<A: Side>(
+pub(crate) fn fill_runners<A: Ledger>(
     runners: &mut Vec<Runner<A>>,
     mut tokens: Vec<StreamToken>,
     free: &mut Share<A>,
@@ -31,7 +31,7 @@ pub(crate) fn fill_runners<A: Side>(
 }
 
 /// The share with those of all ends.
-pub(crate) fn merged<A: Side>(mut share: Share<A>, mut ended: Vec<Ended<A>>) -> Share<A>
+pub(crate) fn merged<A: Ledger>(mut share: Share<A>, mut ended: Vec<Ended<A>>) -> Share<A>
     ensures parts { result.parts ≡ share.parts + length ended.items }
     ensures amount { result.amount ≡ share.amount + sum (map (λ e. e.counted) ended.items) }
 {
@@ -50,7 +50,7 @@ pub(crate) fn merged<A: Side>(mut share: Share<A>, mut ended: Vec<Ended<A>>) -> 
 }
 
 /// The shares with those of all callers.
-pub(crate) fn both_merged<B: Side, C: Side, N: Naming>(
+pub(crate) fn both_merged<B: Ledger, C: Ledger, N: Naming>(
     mut executed: Share<B>,
     mut refused: Share<C>,
     mut callers: Vec<Caller<B, C, N>>,
@@ -73,7 +73,7 @@ pub(crate) fn both_merged<B: Side, C: Side, N: Naming>(
 }
 
 /// Ends are given up.
-pub(crate) fn spend_ended<A: Side>(mut ended: Vec<Ended<A>>) {
+pub(crate) fn spend_ended<A: Ledger>(mut ended: Vec<Ended<A>>) {
     while let Some(end) = ended.pop() {
         end.spend();
     }
@@ -81,7 +81,7 @@ pub(crate) fn spend_ended<A: Side>(mut ended: Vec<Ended<A>>) {
 }
 
 /// Callers are given up.
-pub(crate) fn spend_callers<B: Side, C: Side, N: Naming>(mut callers: Vec<Caller<B, C, N>>) {
+pub(crate) fn spend_callers<B: Ledger, C: Ledger, N: Naming>(mut callers: Vec<Caller<B, C, N>>) {
     while let Some(caller) = callers.pop() {
         caller.spend();
     }

@@ -11,12 +11,13 @@ ghost use Rattle.sm_executor.specs.declared.threads.RunFault.TheVariants.{NoMemo
 
 use crate::board::Board;
 use crate::gate::{Gate, Starter, drive_own};
-use crate::names::{Naming, Side};
+use crate::names::Naming;
 use crate::runner::{Ended, Runner};
 use crate::sure::Sure;
 use sm_machine::Link;
 use sm_reservation::StreamId;
 use std::alloc::{AllocError, Global};
+use std::sync::ledger::Ledger;
 use std::sync::{Mutex, Wait};
 use std::thread;
 use std::thread::{Scope, Threads};
@@ -40,7 +41,7 @@ pub enum RunFault {
 }
 
 /// A run that has not come to the ends of all streams, with what comes back of it.
-pub struct NotRun<A: Side> {
+pub struct NotRun<A: Ledger> {
     /// Why.
     pub fault: RunFault,
     /// The runners whose streams have not made their ends.
@@ -73,7 +74,7 @@ fn outcome(all: bool, starter: Starter) -> Ran {
 
 /// What the threads of a run are lent: the runners, and the links in their places.
 #[derive(Drop)]
-struct Lent<'r, A: Side, L: Link> {
+struct Lent<'r, A: Ledger, L: Link> {
     runners: &'r mut [Runner<A>],
     links: &'r [Mutex<L>],
 }
@@ -82,9 +83,9 @@ struct Lent<'r, A: Side, L: Link> {
 fn start_all<
     's,
     'r: 's,
-    A: Side + Send + Sync,
-    B: Side + Send + Sync,
-    C: Side + Send + Sync,
+    A: Ledger + Send + Sync,
+    B: Ledger + Send + Sync,
+    C: Ledger + Send + Sync,
     N: Naming + Send + Sync,
     L: Link + Send,
     R: Threads + Wait + Sync,
@@ -114,9 +115,9 @@ fn start_all<
 
 /// Makes the steps of each runner's stream in a thread of its own, over the link in the runner's place.
 pub(crate) fn run_all<
-    A: Side + Send + Sync,
-    B: Side + Send + Sync,
-    C: Side + Send + Sync,
+    A: Ledger + Send + Sync,
+    B: Ledger + Send + Sync,
+    C: Ledger + Send + Sync,
     N: Naming + Send + Sync,
     L: Link + Send,
     R: Threads + Wait + Sync,
@@ -141,7 +142,7 @@ pub(crate) fn run_all<
 }
 
 /// The streams of runners.
-fn streams_of<A: Side>(alloc: Global, runners: &[Runner<A>]) -> Result<Vec<StreamId>, AllocError>
+fn streams_of<A: Ledger>(alloc: Global, runners: &[Runner<A>]) -> Result<Vec<StreamId>, AllocError>
     ensures { IfOk result (λ streams. streams.items ≡ streams_run runners.now) }
 {
     let mut streams = Vec::new(alloc);
@@ -152,7 +153,7 @@ fn streams_of<A: Side>(alloc: Global, runners: &[Runner<A>]) -> Result<Vec<Strea
 }
 
 /// True only if the ends are of these streams, in their order.
-fn are_of<A: Side>(ended: &[Ended<A>], streams: &[StreamId]) -> bool
+fn are_of<A: Ledger>(ended: &[Ended<A>], streams: &[StreamId]) -> bool
     ensures { result ≡ true → streams_ended ended.now ≡ streams.now }
 {
     if ended.len() != streams.len() {
@@ -167,7 +168,7 @@ fn are_of<A: Side>(ended: &[Ended<A>], streams: &[StreamId]) -> bool
 }
 
 /// The ends of the runners whose streams have made them, and the other runners, each into a list with room for all. Takes no memory.
-fn retire_all<A: Side, B: Side, C: Side, N: Naming, R: Wait>(
+fn retire_all<A: Ledger, B: Ledger, C: Ledger, N: Naming, R: Wait>(
     rt: &R,
     board: &Board<A, B, C, N>,
     mut runners: Vec<Runner<A>>,
@@ -192,14 +193,14 @@ fn retire_all<A: Side, B: Side, C: Side, N: Naming, R: Wait>(
 }
 
 /// What a run needs after its threads: the streams as they were before, and two empty lists with room for all runners.
-pub(crate) struct Lists<A: Side> {
+pub(crate) struct Lists<A: Ledger> {
     streams: Vec<StreamId>,
     ended: Vec<Ended<A>>,
     left: Vec<Runner<A>>,
     ghost none: { (ended.items ≡ []) × (left.items ≡ []) },
 }
 
-impl<A: Side> Lists<A> {
+impl<A: Ledger> Lists<A> {
     /// The streams of these runners, and two empty lists with room for all of them.
     fn new(alloc: Global, runners: &[Runner<A>]) -> Result<Lists<A>, AllocError>
         ensures streams { IfOk result (λ lists. lists.streams.items ≡ streams_run runners.now) }
@@ -239,7 +240,7 @@ impl<A: Side> Lists<A> {
     }
 
     /// What a run is answered, after its threads have ended so.
-    pub fn answer<B: Side, C: Side, N: Naming, R: Wait>(
+    pub fn answer<B: Ledger, C: Ledger, N: Naming, R: Wait>(
         self,
         rt: &R,
         board: &Board<A, B, C, N>,
@@ -287,9 +288,9 @@ impl<A: Side> Lists<A> {
 /// Makes all steps of the runners' streams, each in a thread of its own and over the link in its runner's place, which the thread keeps
 /// until its last step. Where there is no link in that place the stream loses no call. What comes back is as of `run`.
 pub fn run_over<
-    A: Side + Send + Sync,
-    B: Side + Send + Sync,
-    C: Side + Send + Sync,
+    A: Ledger + Send + Sync,
+    B: Ledger + Send + Sync,
+    C: Ledger + Send + Sync,
     N: Naming + Send + Sync,
     L: Link + Send,
     R: Threads + Wait + Sync,
@@ -319,9 +320,9 @@ pub fn run_over<
 /// stepped only runners of streams that have not made their ends. Each end tells what the machine had of its stream once that had
 /// ended.
 pub fn run<
-    A: Side + Send + Sync,
-    B: Side + Send + Sync,
-    C: Side + Send + Sync,
+    A: Ledger + Send + Sync,
+    B: Ledger + Send + Sync,
+    C: Ledger + Send + Sync,
     N: Naming + Send + Sync,
     R: Threads + Wait + Sync,
     G: Gate + Sync,

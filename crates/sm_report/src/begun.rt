@@ -2,9 +2,10 @@
 ghost use Rattle.std.specs.Prelude.{◌≡◌, ◌≤◌, IfOk, [], vec_len, vec_capacity};
 
 use crate::given::Given;
-use sm_executor::{Naming, Side};
+use sm_executor::Naming;
 use sm_machine::{Machine, Permit, StreamToken};
 use std::alloc::{AllocError, Global};
+use std::sync::ledger::Ledger;
 
 /// A plan that has begun on a machine, with what the machine has given out and what is told of the plan so far.
 pub struct Begun {
@@ -31,7 +32,7 @@ impl Begun {
     }
 
     /// Room for what a board gives out for the plan and so many asks. Where memory runs out, the plan is given up.
-    pub fn with_room<A: Side, B: Side, C: Side, N: Naming>(
+    pub fn with_room<A: Ledger, B: Ledger, C: Ledger, N: Naming>(
         self,
         alloc: Global,
         asks: usize,

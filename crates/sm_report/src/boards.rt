@@ -4,7 +4,7 @@ ghost use Rattle.sm_machine.specs.Starts.{AreTokens};
 ghost use Rattle.sm_machine.specs.State.{state_of};
 ghost use Rattle.sm_executor.specs.Clients.{IsClient};
 ghost use Rattle.sm_executor.specs.Closed.{IsClosed};
-ghost use Rattle.sm_executor.specs.Names.{IsSideOf};
+ghost use Rattle.sm_executor.specs.Names.{IsLedgerOf};
 ghost use Rattle.sm_executor.specs.Tied.{IsMapOf};
 ghost use Rattle.sm_executor.specs.Views.{AreRunners};
 ghost use Rattle.sm_protocol.specs.State.{State, plan_at, stream_count};
@@ -26,7 +26,7 @@ use crate::made::Made;
 use crate::run_lines::{push_clients, push_ends};
 use crate::unmade::{Unmade, Unrun};
 use sm_executor::{
-    Board, Client, Ground, Naming, NotOpened, Open, Runner, Side, run_beside, take_tokens,
+    Board, Client, Ground, Naming, NotOpened, Open, Runner, run_beside, take_tokens,
 };
 use sm_machine::{BeginFault, Machine, Permit, StreamToken};
 use sm_placement::Config;
@@ -35,6 +35,7 @@ use sm_verifier::Checked;
 use std::alloc::Global;
 use std::marker::Brand;
 use std::sync::Wait;
+use std::sync::ledger::Ledger;
 use std::thread::Threads;
 
 /// Why there is no report of a plan that does not begin.
@@ -51,7 +52,7 @@ fn not_begun(alloc: Global, config: &Config, fault: BeginFault) -> Unmade
 }
 
 /// A client for each ask, into an empty list with room for all; false where the board gives out no more callers.
-fn call_clients<A: Side, B: Side, C: Side, N: Naming, R: Wait>(
+fn call_clients<A: Ledger, B: Ledger, C: Ledger, N: Naming, R: Wait>(
     rt: &R,
     board: &Board<A, B, C, N>,
     asks: &[ShardId],
@@ -74,7 +75,7 @@ fn call_clients<A: Side, B: Side, C: Side, N: Naming, R: Wait>(
 
 /// Whether each client is of the ask at its place, and there is one for each. What a thread did to its client is not told to who joins
 /// it, so the clients themselves are looked at.
-fn are_of<B: Side, C: Side, N: Naming>(clients: &[Client<B, C, N>], asks: &[ShardId]) -> bool
+fn are_of<B: Ledger, C: Ledger, N: Naming>(clients: &[Client<B, C, N>], asks: &[ShardId]) -> bool
     ensures { result ≡ true → map (λ client. client.shard) clients.now ≡ asks.now }
 {
     if clients.len() != asks.len() {
@@ -90,9 +91,9 @@ fn are_of<B: Side, C: Side, N: Naming>(clients: &[Client<B, C, N>], asks: &[Shar
 
 /// Runs the streams of the plan that has begun beside asks.
 fn run_begun<
-    A: Side + Send + Sync,
-    B: Side + Send + Sync,
-    C: Side + Send + Sync,
+    A: Ledger + Send + Sync,
+    B: Ledger + Send + Sync,
+    C: Ledger + Send + Sync,
     N: Naming + Send + Sync,
     R: Threads + Wait + Sync,
 >(
@@ -127,7 +128,7 @@ fn run_begun<
 }
 
 /// The lines of what clients were answered, where each client is of the ask at its place.
-fn tell_asks<B: Side, C: Side, N: Naming>(
+fn tell_asks<B: Ledger, C: Ledger, N: Naming>(
     alloc: Global,
     config: &Config,
     clients: &[Client<B, C, N>],
@@ -148,9 +149,9 @@ fn tell_asks<B: Side, C: Side, N: Naming>(
 
 /// Runs the streams of the plan that has begun beside asks, and tells what the asks came to.
 fn run_told<
-    A: Side + Send + Sync,
-    B: Side + Send + Sync,
-    C: Side + Send + Sync,
+    A: Ledger + Send + Sync,
+    B: Ledger + Send + Sync,
+    C: Ledger + Send + Sync,
     N: Naming + Send + Sync,
     R: Threads + Wait + Sync,
 >(
@@ -213,7 +214,7 @@ fn report_machine(
 }
 
 /// The report of a plan that was run on a board, which is closed.
-fn report_ran<A: Side, B: Side, C: Side, N: Naming>(
+fn report_ran<A: Ledger, B: Ledger, C: Ledger, N: Naming>(
     alloc: Global,
     board: Board<A, B, C, N>,
     given: Given<A, B, C, N>,
@@ -246,7 +247,7 @@ fn report_ran<A: Side, B: Side, C: Side, N: Naming>(
 }
 
 /// Gives a board up with all that it has given out.
-fn give_up<A: Side, B: Side, C: Side, N: Naming>(
+fn give_up<A: Ledger, B: Ledger, C: Ledger, N: Naming>(
     alloc: Global,
     board: Board<A, B, C, N>,
     given: Given<A, B, C, N>,
@@ -268,9 +269,9 @@ fn give_up<A: Side, B: Side, C: Side, N: Naming>(
 
 /// The report of the plan that has begun, which is run on a board, with lists for what the board gives out.
 fn report_given<
-    A: Side + Send + Sync,
-    B: Side + Send + Sync,
-    C: Side + Send + Sync,
+    A: Ledger + Send + Sync,
+    B: Ledger + Send + Sync,
+    C: Ledger + Send + Sync,
     N: Naming + Send + Sync,
     R: Threads + Wait + Sync,
 >(
@@ -302,18 +303,18 @@ fn report_given<
 
 /// The report of the plan that has begun on a machine, which is run on a board over the machine, on this ground of it.
 fn report_on_ground<
-    A: Side + Send + Sync,
-    B: Side + Send + Sync,
-    C: Side + Send + Sync,
+    A: Ledger + Send + Sync,
+    B: Ledger + Send + Sync,
+    C: Ledger + Send + Sync,
     N: Naming + Send + Sync,
     R: Threads + Wait + Sync,
 >(rt: &R, alloc: Global, begun: Begun, ground: Ground, asks: &[ShardId]) -> Result<Made, Unmade>
     requires map { IsMapOf ground.words (state_of begun.machine) }
     requires setup { ground.setup ≡ begun.machine.placement.setup }
     requires names { (ground.words ≡ N.words) × (ground.setup ≡ N.setup) × (state_of begun.machine ≡ N.opened) }
-    requires steps { IsSideOf ground.steps A.name A.parts }
-    requires executed { IsSideOf ground.executed B.name B.parts }
-    requires refused { IsSideOf ground.refused C.name C.parts }
+    requires steps { IsLedgerOf ground.steps A.name A.parts }
+    requires executed { IsLedgerOf ground.executed B.name B.parts }
+    requires refused { IsLedgerOf ground.refused C.name C.parts }
     requires one { length (state_of begun.machine).plans ≡ 1 }
     requires tokens { AreTokens 0 (stream_count (state_of begun.machine) 0) begun.tokens.items }
     requires few { length begun.tokens.items ≤ MOST_STREAMS }

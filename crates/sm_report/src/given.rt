@@ -4,14 +4,15 @@ ghost use Rattle.sm_report.specs.Unmade.{IfUnmade};
 
 use crate::early::Early;
 use crate::unmade::{Unmade, Unrun};
-use sm_executor::{Caller, Client, Ended, Naming, NotRun, RunFault, Side, take_tokens};
+use sm_executor::{Caller, Client, Ended, Naming, NotRun, RunFault, take_tokens};
 use sm_machine::StreamToken;
 use std::alloc::{AllocError, Global};
 use std::mem;
+use std::sync::ledger::Ledger;
 
 /// What a board has given out: the ends of streams, the clients of asks with its callers, and the tokens of streams that have made no
 /// end. Each list has room for all, as nothing of this can be let fall.
-pub struct Given<A: Side, B: Side, C: Side, N: Naming> {
+pub struct Given<A: Ledger, B: Ledger, C: Ledger, N: Naming> {
     pub ended: Vec<Ended<A>>,
     pub clients: Vec<Client<B, C, N>>,
     /// Those of the clients, once these have asked.
@@ -19,7 +20,7 @@ pub struct Given<A: Side, B: Side, C: Side, N: Naming> {
     pub tokens: Vec<StreamToken>,
 }
 
-impl<A: Side, B: Side, C: Side, N: Naming> Given<A, B, C, N> {
+impl<A: Ledger, B: Ledger, C: Ledger, N: Naming> Given<A, B, C, N> {
     /// Room for what a plan of so many streams and so many asks are given.
     pub fn with_room(alloc: Global, streams: usize, asks: usize) -> Result<Self, AllocError>
         ensures ended { IfOk result (λ given. given.ended.items ≡ []) }
@@ -68,7 +69,7 @@ impl<A: Side, B: Side, C: Side, N: Naming> Given<A, B, C, N> {
 }
 
 /// Puts ends into the place of a list that has none.
-pub fn keep_ends<A: Side>(kept: &mut Vec<Ended<A>>, ended: Vec<Ended<A>>)
+pub fn keep_ends<A: Ledger>(kept: &mut Vec<Ended<A>>, ended: Vec<Ended<A>>)
     requires { kept.old.items ≡ [] }
     ensures { kept.new.items ≡ ended.items }
 {
@@ -88,7 +89,7 @@ fn unmade_of(why: RunFault) -> Unmade
 }
 
 /// Keeps what comes back of a run that has not come to the ends of all streams, and says why there is no report.
-pub fn keep_back<A: Side>(
+pub fn keep_back<A: Ledger>(
     kept: &mut Vec<Ended<A>>,
     tokens: &mut Vec<StreamToken>,
     back: NotRun<A>,
@@ -108,7 +109,7 @@ pub fn keep_back<A: Side>(
 }
 
 /// The callers of clients in their order, into an empty list with room for all. Takes no memory.
-pub fn take_callers<B: Side, C: Side, N: Naming>(
+pub fn take_callers<B: Ledger, C: Ledger, N: Naming>(
     mut clients: Vec<Client<B, C, N>>,
     callers: &mut Vec<Caller<B, C, N>>,
 )

@@ -7,12 +7,13 @@ ghost use Rattle.sm_report.specs.RunLines.{stream_end_line, end_line, end_lines,
 
 use crate::names::server_name;
 use crate::play_lines::{push_executed, push_word};
-use sm_executor::{Client, Naming, Side};
+use sm_executor::{Client, Naming};
 use sm_machine::Machine;
 use sm_placement::Config;
 use sm_reservation::StreamId;
 use sm_router::Asked;
 use std::alloc::AllocError;
+use std::sync::ledger::Ledger;
 
 /// Adds the line of a stream that has made its end.
 fn push_stream_end(
@@ -104,7 +105,7 @@ fn push_client(
 }
 
 /// Adds the lines of what clients were answered.
-pub fn push_clients<B: Side, C: Side, N: Naming>(
+pub fn push_clients<B: Ledger, C: Ledger, N: Naming>(
     out: &mut String,
     config: &Config,
     clients: &[Client<B, C, N>],

@@ -4,7 +4,7 @@ ghost use Rattle.std.specs.Prelude.{◌≡◌};
 use super::given::{server_of, shard_of};
 use super::map_and_asks::assert_steps;
 use super::scenes::{Scene, placement_after};
-use sm_executor::{Board, Caller, Naming, Runner, Side};
+use sm_executor::{Board, Caller, Naming, Runner};
 use sm_fixtures::{S_TO_B, World, handover_plan};
 use sm_machine::{Answer, Step, Ticket};
 use sm_placement::Entry;
@@ -12,6 +12,7 @@ use sm_router::{Asked, Desk, ask};
 use sm_server::{ServerId, ShardId};
 use std::process::Abort;
 use std::sync::Wait;
+use std::sync::ledger::Ledger;
 
 /// What a desk answers a request.
 #[derive(Clone, Copy)]
@@ -224,7 +225,7 @@ const fn cases_with_ticket() -> [Case; 6] {
 }
 
 /// The ticket of a new request for s that is passed on from a.
-fn ticket<A: Side, B: Side, C: Side, N: Naming, R: Wait + Abort>(
+fn ticket<A: Ledger, B: Ledger, C: Ledger, N: Naming, R: Wait + Abort>(
     rt: &R,
     board: &Board<A, B, C, N>,
     caller: &mut Caller<B, C, N>,
@@ -264,7 +265,7 @@ fn assert_asked<R: Wait + Abort>(rt: &R, case: &Case, ticket: Ticket) {
 
 /// Two steps of the handover of s are made on a board, so that requests for it are passed on; with their tickets asks are made at a desk
 /// that is told what to answer.
-pub(crate) fn asks<A: Side, B: Side, C: Side, N: Naming, R: Wait + Abort>(
+pub(crate) fn asks<A: Ledger, B: Ledger, C: Ledger, N: Naming, R: Wait + Abort>(
     rt: &R,
     board: &Board<A, B, C, N>,
     runners: &mut [Runner<A>],

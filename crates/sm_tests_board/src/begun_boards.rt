@@ -5,12 +5,13 @@ use super::courses::run_through;
 use super::given::{put, put_all};
 use super::map_and_asks::assert_steps;
 use super::worlds::assert_loads;
-use sm_executor::{Board, Ended, Naming, NotRun, Open, RunFault, Runner, Side, run};
+use sm_executor::{Board, Ended, Naming, NotRun, Open, RunFault, Runner, run};
 use sm_fixtures::{S_TO_B, T_TO_A, WorkedMove, World, handover_plan, is_for, stream};
 use sm_machine::{Machine, Step, StreamToken};
 use std::alloc::Global;
 use std::process::Abort;
 use std::sync::Wait;
+use std::sync::ledger::Ledger;
 use std::thread::Threads;
 
 /// A machine on which the plans of these moves, by one stream each, have begun, with their tokens.
@@ -39,12 +40,12 @@ fn begun_machine(
 }
 
 /// There is a runner for the one stream of each plan, in their order.
-fn are_of_two_plans<A: Side>(runners: &[Runner<A>]) -> bool {
+fn are_of_two_plans<A: Ledger>(runners: &[Runner<A>]) -> bool {
     runners.len() == 2 && runners[0].id() == stream(0) && runners[1].id() == stream(1)
 }
 
 /// The first two streams have made six steps each, in their order.
-fn have_six_steps<A: Side>(ended: &[Ended<A>]) -> bool {
+fn have_six_steps<A: Ledger>(ended: &[Ended<A>]) -> bool {
     for plan in 0..2u32 {
         if plan as usize >= ended.len() {
             return false;
@@ -59,9 +60,9 @@ fn have_six_steps<A: Side>(ended: &[Ended<A>]) -> bool {
 
 /// Runs the streams of two plans that had begun to their ends, and closes the board.
 pub(crate) fn run_both<
-    A: Side + Send + Sync,
-    B: Side + Send + Sync,
-    C: Side + Send + Sync,
+    A: Ledger + Send + Sync,
+    B: Ledger + Send + Sync,
+    C: Ledger + Send + Sync,
     N: Naming + Send + Sync,
     R: Threads + Wait + Sync + Abort,
 >(rt: &R, alloc: Global, board: Board<A, B, C, N>, runners: Vec<Runner<A>>) -> End {
@@ -73,9 +74,9 @@ pub(crate) fn run_both<
 
 /// Runs a stream that the board's machine has not begun. Its runner comes back.
 fn run_unknown<
-    A: Side + Send + Sync,
-    B: Side + Send + Sync,
-    C: Side + Send + Sync,
+    A: Ledger + Send + Sync,
+    B: Ledger + Send + Sync,
+    C: Ledger + Send + Sync,
     N: Naming + Send + Sync,
     R: Threads + Wait + Sync + Abort,
 >(rt: &R, alloc: Global, board: &Board<A, B, C, N>, unknown: Runner<A>) -> Vec<Runner<A>> {
@@ -101,9 +102,9 @@ fn run_unknown<
 /// Runs the second stream, which the board's machine has not begun: from then on the board is halted for the first one, which has not
 /// stepped.
 pub(crate) fn halt_by_unknown<
-    A: Side + Send + Sync,
-    B: Side + Send + Sync,
-    C: Side + Send + Sync,
+    A: Ledger + Send + Sync,
+    B: Ledger + Send + Sync,
+    C: Ledger + Send + Sync,
     N: Naming + Send + Sync,
     R: Threads + Wait + Sync + Abort,
 >(rt: &R, alloc: Global, board: Board<A, B, C, N>, mut runners: Vec<Runner<A>>) -> End {

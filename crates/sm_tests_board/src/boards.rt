@@ -1,7 +1,7 @@
 //! Boards: how one is opened for what is done with it, how a plan begins there, and how it ends.
 ghost use Rattle.std.specs.Prelude.{◌≡◌};
 ghost use Rattle.sm_machine.specs.State.{state_of};
-ghost use Rattle.sm_executor.specs.Names.{IsSideOf};
+ghost use Rattle.sm_executor.specs.Names.{IsLedgerOf};
 ghost use Rattle.sm_executor.specs.Tied.{IsMapOf};
 
 use super::begun_boards::{halt_by_unknown, run_both};
@@ -11,7 +11,7 @@ use super::given::{put, put_all};
 use super::memory::{Attempt, begin_or_not};
 use super::runs::run_checked;
 use super::scenes::{Scene, play_scene};
-use sm_executor::{Board, Caller, Ended, Ground, Naming, NotOpened, Runner, Side};
+use sm_executor::{Board, Caller, Ended, Ground, Naming, NotOpened, Runner};
 use sm_fixtures::{World, is_for};
 use sm_machine::{Machine, Permit, StreamToken, Ticket};
 use sm_placement::Placement;
@@ -20,6 +20,7 @@ use std::alloc::Global;
 use std::marker::Brand;
 use std::process::Abort;
 use std::sync::Wait;
+use std::sync::ledger::Ledger;
 use std::thread::Threads;
 
 /// The placement that is left, and how many events the log has.
@@ -73,9 +74,9 @@ pub(crate) fn machine(rt: &impl Abort, alloc: Global, log_room: u32) -> Machine 
 
 /// Does a deed with a board that has given out these runners, and ends the board.
 fn act<
-    A: Side + Send + Sync,
-    B: Side + Send + Sync,
-    C: Side + Send + Sync,
+    A: Ledger + Send + Sync,
+    B: Ledger + Send + Sync,
+    C: Ledger + Send + Sync,
     N: Naming + Send + Sync,
     R: Threads + Wait + Sync + Print + Abort,
 >(rt: &R, alloc: Global, board: Board<A, B, C, N>, runners: Vec<Runner<A>>, deed: Deed<'_>) -> End {
@@ -93,9 +94,9 @@ fn act<
 /// machine. Where there is no memory for a board without tokens, the machine and the deed come back.
 fn on_ground<
     'a,
-    A: Side + Send + Sync,
-    B: Side + Send + Sync,
-    C: Side + Send + Sync,
+    A: Ledger + Send + Sync,
+    B: Ledger + Send + Sync,
+    C: Ledger + Send + Sync,
     N: Naming + Send + Sync,
     R: Threads + Wait + Sync + Print + Abort,
 >(
@@ -109,9 +110,9 @@ fn on_ground<
     requires map { IsMapOf ground.words (state_of machine) }
     requires setup { ground.setup ≡ machine.placement.setup }
     requires names { (ground.words ≡ N.words) × (ground.setup ≡ N.setup) × (state_of machine ≡ N.opened) }
-    requires steps { IsSideOf ground.steps A.name A.parts }
-    requires executed { IsSideOf ground.executed B.name B.parts }
-    requires refused { IsSideOf ground.refused C.name C.parts }
+    requires steps { IsLedgerOf ground.steps A.name A.parts }
+    requires executed { IsLedgerOf ground.executed B.name B.parts }
+    requires refused { IsLedgerOf ground.refused C.name C.parts }
 {
     assert!(rt; tokens.is_empty() || tokens.len() <= 2 && machine.plan_count() >= 1);
     match Board::<A, B, C, N>::open(alloc, machine, ground, tokens) {
@@ -177,7 +178,7 @@ pub(crate) fn act_on_new<R: Threads + Wait + Sync + Print + Abort>(
 }
 
 /// A plan that has to begin begins on a board, and the runners of its streams come behind the others.
-pub(crate) fn begin<A: Side, B: Side, C: Side, N: Naming, R: Wait + Abort>(
+pub(crate) fn begin<A: Ledger, B: Ledger, C: Ledger, N: Naming, R: Wait + Abort>(
     rt: &R,
     alloc: Global,
     board: &Board<A, B, C, N>,
@@ -192,7 +193,7 @@ pub(crate) fn begin<A: Side, B: Side, C: Side, N: Naming, R: Wait + Abort>(
 }
 
 /// The tokens of runners, which give their shares up, come behind others.
-pub(crate) fn tokens_of<A: Side>(
+pub(crate) fn tokens_of<A: Ledger>(
     rt: &impl Abort,
     mut tokens: Vec<StreamToken>,
     mut runners: Vec<Runner<A>>,
@@ -219,7 +220,7 @@ pub(crate) fn end(
 }
 
 /// Closes a board, whose streams have to have made their ends, with all that it has given out.
-pub(crate) fn close<A: Side, B: Side, C: Side, N: Naming>(
+pub(crate) fn close<A: Ledger, B: Ledger, C: Ledger, N: Naming>(
     rt: &impl Abort,
     alloc: Global,
     board: Board<A, B, C, N>,

@@ -6,7 +6,7 @@ use super::memory::has_none_stepped;
 use super::plans::two_handovers;
 use super::runs::{assert_moved, run_plan};
 use sm_executor::{
-    Board, Caller, Client, Ended, Gate, Naming, NotRun, Open, RunFault, Runner, Side, run_beside,
+    Board, Caller, Client, Ended, Gate, Naming, NotRun, Open, RunFault, Runner, run_beside,
 };
 use sm_fixtures::{S_TO_B, World, handover_plan};
 use sm_router::Asked;
@@ -14,10 +14,11 @@ use sm_server::{ServerId, ShardId};
 use std::alloc::Global;
 use std::process::Abort;
 use std::sync::Wait;
+use std::sync::ledger::Ledger;
 use std::thread::Threads;
 
 /// A client that asks for s, and one that asks for t.
-fn clients<A: Side, B: Side, C: Side, N: Naming, R: Wait + Abort>(
+fn clients<A: Ledger, B: Ledger, C: Ledger, N: Naming, R: Wait + Abort>(
     rt: &R,
     alloc: Global,
     board: &Board<A, B, C, N>,
@@ -32,7 +33,7 @@ fn clients<A: Side, B: Side, C: Side, N: Naming, R: Wait + Abort>(
 }
 
 /// The request of a client was executed at the server of this number.
-fn is_at<B: Side, C: Side, N: Naming>(client: &Client<B, C, N>, number: u32) -> bool {
+fn is_at<B: Ledger, C: Ledger, N: Naming>(client: &Client<B, C, N>, number: u32) -> bool {
     let at_server = Asked::Executed {
         server: ServerId::new(number),
     };
@@ -43,12 +44,12 @@ fn is_at<B: Side, C: Side, N: Naming>(client: &Client<B, C, N>, number: u32) -> 
 }
 
 /// There are two clients. The request of the first one was executed at a or b, and that of the second one at b.
-fn were_executed<B: Side, C: Side, N: Naming>(clients: &[Client<B, C, N>]) -> bool {
+fn were_executed<B: Ledger, C: Ledger, N: Naming>(clients: &[Client<B, C, N>]) -> bool {
     clients.len() == 2 && (is_at(&clients[0], 0) || is_at(&clients[0], 1)) && is_at(&clients[1], 1)
 }
 
 /// The callers of clients.
-fn callers_of<B: Side, C: Side, N: Naming>(
+fn callers_of<B: Ledger, C: Ledger, N: Naming>(
     rt: &impl Abort,
     alloc: Global,
     mut clients: Vec<Client<B, C, N>>,
@@ -68,9 +69,9 @@ fn callers_of<B: Side, C: Side, N: Naming>(
 /// started is printed, so that whoever refuses one sees it: then both clients have asked, neither of the two streams has stepped and
 /// both runners are back. They are run alone.
 pub(crate) fn run_beside_clients<
-    A: Side + Send + Sync,
-    B: Side + Send + Sync,
-    C: Side + Send + Sync,
+    A: Ledger + Send + Sync,
+    B: Ledger + Send + Sync,
+    C: Ledger + Send + Sync,
     N: Naming + Send + Sync,
     R: Threads + Wait + Sync + Print + Abort,
     G: Gate + Sync,
@@ -104,9 +105,9 @@ pub(crate) fn run_beside_clients<
 
 /// Runs streams beside the same clients, through a gate at which each waits before its first step until both have been answered.
 pub(crate) fn run_behind_clients<
-    A: Side + Send + Sync,
-    B: Side + Send + Sync,
-    C: Side + Send + Sync,
+    A: Ledger + Send + Sync,
+    B: Ledger + Send + Sync,
+    C: Ledger + Send + Sync,
     N: Naming + Send + Sync,
     R: Threads + Wait + Sync + Print + Abort,
 >(

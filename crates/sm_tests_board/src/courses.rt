@@ -3,12 +3,13 @@ use super::clients::{run_behind_clients, run_beside_clients};
 use super::gates::{Counting, Halting, Meeting};
 use super::given::{put, put_all};
 use sm_executor::{
-    Board, Caller, Ended, Gate, Naming, NotRun, Open, RunFault, Runner, Side, run, run_over,
+    Board, Caller, Ended, Gate, Naming, NotRun, Open, RunFault, Runner, run, run_over,
 };
 use sm_fixtures::{Loses, LosesEverySecond};
 use sm_machine::{Link, Step};
 use std::alloc::Global;
 use std::process::Abort;
+use std::sync::ledger::Ledger;
 use std::sync::{Mutex, Wait};
 use std::thread::Threads;
 
@@ -31,9 +32,9 @@ pub(crate) enum Course<'a> {
 
 /// The ends of a run that has to come to the ends of all streams.
 pub(crate) fn run_through<
-    A: Side + Send + Sync,
-    B: Side + Send + Sync,
-    C: Side + Send + Sync,
+    A: Ledger + Send + Sync,
+    B: Ledger + Send + Sync,
+    C: Ledger + Send + Sync,
     N: Naming + Send + Sync,
     R: Threads + Wait + Sync + Abort,
     G: Gate + Sync,
@@ -60,9 +61,9 @@ fn assert_calls(rt: &impl Abort, called: (u64, u64), calls: u64) {
 /// first step something is. The gate was called once round each recorded step, and once round the last step of each stream that was
 /// halted.
 fn run_halted<
-    A: Side + Send + Sync,
-    B: Side + Send + Sync,
-    C: Side + Send + Sync,
+    A: Ledger + Send + Sync,
+    B: Ledger + Send + Sync,
+    C: Ledger + Send + Sync,
     N: Naming + Send + Sync,
     R: Threads + Wait + Sync + Abort,
 >(
@@ -110,9 +111,9 @@ fn run_halted<
 /// The one stream loses its first call, and has then one try too few: the run ends by this, and goes on with one more. Its gate is
 /// called round four recorded steps, and round the one that is Spent.
 fn run_spent<
-    A: Side + Send + Sync,
-    B: Side + Send + Sync,
-    C: Side + Send + Sync,
+    A: Ledger + Send + Sync,
+    B: Ledger + Send + Sync,
+    C: Ledger + Send + Sync,
     N: Naming + Send + Sync,
     R: Threads + Wait + Sync + Abort,
 >(rt: &R, alloc: Global, board: &Board<A, B, C, N>, mut runners: Vec<Runner<A>>) -> Vec<Ended<A>> {
@@ -153,9 +154,9 @@ fn run_spent<
 /// Runs over a link for each stream that loses every second try. Each stream makes four calls, and tries so often. The gate is called
 /// once round each recorded step, also of those that are lost.
 fn run_losing<
-    A: Side + Send + Sync,
-    B: Side + Send + Sync,
-    C: Side + Send + Sync,
+    A: Ledger + Send + Sync,
+    B: Ledger + Send + Sync,
+    C: Ledger + Send + Sync,
     N: Naming + Send + Sync,
     R: Threads + Wait + Sync + Abort,
 >(
@@ -192,9 +193,9 @@ fn run_losing<
 
 /// Runs what has begun, and answers the ends and the callers.
 pub(crate) fn go<
-    A: Side + Send + Sync,
-    B: Side + Send + Sync,
-    C: Side + Send + Sync,
+    A: Ledger + Send + Sync,
+    B: Ledger + Send + Sync,
+    C: Ledger + Send + Sync,
     N: Naming + Send + Sync,
     R: Threads + Wait + Sync + Print + Abort,
 >(

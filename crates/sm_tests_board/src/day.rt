@@ -5,7 +5,7 @@ use super::boards::{Deed, End, act_on_new, begin, close};
 use super::given::put;
 use super::map_and_asks::assert_steps;
 use super::worlds::assert_loads;
-use sm_executor::{Board, Caller, CloseFault, Ended, Naming, NotClosed, Runner, Side};
+use sm_executor::{Board, Caller, CloseFault, Ended, Naming, NotClosed, Runner};
 use sm_fixtures::{S_TO_B, T_TO_A, World, handover_plan};
 use sm_machine::{Machine, Step};
 use sm_reservation::StreamId;
@@ -13,6 +13,7 @@ use sm_verifier::Checked;
 use std::alloc::Global;
 use std::process::Abort;
 use std::sync::Wait;
+use std::sync::ledger::Ledger;
 
 /// The first stream of each plan, with how many instructions it has made after the first round of steps.
 static AFTER_A_ROUND: [(StreamId, usize); 2] = [
@@ -21,7 +22,7 @@ static AFTER_A_ROUND: [(StreamId, usize); 2] = [
 ];
 
 /// Asserts that a board is not closed, why, and which streams have not made their ends; it comes back.
-fn assert_not_closed<A: Side, B: Side, C: Side, N: Naming>(
+fn assert_not_closed<A: Ledger, B: Ledger, C: Ledger, N: Naming>(
     rt: &impl Abort,
     closed: Result<Machine, NotClosed<A, B, C, N>>,
     fault: CloseFault,
@@ -39,13 +40,13 @@ fn assert_not_closed<A: Side, B: Side, C: Side, N: Naming>(
 }
 
 /// The end of the stream of a plan of this number says what it has made.
-fn is_end<A: Side>(end: &Ended<A>, plan: usize) -> bool {
+fn is_end<A: Ledger>(end: &Ended<A>, plan: usize) -> bool {
     let StreamId { plan: of, stream } = end.stream();
     of as usize == plan && stream == 0 && end.steps() == 6 && end.calls() == 4 && end.budget() == 4
 }
 
 /// All callers that a board gives out, of which there have to be 4,096.
-fn all_callers<A: Side, B: Side, C: Side, N: Naming, R: Wait + Abort>(
+fn all_callers<A: Ledger, B: Ledger, C: Ledger, N: Naming, R: Wait + Abort>(
     rt: &R,
     alloc: Global,
     board: &Board<A, B, C, N>,
@@ -61,7 +62,7 @@ fn all_callers<A: Side, B: Side, C: Side, N: Naming, R: Wait + Abort>(
 }
 
 /// The ends of the runners of as many plans, whose streams have to have made them.
-fn ends<A: Side, B: Side, C: Side, N: Naming, R: Wait + Abort>(
+fn ends<A: Ledger, B: Ledger, C: Ledger, N: Naming, R: Wait + Abort>(
     rt: &R,
     alloc: Global,
     board: &Board<A, B, C, N>,
@@ -84,7 +85,7 @@ fn ends<A: Side, B: Side, C: Side, N: Naming, R: Wait + Abort>(
 }
 
 /// Each stream makes a step, and stops while the board is halted.
-fn step_each<A: Side, B: Side, C: Side, N: Naming, R: Wait + Abort>(
+fn step_each<A: Ledger, B: Ledger, C: Ledger, N: Naming, R: Wait + Abort>(
     rt: &R,
     board: &Board<A, B, C, N>,
     runners: &mut [Runner<A>],
@@ -99,7 +100,7 @@ fn step_each<A: Side, B: Side, C: Side, N: Naming, R: Wait + Abort>(
 }
 
 /// The streams of two plans make their ends, the second time without a step; all have made one step before.
-fn step_to_ends<A: Side, B: Side, C: Side, N: Naming, R: Wait + Abort>(
+fn step_to_ends<A: Ledger, B: Ledger, C: Ledger, N: Naming, R: Wait + Abort>(
     rt: &R,
     board: &Board<A, B, C, N>,
     runners: &mut [Runner<A>],
@@ -115,7 +116,7 @@ fn step_to_ends<A: Side, B: Side, C: Side, N: Naming, R: Wait + Abort>(
 
 /// Asserts that a board whose streams have made their ends is not closed without one of its callers, nor without one of the ends. All come
 /// back.
-fn assert_differs<A: Side, B: Side, C: Side, N: Naming>(
+fn assert_differs<A: Ledger, B: Ledger, C: Ledger, N: Naming>(
     rt: &impl Abort,
     board: Board<A, B, C, N>,
     ended: Vec<Ended<A>>,
@@ -135,7 +136,7 @@ fn assert_differs<A: Side, B: Side, C: Side, N: Naming>(
 
 /// A day: two plans run side by side to their ends, and the board is closed. It is not closed before their streams have made their
 /// ends, which it names, nor without one of its callers or ends.
-pub(crate) fn day<A: Side, B: Side, C: Side, N: Naming, R: Wait + Abort>(
+pub(crate) fn day<A: Ledger, B: Ledger, C: Ledger, N: Naming, R: Wait + Abort>(
     rt: &R,
     alloc: Global,
     board: Board<A, B, C, N>,

@@ -1,8 +1,9 @@
 //! Gates of runs: at which streams meet, or wait for clients, before their first steps, and which count their calls, or halt the board.
-use sm_executor::{Board, Gate, Naming, Side};
+use sm_executor::{Board, Gate, Naming};
 use sm_reservation::StreamId;
 use std::sync::Wait;
 use std::sync::atomic::{AtomicU64, Ordering};
+use std::sync::ledger::Ledger;
 use std::thread::sleep;
 use std::time::Duration;
 
@@ -57,14 +58,14 @@ impl<'c> Gate for Meeting<'c> {
 
 /// Where streams wait before their first steps until the board's log has so many events, which are of others then.
 #[derive(Drop)]
-pub(crate) struct Behind<'b, A: Side, B: Side, C: Side, N: Naming> {
+pub(crate) struct Behind<'b, A: Ledger, B: Ledger, C: Ledger, N: Naming> {
     board: &'b Board<A, B, C, N>,
     clock: &'b HostRuntime,
     events: usize,
     gave_up: AtomicU64,
 }
 
-impl<'b, A: Side, B: Side, C: Side, N: Naming> Behind<'b, A, B, C, N> {
+impl<'b, A: Ledger, B: Ledger, C: Ledger, N: Naming> Behind<'b, A, B, C, N> {
     pub fn events(
         board: &'b Board<A, B, C, N>,
         clock: &'b HostRuntime,
@@ -84,7 +85,7 @@ impl<'b, A: Side, B: Side, C: Side, N: Naming> Behind<'b, A, B, C, N> {
     }
 }
 
-impl<'b, A: Side, B: Side, C: Side, N: Naming> Gate for Behind<'b, A, B, C, N> {
+impl<'b, A: Ledger, B: Ledger, C: Ledger, N: Naming> Gate for Behind<'b, A, B, C, N> {
     fn before<R: Wait>(&self, rt: &R, _stream: StreamId, at: usize) {
         if at != 0 {
             return;
@@ -148,13 +149,13 @@ impl Gate for Counting {
 
 /// Halts a board behind the step of this number, counted from one, and counts its calls.
 #[derive(Drop)]
-pub(crate) struct Halting<'b, A: Side, B: Side, C: Side, N: Naming> {
+pub(crate) struct Halting<'b, A: Ledger, B: Ledger, C: Ledger, N: Naming> {
     board: &'b Board<A, B, C, N>,
     number: u64,
     pub counting: Counting,
 }
 
-impl<'b, A: Side, B: Side, C: Side, N: Naming> Halting<'b, A, B, C, N> {
+impl<'b, A: Ledger, B: Ledger, C: Ledger, N: Naming> Halting<'b, A, B, C, N> {
     pub fn behind(board: &'b Board<A, B, C, N>, number: u64) -> Halting<'b, A, B, C, N> {
         Halting {
             board,
@@ -164,7 +165,7 @@ impl<'b, A: Side, B: Side, C: Side, N: Naming> Halting<'b, A, B, C, N> {
     }
 }
 
-impl<'b, A: Side, B: Side, C: Side, N: Naming> Gate for Halting<'b, A, B, C, N> {
+impl<'b, A: Ledger, B: Ledger, C: Ledger, N: Naming> Gate for Halting<'b, A, B, C, N> {
     fn before<R: Wait>(&self, _rt: &R, _stream: StreamId, _at: usize) {
         self.counting.note_before();
     }

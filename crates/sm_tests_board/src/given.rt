@@ -1,7 +1,7 @@
 //! What a board gives out, and events that are made with it, one by one.
 ghost use Rattle.std.specs.Prelude.{◌<◌, length};
 
-use sm_executor::{Board, Caller, Naming, Runner, Side};
+use sm_executor::{Board, Caller, Naming, Runner};
 use sm_fixtures::{Loses, answered, is_for, ticket_place};
 use sm_machine::{Answer, BeginFault, Permit, Ticket};
 use sm_plan_code::MOST_CALLS;
@@ -12,9 +12,10 @@ use sm_verifier::Checked;
 use std::alloc::Global;
 use std::process::Abort;
 use std::sync::Wait;
+use std::sync::ledger::Ledger;
 
 /// The runners, permits and tickets that a board has given out, and the plans that may begin, by their places.
-pub(crate) struct Given<A: Side> {
+pub(crate) struct Given<A: Ledger> {
     pub runners: Vec<Runner<A>>,
     pub permits: Vec<Permit>,
     pub tickets: Vec<Ticket>,
@@ -38,7 +39,7 @@ pub(crate) fn put_all<T>(rt: &impl Abort, list: &mut Vec<T>, mut values: Vec<T>)
 }
 
 /// The place of a stream's runner.
-fn runner_place<A: Side>(runners: &[Runner<A>], id: StreamId) -> Option<usize> {
+fn runner_place<A: Ledger>(runners: &[Runner<A>], id: StreamId) -> Option<usize> {
     for at in 0..runners.len() {
         if runners[at].id() == id {
             return Some(at);
@@ -48,7 +49,7 @@ fn runner_place<A: Side>(runners: &[Runner<A>], id: StreamId) -> Option<usize> {
 }
 
 /// The id of a shard of the board's map, which has to be there.
-pub(crate) fn shard_of<A: Side, B: Side, C: Side, N: Naming>(
+pub(crate) fn shard_of<A: Ledger, B: Ledger, C: Ledger, N: Naming>(
     rt: &impl Abort,
     board: &Board<A, B, C, N>,
     shard: ShardId,
@@ -60,7 +61,7 @@ pub(crate) fn shard_of<A: Side, B: Side, C: Side, N: Naming>(
 }
 
 /// The id of a server of the board's map, which has to be there.
-pub(crate) fn server_of<A: Side, B: Side, C: Side, N: Naming>(
+pub(crate) fn server_of<A: Ledger, B: Ledger, C: Ledger, N: Naming>(
     rt: &impl Abort,
     board: &Board<A, B, C, N>,
     server: ServerId,
@@ -71,9 +72,9 @@ pub(crate) fn server_of<A: Side, B: Side, C: Side, N: Naming>(
     server
 }
 
-impl<A: Side> Given<A> {
+impl<A: Ledger> Given<A> {
     /// A stream makes its next step, and loses its call where it is told so.
-    fn step<B: Side, C: Side, N: Naming, R: Wait + Abort>(
+    fn step<B: Ledger, C: Ledger, N: Naming, R: Wait + Abort>(
         &mut self,
         rt: &R,
         board: &Board<A, B, C, N>,
@@ -95,7 +96,7 @@ impl<A: Side> Given<A> {
     }
 
     /// A stream's allowance is raised by a guard.
-    fn refill<B: Side, C: Side, N: Naming, R: Wait + Abort>(
+    fn refill<B: Ledger, C: Ledger, N: Naming, R: Wait + Abort>(
         &mut self,
         rt: &R,
         board: &Board<A, B, C, N>,
@@ -128,7 +129,7 @@ impl<A: Side> Given<A> {
     }
 
     /// The request of a ticket comes to the server that it was passed to.
-    fn pass_on<B: Side, C: Side, N: Naming, R: Wait + Abort>(
+    fn pass_on<B: Ledger, C: Ledger, N: Naming, R: Wait + Abort>(
         &mut self,
         rt: &R,
         board: &Board<A, B, C, N>,
@@ -145,7 +146,7 @@ impl<A: Side> Given<A> {
     }
 
     /// The cluster manager asks a guard for the restart of a server.
-    fn approve<B: Side, C: Side, N: Naming, R: Wait + Abort>(
+    fn approve<B: Ledger, C: Ledger, N: Naming, R: Wait + Abort>(
         &mut self,
         rt: &R,
         board: &Board<A, B, C, N>,
@@ -162,7 +163,7 @@ impl<A: Side> Given<A> {
     }
 
     /// The restart of a server ends by a guard. Of servers one at most is down.
-    fn done<B: Side, C: Side, N: Naming, R: Wait + Abort>(
+    fn done<B: Ledger, C: Ledger, N: Naming, R: Wait + Abort>(
         &mut self,
         rt: &R,
         board: &Board<A, B, C, N>,
@@ -182,7 +183,7 @@ impl<A: Side> Given<A> {
     }
 
     /// The plan at a place begins, or goes back there.
-    pub fn begin<B: Side, C: Side, N: Naming, R: Wait + Abort>(
+    pub fn begin<B: Ledger, C: Ledger, N: Naming, R: Wait + Abort>(
         &mut self,
         rt: &R,
         alloc: Global,
@@ -227,7 +228,7 @@ impl<A: Side> Given<A> {
     }
 
     /// Makes an event over a board.
-    pub fn make<B: Side, C: Side, N: Naming, R: Wait + Abort>(
+    pub fn make<B: Ledger, C: Ledger, N: Naming, R: Wait + Abort>(
         &mut self,
         rt: &R,
         alloc: Global,

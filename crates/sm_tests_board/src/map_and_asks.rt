@@ -1,7 +1,7 @@
 //! The map of a board, and asks at it, while shard s is handed over from a to b.
 use super::given::shard_of;
 use super::worlds::entry;
-use sm_executor::{Board, Caller, Naming, Runner, Side};
+use sm_executor::{Board, Caller, Naming, Runner};
 use sm_fixtures::executed;
 use sm_machine::{Machine, Step};
 use sm_placement::Entry;
@@ -10,9 +10,10 @@ use sm_router::{Asked, ask};
 use sm_server::{ServerId, ShardId};
 use std::process::Abort;
 use std::sync::Wait;
+use std::sync::ledger::Ledger;
 
 /// The runner makes so many steps, each of which is answered so.
-pub(crate) fn assert_steps<A: Side, B: Side, C: Side, N: Naming, R: Wait + Abort>(
+pub(crate) fn assert_steps<A: Ledger, B: Ledger, C: Ledger, N: Naming, R: Wait + Abort>(
     rt: &R,
     board: &Board<A, B, C, N>,
     runner: &mut Runner<A>,
@@ -31,7 +32,7 @@ fn ends_in_two_hops(machine: &Machine) -> bool {
 }
 
 /// An ask for s has two hops, which stand in the log behind two steps: it is passed on from a, and executed at b.
-fn assert_two_hops<A: Side, B: Side, C: Side, N: Naming, R: Wait + Abort>(
+fn assert_two_hops<A: Ledger, B: Ledger, C: Ledger, N: Naming, R: Wait + Abort>(
     rt: &R,
     board: &Board<A, B, C, N>,
     caller: &mut Caller<B, C, N>,
@@ -45,7 +46,7 @@ fn assert_two_hops<A: Side, B: Side, C: Side, N: Naming, R: Wait + Abort>(
 }
 
 /// What the guard and the map say of s.
-fn assert_held<A: Side, B: Side, C: Side, N: Naming, R: Wait + Abort>(
+fn assert_held<A: Ledger, B: Ledger, C: Ledger, N: Naming, R: Wait + Abort>(
     rt: &R,
     board: &Board<A, B, C, N>,
     caller: &mut Caller<B, C, N>,
@@ -57,7 +58,7 @@ fn assert_held<A: Side, B: Side, C: Side, N: Naming, R: Wait + Abort>(
 }
 
 /// What the map says of s, read without the lock.
-fn assert_look<A: Side, B: Side, C: Side, N: Naming>(
+fn assert_look<A: Ledger, B: Ledger, C: Ledger, N: Naming>(
     rt: &impl Abort,
     board: &Board<A, B, C, N>,
     caller: &mut Caller<B, C, N>,
@@ -69,7 +70,7 @@ fn assert_look<A: Side, B: Side, C: Side, N: Naming>(
 
 /// Both callers see s at a. After two steps an ask is passed on to b. After the fourth, which publishes, the guard gives b for the one
 /// caller, and a plain look gives b for the other, which has seen a alone.
-pub(crate) fn map_and_asks<A: Side, B: Side, C: Side, N: Naming, R: Wait + Abort>(
+pub(crate) fn map_and_asks<A: Ledger, B: Ledger, C: Ledger, N: Naming, R: Wait + Abort>(
     rt: &R,
     board: &Board<A, B, C, N>,
     runners: &mut [Runner<A>],

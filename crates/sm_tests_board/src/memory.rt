@@ -2,7 +2,7 @@
 //! each of these tests with its first allocation refused, then with its second, and so on, and wants `reached` to be printed where none is
 //! refused; `scripts/check-threads` does so with the threads of the last one.
 use super::boards::{Deed, End, act_or_not, close, end, machine_or_not, tokens_of};
-use sm_executor::{Board, Naming, NotRun, Open, RunFault, Runner, Side, run};
+use sm_executor::{Board, Naming, NotRun, Open, RunFault, Runner, run};
 use sm_fixtures::{
     S_TO_B, World, handover_plan, is_for, is_handover, is_signalled, signalled_plan,
 };
@@ -12,6 +12,7 @@ use sm_verifier::Checked;
 use std::alloc::{AllocError, Global};
 use std::process::Abort;
 use std::sync::Wait;
+use std::sync::ledger::Ledger;
 use std::thread::Threads;
 
 /// Which plan begins on a board.
@@ -62,7 +63,7 @@ fn end_as_it_was(
 
 /// Gives a board up on which so many plans have begun and no stream has stepped, with the runners of their streams. There is room for
 /// their tokens.
-fn give_up<A: Side, B: Side, C: Side, N: Naming>(
+fn give_up<A: Ledger, B: Ledger, C: Ledger, N: Naming>(
     rt: &impl Abort,
     alloc: Global,
     board: Board<A, B, C, N>,
@@ -81,7 +82,7 @@ fn is_at_start(machine: &Machine, stream: u32) -> bool {
 }
 
 /// The runners of both streams are there, neither stream has stepped, and the log has so many other events.
-pub(crate) fn has_none_stepped<A: Side>(
+pub(crate) fn has_none_stepped<A: Ledger>(
     machine: &Machine,
     runners: &[Runner<A>],
     events: usize,
@@ -97,9 +98,9 @@ pub(crate) fn has_none_stepped<A: Side>(
 /// Two streams are run, and the board is closed. Or no stream has stepped and both runners are back: then the board is given up. That a
 /// thread cannot be started is printed, so that whoever refuses one sees it.
 fn run_or_not<
-    A: Side + Send + Sync,
-    B: Side + Send + Sync,
-    C: Side + Send + Sync,
+    A: Ledger + Send + Sync,
+    B: Ledger + Send + Sync,
+    C: Ledger + Send + Sync,
     N: Naming + Send + Sync,
     R: Threads + Wait + Sync + Print + Abort,
 >(
@@ -145,7 +146,7 @@ fn run_or_not<
 }
 
 /// A plan begins on a board, and its streams have these runners. Or it comes back as it was.
-fn begun_or_not<A: Side, B: Side, C: Side, N: Naming, R: Wait + Abort>(
+fn begun_or_not<A: Ledger, B: Ledger, C: Ledger, N: Naming, R: Wait + Abort>(
     rt: &R,
     alloc: Global,
     board: &Board<A, B, C, N>,
@@ -164,9 +165,9 @@ fn begun_or_not<A: Side, B: Side, C: Side, N: Naming, R: Wait + Abort>(
 
 /// A plan begins on a board that has given out no runner, and its streams may be run. Where there is no memory for it, all is as it was.
 pub(crate) fn begin_or_not<
-    A: Side + Send + Sync,
-    B: Side + Send + Sync,
-    C: Side + Send + Sync,
+    A: Ledger + Send + Sync,
+    B: Ledger + Send + Sync,
+    C: Ledger + Send + Sync,
     N: Naming + Send + Sync,
     R: Threads + Wait + Sync + Print + Abort,
 >(rt: &R, alloc: Global, board: Board<A, B, C, N>, none: Vec<Runner<A>>, attempt: Attempt) -> End {

@@ -4,7 +4,7 @@ use super::courses::{Course, go};
 use super::gates::Meeting;
 use super::plans::two_handovers;
 use super::worlds::{assert_cells, assert_entries, assert_loads, entry};
-use sm_executor::{Board, Naming, Runner, Side};
+use sm_executor::{Board, Naming, Runner};
 use sm_fixtures::{S_TO_B, World, handover_plan, idle_plan, signalled_plan};
 use sm_placement::Placement;
 use sm_server::Cell;
@@ -12,13 +12,14 @@ use sm_verifier::Checked;
 use std::alloc::{AllocError, Global};
 use std::process::Abort;
 use std::sync::Wait;
+use std::sync::ledger::Ledger;
 use std::thread::Threads;
 
 /// A plan is run on a board, which is closed then.
 pub(crate) fn run_checked<
-    A: Side + Send + Sync,
-    B: Side + Send + Sync,
-    C: Side + Send + Sync,
+    A: Ledger + Send + Sync,
+    B: Ledger + Send + Sync,
+    C: Ledger + Send + Sync,
     N: Naming + Send + Sync,
     R: Threads + Wait + Sync + Print + Abort,
 >(

@@ -3,7 +3,7 @@ use super::asking::asks;
 use super::boards::{Deed, End, act_on_new, end, tokens_of};
 use super::given::{Given, put};
 use super::map_and_asks::map_and_asks;
-use sm_executor::{Board, Caller, Naming, Runner, Side};
+use sm_executor::{Board, Caller, Naming, Runner};
 use sm_fixtures::{Turn, begun};
 use sm_machine::Machine;
 use sm_placement::Placement;
@@ -12,6 +12,7 @@ use sm_verifier::Checked;
 use std::alloc::{AllocError, Global};
 use std::process::Abort;
 use std::sync::Wait;
+use std::sync::ledger::Ledger;
 use std::thread::Threads;
 
 /// What is played on a board.
@@ -41,7 +42,7 @@ pub(crate) fn has_log(machine: &Machine, log: &[Turn]) -> bool {
 }
 
 /// Makes events one by one, and asserts their answers.
-fn make_all<A: Side, B: Side, C: Side, N: Naming, R: Wait + Abort>(
+fn make_all<A: Ledger, B: Ledger, C: Ledger, N: Naming, R: Wait + Abort>(
     rt: &R,
     alloc: Global,
     board: &Board<A, B, C, N>,
@@ -55,7 +56,7 @@ fn make_all<A: Side, B: Side, C: Side, N: Naming, R: Wait + Abort>(
 }
 
 /// Plays a scene for two callers of the board.
-fn play<A: Side, B: Side, C: Side, N: Naming, R: Wait + Abort>(
+fn play<A: Ledger, B: Ledger, C: Ledger, N: Naming, R: Wait + Abort>(
     rt: &R,
     alloc: Global,
     board: &Board<A, B, C, N>,
@@ -78,7 +79,7 @@ fn play<A: Side, B: Side, C: Side, N: Naming, R: Wait + Abort>(
 }
 
 /// Plays a scene on a board, in which these plans may begin, and gives the board up.
-pub(crate) fn play_scene<A: Side, B: Side, C: Side, N: Naming, R: Wait + Abort>(
+pub(crate) fn play_scene<A: Ledger, B: Ledger, C: Ledger, N: Naming, R: Wait + Abort>(
     rt: &R,
     alloc: Global,
     board: Board<A, B, C, N>,

@@ -2,13 +2,14 @@
 ghost use Rattle.std.specs.Prelude.{◌≡◌, ◌<◌, ◌≤◌, IfOk, length, vec_len};
 ghost use Rattle.board_trials.specs.declared.looks.batches.TheConstants.{SHARDS};
 
-use sm_executor::{Board, Caller, Naming, Side};
+use sm_executor::{Board, Caller, Naming};
 use sm_map::Entry;
 use sm_server::ShardId;
 use std::alloc::{AllocError, Global};
 use std::io;
 use std::rt::Clock;
 use std::sync::atomic::{AtomicU64, Ordering};
+use std::sync::ledger::Ledger;
 use std::time::{Duration, Instant};
 
 /// How many shards are looked at: those that the plan moves, and no other.
@@ -71,7 +72,7 @@ fn server_number(entry: Entry) -> u64 {
 }
 
 /// A batch of looks. What it finds changes whenever the plan publishes.
-pub(crate) fn look_batch<A: Side, B: Side, C: Side, N: Naming>(
+pub(crate) fn look_batch<A: Ledger, B: Ledger, C: Ledger, N: Naming>(
     rt: &impl Clock,
     board: &Board<A, B, C, N>,
     caller: &mut Caller<B, C, N>,

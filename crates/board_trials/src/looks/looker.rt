@@ -5,11 +5,12 @@ ghost use Rattle.board_trials.specs.declared.looks.batches.TheConstants.{SHARDS}
 use crate::looks::batches::{PlainWords, SHARDS, load_batch, look_batch};
 use crate::looks::measured::Measured;
 use board_runs::{Finish, Worker};
-use sm_executor::{Board, Caller, Naming, Side};
+use sm_executor::{Board, Caller, Naming};
 use sm_machine::Permit;
 use std::alloc::{AllocError, Global};
 use std::io;
 use std::rt::Clock;
+use std::sync::ledger::Ledger;
 use std::sync::{Mutex, Wait};
 
 /// How many batches a looker makes at most.
@@ -33,7 +34,7 @@ impl Looker {
 
     /// Looks until the streams have ended. Batches are measured where a look found another map than in the batch before: the
     /// plan has published something in the meantime.
-    fn look_on<A: Side, B: Side, C: Side, N: Naming, R: Clock>(
+    fn look_on<A: Ledger, B: Ledger, C: Ledger, N: Naming, R: Clock>(
         &self,
         rt: &R,
         board: &Board<A, B, C, N>,
@@ -65,7 +66,7 @@ impl Looker {
 }
 
 impl Worker for Looker {
-    fn work<A: Side, B: Side, C: Side, N: Naming, R: Wait + Clock>(
+    fn work<A: Ledger, B: Ledger, C: Ledger, N: Naming, R: Wait + Clock>(
         &self,
         rt: &R,
         board: &Board<A, B, C, N>,

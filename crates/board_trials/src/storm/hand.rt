@@ -4,13 +4,14 @@ ghost use Rattle.std.specs.Prelude.{◌<◌, IfSome};
 use crate::storm::gusts::scattered;
 use crate::storm::world::{RESTED, RESTING};
 use board_runs::{Finish, Worker};
-use sm_executor::{Board, Caller, Naming, Side};
+use sm_executor::{Board, Caller, Naming};
 use sm_machine::Permit;
 use sm_router::ask;
 use sm_server::{ServerId, ShardId};
 use std::rt::Clock;
 use std::sync::Wait;
 use std::sync::atomic::{AtomicU64, Ordering};
+use std::sync::ledger::Ledger;
 use std::thread;
 
 /// How often each who asks does so in a run.
@@ -40,7 +41,7 @@ fn picked(number: u64, count: u32) -> Option<u32>
 }
 
 /// Asks as often as a run has it.
-fn ask_often<A: Side, B: Side, C: Side, N: Naming, R: Wait>(
+fn ask_often<A: Ledger, B: Ledger, C: Ledger, N: Naming, R: Wait>(
     rt: &R,
     board: &Board<A, B, C, N>,
     caller: &mut Caller<B, C, N>,
@@ -57,7 +58,7 @@ fn ask_often<A: Side, B: Side, C: Side, N: Naming, R: Wait>(
 }
 
 /// The permit to restart a server, where that is approved.
-fn approved<A: Side, B: Side, C: Side, N: Naming, R: Wait>(
+fn approved<A: Ledger, B: Ledger, C: Ledger, N: Naming, R: Wait>(
     rt: &R,
     board: &Board<A, B, C, N>,
     server: ServerId,
@@ -69,7 +70,7 @@ fn approved<A: Side, B: Side, C: Side, N: Naming, R: Wait>(
 }
 
 /// Ends a restart. The permit comes back where it has not ended.
-fn ended<A: Side, B: Side, C: Side, N: Naming, R: Wait>(
+fn ended<A: Ledger, B: Ledger, C: Ledger, N: Naming, R: Wait>(
     rt: &R,
     board: &Board<A, B, C, N>,
     permit: Permit,
@@ -79,7 +80,7 @@ fn ended<A: Side, B: Side, C: Side, N: Naming, R: Wait>(
 }
 
 /// Restarts a server, and answers whether that was approved. The permit comes back where the restart has not ended.
-fn restart<A: Side, B: Side, C: Side, N: Naming, R: Wait>(
+fn restart<A: Ledger, B: Ledger, C: Ledger, N: Naming, R: Wait>(
     rt: &R,
     board: &Board<A, B, C, N>,
     server: ServerId,
@@ -97,7 +98,7 @@ fn restart<A: Side, B: Side, C: Side, N: Naming, R: Wait>(
 }
 
 /// Restarts a server that no stream mentions, which is counted, and tries to restart any server.
-fn restart_two<A: Side, B: Side, C: Side, N: Naming, R: Wait>(
+fn restart_two<A: Ledger, B: Ledger, C: Ledger, N: Naming, R: Wait>(
     rt: &R,
     board: &Board<A, B, C, N>,
     number: u64,
@@ -115,7 +116,7 @@ fn restart_two<A: Side, B: Side, C: Side, N: Naming, R: Wait>(
 }
 
 /// Makes all restarts of a run. A permit comes back whose restart has not ended.
-fn restart_all<A: Side, B: Side, C: Side, N: Naming, R: Wait>(
+fn restart_all<A: Ledger, B: Ledger, C: Ledger, N: Naming, R: Wait>(
     rt: &R,
     board: &Board<A, B, C, N>,
     seed: u64,
@@ -129,7 +130,7 @@ fn restart_all<A: Side, B: Side, C: Side, N: Naming, R: Wait>(
 }
 
 impl Worker for Hand {
-    fn work<A: Side, B: Side, C: Side, N: Naming, R: Wait + Clock>(
+    fn work<A: Ledger, B: Ledger, C: Ledger, N: Naming, R: Wait + Clock>(
         &self,
         rt: &R,
         board: &Board<A, B, C, N>,
