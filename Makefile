@@ -1,9 +1,10 @@
 # make run: runs the program on a bundled example, before any proof.    make build: proves and builds build/smplan.
+# make try: builds build/smplan-unproved without any proof, in minutes.
 # make test: the gate, and what must run beside it.    make bench: seconds and memory of a large run.
 # make edits: tries all crates' wrong versions of tests/must-fail and tests/edits, over what the gate has built.
 # make storm: 1,000 runs of a plan of 64 streams beside askers and restarts.
 
-.PHONY: build run test edits check-caught check-program check-tests storm bench
+.PHONY: build run try test edits check-caught check-program check-tests storm bench
 
 build:
 	mkdir -p build
@@ -11,6 +12,9 @@ build:
 
 run:
 	@scripts/try-smplan calls < examples/placement.json
+
+try:
+	scripts/build-unproved
 
 # (first what takes seconds; the gate leaves the program that it has proved and run beside its crate; the wrong versions of tests/must-fail
 # are tried always, the others while there is time, so that CI ends within its limit)
