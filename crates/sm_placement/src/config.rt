@@ -347,6 +347,8 @@ impl Config {
     ghost use Rattle.sm_placement.specs.Config.{server_row, shard_row, setup_of, config_fault};
 
     /// Copies servers and shards, or says why they are no configuration: the first fault in the order of `ConfigFault`.
+    /// Whether there are too many and whether the names are good is told without memory; `NoMemory` may stand in place of a
+    /// double name or a bad number.
     #[tactic(auto, using(crate::proofs::SetupLemmas::setup_from_tests))]
     pub fn new(alloc: Global, servers: &[Server], shards: &[Shard]) -> Result<Config, ConfigFault>
         ensures ok { IfOk result (λ config. config ≡ setup_of servers.now shards.now) }

@@ -58,7 +58,7 @@ module _ (h : Hold) (x : Exchange) (small : IsSmallPortion x.got) where
     spare = λ s. omega (arith, less_spare s, spares s, spare_of x.got small s);
   }
 
-  -- the room of each server grows by 2^32 at most
+  -- the room of each server grows by the greatest amount of a right at most
   pub change_grows_room : (v : ℕ) → (plus (minus h (portion_rights x.out)) (portion_rights x.got)).room v ≤ h.room v + MOST_AMOUNT
   change_grows_room v = rw (plus_is (minus h (portion_rights x.out)) (portion_rights x.got) (portion_ordered x.got)) (omega (arith, less_room v, room_of x.got small v))
 

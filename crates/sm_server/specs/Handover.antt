@@ -12,7 +12,8 @@ pub record SteadyModel : Type 0 where
   pub shard : ℕ
   pub server : ℕ
 
--- a server's cell where the primary stands at one (SM 2021): that one's is the primary's, any other has nothing of it
+-- a server's cell while the primary stands at one server and no handover is under way: there it is the primary's, and
+-- another server, if it has no secondary of the shard (no state of a handover tells those), has nothing of it
 abbrev pub steady_cell : SteadyModel → ℕ → Cell
 steady_cell t v = if v == t.server then Primary else Absent
 

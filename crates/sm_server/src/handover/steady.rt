@@ -52,7 +52,7 @@ impl Steady {
         Cell::Primary
     }
 
-    /// Prepares a new server: `prepare_add_shard` there.
+    /// Prepares a new server, one that has nothing of the shard: `prepare_add_shard` there.
     pub fn prepare(self, new_server: ServerId, number: u64) -> Ready
         requires { new_server ≢ self.server }
         ensures state { result ≡ record {
