@@ -20,7 +20,7 @@ pub(crate) fn pay_live(pool: &mut Pool, placement: &Placement, server: ServerId)
     for number in 0..placement.config().shard_count() {
         let shard = ShardId::new(number);
         if placement.is_live(shard, server) {
-            pool.less(shard);
+            pool.take_one_spare(shard);
         }
     }
 }
@@ -36,7 +36,7 @@ pub(crate) fn get_live(pool: &mut Pool, placement: &Placement, server: ServerId)
     for number in 0..placement.config().shard_count() {
         let shard = ShardId::new(number);
         if placement.is_live(shard, server) {
-            pool.more(shard);
+            pool.put_one_spare(shard);
         }
     }
 }

@@ -1,5 +1,5 @@
 -- How many servers of a shard's row are live, and how many serve it.
--- Steps of the code's own way, which private functions' contracts cite: no reader of the public ones must believe them.
+-- Steps of the code's own way, which private functions' contracts cite: whoever reads the public ones need not read them.
 use Rattle.std.specs.Prelude.{◌≡◌, ◌<◌, ◌≤◌, ℕ, ◌+◌, ◌-◌, ◌^◌, ◌==◌, ◌||◌, Bool, Option, Some, None, if◌then◌else◌, List, length}
 use Rattle.std.specs.Option.{option_or, unwrap_or}
 use Rattle.sm_server.specs.declared.call.Cell.{Cell}

@@ -1,6 +1,6 @@
 -- Opening a placement: the placement that is named, and why one is refused.
 -- `AreKnown`, `IsNamedOnce`, `tally`, `lead_cells` and `unpublished` are steps of the code's own way, which private functions' contracts cite:
--- no reader of the public ones must believe them.
+-- whoever reads the public ones need not read them.
 use Rattle.std.specs.Prelude.{◌≡◌, ◌≤◌, ℕ, ◌&&◌, ◌||◌, ◌==◌, Bool, true, false, not, List, [], ◌∷◌, ◌++◌, length, Option, Some, None, nat_lt, if◌then◌else◌, option_map, find, count_by}
 use Rattle.std.specs.List.{list_any, range_with_len}
 use Rattle.sm_server.specs.declared.call.Cell.{Cell}

@@ -1,5 +1,5 @@
 -- The parties of a list of slots, in blocks of as many slots each.
--- Steps of the code's own way, which private functions' contracts cite: no reader of the public ones must believe them.
+-- Steps of the code's own way, which private functions' contracts cite: whoever reads the public ones need not read them.
 use Rattle.std.specs.Prelude.{◌≡◌, ◌≤◌, ◌<◌, ℕ, ◌+◌, ◌*◌, ◌/◌, ◌%◌, List, length, Option, Some, None, is_some}
 use Rattle.sm_placement.specs.declared.parties.Party.{Party}
 use Rattle.sm_placement.specs.declared.parties.TheConstants.{BLOCK}

@@ -46,14 +46,19 @@ impl Shard {
 /// Why servers and shards are no configuration.
 #[derive(Clone, Copy, Debug, PartialEq, Eq, Error)]
 pub enum ConfigFault {
+    /// There was no memory for the copies and the tables of names.
     #[error("out of memory")]
     NoMemory,
+    /// There are more servers or more shards than a configuration may have.
     #[error("more than 1024 servers or 4096 shards")]
     TooMany,
+    /// A server's or shard's name, or a region, has no bytes, too many, or one that may not stand there.
     #[error("a name or region is not 1 to 32 letters, digits, '-', '_' or '.'")]
     BadName,
+    /// Two servers have one name, or two shards. A server and a shard may share one.
     #[error("two servers or two shards have one name")]
     DoubleName,
+    /// A room, load, want, cap or spread is above its limit, or a cap is above its shard's want.
     #[error("a number is above its limit, or a shard's cap is above its want")]
     BadNumber,
 }

@@ -20,22 +20,31 @@ use thiserror::Error;
 /// Why a placement is not opened.
 #[derive(Clone, Copy, Debug, PartialEq, Eq, Error)]
 pub enum OpenFault {
+    /// There was no memory for the tables of the placement.
     #[error("out of memory")]
     NoMemory,
+    /// More cells are named than a placement may have, or the list of listed servers has not one entry for each shard.
     #[error("more than 1048576 cells, or not one listed server for each shard")]
     TooMany,
+    /// A cell, a listed server or a server that is down has a number that is not below the configuration's count.
     #[error("a shard or server is not in the configuration")]
     UnknownName,
+    /// The shard's cell at the server is named twice, whatever is said of it.
     #[error("the cell of {shard} at {server} is named twice")]
     DoubleCell { shard: ShardId, server: ServerId },
+    /// The shard has two primaries, or a cell of it is prepared or forwards.
     #[error("{shard} has two primaries, or a handover is under way")]
     BadLead { shard: ShardId },
+    /// A server is listed for the shard that is not its primary.
     #[error("the listed server of {shard} is not its primary")]
     BadListing { shard: ShardId },
+    /// The loads of the shards that the server has a cell of add up to more than its room.
     #[error("the load of {server} is above its room")]
     OverRoom { server: ServerId },
+    /// Fewer replicas of the shard stand at servers that are up than its want less its cap.
     #[error("{shard} has fewer live replicas than its floor")]
     Short { shard: ShardId },
+    /// More servers are down than may be at once.
     #[error("more servers are down than the limit")]
     TooManyDown,
 }

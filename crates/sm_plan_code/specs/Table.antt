@@ -1,7 +1,7 @@
 -- The table of rights by its two columns: what each instruction needs, which is taken out of the hold, and what it
 -- gives, which is put in. A crown keeps its listed server unless the line says another.
--- `held_crown` and `exchanged` are steps of the code's own way, which private functions' contracts cite: no reader of the public ones must
--- believe them.
+-- `held_crown` and `exchanged` are steps of the code's own way, which private functions' contracts cite: whoever reads the public ones need not
+-- read them.
 use Rattle.std.specs.Prelude.{◌≡◌, ◌≤◌, ℕ, Option, Some, None, Result, Ok, IfSome, if◌then◌else◌}
 use Rattle.sm_server.specs.declared.call.Role.TheVariants as role
 use Rattle.sm_placement.specs.declared.lead.Lead.{Lead}

@@ -1,5 +1,5 @@
 -- Rows in order, with the rows of a parcel worked into them.
--- Steps of the code's own way, which private functions' contracts and proofs cite: no reader of the public ones must believe them.
+-- Steps of the code's own way, which private functions' contracts and proofs cite: whoever reads the public ones need not read them.
 use Rattle.std.specs.Prelude.{◌≡◌, ℕ, ◌+◌, ◌-◌, ◌%◌, ◌^◌, ◌==◌, ◌&&◌, is_none, is_some, insert, remove, slice_set, Option, Some, None, List, [], ◌∷◌, if◌then◌else◌}
 use Rattle.sm_placement.specs.Sums.{bit}
 use Rattle.sm_reservation.specs.declared.right.Room.{Room}

@@ -1,5 +1,5 @@
 -- Holds in memory: what contracts see of them.
--- `IsHold` is what a `Hold` keeps: no reader of public contracts must believe it.
+-- `IsHold` is what a `Hold` keeps: whoever reads public contracts need not read it.
 use Rattle.std.specs.Prelude.{◌≤◌}
 use Rattle.sm_reservation.specs.Rights.{Rights}
 use Rattle.sm_reservation.specs.Key.{IsPositive, AreU64}

@@ -1,6 +1,6 @@
 -- Keys of rights: their keys in the lists, their order, and how often a key stands.
--- `IsInOrder` and `first_double` are steps of the code's own way, which private functions' contracts cite: no reader of the public ones must
--- believe them.
+-- `IsInOrder` and `first_double` are steps of the code's own way, which private functions' contracts cite: whoever reads the public ones need not
+-- read them.
 use Rattle.std.specs.Prelude.{◌≡◌, ℕ, ◌≤◌, ◌<◌, ◌^◌, ◌++◌, Bool, true, false, nat_lt, count_by, filter, Contains, List, Option, codes, decimal}
 use Rattle.std.specs.List.Sorted.{IsPermutation}
 use Rattle.std.specs.List.{AllByRecursion}

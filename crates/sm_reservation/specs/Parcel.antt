@@ -1,5 +1,5 @@
 -- Parcels: what contracts see of them.
--- `IsParcel` is what a `Parcel` keeps: no reader of public contracts must believe it.
+-- `IsParcel` is what a `Parcel` keeps: whoever reads public contracts need not read it.
 use Rattle.sm_reservation.specs.Rights.{Rights}
 use Rattle.sm_reservation.specs.Key.{IsOrdered, IsPositive, AreU64}
 use Rattle.sm_reservation.specs.declared.parcel.Parcel.TheInside.{Inside}

@@ -1,5 +1,5 @@
 -- A pool: the rights that no grant has, by key.
--- `IsStocked` is what a `Pool` keeps: no reader of public contracts must believe it.
+-- `IsStocked` is what a `Pool` keeps: whoever reads public contracts need not read it.
 use Rattle.std.specs.Prelude.{◌≡◌, ◌≤◌, ◌<◌, ◌-◌, ◌*◌, ◌&&◌, ℕ, List, length, Option, Some, None, nat_lt, ◌==◌, unwrap_or, if◌then◌else◌}
 use Rattle.std.specs.Option.{option_map}
 use Rattle.sm_placement.specs.declared.lead.Lead.{Lead}

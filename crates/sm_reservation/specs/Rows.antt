@@ -1,6 +1,6 @@
 -- Rows in the order of their keys, and the row at a key.
 -- `RowsModel`, `ClimbsFrom`, `Climbs`, `first_twin_from` and `first_twin` are steps of the code's own way, which private functions' contracts
--- cite: no reader of the public ones must believe them.
+-- cite: whoever reads the public ones need not read them.
 use Rattle.std.specs.Prelude.{◌≡◌, ℕ, suc, ◌<◌, Bool, true, false, ◌&&◌, ◌||◌, ◌==◌, nat_lt, Option, Some, None, List, [], ◌∷◌, if◌then◌else◌, find}
 
 -- two keys are the same; a key is a shard and a server, or one of them and 0

@@ -1,5 +1,5 @@
 -- A list gone through in turn, where each element changes a state.
--- Steps of the code's own way, which private functions' contracts and proofs cite: no reader of the public ones must believe them.
+-- Steps of the code's own way, which private functions' contracts and proofs cite: whoever reads the public ones need not read them.
 use Rattle.std.specs.Prelude.{ℕ, ◌+◌, Bool, List, [], ◌∷◌}
 use Rattle.sm_placement.specs.Sums.{bit}
 

@@ -14,11 +14,11 @@ pub struct Portion {
     pub spare: Option<Spare>,
 }
 
-/// What a grant gives for what it gets, together with the call that it is for.
+/// What an instruction needs of a grant, and what comes of it: a trade of these, together with the call that it is for.
 #[derive(Clone, Copy, Debug, Default, PartialEq, Eq)]
 pub struct Change {
-    /// What it gives.
+    /// What leaves the grant.
     pub out: Portion,
-    /// What it gets.
+    /// What comes into it.
     pub got: Portion,
 }

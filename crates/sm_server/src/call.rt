@@ -57,14 +57,19 @@ pub enum Call {
 /// Why a server refuses a call: of the reasons that apply, the first in this order.
 #[derive(Clone, Copy, Debug, PartialEq, Eq, Error)]
 pub enum Refusal {
+    /// The server is down, and answers no call.
     #[error("the server is down")]
     Down,
+    /// A replica is to be added or prepared, and the server's cell is one to which it can't come: as a rule, one that isn't absent.
     #[error("the server holds the shard already")]
     AlreadyHeld,
+    /// A replica is to be dropped, changed or handed over, and the server has nothing of the shard.
     #[error("the server does not hold the shard")]
     NotHeld,
+    /// The server has something of the shard, and the call needs something else there.
     #[error("the replica is not in the role that the call needs")]
     WrongRole,
+    /// The server has nothing of the shard, and less room left than the shard's load.
     #[error("the server has no room for the shard")]
     NoRoom,
 }
