@@ -83,6 +83,10 @@ has_spare h s = nat_le 1 (h.spare s)
 abbrev pub is_apart : Hold → Rights → Bool
 is_apart h p = list_all (λ x. is_none (h.cells x.shard x.server)) p.cells && list_all (λ x. is_none (h.crowns x.shard)) p.crowns
 
+-- the tests of a replica that is to come to a server: the right to its absent cell there, and room for its load
+abbrev pub comes_to : Sizes → ℕ → ℕ → Hold → List (Bool × Why)
+comes_to c s v h = (has_right h s v, NoRight) ∷ (has_cell h s v Absent, WrongState) ∷ (has_room h v (c.load s), NoRoom) ∷ []
+
 -- ---- the lines
 
 -- the crown with another lead and the same listed server
@@ -105,7 +109,7 @@ refused_line why h = record { tests = (false, why) ∷ []; change = h }
 -- and room for the load leave the hold.
 abbrev pub prepare_add_line : Sizes → ℕ → ℕ → ℕ → Hold → Line
 prepare_add_line c s v u h = record {
-  tests = (has_crown h s, NoCrown) ∷ (has_lead h s (At u), WrongLead) ∷ (has_right h s v, NoRight) ∷ (has_cell h s v Absent, WrongState) ∷ (has_room h v (c.load s), NoRoom) ∷ [];
+  tests = (has_crown h s, NoCrown) ∷ (has_lead h s (At u), WrongLead) ∷ comes_to c s v h;
   change = pay_room (with_cell (with_lead h s (Ready u v)) s v None) v (c.load s);
 }
 
@@ -120,7 +124,7 @@ prepare_drop_line s u v h = record {
 -- hold, and one spare replica comes in.
 abbrev pub add_secondary_line : Sizes → ℕ → ℕ → Hold → Line
 add_secondary_line c s v h = record {
-  tests = (has_right h s v, NoRight) ∷ (has_cell h s v Absent, WrongState) ∷ (has_room h v (c.load s), NoRoom) ∷ [];
+  tests = comes_to c s v h;
   change = get_spare (pay_room (with_cell h s v (Some Secondary)) v (c.load s)) s 1;
 }
 
@@ -133,7 +137,7 @@ add_primary_line c s v h (Some (Handing u w)) = record {
   change = with_lead h s (Handed u v);
 }
 add_primary_line c s v h (Some Gone) = record {
-  tests = (has_right h s v, NoRight) ∷ (has_cell h s v Absent, WrongState) ∷ (has_room h v (c.load s), NoRoom) ∷ [];
+  tests = comes_to c s v h;
   change = get_spare (pay_room (with_cell (with_lead h s (At v)) s v None) v (c.load s)) s 1;
 }
 add_primary_line c s v h (Some lead) = refused_line WrongLead h

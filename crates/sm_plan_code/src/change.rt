@@ -8,7 +8,8 @@ ghost use Rattle.sm_reservation.specs.CanJoin.{AreApart};
 ghost use Rattle.sm_reservation.specs.Change.{portion_rights};
 ghost use Rattle.sm_reservation.specs.Short.{first_short};
 ghost use Rattle.sm_plan_code.specs.Instr.{shard_of, IsOwn};
-ghost use Rattle.sm_plan_code.specs.After.{after, line_of, to_list, lead_held, listed_of, prepare_add_line, prepare_drop_line, add_secondary_line, add_primary_line, drop_held_line, drop_led_line, to_primary_line, to_secondary_line, publish_line, unlist_line};
+ghost use Rattle.sm_plan_code.specs.After.{after, comes_to, first_why, unless_refused, line_of, to_list, lead_held, listed_of, prepare_add_line, prepare_drop_line, add_secondary_line, add_primary_line, drop_held_line, drop_led_line, to_primary_line, to_secondary_line, publish_line, unlist_line};
+ghost use Rattle.sm_reservation.specs.declared.right.PlainCell.TheVariants as plain;
 ghost use Rattle.sm_plan_code.specs.Table.{portion, cell, crown, room, held_crown, exchanged, exchange_of, no_exchange, IsSmallPortion, prepare_add_exchange, prepare_drop_exchange, add_secondary_exchange, add_primary_exchange, drop_held_exchange, drop_led_exchange, to_primary_exchange, to_secondary_exchange, publish_exchange, unlist_exchange};
 
 use crate::{Instr, Why};
@@ -77,6 +78,29 @@ const fn listing(held: &Crown, listed: Option<ServerId>) -> Option<Crown>
     })
 }
 
+/// What a replica needs that is to come to a server: the right to its absent cell there, and room for its load.
+fn absent_with_room(
+    config: &Config,
+    hold: &Hold,
+    shard: ShardId,
+    server: ServerId,
+) -> Result<(Option<CellRight>, Option<Room>), Why>
+    requires { shard < length config.now.shards }
+    ensures { result ≡ unless_refused (first_why (comes_to (sizes_of config.now) shard server (hold_of hold.now.rights))) (cell shard server plain.Absent, room server ((sizes_of config.now).load shard)) }
+{
+    match hold.cell(shard, server) {
+        None => return Err(Why::NoRight),
+        Some(PlainCell::Secondary) => return Err(Why::WrongState),
+        Some(PlainCell::Absent) => {}
+    }
+    let amount = config.load(shard);
+    if hold.room(server) < amount {
+        return Err(Why::NoRoom);
+    }
+    let absent = cell(shard, server, PlainCell::Absent);
+    Ok((absent, Some(Room { server, amount })))
+}
+
 /// Prepares `server` for a primary that `owner` hands over.
 fn prepare_add(
     config: &Config,
@@ -92,17 +116,7 @@ fn prepare_add(
     if crown.lead != Lead::At(owner) {
         return Err(Why::WrongLead);
     }
-    match hold.cell(shard, server) {
-        None => return Err(Why::NoRight),
-        Some(PlainCell::Secondary) => return Err(Why::WrongState),
-        Some(PlainCell::Absent) => {}
-    }
-    let amount = config.load(shard);
-    if hold.room(server) < amount {
-        return Err(Why::NoRoom);
-    }
-    let absent = cell(shard, server, PlainCell::Absent);
-    let room = Some(Room { server, amount });
+    let (absent, room) = absent_with_room(config, hold, shard, server)?;
     let ready = Lead::Ready(owner, server);
     Ok(Change {
         out: portion(absent, Some(crown), room, None),
@@ -140,17 +154,7 @@ fn add_secondary(
     requires { shard < length config.now.shards }
     ensures { result ≡ exchanged (add_secondary_line (sizes_of config.now) shard server (hold_of hold.now.rights)) (add_secondary_exchange (sizes_of config.now) shard server) }
 {
-    match hold.cell(shard, server) {
-        None => return Err(Why::NoRight),
-        Some(PlainCell::Secondary) => return Err(Why::WrongState),
-        Some(PlainCell::Absent) => {}
-    }
-    let amount = config.load(shard);
-    if hold.room(server) < amount {
-        return Err(Why::NoRoom);
-    }
-    let absent = cell(shard, server, PlainCell::Absent);
-    let room = Some(Room { server, amount });
+    let (absent, room) = absent_with_room(config, hold, shard, server)?;
     let secondary = cell(shard, server, PlainCell::Secondary);
     let spare = Some(Spare { shard, amount: 1 });
     Ok(Change {
@@ -171,17 +175,7 @@ fn add_first(
     requires crown { (crown.now.shard ≡ shard) × (crown.now.lead ≡ Lead.Gone) }
     ensures { result ≡ exchanged (add_primary_line (sizes_of config.now) shard server (hold_of hold.now.rights) (Some Lead.Gone)) (add_primary_exchange (sizes_of config.now) shard server crown.now.listed (Some Lead.Gone)) }
 {
-    match hold.cell(shard, server) {
-        None => return Err(Why::NoRight),
-        Some(PlainCell::Secondary) => return Err(Why::WrongState),
-        Some(PlainCell::Absent) => {}
-    }
-    let amount = config.load(shard);
-    if hold.room(server) < amount {
-        return Err(Why::NoRoom);
-    }
-    let absent = cell(shard, server, PlainCell::Absent);
-    let room = Some(Room { server, amount });
+    let (absent, room) = absent_with_room(config, hold, shard, server)?;
     let at = led(crown, Lead::At(server));
     let spare = Some(Spare { shard, amount: 1 });
     Ok(Change {
