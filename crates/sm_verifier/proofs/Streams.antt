@@ -1,6 +1,6 @@
 -- A stream followed as far as a position, one instruction further, and at its end.
-use Rattle.std.proofs.Common.{◌≡◌, ℕ, ◌+◌, ◌*◌, ◌<◌, ◌≤◌, suc, add-one, true, ◌&&◌, nat_le, Option, Some, None, Result, Ok, Err, length, get_or, take, refl, ◌∙◌, arith, inl, inr, leb-true, leb-false}
-use Rattle.std.specs.Prelude.{IfSome, IsOk, slice_get}
+use Rattle.std.proofs.Common.{◌≡◌, ◌≢◌, ℕ, ◌+◌, ◌*◌, ◌<◌, ◌≤◌, suc, add-one, true, ◌&&◌, nat_le, Option, Some, None, Result, Ok, Err, length, get_or, take, refl, ◌∙◌, arith, inl, inr, leb-true, leb-false}
+use Rattle.std.specs.Prelude.{IfSome, IfErr, IsOk, slice_get}
 use Rattle.std.specs.List.{count_by}
 use Rattle.std.proofs.lemmas.Bool.{cases_Bool, cases_eq, cases_lt, and_parts, and_cases}
 use Rattle.std.proofs.lemmas.List.Sums.{count_by_more_yes, count_by_more_no, sum_by-take-le}
@@ -17,6 +17,8 @@ use Rattle.sm_plan_code.specs.After.{after}
 use Rattle.sm_verifier.specs.declared.steps.StepFault.{StepFault}
 use Rattle.sm_verifier.specs.declared.steps.StepFault.TheVariants.{NoMemory, Refused}
 use Rattle.sm_verifier.specs.Step.{parcels_of, IsAnswer, IsAtMost, Grows}
+use Rattle.sm_verifier.specs.declared.following.Bad.{Bad}
+use Rattle.sm_verifier.specs.declared.following.Bad.TheVariants as bad
 use Rattle.sm_verifier.specs.Bad.{bad_at, IsBad}
 use Rattle.sm_verifier.specs.Stream.{Course, hold_before, final_hold, calls_before, HasCrownsAtRest, IsGood, within_budget, made_at, BreaksBy, BreaksAt, IsFirstBreak}
 use Rattle.sm_plan_code.specs.declared.limits.TheConstants.{MOST_AMOUNT}
@@ -113,6 +115,12 @@ not_good s p why broken good = go (slice_get s.code p) refl broken (good.made p)
       | inr under ↦ let said : said_of s i (hold_before s p) ≡ Err why = rw under at broken in let wrong = rw said at ok in cc
     ]
     go None e broken ok = broken.2 good.settled
+
+-- a stream of which an answer says where it breaks off first is not good
+pub not_good_where_bad : {T : Type 0} (s : Course) (answer : Result T Bad) → IfErr answer (IsBad s) → IfErr answer (λ b. b ≢ bad.NoMemory → ¬ IsGood s)
+not_good_where_bad s (Ok x) is = tt
+not_good_where_bad s (Err bad.NoMemory) is = λ some. absurd (some refl)
+not_good_where_bad s (Err (bad.At p why)) is = λ some. not_good s p why is.here
 
 -- a stream breaks off where it cannot go on, and all before was made
 pub first_break : (s : Course) (p : ℕ) (why : Why) → p ≤ length s.code → ((q : ℕ) → q < p → IfSome (slice_get s.code q) (λ i. IsOk (made_at s q i))) → BreaksAt s p why → IsFirstBreak s p why

@@ -1,5 +1,5 @@
 //! A stream followed through its code.
-ghost use Rattle.std.specs.Prelude.{◌≡◌, true, ◌≤◌, ◌<◌, ◌+◌, ◌^◌, ◌↔◌, IsTrue, All, IfOk, IfErr, OnOk, length};
+ghost use Rattle.std.specs.Prelude.{◌≡◌, ◌≢◌, true, ◌≤◌, ◌<◌, ◌+◌, ◌^◌, ◌↔◌, IsTrue, All, IfOk, IfErr, OnOk, length};
 ghost use Rattle.sm_placement.specs.Lead.{is_at_rest};
 ghost use Rattle.sm_placement.specs.Setup.{sizes_of};
 ghost use Rattle.sm_reservation.specs.HoldOf.{hold_of};
@@ -190,6 +190,7 @@ pub fn follow_to_end(alloc: Global, config: &Config, plan: &Plan, stream: u32) -
     ensures hold { IfOk result (λ end. hold_of end.parcel ≡ final_hold (stream_at (sizes_of config.now) plan.now stream)) }
     ensures peak { IfOk result (λ end. IsPeak (stream_at (sizes_of config.now) plan.now stream) end.peak) }
     ensures bad { IfErr result (λ bad. IsBad (stream_at (sizes_of config.now) plan.now stream) bad) }
+    ensures not_good { IfErr result (λ bad. bad ≢ Bad.NoMemory → ¬ IsGood (stream_at (sizes_of config.now) plan.now stream)) }
 {
     follow_stream(
         alloc,
@@ -201,14 +202,15 @@ pub fn follow_to_end(alloc: Global, config: &Config, plan: &Plan, stream: u32) -
 
 /// Follows the stream of a plan at a number, with its declared rights, through its whole code: what it holds at the end.
 ///
-/// A stream that is not good breaks off at the first position where it may not go on. A call that is over the budget is
-/// refused as `OverBudget`, whatever else stands against it. Retries do not count.
+/// Any `Err` but `NoMemory` says that the stream is not good, and where and why it first may not go on. A call that is
+/// over the budget is refused as `OverBudget`, whatever else stands against it. Retries do not count.
 pub fn follow(alloc: Global, config: &Config, plan: &Plan, stream: u32) -> Result<Parcel, Bad>
     requires fits { IsKnownPlan (length config.now.shards) (length config.now.servers) plan.now }
     requires stream { stream < length plan.now.streams }
     ensures good { OnOk result (IsGood (stream_at (sizes_of config.now) plan.now stream)) }
     ensures hold { IfOk result (λ parcel. hold_of parcel ≡ final_hold (stream_at (sizes_of config.now) plan.now stream)) }
     ensures bad { IfErr result (λ bad. IsBad (stream_at (sizes_of config.now) plan.now stream) bad) }
+    ensures not_good { IfErr result (λ bad. bad ≢ Bad.NoMemory → ¬ IsGood (stream_at (sizes_of config.now) plan.now stream)) }
 {
     let End { parcel, peak: _ } = follow_to_end(alloc, config, plan, stream)?;
     Ok(parcel)
