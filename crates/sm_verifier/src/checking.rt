@@ -93,7 +93,7 @@ fn total_budget(streams: &[Stream]) -> u64
 fn check_budget(plan: &Plan) -> Result<(), Fault>
     ensures kept { OnOk result (KeepsBudget plan.now) }
     ensures fault { IfErr result (λ fault. (c : Sizes) → IsFault c plan.now fault) }
-    ensures told { IfErr result (λ fault. fault ≢ Fault.NoMemory) }
+    ensures early { IfErr result (λ fault. fault ≢ Fault.NoMemory) }
 {
     let streams = total_budget(plan.streams());
     let plan = plan.budget();
@@ -173,7 +173,7 @@ fn examine(alloc: Global, config: &Config, plan: &Plan) -> Result<Findings, Faul
     ensures config { IfOk result (λ found. found.config ≡ config.now) }
     ensures checked { IfOk result (λ found. IsChecked (checked_model config.now plan.now found.order.items found.finals.items found.peaks.items)) }
     ensures fault { IfErr result (λ fault. IsFault (sizes_of config.now) plan.now fault) }
-    ensures over { IfErr result (λ fault. fault ≡ Fault.NoMemory → KeepsBudget plan.now) }
+    ensures early { IfErr result (λ fault. fault ≡ Fault.NoMemory → KeepsBudget plan.now) }
 {
     check_budget(plan)?;
     check_signals(alloc, plan)?;
@@ -199,7 +199,7 @@ pub fn check(alloc: Global, config: &Config, plan: Plan) -> Result<Checked, (Pla
     ensures plan { IfErr result (λ e. e.0 ≡ plan) }
     ensures fault { IfErr result (λ e. IsFault (sizes_of config.now) plan e.1) }
     ensures unsound { IfErr result (λ e. e.1 ≢ Fault.NoMemory → ¬ IsSound (sizes_of config.now) plan) }
-    ensures over { IfErr result (λ e. e.1 ≡ Fault.NoMemory → KeepsBudget plan) }
+    ensures early { IfErr result (λ e. e.1 ≡ Fault.NoMemory → KeepsBudget plan) }
 {
     match examine(alloc, config, &plan) {
         Ok(findings) => Ok(Checked::new(plan, findings)),
