@@ -6,6 +6,9 @@ use Rattle.std.proofs.lemmas.Bool.{cases_Bool, cases_eq, cases_lt, eqb-true, eq-
 use Rattle.std.proofs.lemmas.Option.{slice_get_within, slice_get-get_or, get_or_from_slice_get}
 use Rattle.std.proofs.lemmas.List.{get_or_past}
 use Rattle.std.proofs.lemmas.List.Sums.{sum_by-cons, position_or_len_is}
+use Rattle.std.proofs.lemmas.List.Recursion.{is_sum_by}
+use Rattle.sm_placement.specs.Sums.{bit}
+use Rattle.sm_reservation.proofs.Truths.{bit_true}
 use Rattle.sm_plan_code.specs.declared.instruction.Instr.{Instr}
 use Rattle.sm_plan_code.specs.declared.instruction.Instr.TheVariants.{PrepareAdd, PrepareDrop, Add, Drop, Change, Publish, Unlist, Signal, Wait}
 use Rattle.sm_plan_code.specs.Plan.{StreamModel, PlanModel, KnowsSignal, KnowsSignals}
@@ -49,62 +52,65 @@ one_part {T} f (x ∷ xs) e =
 
 -- ---- an instruction in a code
 
--- what `count_by` adds for an element that passes, or does not
-abbrev pub hit : Bool → ℕ
-hit b = cond b 1 0
+-- a count is the sum of what the test adds for each element
+count_is_sum : {T : Type 0} (test : T → Bool) (xs : List T) → count_by test xs ≡ sum_by (λ x. bit (test x)) xs
+count_is_sum test = is_sum_by (count_by test) (λ x. bit (test x)) refl (λ x xs. sum_by-cons (λ y. cond (test y) 1 0) x xs ∙ ap (λ n. n + count_by test xs) (as_bit (test x)))
+  where
+    as_bit : (b : Bool) → cond b 1 0 ≡ bit b
+    as_bit true = refl
+    as_bit false = refl
 
-bit_one : (b : Bool) → hit b ≡ 1 → b ≡ true
-bit_one true e = refl
-bit_one false e = absurd (omega arith)
-
-bit_none : (b : Bool) → hit b ≡ 0 → b ≡ false
+bit_none : (b : Bool) → bit b ≡ 0 → b ≡ false
 bit_none true e = absurd (omega arith)
 bit_none false e = refl
 
 -- what is counted once passes at the first place that passes
-first_passes : {T : Type 0} (test : T → Bool) (xs : List T) (at : ℕ) (d : T) → IsOnePart (λ x. hit (test x)) xs at → position_or_len test xs ≡ at
+first_passes : {T : Type 0} (test : T → Bool) (xs : List T) (at : ℕ) (d : T) → IsOnePart (λ x. bit (test x)) xs at → position_or_len test xs ≡ at
 first_passes test xs at d one =
     let within = one.within in
-    position_or_len_is test xs at d (omega arith) (λ k l. bit_none (test (get_or xs k d)) (one.others k d (omega arith) (λ e. absurd (omega arith)))) (λ l. bit_one (test (get_or xs at d)) (one.one d))
+    position_or_len_is test xs at d (omega arith) (λ k l. bit_none (test (get_or xs k d)) (one.others k d (omega arith) (λ e. absurd (omega arith)))) (λ l. bit_true (test (get_or xs at d)) (omega (arith, one.one d)))
 
 -- one passes exactly where something is counted
-any_counted : {T : Type 0} (test : T → Bool) (xs : List T) → count_by test xs ≡ 0 → list_any test xs ≡ false
+any_counted : {T : Type 0} (test : T → Bool) (xs : List T) → sum_by (λ x. bit (test x)) xs ≡ 0 → list_any test xs ≡ false
 any_counted test [] e = refl
 any_counted test (x ∷ xs) e = elim (cases_Bool (test x)) [
-  | inl here ↦ absurd (let a = sum_by-cons (λ x. hit (test x)) x xs in let one : hit (test x) ≡ 1 = rw here refl in omega arith)
-  | inr other ↦ rw other (any_counted test xs (let a = sum_by-cons (λ x. hit (test x)) x xs in let none : hit (test x) ≡ 0 = rw other refl in omega arith))
+  | inl here ↦ absurd (let a = sum_by-cons (λ x. bit (test x)) x xs in let one : bit (test x) ≡ 1 = rw here refl in omega arith)
+  | inr other ↦ rw other (any_counted test xs (let a = sum_by-cons (λ x. bit (test x)) x xs in let none : bit (test x) ≡ 0 = rw other refl in omega arith))
 ]
 
-counted_any : {T : Type 0} (test : T → Bool) (xs : List T) → count_by test xs ≡ 1 → list_any test xs ≡ true
+counted_any : {T : Type 0} (test : T → Bool) (xs : List T) → sum_by (λ x. bit (test x)) xs ≡ 1 → list_any test xs ≡ true
 counted_any test [] e = absurd (omega arith)
 counted_any test (x ∷ xs) e = elim (cases_Bool (test x)) [
   | inl here ↦ rw here refl
-  | inr other ↦ rw other (counted_any test xs (let a = sum_by-cons (λ x. hit (test x)) x xs in let none : hit (test x) ≡ 0 = rw other refl in omega arith))
+  | inr other ↦ rw other (counted_any test xs (let a = sum_by-cons (λ x. bit (test x)) x xs in let none : bit (test x) ≡ 0 = rw other refl in omega arith))
 ]
 
 -- an instruction that is counted once in the codes of all streams
 module _ (test : Instr → Bool) (streams : List StreamModel) (once : sum_by (λ stream. count_by test stream.code) streams ≡ 1) where
-  abbrev calls_in : StreamModel → ℕ
-  calls_in stream = count_by test stream.code
+  abbrev passing_in : StreamModel → ℕ
+  passing_in stream = count_by test stream.code
 
   abbrev code : ℕ → List Instr
   code i = (get_or streams i no_stream).code
 
-  stream_one : (at : ℕ) × IsOnePart calls_in streams at
-  stream_one = one_part calls_in streams once
+  stream_one : (at : ℕ) × IsOnePart passing_in streams at
+  stream_one = one_part passing_in streams once
 
   abbrev stream : ℕ
   stream = stream_one.0
 
-  step_one : (at : ℕ) × IsOnePart (λ x. hit (test x)) (code stream) at
-  step_one = one_part (λ x. hit (test x)) (code stream) (stream_one.1.one no_stream)
+  as_sum : (i n : ℕ) → passing_in (get_or streams i no_stream) ≡ n → sum_by (λ x. bit (test x)) (code i) ≡ n
+  as_sum i n e = sym (count_is_sum test (code i)) ∙ e
+
+  step_one : (at : ℕ) × IsOnePart (λ x. bit (test x)) (code stream) at
+  step_one = one_part (λ x. bit (test x)) (code stream) (as_sum stream 1 (stream_one.1.one no_stream))
 
   stream_first : position_or_len (λ stream. list_any test stream.code) streams ≡ stream
   stream_first =
       let within = stream_one.1.within in
       position_or_len_is (λ stream. list_any test stream.code) streams stream no_stream (omega arith)
-      (λ k l. any_counted test (code k) (stream_one.1.others k no_stream (omega arith) (λ e. absurd (omega arith))))
-      (λ l. counted_any test (code stream) (stream_one.1.one no_stream))
+      (λ k l. any_counted test (code k) (as_sum k 0 (stream_one.1.others k no_stream (omega arith) (λ e. absurd (omega arith)))))
+      (λ l. counted_any test (code stream) (as_sum stream 1 (stream_one.1.one no_stream)))
 
   abbrev found : PlanStep
   found = first_step test streams
@@ -118,7 +124,7 @@ module _ (test : Instr → Bool) (streams : List StreamModel) (once : sum_by (λ
   no_instr : (i p : ℕ) (instr : Instr) → i < length streams → i ≢ stream → slice_get (code i) p ≡ Some instr → test instr ≡ false
   no_instr i p instr known apart e =
       let within : p < length (code i) = slice_get_within (code i) p instr e in
-      let none = no_part (λ x. hit (test x)) (code i) (stream_one.1.others i no_stream known apart) p instr within in
+      let none = no_part (λ x. bit (test x)) (code i) (as_sum i 0 (stream_one.1.others i no_stream known apart)) p instr within in
       bit_none (test instr) (rw (get_or_from_slice_get (code i) p instr instr e) at none)
 
   no_other : (p : ℕ) (instr : Instr) → p ≢ step_one.0 → slice_get (code stream) p ≡ Some instr → test instr ≡ false
@@ -142,7 +148,7 @@ module _ (test : Instr → Bool) (streams : List StreamModel) (once : sum_by (λ
   found_here instr = slice_get-get_or (code stream) step_one.0 instr step_one.1.within
 
   found_passes : (instr : Instr) → test (get_or (code stream) step_one.0 instr) ≡ true
-  found_passes instr = bit_one (test (get_or (code stream) step_one.0 instr)) (step_one.1.one instr)
+  found_passes instr = bit_true (test (get_or (code stream) step_one.0 instr)) (omega (arith, step_one.1.one instr))
 
 -- ---- signals
 
