@@ -145,7 +145,7 @@ fn follow_code(
 
 /// What a stream leaves at its end.
 #[derive(Drop)]
-pub struct End {
+pub(crate) struct End {
     /// What the stream holds.
     pub parcel: Parcel,
     /// The most keys that one list of its hold had on the way.
@@ -183,7 +183,12 @@ fn follow_stream(
 }
 
 /// Follows the stream of a plan at a number to its end.
-pub fn follow_to_end(alloc: Global, config: &Config, plan: &Plan, stream: u32) -> Result<End, Bad>
+pub(crate) fn follow_to_end(
+    alloc: Global,
+    config: &Config,
+    plan: &Plan,
+    stream: u32,
+) -> Result<End, Bad>
     requires fits { IsKnownPlan (length config.now.shards) (length config.now.servers) plan.now }
     requires stream { stream < length plan.now.streams }
     ensures good { OnOk result (IsGood (stream_at (sizes_of config.now) plan.now stream)) }
