@@ -22,7 +22,7 @@ use Rattle.sm_verifier.specs.Downs.{down_in_streams}
 abbrev pub first_key : (CellRight → Bool) → (Crown → Bool) → Rights → Option Key
 first_key cell crown r = option_or (first_cell cell r.cells) (first_crown crown r.crowns)
 
--- what the stream at a number declares
+-- what the stream at a number declares, as lists of rights
 abbrev pub declared_rights : List StreamModel → ℕ → Rights
 declared_rights streams i = (slice_index_or streams i no_stream).holds
 

@@ -10,7 +10,7 @@ use Rattle.sm_verifier.specs.declared.checking.Fault.TheVariants.{NoMemory, Budg
 use Rattle.sm_verifier.specs.Stream.{IsGood, IsFirstBreak, stream_at}
 use Rattle.sm_verifier.specs.Order.{HasOrder, IsStuckAt}
 
--- how many calls and tries the streams have together at most
+-- how many calls and retries the streams have together
 abbrev pub total_budget : PlanModel → ℕ
 total_budget plan = sum_by (λ stream. stream.budget + stream.retries) plan.streams
 
@@ -36,7 +36,7 @@ waits plan k = sum_by (λ stream. count_by (is_wait k) stream.code) plan.streams
 abbrev pub IsUsedOnce : PlanModel → ℕ → Type 0
 IsUsedOnce plan k = (posts plan k ≡ 1) × (waits plan k ≡ 1)
 
--- the streams' budgets add up to no more than the plan's
+-- the streams' budgets and retries add up to no more than the plan's budget
 abbrev pub KeepsBudget : PlanModel → Type 0
 KeepsBudget plan = total_budget plan ≤ plan.budget
 
@@ -48,8 +48,8 @@ AreUsedOnce plan n = (k : ℕ) → k < n → IsUsedOnce plan k
 abbrev pub AreGood : Sizes → PlanModel → ℕ → Type 0
 AreGood c plan n = (i : ℕ) → i < n → IsGood (stream_at c plan i)
 
--- The streams' budgets add up to no more than the plan's, each signal is posted once and waited for once, each stream is
--- good, and there is an order of all steps.
+-- The streams' budgets and retries add up to no more than the plan's budget, each signal is posted once and waited for
+-- once, each stream is good, and there is an order of all steps.
 pub record IsSound (c : Sizes) (plan : PlanModel) : Type 0 where
   pub budget : KeepsBudget plan
   pub signals : AreUsedOnce plan (length plan.signals)
@@ -64,7 +64,7 @@ pub record IsCheckedPlan (c : Sizes) (plan : PlanModel) : Type 0 where
 
 -- ---- what is wrong with a plan
 
--- the streams' budgets add up to `total`, which is more than the plan's budget `most`
+-- the streams' budgets and retries add up to `total`, which is more than the plan's budget `most`
 pub record IsOverBudget (plan : PlanModel) (total most : ℕ) : Type 0 where
   pub total_is : total ≡ total_budget plan
   pub most_is : most ≡ plan.budget
@@ -78,7 +78,7 @@ pub record IsFirstMisused (plan : PlanModel) (k posted awaited : ℕ) : Type 0 w
   pub posted_is : posted ≡ posts plan k
   pub awaited_is : awaited ≡ waits plan k
 
--- the lowest stream that is not good, with the position where it breaks off
+-- the lowest stream that is not good, with the position where it breaks off and why
 pub record IsFirstBad (c : Sizes) (plan : PlanModel) (i at : ℕ) (why : Why) : Type 0 where
   pub stream : i < length plan.streams
   pub lower : AreGood c plan i

@@ -15,12 +15,12 @@ use Rattle.sm_verifier.specs.declared.steps.StepFault.TheVariants.{NoMemory, Ref
 abbrev pub parcels_of : List Rights → ℕ → Rights
 parcels_of signals k = slice_index_or signals k no_rights
 
--- what a call answered, with the hold that it left
+-- what was answered, with the hold that was left
 abbrev pub outcome : {U : Type 0} → Result U Why → Hold → Result Hold Why
 outcome (Ok u) h = Ok h
 outcome (Err why) h = Err why
 
--- a call answered what is said, with the hold that it left; where memory was short, nothing is said
+-- the answer and the hold that was left are what is said; where memory was short, nothing is said
 abbrev pub IsAnswer : {U : Type 0} → Result U StepFault → Hold → Result Hold Why → Type 0
 IsAnswer (Ok u) h said = said ≡ Ok h
 IsAnswer (Err NoMemory) h said = Unit {0}

@@ -25,7 +25,7 @@ pub enum Fault {
     #[error("out of memory")]
     NoMemory,
     /// The streams' budgets and retries add up to more than the plan's budget.
-    #[error("the streams may make {streams} calls, and the plan {plan}")]
+    #[error("the streams may make {streams} calls and retries, and the plan {plan}")]
     Budget {
         /// How many calls and retries the streams have together.
         streams: u64,
