@@ -14,7 +14,7 @@ use Rattle.sm_placement.specs.declared.lead.Lead.{Lead}
 use Rattle.sm_placement.specs.Lead.{is_at_rest}
 use Rattle.sm_placement.specs.Setup.{Sizes}
 use Rattle.sm_placement.specs.Sums.{put, sum_below}
-use Rattle.sm_placement.proofs.Sums.{put-here, put-apart}
+use Rattle.sm_placement.proofs.Sums.{put-here, put-apart, same_sum}
 use Rattle.sm_reservation.specs.Hold.{Hold}
 use Rattle.sm_reservation.specs.HoldOf.{hold_of}
 use Rattle.sm_plan_code.specs.declared.instruction.Instr.{Instr}
@@ -136,19 +136,12 @@ is_signal k (Some (Wait j)) = inr (λ e. absurd (cc))
 abbrev left : PlanModel → (ℕ → ℕ) → ℕ
 left plan to = sum_below (length plan.streams) (λ i. suc (length (code_at plan i)) - to i)
 
--- sums of the same terms, and of terms of which one is less
-sum_same : (n : ℕ) (f g : ℕ → ℕ) → ((j : ℕ) → j < n → g j ≡ f j) → sum_below n g ≡ sum_below n f
-sum_same zero f g same = refl
-sum_same (suc n) f g same =
-    let front = sum_same n f g (λ j l. same j (omega arith)) in
-    let last = same n (omega arith) in
-    omega arith
-
+-- a sum of which one term is less
 sum_less : (n i : ℕ) (f g : ℕ → ℕ) → i < n → g i < f i → ((j : ℕ) → j ≢ i → g j ≡ f j) → sum_below n g < sum_below n f
 sum_less zero i f g l less others = absurd (omega arith)
 sum_less (suc n) i f g l less others = elim (cases_eq i n) [
   | inl same ↦
-      let front = sum_same n f g (λ j m. others j (λ (e : j ≡ i). absurd (omega arith))) in
+      let front = same_sum n g f (λ j m. others j (λ (e : j ≡ i). absurd (omega arith))) in
       let last : g n < f n = rw (← same) less in
       omega arith
   | inr other ↦

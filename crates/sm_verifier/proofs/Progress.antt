@@ -24,7 +24,7 @@ module _ (plan : PlanModel) (steps : List PlanStep) (order : IsOrder plan steps)
   IsPostedByNow k = (step : PlanStep) × (step.1 < to step.0) × (slice_get (code_at plan step.0) step.1 ≡ Some (Signal k))
 
   -- a stream has a step left, and what it waits for there is posted
-  pub record IsNext (i : ℕ) : Type 0 where
+  pub record CanMakeNextNow (i : ℕ) : Type 0 where
     pub stream : i < length plan.streams
     pub left : to i ≤ length (code_at plan i)
     pub posted : (k : ℕ) → slice_get (code_at plan i) (to i) ≡ Some (Wait k) → IsPostedByNow k
@@ -33,7 +33,7 @@ module _ (plan : PlanModel) (steps : List PlanStep) (order : IsOrder plan steps)
   posted_by_now before k all post = (post.0, All-contains IsMade before post.0 all post.1, post.2)
 
   -- the first step that is not made is its stream's next one
-  first_open : (before after : List PlanStep) (i p : ℕ) → steps ≡ before ++ (i, p) ∷ after → All IsMade before → to i ≤ p → IsNext i
+  first_open : (before after : List PlanStep) (i p : ℕ) → steps ≡ before ++ (i, p) ∷ after → All IsMade before → to i ≤ p → CanMakeNextNow i
   first_open before after i p e all open_yet =
       let known : i < length plan.streams = All-contains (λ s. s.0 < length plan.streams) steps (i, p) order.known (stands_in steps before (i, p) after e) in
       let apart : positions_of i steps ≡ positions_of i before ++ p ∷ positions_of i after = ap (positions_of i) e ∙ positions_append i before ((i, p) ∷ after) ∙ rw (own_step i p after) refl in
@@ -48,7 +48,7 @@ module _ (plan : PlanModel) (steps : List PlanStep) (order : IsOrder plan steps)
         | inr past ↦ absurd (let l = All-contains IsMade before (i, to i) all (from_positions i (to i) before (split.front (to i) (omega arith))) in omega arith)
       ]
 
-  search : (before after : List PlanStep) → steps ≡ before ++ after → All IsMade before → (j : ℕ) → j < length plan.streams → to j ≤ length (code_at plan j) → (i : ℕ) × IsNext i
+  search : (before after : List PlanStep) → steps ≡ before ++ after → All IsMade before → (j : ℕ) → j < length plan.streams → to j ≤ length (code_at plan j) → (i : ℕ) × CanMakeNextNow i
   search before [] e all j known left =
       let made : All IsMade steps = rw (e ∙ append-nil before) all in
       absurd (let l = All-contains IsMade steps (j, to j) made (in_run plan steps (λ i. suc (length (code_at plan i))) j (to j) order known (omega arith)) in omega arith)
@@ -58,7 +58,7 @@ module _ (plan : PlanModel) (steps : List PlanStep) (order : IsOrder plan steps)
   ]
 
   -- some stream can go on, unless each has made its end
-  pub some_next : (j : ℕ) → j < length plan.streams → to j ≤ length (code_at plan j) → (i : ℕ) × IsNext i
+  pub some_next : (j : ℕ) → j < length plan.streams → to j ≤ length (code_at plan j) → (i : ℕ) × CanMakeNextNow i
   some_next j known left = search [] steps refl (All-nil IsMade) j known left
 
 -- ---- where each signal is used once

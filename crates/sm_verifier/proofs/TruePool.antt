@@ -1,5 +1,5 @@
 -- What is free in a pool whose rights are true of a placement is true of the placement.
-use Rattle.std.proofs.Common.{◌≡◌, true, false, Option, Some, None, List, subst, ◌∙◌}
+use Rattle.std.proofs.Common.{◌≡◌, false, Option, Some, None, List, subst, ◌∙◌}
 use Rattle.std.specs.Prelude.{is_some, IfNone}
 use Rattle.sm_placement.specs.Setup.{Setup, Sizes, sizes_of}
 use Rattle.sm_placement.specs.Place.{Place}
@@ -9,9 +9,6 @@ use Rattle.sm_reservation.specs.Hold.{Hold}
 use Rattle.sm_reservation.specs.Pool.{true_rights}
 use Rattle.sm_plan_code.specs.Plan.{StreamModel}
 use Rattle.sm_verifier.specs.Admission.{declared, IsIn, Has, Agree, AreTrue, AreFree}
-
-false_not_true : true ≡ false → ⊥
-false_not_true e = cc
 
 -- what agrees with what is in a hold is in that hold
 in_by_way : (d pool h : Hold) (key : Key) → (Has d key → Agree d pool key) → IsIn pool h key → IsIn d h key
@@ -31,4 +28,4 @@ true_where_none pool p a b same into o none xs ys at free =
   where
     go : (o : Option Key) → is_some o ≡ false → IfNone o (AreFree pool xs) → AreFree pool xs
     go None e f = f
-    go (Some key) e f = absurd (false_not_true e)
+    go (Some key) e f = cc

@@ -27,14 +27,14 @@ pub none_marked : (next : Option Instr) (flags : List Bool) → next ≡ None �
 none_marked next flags is k = (λ h. inl h, λ h. elim h [ inl was ↦ was | inr posts ↦ absurd (let wrong = rw is at posts in cc) ])
 
 -- the walk after one more step of a stream
-pub record IsNext (plan : PlanModel) (i : ℕ) (old new : Walk) : Type 0 where
+pub record IsNextWalk (plan : PlanModel) (i : ℕ) (old new : Walk) : Type 0 where
   pub positions : new.positions.items ≡ slice_set old.positions.items i (steps_made old i + 1)
   pub steps : new.steps.items ≡ old.steps.items ++ (i, steps_made old i) ∷ []
   pub count : length new.posted.items ≡ length old.posted.items
   pub marked : IsMarkedBy (slice_get (code_at plan i) (steps_made old i)) old.posted.items new.posted.items
 
 -- a walk with one more step of a stream that can go is a walk
-pub next_walk : (plan : PlanModel) (i : ℕ) (old new : Walk) → IsWalk plan old → i < length plan.streams → CanGo plan old i → IsNext plan i old new → IsWalk plan new
+pub next_walk : (plan : PlanModel) (i : ℕ) (old new : Walk) → IsWalk plan old → i < length plan.streams → CanGo plan old i → IsNextWalk plan i old new → IsWalk plan new
 next_walk plan i old new walk known go next =
     let here : steps_made new i ≡ suc (steps_made old i) = rw next.positions (get_or-set_same old.positions.items i (steps_made old i + 1) 0 (let l = walk.streams in omega arith) ∙ add-one (steps_made old i)) in
     let others : (j : ℕ) → j ≢ i → steps_made new j ≡ steps_made old j = λ j other. rw next.positions (get_or-set_other old.positions.items i j (steps_made old i + 1) 0 other) in
