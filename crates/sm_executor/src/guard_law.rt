@@ -1,11 +1,6 @@
 //! What the protocol promises of the machine that a guard lends.
-ghost use Rattle.std.specs.Prelude.{◌≡◌, ◌≢◌, ℕ, Some};
-ghost use Rattle.sm_placement.specs.SafePlace.{IsServing};
-ghost use Rattle.sm_protocol.specs.declared.event.Played.TheVariants as played;
-ghost use Rattle.sm_protocol.specs.Steps.{Answered, Refused};
-ghost use Rattle.sm_protocol.specs.Happens.{Happening, happens};
 ghost use Rattle.sm_protocol.specs.Safe.{IsSafe, SomeCanStep, SomeCanStepOrSpent};
-ghost use Rattle.sm_protocol.specs.Laws.{IsReached, FitsConfig, HasNoLost, asked};
+ghost use Rattle.sm_protocol.specs.Laws.{IsReached, HasNoLost, NextIsServed, ExecutedServes};
 ghost use Rattle.sm_executor.specs.Views.{state_in};
 
 use crate::board::Guard;
@@ -19,11 +14,11 @@ impl<'b, A: Ledger, B: Ledger, C: Ledger, N: Naming> Guard<'b, A, B, C, N> {
     /// its shard.
     pub fn is_safe(&self)
         ensures reached { IsReached self.now.machine.placement.setup (state_in self.now) }
-        ensures served { (e : Happening) → FitsConfig (state_in self.now).sizes e → (happens (state_in self.now) e).0 ≢ Refused }
+        ensures served { NextIsServed (state_in self.now) }
         ensures safe { IsSafe (state_in self.now) }
         ensures onward { SomeCanStepOrSpent (state_in self.now) }
         ensures unlost { HasNoLost (state_in self.now) → SomeCanStep (state_in self.now) }
-        ensures executed { (e : Happening) (s v : ℕ) → asked e ≡ Some s → (happens (state_in self.now) e).0 ≡ Answered (played.Executed v) → IsServing (state_in self.now).place s v × ((u : ℕ) → IsServing (state_in self.now).place s u → u ≡ v) }
+        ensures executed { ExecutedServes (state_in self.now) }
     {
         let machine = self.machine();
         machine.is_reached();

@@ -1,8 +1,7 @@
 //! Machines.
-ghost use Rattle.std.specs.Prelude.{ℕ, ◌≡◌, ◌≢◌, ◌≤◌, ◌<◌, ◌↔◌, ◌⊎◌, IfOk, OnOk, IfErr, OnErr, length, true, false, ◌∷◌, [], if◌then◌else◌, ◌+◌, reverse, None, Some, slice_index_or};
+ghost use Rattle.std.specs.Prelude.{◌≡◌, ◌≢◌, ◌≤◌, ◌<◌, ◌↔◌, ◌⊎◌, IfOk, OnOk, IfErr, OnErr, length, true, false, ◌∷◌, [], if◌then◌else◌, ◌+◌, reverse, None, Some, slice_index_or};
 ghost use Rattle.sm_placement.specs.Place.{down_count, entry_at};
 ghost use Rattle.sm_placement.specs.Lead.{IsSettled};
-ghost use Rattle.sm_placement.specs.SafePlace.{IsServing};
 ghost use Rattle.sm_protocol.specs.State.{opened, is_begun, progress_of, allowance, free_places, stream_count, plan_at, pool};
 ghost use Rattle.sm_protocol.specs.Ticket.{passes};
 ghost use Rattle.sm_machine.specs.declared.opened.OpenFault.TheVariants.{LogFull};
@@ -11,11 +10,11 @@ ghost use Rattle.sm_placement.specs.Setup.{sizes_of};
 ghost use Rattle.sm_placement.specs.Layout.{place_of};
 ghost use Rattle.sm_machine.specs.Permits.{passing_below};
 ghost use Rattle.sm_reservation.specs.Pool.{pool_hold, HasSize};
-ghost use Rattle.sm_protocol.specs.Steps.{Answered, Refused, step};
+ghost use Rattle.sm_protocol.specs.Steps.{Answered, step};
 ghost use Rattle.sm_protocol.specs.Happens as happening;
-ghost use Rattle.sm_protocol.specs.Happens.{Happening, happens, engaged};
+ghost use Rattle.sm_protocol.specs.Happens.{happens, engaged};
 ghost use Rattle.sm_protocol.specs.Safe.{IsSafe, SomeCanStep, SomeCanStepOrSpent};
-ghost use Rattle.sm_protocol.specs.Laws.{IsReached, FitsConfig, HasNoLost, asked};
+ghost use Rattle.sm_protocol.specs.Laws.{IsReached, HasNoLost, NextIsServed, ExecutedServes};
 ghost use Rattle.sm_machine.specs.State.{whole_of, state_of};
 ghost use Rattle.sm_machine.specs.Played.{played_of};
 ghost use Rattle.sm_protocol.specs.declared.event.BeginFault.TheVariants as fault;
@@ -113,11 +112,11 @@ impl Machine {
     /// stream can step, or one that hasn't made its end has spent its allowance. Where no unfinished stream has a lost call in
     /// the log, some stream can step. And who executes a request is the one server that serves its shard.
     pub fn is_safe(&self)
-        ensures served { (e : Happening) → FitsConfig (state_of self.now).sizes e → (happens (state_of self.now) e).0 ≢ Refused }
+        ensures served { NextIsServed (state_of self.now) }
         ensures safe { IsSafe (state_of self.now) }
         ensures onward { SomeCanStepOrSpent (state_of self.now) }
         ensures unlost { HasNoLost (state_of self.now) → SomeCanStep (state_of self.now) }
-        ensures executed { (e : Happening) (s v : ℕ) → asked e ≡ Some s → (happens (state_of self.now) e).0 ≡ Answered (played.Executed v) → IsServing (state_of self.now).place s v × ((u : ℕ) → IsServing (state_of self.now).place s u → u ≡ v) }
+        ensures executed { ExecutedServes (state_of self.now) }
     {
         let _ = &self.engine;
     }

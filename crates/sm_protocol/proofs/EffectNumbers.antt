@@ -1,5 +1,5 @@
 -- The numbers of calls that have their effect along a list of events: none is there twice.
-use Rattle.sm_protocol.proofs.Below.{◌≡◌, ◌≢◌, ◌⊎◌, ℕ, ◌+◌, ◌<◌, ◌≤◌, Bool, true, false, Ok, refl, sym, ap, ◌∙◌, inl, inr, arith, subst, List, [], ◌∷◌, ◌++◌, ◌==◌, nat_lt, if◌then◌else◌, count_by, Contains, Contains-append_cases, Contains-push_cases, cases_Bool, cases_eq, eq-eqb, ne_eqb, eqb-true, lt-ltb, le-ltb, sum_by-cons, bit, CallEffect, StreamId, ServerCall, Instr}
+use Rattle.sm_protocol.proofs.Below.{◌≡◌, ◌≢◌, ◌⊎◌, ℕ, ◌+◌, ◌≤◌, Bool, true, false, Ok, refl, sym, ap, ◌∙◌, inl, inr, arith, subst, List, [], ◌∷◌, ◌++◌, ◌==◌, nat_lt, if◌then◌else◌, count_by, Contains, Contains-append_cases, Contains-push_cases, cases_Bool, cases_eq, eq-eqb, ne_eqb, eqb-true, lt-ltb, le-ltb, sum_by-cons, bit, CallEffect, StreamId, ServerCall, Instr}
 use Rattle.sm_protocol.proofs.Words.{Passage, State, Progress, progress_of, set_progress, call_number, number_after_try, tried_more, behind_call, ahead_of_call, Happening, Step, Lose, happens, run, AllFit, EffectsOnce, HasEffectOnce, IsSpent, effect_numbers, effect_numbers_at, effect_of_stream}
 use Rattle.sm_protocol.proofs.Invariant.{IsKept, code_of}
 use Rattle.sm_protocol.proofs.Numbers.{one_stream, goes_on, IsTryNumber, is_try_number}
@@ -176,12 +176,12 @@ module _ (w : State) (v : IsKept w) where
 abbrev times : ℕ → List ℕ → ℕ
 times n xs = count_by (λ m. m == n) xs
 
--- one where the test passes
-abbrev one_if : Bool → ℕ
-one_if b = if b then 1 else 0
-
-times_cons : (n x : ℕ) (xs : List ℕ) → times n (x ∷ xs) ≡ one_if (x == n) + times n xs
-times_cons n x xs = sum_by-cons (λ m. one_if (m == n)) x xs
+times_cons : (n x : ℕ) (xs : List ℕ) → times n (x ∷ xs) ≡ bit (x == n) + times n xs
+times_cons n x xs = sum_by-cons (λ m. if m == n then 1 else 0) x xs ∙ ap (λ k. k + times n xs) (one_by (x == n))
+  where
+    one_by : (b : Bool) → ◌≡◌ {A = ℕ} (if b then 1 else 0) (bit b)
+    one_by true = refl
+    one_by false = refl
 
 -- a spent number has its effect no more
 none_more : (w : State) (v : IsKept w) (es : List Happening) (n : ℕ) → AllFit w.sizes es → IsSpent w n → times n (effect_numbers es w) ≡ 0
@@ -193,7 +193,7 @@ none_more w v (e ∷ es) n all s =
     elim x.now [
       | inl none ↦ ap (λ l. times n (l ++ effect_numbers es (happens w e).1)) none ∙ rest
       | inr one ↦
-          let other : one_if (one.0 == n) ≡ 0 = ap one_if (ne_eqb one.0 n (λ q. one.2 (subst (IsSpent w) (sym q) s))) in
+          let other : bit (one.0 == n) ≡ 0 = ap bit (ne_eqb one.0 n (λ q. one.2 (subst (IsSpent w) (sym q) s))) in
           let all : times n (effect_numbers_at w e ++ effect_numbers es (happens w e).1) ≡ times n (one.0 ∷ effect_numbers es (happens w e).1) = ap (λ l. times n (l ++ effect_numbers es (happens w e).1)) one.1 in
           let parts = times_cons n one.0 (effect_numbers es (happens w e).1) in
           omega arith
@@ -220,9 +220,9 @@ one_at_most w v (e ∷ es) n all =
           elim (cases_Bool (one.0 == n)) [
             | inl same ↦
                 let last = none_more (happens w e).1 k.1 es n fits (subst (IsSpent (happens w e).1) (eqb-true one.0 n same) one.3) in
-                let one_is : one_if (one.0 == n) ≡ 1 = ap one_if same in
+                let one_is : bit (one.0 == n) ≡ 1 = ap bit same in
                 omega arith
-            | inr other ↦ let none_is : one_if (one.0 == n) ≡ 0 = ap one_if other in omega arith
+            | inr other ↦ let none_is : bit (one.0 == n) ≡ 0 = ap bit other in omega arith
           ]
     ]
 
@@ -248,7 +248,7 @@ then_spent w v (e ∷ es) n all c =
     ]
 
 -- from each state that keeps the invariant, a number has its effect once at most, and is spent then
-pub effect_once : (w : State) (v : IsKept w) (es : List Happening) (n : ℕ) → AllFit w.sizes es → HasEffectOnce w es n
+pub effect_once : (w : State) (v : IsKept w) (es : List Happening) (n : ℕ) → AllFit w.sizes es → HasEffectOnce w es (run es w) n
 effect_once w v es n all = record { once = one_at_most w v es n all; unspent = none_more w v es n all; still = still_spent w v es n all; spent = then_spent w v es n all }
 
 -- and so from each state that events lead to

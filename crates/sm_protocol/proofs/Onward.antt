@@ -1,7 +1,7 @@
 -- No call is refused, the state is safe, and of each plan that isn't done some stream can step.
-use Rattle.sm_protocol.proofs.Below.{◌≡◌, ◌≢◌, ℕ, ◌+◌, ◌<◌, ◌≤◌, false, refl, length, inl, inr, subst, sym, arith, bit, StreamId, is_call, stream_at, calls_before}
-use Rattle.sm_protocol.proofs.Words.{State, plan_at, stream_id, stream_count, stream_parts, Refused, Happening, happens, run, SomeCanStep, AllFit, FitsConfig, Headline, WithLosses}
-use Rattle.sm_protocol.proofs.Reached.{run_same, reached_run}
+use Rattle.sm_protocol.proofs.Below.{◌≡◌, ℕ, ◌+◌, ◌<◌, ◌≤◌, false, refl, length, inl, inr, subst, sym, arith, bit, StreamId, is_call, stream_at, calls_before}
+use Rattle.sm_protocol.proofs.Words.{State, plan_at, stream_id, stream_count, stream_parts, run, SomeCanStep, AllFit, Headline, WithLosses}
+use Rattle.sm_protocol.proofs.Reached.{reached_run}
 use Rattle.sm_protocol.proofs.Invariant.{IsKept}
 use Rattle.sm_protocol.proofs.Courses.{good, next_turn}
 use Rattle.sm_protocol.proofs.LogRoom.{has_room}
@@ -49,7 +49,7 @@ headline setup w es reached none fit losses =
     let v = (reached_keeps setup (run es w) after).0 in
     let onward = with_losses setup (run es w) after in (
       run_served es w kept.0 fits,
-      subst (λ c. (e : Happening) → FitsConfig c e → (happens (run es w) e).0 ≢ Refused) (run_same es w).sizes onward.0,
+      onward.0,
       onward.1,
       some_can_step (run es w) v (run_unlost w kept.0 es fits losses (all_unlost setup w reached none)),
     )

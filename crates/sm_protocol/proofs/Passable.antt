@@ -1,6 +1,6 @@
 -- Every event keeps the numbers under which requests may have been passed on, so who executes a request serves its shard.
 use Rattle.sm_protocol.proofs.Below.{◌≡◌, ℕ, Ok, subst, if◌then◌else◌, CallEffect, StreamId, Instr, ServerCall, numbers_after, CanBePassed, passed_by_lead, passed_of_lead}
-use Rattle.sm_protocol.proofs.Words.{Passage, Through, LostBefore, LostAfter, Happening, happens, State, ExecutedServes}
+use Rattle.sm_protocol.proofs.Words.{Passage, Through, LostBefore, LostAfter, Happening, happens, State, EachReached, ExecutedServes}
 use Rattle.sm_protocol.proofs.Invariant.{IsKept}
 use Rattle.sm_protocol.proofs.Cases.{IsTry, answer_to, OfSteps, of_happens}
 use Rattle.sm_protocol.proofs.Tries.{by_answer, first_effect}
@@ -54,7 +54,7 @@ led : (w : State) → IsKept w → IsLed w
 led w v = record { leads = v.leads; described = v.stage.described }
 
 -- who executes a request is the one server that serves its shard
-pub executed_serves : ExecutedServes
-executed_serves setup w e s u reached a q =
+pub executed_serves : EachReached ExecutedServes
+executed_serves setup w reached e s u a q =
     let fit = by_events setup PassesFit (passes_at_opening setup) (λ x y at f p. let v = (reached_keeps setup x at).0 in passes_kept x y (led x v) (keeps_passable x v y) p) w reached in
     serves_by_passes w (led w (reached_keeps setup w reached).0) (record { fit = fit.fit }) e s u a q

@@ -1,10 +1,10 @@
 -- Lists of events that are played with a hand.
 use Rattle.sm_protocol.proofs.Below.{◌≡◌, ℕ, zero, suc, Bool, true, false, refl, sym, ap, subst, Option, Some, None, List, [], ◌∷◌, ◌++◌, ◌==◌, find, option_map, slice_index_or, slice_set, if◌then◌else◌, AllByRecursion, list_any, filter_map, Sizes, sizes_of, PlanModel}
-use Rattle.sm_protocol.proofs.Words.{Event, Played, Ticket, State, Outcome, Refused, Answered, Happening, Step, Lose, Refill, PassOn, Approve, Done, Begin, happens, run, outcomes, Hand, Game, is_token, given, spends, without_first, tickets_of, hand_after, hand_by, turn_by, turn, play, plays, all_given, played_events, or_unknown, SomeCanStep, HasEffectOnce, IsReached, IsSpent, FitsConfig, AllFit, LosesNothing, NamesKnown, AsksNoLoss, AreChecked, PlaysAreRuns, PlaysAreSafe}
+use Rattle.sm_protocol.proofs.Words.{Event, Played, Ticket, Outcome, Refused, Answered, Happening, Step, Lose, Refill, PassOn, Approve, Done, Begin, happens, run, outcomes, Hand, Game, is_token, given, spends, without_first, tickets_of, hand_after, hand_by, turn_by, turn, play, plays, all_given, played_events, or_unknown, SomeCanStep, HasEffectOnce, IsReached, FitsConfig, AllFit, LosesNothing, NamesKnown, AsksNoLoss, AreChecked, AreServed, PlaysAreRuns, PlaysAreSafe}
 use Rattle.sm_protocol.specs.declared.event.Event.TheVariants as event
 use Rattle.sm_protocol.specs.declared.event.Played.TheVariants as played
 use Rattle.sm_protocol.proofs.Reached.{reached_run}
-use Rattle.sm_protocol.proofs.Whole.{AreServed, reached_keeps, run_served}
+use Rattle.sm_protocol.proofs.Whole.{reached_keeps, run_served}
 use Rattle.sm_protocol.proofs.Onward.{headline, with_losses}
 use Rattle.sm_protocol.proofs.EffectNumbers.{effect_once}
 use Rattle.sm_protocol.proofs.Passes.{tickets_once}
@@ -139,16 +139,12 @@ plays_are_safe setup es g reached all known =
     let fit : AllFit g.state.sizes there = subst (λ c. AllFit c there) (sym kept.1) played.0 in
     let after = subst (IsReached setup) (sym runs.0) (reached_run setup there g.state reached fit) in
     let onward = with_losses setup (play es g).state after in
-    let effects : (m : ℕ) → HasEffectOnce g.state there m = λ m. effect_once g.state kept.0 there m fit in
     record {
       fit = played.0;
       reached = after;
       checked = played.1;
       served = subst AreServed (sym runs.1) (unknown_served (all_given es g) (outcomes there g.state) (run_served there g.state kept.0 fit));
-      once = λ m. (effects m).once;
-      unspent = λ m. (effects m).unspent;
-      still = λ m s. subst (λ (x : State). IsSpent x m) (sym runs.0) ((effects m).still s);
-      spent = λ m c. subst (λ (x : State). IsSpent x m) (sym runs.0) ((effects m).spent c);
+      effects = λ n. subst (λ x. HasEffectOnce g.state there x n) (sym runs.0) (effect_once g.state kept.0 there n fit);
       tickets = tickets_once g.state there;
       safe = onward.1;
       onward = onward.2;

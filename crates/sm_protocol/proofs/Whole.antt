@@ -1,6 +1,6 @@
 -- Every event keeps what holds of every state, so it holds of all that events lead to; no call is refused.
-use Rattle.sm_protocol.proofs.Below.{◌≡◌, ◌≢◌, sym, subst, List, [], ◌∷◌, if◌then◌else◌, AllByRecursion, Setup, sizes_of}
-use Rattle.sm_protocol.proofs.Words.{Through, LostBefore, LostAfter, State, Outcome, Refused, Happening, happens, outcomes, unhalted, IsReached, AllFit, FitsConfig}
+use Rattle.sm_protocol.proofs.Below.{◌≡◌, sym, subst, List, [], ◌∷◌, if◌then◌else◌, Setup, sizes_of}
+use Rattle.sm_protocol.proofs.Words.{Through, LostBefore, LostAfter, State, Happening, happens, outcomes, unhalted, IsReached, AllFit, AreServed, FitsConfig}
 use Rattle.sm_protocol.proofs.Invariant.{IsKept}
 use Rattle.sm_protocol.proofs.Cases.{of_known_happens, refill_granted}
 use Rattle.sm_protocol.proofs.Keeping.{Keeps}
@@ -22,10 +22,6 @@ happens_keeps w v = of_known_happens w (λ e o. FitsConfig w.sizes e → Keeps o
   restarts = λ u f fits. ((λ h. cc), restart_keeps w v u _ f);
   starts = λ plan h f g fits. ((λ e. cc), begin_keeps w v plan fits h);
 })
-
--- no call is refused
-abbrev pub AreServed : List Outcome → Type 0
-AreServed os = AllByRecursion (λ (o : Outcome). o ≢ Refused) os
 
 -- and so none is along a list of events
 pub run_served : (es : List Happening) (w : State) → IsKept w → AllFit w.sizes es → AreServed (outcomes es w)

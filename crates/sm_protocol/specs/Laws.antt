@@ -30,6 +30,15 @@ FitsConfig c _ = Unit {0}
 abbrev pub AllFit : Sizes → List Happening → Type 0
 AllFit c es = AllByRecursion (FitsConfig c) es
 
+-- none of these outcomes is that of a call that was refused
+abbrev pub AreServed : List Outcome → Type 0
+AreServed os = AllByRecursion (λ o. o ≢ Refused) os
+
+-- no event that comes next has its call refused. So a call that is lost before it comes to its server is one that this would have
+-- served: as a step, the same try goes through.
+abbrev pub NextIsServed : State → Type 0
+NextIsServed w = (e : Happening) → FitsConfig w.sizes e → (happens w e).0 ≢ Refused
+
 -- A state that events have led to from an opening, the halt flag aside: it may have been set and cleared among them, since a
 -- step under it changes nothing.
 pub record IsReached (setup : Setup) (w : State) : Type 0 where
@@ -62,7 +71,8 @@ abbrev pub BegunWhereAccepted : Type 0
 BegunWhereAccepted = (setup : Setup) (w : State) (plan : PlanModel) → IsReached setup w → IsCheckedPlan w.sizes plan →
     ((happens w (Begin plan)).0 ≡ Answered (Played.Begun (length w.plans))) ↔ (IsAccepted w plan × (places_of plan ≤ free_places w) × (has_all_plans w ≡ false))
 
--- a restart is approved exactly where the server may be spared, the caps allow it and the log has its places
+-- a restart is approved exactly where the server is up, no unfinished stream's code mentions it, the caps allow it and the log has
+-- its places
 abbrev pub ApprovedWhereReserved : Type 0
 ApprovedWhereReserved = (setup : Setup) (w : State) (v : ℕ) → IsReached setup w → v < w.sizes.servers →
     ((happens w (Approve v)).0 ≡ Answered Played.Approved) ↔ IsApproved w v
@@ -73,13 +83,12 @@ ApprovedWhereReserved = (setup : Setup) (w : State) (v : ℕ) → IsReached setu
 -- after each of its events.
 abbrev pub Headline : Type 0
 Headline = (setup : Setup) (w : State) (es : List Happening) → IsReached setup w → HasNoLost w → AllFit (sizes_of setup) es → AllByRecursion LosesNothing es →
-    AllByRecursion (λ o. o ≢ Refused) (outcomes es w) × ((e : Happening) → FitsConfig w.sizes e → (happens (run es w) e).0 ≢ Refused) × IsSafe (run es w) × SomeCanStep (run es w)
+    AreServed (outcomes es w) × NextIsServed (run es w) × IsSafe (run es w) × SomeCanStep (run es w)
 
 -- In every state that events lead to, lost calls among them: no event that comes next has its call refused, the state is
 -- safe, and of each plan that isn't done some stream can step, or one that hasn't made its end has spent its allowance.
 abbrev pub WithLosses : Type 0
-WithLosses = (setup : Setup) (w : State) → IsReached setup w →
-    ((e : Happening) → FitsConfig w.sizes e → (happens w e).0 ≢ Refused) × IsSafe w × SomeCanStepOrSpent w
+WithLosses = (setup : Setup) (w : State) → IsReached setup w → NextIsServed w × IsSafe w × SomeCanStepOrSpent w
 
 -- where an event of the stream leads from one state to the other: the number of its try, if the call had its effect just then
 abbrev pub effect_of_stream : State → StreamId → State → List ℕ
@@ -101,17 +110,18 @@ pub record IsSpent (w : State) (n : ℕ) : Type 0 where
   pub used : n < w.next_number
   pub had : (id : StreamId) → (progress_of w id).pending ≡ n → n ≢ 0 → (progress_of w id).ahead ≡ true
 
--- Along a list of events the number has its effect once at most, and never where it is spent before. It is spent afterwards
--- where it was before, or where it has its effect along the list: so along no later list it has its effect again.
-pub record HasEffectOnce (w : State) (es : List Happening) (n : ℕ) : Type 0 where
+-- Along a list of events that leads from one state to the other the number has its effect once at most, and never where it is
+-- spent before. It is spent afterwards where it was before, or where it has its effect along the list: so along no later list it
+-- has its effect again.
+pub record HasEffectOnce (w : State) (es : List Happening) (new : State) (n : ℕ) : Type 0 where
   pub once : count_by (λ m. m == n) (effect_numbers es w) ≤ 1
   pub unspent : IsSpent w n → count_by (λ m. m == n) (effect_numbers es w) ≡ 0
-  pub still : IsSpent w n → IsSpent (run es w) n
-  pub spent : Contains (effect_numbers es w) n → IsSpent (run es w) n
+  pub still : IsSpent w n → IsSpent new n
+  pub spent : Contains (effect_numbers es w) n → IsSpent new n
 
 -- no number of a call has its effect twice, neither along one list of events nor along lists one after the other
 abbrev pub EffectsOnce : Type 0
-EffectsOnce = (setup : Setup) (w : State) (es : List Happening) (n : ℕ) → IsReached setup w → AllFit (sizes_of setup) es → HasEffectOnce w es n
+EffectsOnce = (setup : Setup) (w : State) (es : List Happening) (n : ℕ) → IsReached setup w → AllFit (sizes_of setup) es → HasEffectOnce w es (run es w) n
 
 -- the answer spends a ticket of this place of the log
 abbrev pub spends_at : ℕ → Happening → Outcome → Bool
@@ -133,10 +143,10 @@ asked (Arrive s v) = Some s
 asked (PassOn t) = Some t.shard
 asked _ = None
 
--- who executes a request is the one server that serves its shard
-abbrev pub ExecutedServes : Type 0
-ExecutedServes = (setup : Setup) (w : State) (e : Happening) (s v : ℕ) → IsReached setup w → asked e ≡ Some s →
-    (happens w e).0 ≡ Answered (Played.Executed v) → IsServing w.place s v × ((u : ℕ) → IsServing w.place s u → u ≡ v)
+-- who executes a request that comes next is the one server that serves its shard
+abbrev pub ExecutedServes : State → Type 0
+ExecutedServes w = (e : Happening) (s v : ℕ) → asked e ≡ Some s → (happens w e).0 ≡ Answered (Played.Executed v) →
+    IsServing w.place s v × ((u : ℕ) → IsServing w.place s u → u ≡ v)
 
 -- an event that is not recorded and starts no plan changes nothing
 abbrev pub UnrecordedChangesNothing : Type 0
@@ -175,28 +185,29 @@ AsksNoLoss _ = Unit {0}
 abbrev pub AreChecked : Sizes → Hand → Type 0
 AreChecked c h = (place : ℕ) (plan : PlanModel) → slice_index_or h.plans place None ≡ Some plan → IsCheckedPlan c plan
 
--- What the hand gave fits, no call was refused, no number of a call had its effect twice, or had it before, and after the list of
--- events the game is one like before, safe, and goes on as the law on lost calls says, or as the headline does where no unfinished
--- stream had a lost call, and none was asked for.
+-- What holds of a list of events that is played from a game.
 pub record IsPlayed (setup : Setup) (es : List Event) (g : Game) : Type 0 where
+  -- what the hand gives for the events fits the configuration
   pub fit : AllFit (sizes_of setup) (played_events es g)
+  -- events lead to the state after the list
   pub reached : IsReached setup (play es g).state
+  -- each plan that is left in the hand was checked
   pub checked : AreChecked (sizes_of setup) (play es g).hand
-  pub served : AllByRecursion (λ o. o ≢ Refused) (plays es g)
-  -- no number of a call has its effect twice along the events
-  pub once : (m : ℕ) → count_by (λ k. k == m) (effect_numbers (played_events es g) g.state) ≤ 1
-  -- one that is spent before has none, and is spent still
-  pub unspent : (m : ℕ) → IsSpent g.state m → count_by (λ k. k == m) (effect_numbers (played_events es g) g.state) ≡ 0
-  pub still : (m : ℕ) → IsSpent g.state m → IsSpent (play es g).state m
-  -- one that has its effect is spent afterwards
-  pub spent : (m : ℕ) → Contains (effect_numbers (played_events es g) g.state) m → IsSpent (play es g).state m
+  -- no call is refused
+  pub served : AreServed (plays es g)
+  -- each number of a call has its effect once at most, along this list or along lists one after the other
+  pub effects : (n : ℕ) → HasEffectOnce g.state (played_events es g) (play es g).state n
   -- all tickets of one place of the log together are spent by one answer at most
   pub tickets : (place : ℕ) → times_spent place (played_events es g) g.state ≤ 1
+  -- the state after the list is safe
   pub safe : IsSafe (play es g).state
+  -- there, of each plan that isn't done some stream can step, or one that isn't done has spent its allowance
   pub onward : SomeCanStepOrSpent (play es g).state
+  -- and some stream can step where no unfinished stream had a lost call in the log, and the list asks for none
   pub unlost : HasNoLost g.state → AllByRecursion AsksNoLoss es → SomeCanStep (play es g).state
 
--- the headline, and the law on lost calls, of every list of events that is played with a hand of checked plans
+-- The headline, and the laws on lost calls, on the effects of calls and on tickets, of every list of events that is played with a
+-- hand of checked plans: the events name known shards and servers, and the game begins at a state that events have led to.
 abbrev pub PlaysAreSafe : Type 0
 PlaysAreSafe = (setup : Setup) (es : List Event) (g : Game) → IsReached setup g.state → AreChecked (sizes_of setup) g.hand → AllByRecursion (NamesKnown (sizes_of setup)) es →
     IsPlayed setup es g

@@ -33,7 +33,7 @@ pub fn effects_once()
 
 /// Who executes a request is the one server that serves its shard.
 pub fn executed_serves()
-    ensures { ExecutedServes }
+    ensures { EachReached ExecutedServes }
 {}
 
 /// The recorded events and starts lead from the opening to the state, with the recorded answers. No pass is passed on twice,
@@ -64,7 +64,8 @@ pub fn plays_are_runs()
     ensures { PlaysAreRuns }
 {}
 
-/// The headline, and the law on lost calls, of every list of events that is played with a hand of checked plans.
+/// The headline, and the laws on lost calls, on the effects of calls and on tickets, of every list of events that is played with a
+/// hand of checked plans.
 pub fn plays_are_safe()
     ensures { PlaysAreSafe }
 {}

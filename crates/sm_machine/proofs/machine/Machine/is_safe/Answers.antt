@@ -28,6 +28,6 @@ returns-clause-unlost c none =
     (headline (whole_of c.args.self.now).setup (whole_of c.args.self.now).state [] g.reached none tt tt).3
 
 pub returns-clause-executed : goal.returns-clause-executed
-returns-clause-executed c e s v asked answered =
+returns-clause-executed c =
     let g : IsWorking (whole_of c.args.self.now) = subst (λ m. IsWorking (whole_of m)) c.self.view_is c.self.invariant in
-    executed_serves (whole_of c.args.self.now).setup (whole_of c.args.self.now).state e s v g.reached asked answered
+    executed_serves (whole_of c.args.self.now).setup (whole_of c.args.self.now).state g.reached
