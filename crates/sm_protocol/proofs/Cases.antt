@@ -1,6 +1,6 @@
 -- What an event may do to a state, case by case.
 use Rattle.sm_protocol.proofs.Below.{◌≡◌, ℕ, ◌+◌, Bool, true, false, refl, sym, ap, ◌∙◌, Option, Some, None, Result, Ok, Err, ◌==◌, not, if◌then◌else◌, nat_lt, length, Refusal, CallEffect, called_numbered, set_down, put2, leads_of, StreamId, ServerCall, Instr, PrepareAdd, PrepareDrop, Add, Drop, Change, Publish, Unlist, Signal, Wait, to_list, is_call, PlanModel, Holding, first_holding, Denied, denial}
-use Rattle.sm_protocol.proofs.Words.{RefillFault, Ticket, is_open_ticket, spends, Happening, Step, Lose, Refill, Arrive, PassOn, Approve, Done, Begin, refill_fault, refilled, reply_of, requested, engaged, approved, started, begun, has_all_plans, happens, Passage, Through, LostBefore, LostAfter, Played, State, stream_parts, progress_of, is_begun, is_running, next_instruction, allowance, recorded, logged, pool, free_places, places_of, Outcome, Refused, Answered, unchanged, call_number, call_to_make, behind_call, ahead_of_call, served_try, call_lost, tried, call_tried, entry_added, posted, ended, made, behind, step}
+use Rattle.sm_protocol.proofs.Words.{RefillFault, Ticket, is_open_ticket, spends, Happening, Step, Lose, Refill, Arrive, PassOn, Approve, Done, Begin, refill_fault, refilled, reply_of, requested, engaged, approved, started, begun, has_all_plans, happens, Passage, Through, LostBefore, LostAfter, Played, State, progress_of, is_begun, is_running, next_instruction, allowance, recorded, logged, pool, free_places, places_of, Outcome, Refused, Answered, unchanged, call_number, call_to_make, behind_call, ahead_of_call, served_try, call_lost, tried, call_tried, entry_added, posted, ended, made, behind, step}
 use Rattle.sm_protocol.specs.declared.event.BeginFault.TheVariants as fault
 use Rattle.sm_protocol.specs.declared.event.RefillFault.TheVariants as refill
 use Rattle.sm_protocol.specs.declared.event.Event.TheVariants as event
@@ -181,7 +181,7 @@ all_fit P all = record {
 
 -- what is refilled is unfinished, and the log has its places
 pub refill_granted : (w : State) (id : StreamId) (more : ℕ) → refill_fault w id more ≡ None → (is_running w id ≡ true) × (nat_lt (free_places w) (more + 1) ≡ false)
-refill_granted w id more = go (is_running w id) (nat_lt 524288 ((stream_parts w id).budget + (stream_parts w id).retries + (progress_of w id).refills + more)) (nat_lt (free_places w) (more + 1))
+refill_granted w id more = go (is_running w id) (nat_lt 524288 (allowance w id + more)) (nat_lt (free_places w) (more + 1))
   where
     go : (runs much full : Bool) → (if not runs then Some refill.Ended else if much then Some refill.TooMany else if full then Some refill.LogFull else None) ≡ None → (runs ≡ true) × (full ≡ false)
     go true false false e = (refl, refl)

@@ -10,7 +10,7 @@ use Rattle.sm_protocol.specs.Happens.{Happening, Step, Lose, Refill, Arrive, Pas
 -- and plans to start.
 pub record Hand : Type 0 where
   pub tokens : List StreamId
-  -- the servers that may end a restart
+  -- the servers whose restarts may be ended
   pub permits : List ℕ
   pub tickets : List Ticket
   -- by their places, None where no plan is left

@@ -2,7 +2,7 @@
 use Rattle.std.specs.Prelude.{ℕ, ◌+◌, ◌==◌, ◌&&◌, ◌||◌, ◌++◌, nat_lt, nat_le, not, Bool, true, false, Option, Some, None, List, [], ◌∷◌, length, if◌then◌else◌}
 pub use Rattle.sm_protocol.specs.Words.{BeginFault, Cell, Denied, Event, Holding, MOST_ALLOWANCE, MOST_NUMBER, MOST_PLANS, Passage, PlanModel, Played, RefillFault, StreamId, bit, denial, first_from, first_holding, is_mentioned, list_any, places_of, set_down, sum_below}
 use Rattle.sm_protocol.specs.Ticket.{Ticket, is_open_ticket}
-use Rattle.sm_protocol.specs.State.{State, stream_id, stream_count, stream_parts, progress_of, is_running, is_unfinished, set_progress, logged, recorded, pool, free_places}
+use Rattle.sm_protocol.specs.State.{State, allowance, stream_id, stream_count, stream_parts, progress_of, is_running, is_unfinished, set_progress, logged, recorded, pool, free_places}
 use Rattle.sm_protocol.specs.Steps.{Outcome, Answered, unchanged, step}
 
 -- What may happen: an event, with what was handed in for it.
@@ -20,7 +20,7 @@ pub data Happening : Type 0 where
 abbrev pub refill_fault : State → StreamId → ℕ → Option RefillFault
 refill_fault w id more =
     if not (is_running w id) then Some RefillFault.Ended
-    else if nat_lt MOST_ALLOWANCE ((stream_parts w id).budget + (stream_parts w id).retries + (progress_of w id).refills + more) then Some RefillFault.TooMany
+    else if nat_lt MOST_ALLOWANCE (allowance w id + more) then Some RefillFault.TooMany
     else if nat_lt (free_places w) (more + 1) then Some RefillFault.LogFull
     else None
 

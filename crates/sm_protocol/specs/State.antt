@@ -44,11 +44,13 @@ pub record State : Type 0 where
   pub sizes : Sizes
   pub opening : Place
   pub place : Place
-  -- the entries that publications have added to the published map, with their shards, the newest first
+  -- the entries that publications have added to the published map, with their shards: the newest first, as the map's publisher has
+  -- what it has stored. Plans and the log, below, have the oldest first.
   pub entries : List (ℕ × Entry)
   -- each shard's highest handover number, and the number of the next call
   pub numbers : ℕ → ℕ
   pub next_number : ℕ
+  -- the plans that were begun, by their numbers
   pub plans : List Start
   -- by the plan's number, then by the stream's, or by the signal's
   pub progress : ℕ → ℕ → Progress
@@ -179,13 +181,13 @@ pool w = record {
   spare = λ s. (true_rights w.sizes w.place).spare s - held w (OfSpare s);
 }
 
--- what a stream that stands so takes yet: a place for each try left, for each instruction left that is no call, and for its end
+-- what a stream that stands so may take yet: a place for each try left, for each instruction left that is no call, and for its end
 abbrev pub places_left : StreamModel → Progress → ℕ
 places_left stream progress =
     if progress.done then 0
     else stream.budget + stream.retries + progress.refills - progress.tries + count_by is_no_call (drop progress.at stream.code) + 1
 
--- the places that are set aside: what the streams begun take yet, and one for the end of each restart
+-- the places that are set aside: what the streams begun may take yet, and one for the end of each restart
 abbrev pub set_aside : State → ℕ
 set_aside w =
     sum_below (length w.plans) (λ k. sum_below (stream_count w k) (λ i. places_left (stream_parts w (stream_id k i)) (w.progress k i)))

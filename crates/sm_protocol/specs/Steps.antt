@@ -55,7 +55,7 @@ call_lost w id = record w {
   log = logged w (Event.Lose id false) Played.Lost;
 }
 
--- a try, by what becomes of it on its way, and by what its server answers
+-- a try, by what becomes of it on its way, and by what its server answers: one that is lost before it comes there is answered by none
 abbrev pub tried : State → StreamId → Instr → Passage → Result CallEffect Refusal → Outcome × State
 tried w id i Passage.LostBefore answer = (Answered Played.Lost, call_lost w id)
 tried w id i Passage.Through (Ok effect) =
