@@ -21,7 +21,7 @@ pub use Rattle.sm_placement.proofs.Searches.{any_none, first_from_none}
 pub use Rattle.sm_placement.proofs.Sums.{bit-le-one, part_of_sum, put-apart, put-here, put2-here, same_sum, sum_apart, sum_of_both, sum_zero}
 pub use Rattle.sm_placement.specs.Layout.{IsPlacement}
 pub use Rattle.sm_placement.specs.Lead.{Describes, IsPlain, is_at_rest, lead_of}
-pub use Rattle.sm_placement.specs.Place.{CallEffect, Place, called_numbered, down_count, forget_numbers, is_live_at, live_at, load_at, numbered_answer_at, publish, set_down, set_last, with_lasts}
+pub use Rattle.sm_placement.specs.Place.{CallEffect, Place, called_numbered, down_count, entry_at, forget_numbers, is_live_at, live_at, load_at, numbered_answer_at, publish, set_down, set_last, with_lasts}
 pub use Rattle.sm_placement.specs.Rows.{serves}
 pub use Rattle.sm_placement.specs.Setup.{Setup, Sizes, sizes_of}
 pub use Rattle.sm_placement.specs.Sums.{bit, count_below, first_from, put, put2, sum_below}

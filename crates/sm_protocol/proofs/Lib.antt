@@ -31,6 +31,8 @@ pub mod Plays
 pub mod Losses
 pub mod Passable
 pub mod EffectNumbers
+pub mod EffectCounts
+pub mod Entries
 pub mod LogEnds
 pub mod EndStates
 pub mod EndsReached

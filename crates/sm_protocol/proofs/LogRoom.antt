@@ -55,10 +55,11 @@ went_on w id x p entries numbers n marks event answer h b limit down tries less 
 pub ok_is : (x y : CallEffect) → ◌≡◌ {A = Result CallEffect Refusal} (Ok x) (Ok y) → x ≡ y
 ok_is x y e = cc
 
--- a call changes neither who is down nor the limit nor a version
+-- a call changes neither who is down nor the limit nor an entry of the published map
 pub record IsOfCall (p : Place) (effect : CallEffect) : Type 0 where
   pub limit : effect.place.limit ≡ p.limit
   pub down : effect.place.down ≡ p.down
+  pub listed : effect.place.listed ≡ p.listed
   pub version : effect.place.version ≡ p.version
 
 -- so it is of each numbered call that is served
@@ -69,7 +70,12 @@ of_call c p s v call number effect e = go (numbered_answer_at c p s v call numbe
     go (Err why) f = absurd (let g = rw f at e in cc)
     go (Ok x) f =
         let g = ok_is _ effect (rw f at e) in
-        record { limit = sym (ap (λ (y : CallEffect). y.place.limit) g); down = sym (ap (λ (y : CallEffect). y.place.down) g); version = sym (ap (λ (y : CallEffect). y.place.version) g) }
+        record {
+          limit = sym (ap (λ (y : CallEffect). y.place.limit) g);
+          down = sym (ap (λ (y : CallEffect). y.place.down) g);
+          listed = sym (ap (λ (y : CallEffect). y.place.listed) g);
+          version = sym (ap (λ (y : CallEffect). y.place.version) g);
+        }
 
 -- ---- each kind of step
 

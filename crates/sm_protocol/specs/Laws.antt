@@ -1,7 +1,7 @@
 -- The laws of the protocol, behind their premises: what holds of every state that events lead to.
-use Rattle.std.specs.Prelude.{◌≡◌, ◌≢◌, ◌≤◌, ◌<◌, ◌↔◌, ℕ, ◌+◌, ◌==◌, ◌&&◌, ◌++◌, Bool, true, false, Option, Some, None, List, [], ◌∷◌, length, count_by, Contains, nat_lt, slice_index_or, if◌then◌else◌}
-pub use Rattle.sm_protocol.specs.Words.{AllByRecursion, Event, IsCheckedPlan, IsPlacement, IsServing, IsSettled, IsSetup, MOST_CALLS, MOST_PLACES, OfRoom, OfSpare, Place, PlanModel, Played, Setup, Sizes, StreamId, VERSIONS_END, bit, down_count, live_at, load_at, places_of, sizes_of}
-use Rattle.sm_protocol.specs.State.{State, opened, progress_of, is_begun, is_unfinished, held, pool, free_places, numbers_end}
+use Rattle.std.specs.Prelude.{◌≡◌, ◌≢◌, ◌≤◌, ◌<◌, ◌↔◌, ℕ, suc, ◌+◌, ◌==◌, ◌&&◌, ◌++◌, Bool, true, false, Option, Some, None, List, [], ◌∷◌, length, count_by, Contains, nat_lt, slice_index_or, take, if◌then◌else◌}
+pub use Rattle.sm_protocol.specs.Words.{AllByRecursion, Entry, Event, IsCheckedPlan, IsPlacement, IsServing, IsSettled, IsSetup, MOST_CALLS, MOST_PLACES, OfRoom, OfSpare, Place, PlanModel, Played, Setup, Sizes, StreamId, VERSIONS_END, bit, down_count, entry_at, is_call, live_at, load_at, places_of, sizes_of}
+use Rattle.sm_protocol.specs.State.{State, opened, stream_parts, progress_of, is_begun, is_unfinished, reach, held, pool, free_places, numbers_end}
 use Rattle.sm_protocol.specs.Steps.{Outcome, Refused, Answered, call_number}
 use Rattle.sm_protocol.specs.Happens.{Happening, Step, Lose, Refill, Arrive, PassOn, Approve, Done, Begin, has_all_plans, happens, run, outcomes}
 use Rattle.sm_protocol.specs.Hand.{Hand, Game, spends, play, plays, all_given, played_events, or_unknown}
@@ -123,6 +123,12 @@ pub record HasEffectOnce (w : State) (es : List Happening) (new : State) (n : �
 abbrev pub EffectsOnce : Type 0
 EffectsOnce = (setup : Setup) (w : State) (es : List Happening) (n : ℕ) → IsReached setup w → AllFit (sizes_of setup) es → HasEffectOnce w es (run es w) n
 
+-- A stream has had as many effects as there are calls among the instructions that it has made, with the one that has had its
+-- effect and was not answered.
+abbrev pub CountsEffects : State → Type 0
+CountsEffects w = (id : StreamId) → is_begun w id ≡ true →
+    (progress_of w id).effects ≡ count_by is_call (take (reach (progress_of w id).at (progress_of w id).ahead) (stream_parts w id).code)
+
 -- the answer spends a ticket of this place of the log
 abbrev pub spends_at : ℕ → Happening → Outcome → Bool
 spends_at place (PassOn t) (Answered answer) = (t.place == place) && spends answer
@@ -147,6 +153,21 @@ asked _ = None
 abbrev pub ExecutedServes : State → Type 0
 ExecutedServes w = (e : Happening) (s v : ℕ) → asked e ≡ Some s → (happens w e).0 ≡ Answered (Played.Executed v) →
     IsServing w.place s v × ((u : ℕ) → IsServing w.place s u → u ≡ v)
+
+-- the entry of a shard in the map of a placement, once these were added to it, the newest first
+abbrev pub entry_after : List (ℕ × Entry) → Place → ℕ → Entry
+entry_after [] p s = entry_at p s
+entry_after (x ∷ xs) p s = if x.0 == s then x.1 else entry_after xs p s
+
+-- the version of each that was added is one more than that of its shard's entry before it
+abbrev pub RiseByOne : List (ℕ × Entry) → Place → Type 0
+RiseByOne [] p = Unit {0}
+RiseByOne (x ∷ xs) p = (x.1.version ≡ suc (entry_after xs p x.0).version) × RiseByOne xs p
+
+-- the published map is that of the opening, once the entries were added that the state has of publications
+pub record FollowsEntries (w : State) : Type 0 where
+  pub map : (s : ℕ) → entry_at w.place s ≡ entry_after w.entries w.opening s
+  pub versions : RiseByOne w.entries w.opening
 
 -- an event that is not recorded and starts no plan changes nothing
 abbrev pub UnrecordedChangesNothing : Type 0

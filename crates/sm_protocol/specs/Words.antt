@@ -10,7 +10,7 @@ pub use Rattle.sm_placement.specs.Setup.{IsSetup, Setup, Sizes, sizes_of}
 pub use Rattle.sm_placement.specs.Layout.{IsPlacement}
 pub use Rattle.sm_placement.specs.Lead.{IsSettled}
 pub use Rattle.sm_placement.specs.SafePlace.{IsSafePlace, IsServing}
-pub use Rattle.sm_placement.specs.Place.{CallEffect, Place, called_numbered, down_count, forget_numbers, is_live_at, live_at, load_at, publish, set_down}
+pub use Rattle.sm_placement.specs.Place.{CallEffect, Place, called_numbered, down_count, entry_at, forget_numbers, is_live_at, live_at, load_at, publish, set_down}
 pub use Rattle.sm_reservation.specs.declared.stream_id.StreamId.{StreamId}
 pub use Rattle.sm_reservation.specs.Rights.{Rights}
 pub use Rattle.sm_reservation.specs.Hold.{Hold}
@@ -20,7 +20,7 @@ pub use Rattle.sm_reservation.specs.Pool.{free_cell, free_crown, leads_of, true_
 pub use Rattle.sm_plan_code.specs.declared.limits.TheConstants.{MOST_ALLOWANCE, MOST_CALLS, MOST_NUMBER, MOST_PLACES, MOST_PLANS}
 pub use Rattle.sm_plan_code.specs.declared.instruction.Instr.{Instr}
 pub use Rattle.sm_plan_code.specs.declared.call.ServerCall.{ServerCall}
-pub use Rattle.sm_plan_code.specs.Instr.{is_mentioned, is_no_call, shard_of}
+pub use Rattle.sm_plan_code.specs.Instr.{is_call, is_mentioned, is_no_call, shard_of}
 pub use Rattle.sm_plan_code.specs.Acts.{call_again, next_call, numbers_after}
 pub use Rattle.sm_plan_code.specs.After.{to_list}
 pub use Rattle.sm_plan_code.specs.Plan.{PlanModel, StreamModel, places_of}

@@ -1,5 +1,5 @@
 //! The laws of the protocol: what holds of every state that events lead to.
-ghost use Rattle.sm_protocol.specs.Laws.{ApprovedWhereReserved, BegunWhereAccepted, EachReached, EffectsOnce, EndsAreReached, ExecutedServes, Headline, IsConserved, IsSmall, PlaysAreRuns, PlaysAreSafe, TicketsOnce, UnrecordedChangesNothing, WithLosses};
+ghost use Rattle.sm_protocol.specs.Laws.{ApprovedWhereReserved, BegunWhereAccepted, CountsEffects, EachReached, EffectsOnce, EndsAreReached, ExecutedServes, FollowsEntries, Headline, IsConserved, IsSmall, PlaysAreRuns, PlaysAreSafe, TicketsOnce, UnrecordedChangesNothing, WithLosses};
 ghost use Rattle.sm_protocol.specs.Log.{IsLegal};
 
 /// A checked plan is begun exactly where it is accepted, the log has its places and another plan may run.
@@ -31,6 +31,12 @@ pub fn effects_once()
     ensures { EffectsOnce }
 {}
 
+/// A stream has had as many effects as there are calls among the instructions that it has made, with the one that has had its
+/// effect and was not answered.
+pub fn effects_are_counted()
+    ensures { EachReached CountsEffects }
+{}
+
 /// Who executes a request is the one server that serves its shard.
 pub fn executed_serves()
     ensures { EachReached ExecutedServes }
@@ -45,6 +51,12 @@ pub fn log_replays()
 /// Each ticket is spent by one answer at most.
 pub fn tickets_once()
     ensures { TicketsOnce }
+{}
+
+/// The published map is that of the opening, once the entries were added that the state has of publications; along those of a shard
+/// the versions rise by one.
+pub fn map_follows_entries()
+    ensures { EachReached FollowsEntries }
 {}
 
 /// An event that is not recorded and starts no plan changes nothing.

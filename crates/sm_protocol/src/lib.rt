@@ -7,7 +7,8 @@ mod law;
 
 pub use event::{BeginFault, Event, Logged, Passage, Played, RefillFault};
 pub use law::{
-    approved_where_reserved, begun_where_accepted, effects_once, ends_are_reached, executed_serves,
-    headline, log_replays, numbers_stay_small, plays_are_runs, plays_are_safe, room_is_conserved,
-    tickets_once, unrecorded_changes_nothing, with_losses,
+    approved_where_reserved, begun_where_accepted, effects_are_counted, effects_once,
+    ends_are_reached, executed_serves, headline, log_replays, map_follows_entries,
+    numbers_stay_small, plays_are_runs, plays_are_safe, room_is_conserved, tickets_once,
+    unrecorded_changes_nothing, with_losses,
 };
