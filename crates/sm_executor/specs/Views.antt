@@ -6,7 +6,7 @@ use Rattle.sm_reservation.specs.declared.stream_id.StreamId.{StreamId}
 use Rattle.sm_protocol.specs.State.{State, stream_id, progress_of, allowance}
 use Rattle.sm_machine.specs.Machine.{MachineModel}
 use Rattle.sm_machine.specs.State.{state_of}
-use Rattle.sm_machine.specs.Retired.{recorded_steps}
+use Rattle.sm_machine.specs.Retired.{steps_at_end}
 
 -- the machine, and how many runners and callers the board has given out
 pub record HeldModel : Type 0 where
@@ -59,7 +59,7 @@ streams_run runners = map (λ r. r.stream) runners
 
 -- the end that a runner of the stream comes to
 abbrev pub end_in : State → RunnerModel → EndedModel
-end_in w runner = finished runner.stream (recorded_steps w runner.stream) (progress_of w runner.stream).tries (allowance w runner.stream) runner.steps
+end_in w runner = finished runner.stream (steps_at_end w runner.stream) (progress_of w runner.stream).tries (allowance w runner.stream) runner.steps
 
 -- how many events the one state has recorded more than the other
 abbrev pub recorded_more : State → State → ℕ

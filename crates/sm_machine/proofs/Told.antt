@@ -28,7 +28,7 @@ use Rattle.sm_protocol.proofs.LogRoom.{plan_before}
 use Rattle.sm_protocol.proofs.Numbers.{each_stream, goes_on, same_stream}
 use Rattle.sm_protocol.proofs.Places.{no_calls_from, past_no_call, past_call}
 use Rattle.sm_protocol.proofs.Reached.{by_events}
-use Rattle.sm_machine.specs.Retired.{is_made_by, made_in, recorded_steps}
+use Rattle.sm_machine.specs.Retired.{is_made_by, made_in, steps_at_end}
 use Rattle.sm_machine.proofs.ties.Before.{kept}
 
 -- ---- one line more
@@ -174,7 +174,7 @@ none_left [] at e = rw e refl
 none_left (i ∷ code) at e = rw e (none_left code (length code) refl)
 
 -- where a stream has made its end, the log has as many steps and lost tries of it as it has made
-pub recorded_is : (setup : Setup) (w : State) → IsReached setup w → (id : StreamId) → is_begun w id ≡ true → (progress_of w id).done ≡ true → recorded_steps w id ≡ made_in id w.log
+pub recorded_is : (setup : Setup) (w : State) → IsReached setup w → (id : StreamId) → is_begun w id ≡ true → (progress_of w id).done ≡ true → steps_at_end w id ≡ made_in id w.log
 recorded_is setup w r id b d =
     let v = kept setup w r in
     let k = begun w id b in

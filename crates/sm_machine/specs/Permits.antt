@@ -2,6 +2,6 @@
 use Rattle.std.specs.Prelude.{ℕ, zero, suc, Bool, List, [], ◌∷◌, ◌++◌, if◌then◌else◌}
 
 -- the numbers below n that pass
-abbrev pub passing_below : (ℕ → Bool) → ℕ → List ℕ
-passing_below test zero = []
-passing_below test (suc n) = if test n then passing_below test n ++ n ∷ [] else passing_below test n
+abbrev pub filter_below : (ℕ → Bool) → ℕ → List ℕ
+filter_below test zero = []
+filter_below test (suc n) = if test n then filter_below test n ++ n ∷ [] else filter_below test n

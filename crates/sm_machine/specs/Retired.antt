@@ -13,8 +13,8 @@ has_ended w id = is_begun w id && (progress_of w id).done
 
 -- how many recorded steps a stream has made that has made its end: the tries of its calls, each instruction of its code that is
 -- no call, and its end
-abbrev pub recorded_steps : State → StreamId → ℕ
-recorded_steps w id = (progress_of w id).tries + count_by is_no_call (stream_parts w id).code + 1
+abbrev pub steps_at_end : State → StreamId → ℕ
+steps_at_end w id = (progress_of w id).tries + count_by is_no_call (stream_parts w id).code + 1
 
 -- a recorded event is a step of the stream, or a lost try of it
 abbrev pub is_made_by : StreamId → Event → Bool

@@ -26,7 +26,7 @@ ghost use Rattle.sm_machine.specs.Starts.{CanFillAll, IsBegunIn, begun_of};
 ghost use Rattle.sm_machine.specs.Trade.{IsTradedBy};
 ghost use Rattle.sm_protocol.specs.Happens.{reply_of};
 ghost use Rattle.sm_protocol.specs.Ticket.{passes, is_open_ticket};
-ghost use Rattle.sm_machine.specs.Retired.{recorded_steps};
+ghost use Rattle.sm_machine.specs.Retired.{steps_at_end};
 ghost use Rattle.sm_machine.specs.Unfinished.{unfinished_below};
 ghost use Rattle.sm_placement.specs.declared.limits.TheConstants.{VERSIONS_END};
 
@@ -214,7 +214,7 @@ impl Engine {
     pub fn steps_made(&self, id: StreamId) -> u64
         requires begun { is_begun (state_of self.now) id ≡ true }
         requires tries { (progress_of (state_of self.now) id).tries ≤ allowance (state_of self.now) id }
-        ensures { result ≡ recorded_steps (state_of self.now) id }
+        ensures { result ≡ steps_at_end (state_of self.now) id }
     {
         self.plans
             .at(id.plan as usize)

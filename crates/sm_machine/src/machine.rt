@@ -8,7 +8,7 @@ ghost use Rattle.sm_machine.specs.declared.opened.OpenFault.TheVariants.{LogFull
 ghost use Rattle.sm_placement.specs.Sums.{bit};
 ghost use Rattle.sm_placement.specs.Setup.{sizes_of};
 ghost use Rattle.sm_placement.specs.Layout.{place_of};
-ghost use Rattle.sm_machine.specs.Permits.{passing_below};
+ghost use Rattle.sm_machine.specs.Permits.{filter_below};
 ghost use Rattle.sm_reservation.specs.Pool.{pool_hold, HasSize};
 ghost use Rattle.sm_protocol.specs.Steps.{Answered, step};
 ghost use Rattle.sm_protocol.specs.Happens as happening;
@@ -25,7 +25,7 @@ ghost use Rattle.sm_machine.specs.Requested.{played_by, tickets_in};
 ghost use Rattle.sm_machine.specs.Restarted.{restart_of, approval_of};
 ghost use Rattle.sm_protocol.specs.Hand.{tickets_of, spends};
 ghost use Rattle.sm_machine.specs.Losses.{refill_answer, is_lost_answer, IsStepOver};
-ghost use Rattle.sm_machine.specs.Retired.{has_ended, recorded_steps, made_in};
+ghost use Rattle.sm_machine.specs.Retired.{has_ended, steps_at_end, made_in};
 ghost use Rattle.sm_plan_code.specs.declared.limits.TheConstants.{MOST_CALLS, MOST_PLACES};
 
 use crate::answer::{Answer, answer_to, answer_with};
@@ -78,7 +78,7 @@ impl Machine {
         requires { IsSettled (sizes_of placement.setup) (place_of placement) }
         ensures state { IfOk result (λ r. state_of r.0 ≡ opened (sizes_of placement.setup) (place_of placement) log_room) }
         ensures setup { IfOk result (λ r. r.0.placement.setup ≡ placement.setup) }
-        ensures permits { IfOk result (λ r. r.1.items ≡ passing_below (place_of placement).down (length placement.setup.servers)) }
+        ensures permits { IfOk result (λ r. r.1.items ≡ filter_below (place_of placement).down (length placement.setup.servers)) }
         ensures fits { OnOk result ((log_room ≤ MOST_PLACES) × (down_count (sizes_of placement.setup) (place_of placement) ≤ log_room)) }
         ensures back { IfErr result (λ e. e.0 ≡ placement) }
         ensures full { IfErr result (λ e. (e.1 ≡ LogFull) ↔ ((MOST_PLACES < log_room) ⊎ (log_room < down_count (sizes_of placement.setup) (place_of placement)))) }
@@ -452,9 +452,9 @@ impl Machine {
 
     /// How many recorded steps a stream makes on its way: the tries of its calls so far, its other instructions, and its end,
     /// whether or not it has come to those. Of a stream that has made its end it is the number that `retire` answers.
-    pub fn recorded_steps(&self, id: StreamId) -> u64
+    pub fn steps_at_end(&self, id: StreamId) -> u64
         requires { is_begun (state_of self.now) id ≡ true }
-        ensures { result ≡ recorded_steps (state_of self.now) id }
+        ensures { result ≡ steps_at_end (state_of self.now) id }
     {
         self.engine.steps_made(id)
     }
@@ -480,7 +480,7 @@ impl Machine {
     /// calls, its other instructions, and its end, which are its steps and lost tries in the log. A token of any other stream comes
     /// back.
     pub fn retire(&self, token: StreamToken) -> Result<u64, StreamToken>
-        ensures made { IfOk result (λ steps. steps ≡ recorded_steps (state_of self.now) token) }
+        ensures made { IfOk result (λ steps. steps ≡ steps_at_end (state_of self.now) token) }
         ensures logged { IfOk result (λ steps. steps ≡ made_in token (state_of self.now).log) }
         ensures done { OnOk result (has_ended (state_of self.now) token ≡ true) }
         ensures back { IfErr result (λ t. t ≡ token) }

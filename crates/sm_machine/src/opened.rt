@@ -1,7 +1,7 @@
 //! The opening of machines.
 ghost use Rattle.std.specs.Prelude.{◌≡◌, ◌≤◌, [], length, vec_capacity};
 ghost use Rattle.sm_placement.specs.Layout.{place_of};
-ghost use Rattle.sm_machine.specs.Permits.{passing_below};
+ghost use Rattle.sm_machine.specs.Permits.{filter_below};
 
 use crate::permit::Permit;
 use sm_placement::Placement;
@@ -23,7 +23,7 @@ pub enum OpenFault {
 pub(crate) fn permits_of(mut permits: Vec<Permit>, placement: &Placement) -> Vec<Permit>
     requires empty { permits.items ≡ [] }
     requires room { length placement.now.setup.servers ≤ vec_capacity permits }
-    ensures { result.items ≡ passing_below (place_of placement.now).down (length placement.now.setup.servers) }
+    ensures { result.items ≡ filter_below (place_of placement.now).down (length placement.now.setup.servers) }
 {
     for number in 0..placement.config().server_count() {
         let server = ServerId::new(number);

@@ -5,7 +5,7 @@ use Rattle.std.specs.Fmt.{decimal}
 use Rattle.sm_placement.specs.Setup.{Setup}
 use Rattle.sm_reservation.specs.declared.stream_id.StreamId.{StreamId}
 use Rattle.sm_protocol.specs.State.{State, stream_id, stream_count, progress_of, allowance}
-use Rattle.sm_machine.specs.Retired.{recorded_steps}
+use Rattle.sm_machine.specs.Retired.{steps_at_end}
 use Rattle.sm_router.specs.declared.asking.Asked.{Asked}
 use Rattle.sm_router.specs.declared.asking.Asked.TheVariants as asked
 use Rattle.sm_executor.specs.Clients.{ClientModel}
@@ -22,7 +22,7 @@ stream_end_line stream steps calls budget
 
 -- the same of a stream as it stands
 abbrev pub end_line : State → StreamId → List ℕ
-end_line w id = stream_end_line id.stream (recorded_steps w id) (progress_of w id).tries (allowance w id)
+end_line w id = stream_end_line id.stream (steps_at_end w id) (progress_of w id).tries (allowance w id)
 
 -- the lines of all streams of the plan with this number
 abbrev pub end_lines : State → ℕ → List ℕ

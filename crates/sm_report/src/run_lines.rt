@@ -39,7 +39,7 @@ fn push_end(out: &mut String, machine: &Machine, id: StreamId) -> Result<(), All
     push_stream_end(
         out,
         id.stream,
-        machine.recorded_steps(id),
+        machine.steps_at_end(id),
         machine.calls(id),
         machine.allowance(id),
     )
