@@ -20,7 +20,7 @@ pub record StreamModel : Type 0 where
   pub holds : Rights
   pub code : List Instr
 
--- a plan: how many calls and tries its streams have together at most, its streams, and what each signal carries
+-- a plan: how many calls and retries its streams have together at most, its streams, and what each signal carries
 pub record PlanModel : Type 0 where
   pub budget : ℕ
   pub streams : List StreamModel
