@@ -9,6 +9,7 @@ use Rattle.sm_reservation.specs.declared.stream_id.StreamId.{StreamId}
 use Rattle.sm_plan_code.specs.declared.instruction.Instr.{Instr}
 use Rattle.sm_plan_code.specs.declared.instruction.Instr.TheVariants.{PrepareAdd, PrepareDrop, Add, Drop, Change, Publish, Unlist, Signal, Wait}
 use Rattle.sm_plan_code.specs.declared.call.ServerCall.{ServerCall}
+use Rattle.sm_plan_code.specs.declared.limits.TheConstants.{MOST_ALLOWANCE, MOST_CALLS}
 use Rattle.sm_plan_code.specs.Instr.{is_call}
 use Rattle.sm_plan_code.specs.Acts.{call_of}
 use Rattle.sm_protocol.specs.declared.event.Passage.{Passage}
@@ -44,11 +45,11 @@ not_false true e = refl
 not_false false e = cc
 
 -- a machine whose stream's allowance was raised
-pub refill_leaves : (x : Whole) → IsWorking x → (id : StreamId) (more : ℕ) → more ≤ 262144 → refill_fault x.state id more ≡ None → (y : Whole) →
+pub refill_leaves : (x : Whole) → IsWorking x → (id : StreamId) (more : ℕ) → more ≤ MOST_CALLS → refill_fault x.state id more ≡ None → (y : Whole) →
     y ≡ record x { state = (refilled x.state id more None).1; free = x.free - (more + 1) } → HasHappened x (Refill id more) played.Refilled y
 refill_leaves x g id more few none y e =
     let w : State = x.state in
-    let a = no_fault (not (is_running w id)) (nat_lt 524288 ((stream_parts w id).budget + (stream_parts w id).retries + (progress_of w id).refills + more)) (nat_lt (free_places w) (more + 1)) none in
+    let a = no_fault (not (is_running w id)) (nat_lt MOST_ALLOWANCE ((stream_parts w id).budget + (stream_parts w id).retries + (progress_of w id).refills + more)) (nat_lt (free_places w) (more + 1)) none in
     let runs = not_false (is_running w id) a.0 in
     let places = g.counted.places in
     let fits = ltb-false (free_places w) (more + 1) a.2 in

@@ -1,6 +1,7 @@
 -- A machine approves and ends restarts as the protocol says, and keeps what every machine keeps.
 use Rattle.std.proofs.Common.{◌≡◌, ◌≤◌, ◌<◌, ◌+◌, ◌^◌, ℕ, true, false, sym, ap, ◌∙◌, subst, arith, [], ◌∷◌, Option, None, length, length-append}
 use Rattle.sm_placement.specs.Place.{set_down}
+use Rattle.sm_plan_code.specs.declared.limits.TheConstants.{MOST_PLACES}
 use Rattle.sm_task_controller.specs.declared.decision.Denied.{Denied}
 use Rattle.sm_task_controller.specs.Decision.{denial}
 use Rattle.sm_task_controller.proofs.Denials.{granted}
@@ -12,7 +13,7 @@ use Rattle.sm_protocol.specs.Happens.{Approve, approved, engaged, happens}
 use Rattle.sm_protocol.proofs.Reached.{of_opening}
 use Rattle.sm_machine.specs.State.{Whole}
 use Rattle.sm_machine.specs.Working.{IsWorking}
-use Rattle.sm_machine.specs.Restarts.{live_there, CanPayLive, CanGetLive}
+use Rattle.sm_machine.specs.SpareReplicas.{live_there, CanPayLive, CanGetLive}
 use Rattle.sm_machine.specs.Restarted.{approved_whole, restarted_whole}
 use Rattle.sm_machine.proofs.ties.Events.{working_approved, working_restarted}
 use Rattle.sm_machine.proofs.ties.Freeing.{whole_log}
@@ -26,7 +27,7 @@ module _ (x : Whole) (g : IsWorking x) (u : ℕ) where
   pub few_free : x.free < 2 ^ 32
   few_free =
       let is : x.free ≡ free_places w = g.counted.places in
-      let most : w.room ≤ 1048576 = (of_opening x.setup w g.reached).is_opening.most in
+      let most : w.room ≤ MOST_PLACES = (of_opening x.setup w g.reached).is_opening.most in
       let few : free_places w ≤ w.room = omega arith in
       omega arith
 

@@ -10,6 +10,7 @@ use Rattle.sm_reservation.specs.declared.stream_id.StreamId.{StreamId}
 use Rattle.sm_plan_code.specs.declared.instruction.Instr.{Instr}
 use Rattle.sm_plan_code.specs.declared.instruction.Instr.TheVariants.{Publish, Unlist, Signal, Wait}
 use Rattle.sm_plan_code.specs.declared.call.ServerCall.{ServerCall}
+use Rattle.sm_plan_code.specs.declared.limits.TheConstants.{MOST_PLACES}
 use Rattle.sm_plan_code.specs.Instr.{is_call, shard_of}
 use Rattle.sm_plan_code.specs.After.{to_list}
 use Rattle.sm_plan_code.specs.Table.{exchange_of, crown}
@@ -200,7 +201,7 @@ module _ (x : Whole) (id : StreamId) (at : IsAt x id None) (order : IsGrantInOrd
   free_fits =
       let g = at.working in
       let c = (counted_ended x.setup x.state g.reached x.unfinished x.running x.free g.counted id (before x id None at)).2.places in
-      let most : x.state.room ≤ 1048576 = (of_opening x.setup x.state g.reached).is_opening.most in
+      let most : x.state.room ≤ MOST_PLACES = (of_opening x.setup x.state g.reached).is_opening.most in
       let few : free_places (ended x.state id).1 ≤ x.state.room = omega arith in
       omega arith
 

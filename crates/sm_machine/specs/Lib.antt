@@ -10,7 +10,7 @@ pub mod Machine
 pub mod State
 pub mod Trade
 pub mod Tied
-pub mod Restarts
+pub mod SpareReplicas
 pub mod Steps
 pub mod Ready
 pub mod Working

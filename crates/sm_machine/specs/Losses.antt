@@ -23,7 +23,7 @@ is_lost Through = false
 is_lost LostBefore = true
 is_lost LostAfter = true
 
--- the event of a step whose call, where it tries one, fares so
+-- the event of a step, where the try of a call, if it makes one, has this passage
 abbrev pub event_over : StreamId → Passage → Happening
 event_over id Through = Step id
 event_over id LostBefore = Lose id false

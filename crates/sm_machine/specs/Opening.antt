@@ -9,7 +9,8 @@ use Rattle.sm_placement.specs.Place.{Place}
 use Rattle.sm_placement.specs.Layout.{entries_of}
 use Rattle.sm_placement.specs.Opening.{NamedCell, put_all}
 
--- The cells that are not Absent, the servers that are down, and what the published map says of each shard.
+-- The cells that are not Absent, the servers that are down, what the published map says of each shard, and how many servers
+-- may be down at once.
 pub record OpeningRows : Type 0 where
   pub cells : List NamedCell
   pub listed : List (Option ℕ)

@@ -11,7 +11,7 @@ use Rattle.sm_protocol.specs.State.{logged}
 use Rattle.sm_protocol.specs.Happens.{approved}
 use Rattle.sm_machine.specs.State.{Whole}
 use Rattle.sm_machine.specs.Tied.{pay_live, get_live}
-use Rattle.sm_machine.specs.Restarts.{live_there}
+use Rattle.sm_machine.specs.SpareReplicas.{live_there}
 
 -- a server is down, and the spare replicas that were live at it are out of the pool
 abbrev pub down_whole : Whole → ℕ → Whole

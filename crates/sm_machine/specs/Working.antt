@@ -27,8 +27,8 @@ abbrev pub IsUnsent : Option HoldModel → Rights → Type 0
 IsUnsent None p = ⊥
 IsUnsent (Some kept) p = (kept.rights ≡ no_rights) × (most_keys p ≤ kept.capacity)
 
--- Events led to the state from an opening of the machine's own configuration, the rights are those of the state, there is capacity for all that streams and signals will have,
--- and what is counted is the state's.
+-- Events led to the state from an opening of the machine's own configuration, the rights are those of the state, there is
+-- capacity for all that streams and signals will have, and what is counted is the state's.
 pub record IsWorking (x : Whole) : Type 0 where
   pub reached : IsReached x.setup x.state
   pub tied : IsTied x.state x.pool (λ k i. hold_in (x.grants k i)) (λ k q. hold_in (x.parcels k q))

@@ -19,7 +19,7 @@ pub enum Answer {
     NotOwner,
     /// The server is down.
     Unavailable,
-    /// The log has no free place. A ticket comes back.
+    /// The log has no free place. The ticket comes back, where the request came with one.
     LogFull(Option<Ticket>),
     /// The log has no such pass, or its request was passed on already. The ticket comes back.
     Unknown(Ticket),
@@ -86,7 +86,7 @@ pub(crate) fn split(answer: Answer) -> (Played, Option<Ticket>)
 }
 
 /// A ticket that meets this answer is spent.
-pub(crate) fn is_spent(answer: &Played) -> bool
+pub(crate) fn spends_ticket(answer: &Played) -> bool
     ensures { result ≡ spends answer.now }
 {
     matches!(

@@ -35,6 +35,7 @@ use std::marker::Model;
 /// A signal of a plan that was begun.
 pub(crate) struct Carried {
     posted: bool,
+    /// What it carries; None once it was awaited.
     grant: Option<Grant>,
 }
 
@@ -161,10 +162,14 @@ fn close_signals(signals: Vec<Carried>, pool: &ClosedPool) {
 /// A plan that was begun, as it stands.
 pub(crate) struct Begun {
     plan: Plan,
+    /// The log's length at its start.
     since: u32,
+    /// Its streams, in their order.
     courses: Vec<Course>,
     signals: Vec<Carried>,
+    /// The servers that the code of each stream mentions.
     mentioned: Vec<MentionedServers>,
+    /// How many streams have not made their ends.
     unfinished: u32,
 }
 

@@ -11,12 +11,12 @@ ghost use Rattle.sm_protocol.specs.State.{opened};
 ghost use Rattle.sm_protocol.specs.Ticket.{passes};
 ghost use Rattle.sm_machine.specs.State.{state_of};
 ghost use Rattle.sm_machine.specs.Director.{IsDirected, IsDirectedIf};
-ghost use Rattle.sm_machine.specs.declared.opened.OpenFault.TheVariants.{LogFull};
+ghost use Rattle.sm_machine.specs.declared.open_fault.OpenFault.TheVariants.{LogFull};
 ghost use Rattle.sm_plan_code.specs.declared.limits.TheConstants.{MOST_CALLS, MOST_PLACES};
 
 use crate::answer::split;
 use crate::machine::Machine;
-use crate::opened::OpenFault;
+use crate::open_fault::OpenFault;
 use crate::permit::{Permit, close_permits};
 use crate::ready_plan::ReadyPlan;
 use crate::ticket::Ticket;

@@ -30,7 +30,7 @@ ghost use Rattle.sm_machine.specs.Retired.{steps_at_end};
 ghost use Rattle.sm_machine.specs.Unfinished.{unfinished_below};
 ghost use Rattle.sm_placement.specs.declared.limits.TheConstants.{VERSIONS_END};
 
-mod restarts;
+mod restart_fields;
 
 use crate::begun::Begun;
 use crate::journal::{Journal, TicketParts};
@@ -53,20 +53,31 @@ use std::marker::Model;
 
 /// All that a machine has.
 pub(crate) struct Engine {
+    /// The placement with which the log begins.
     opening: Opening,
+    /// The placement as it stands.
     placement: Placement,
+    /// The rights that nobody has.
     pool: Pool,
+    /// The entries that publications have added, with their shards, the oldest first.
     entries: Vec<(ShardId, Entry)>,
+    /// Each shard's highest handover number.
     numbers: Vec<u64>,
+    /// The number of the next call.
     next_number: u64,
+    /// The plans that were begun.
     plans: Plans,
-    /// A plan lies here while a stream of it makes a step. It is a plan of nothing else.
+    /// A plan lies here while its streams and signals are changed, and at all other times a plan of nothing.
     desk: Begun,
+    /// The recorded events.
     journal: Journal,
+    /// How many places of the log are neither used nor set aside.
     free: u64,
     /// The unfinished plans, by their numbers, so that they are found among all plans that were begun.
     unfinished: Vec<u32>,
+    /// How many plans are unfinished.
     running: u32,
+    /// Steps are answered Halted.
     halted: bool,
 }
 
@@ -436,7 +447,7 @@ impl Engine {
         }
     }
 
-    /// Places of the log become free.
+    /// So many places of the log are free.
     pub fn set_free(&mut self, free: u64)
         ensures { whole_of self.new ≡ record (whole_of self.old) { free = free } }
     {

@@ -107,8 +107,11 @@ fn note_pass_on(passed_on: &mut [bool], event: &Event)
 /// The recorded events, with room for all that can be recorded.
 pub(crate) struct Journal {
     log: Vec<Logged>,
+    /// For each recorded event the pass that it made, if it made one.
     passes: Vec<Option<TicketParts>>,
+    /// For each place of the log whether the request of its pass was passed on.
     passed_on: Vec<bool>,
+    /// How many places there are.
     room: u32,
 }
 

@@ -17,7 +17,7 @@ pub trait Link {
     /// Before it was asked, for which stream, under which number, what it answered, and as it stands then.
     ghost asked: { Self → StreamId → ℕ → Passage → Self → Type 0 };
 
-    /// What becomes of a stream's try of a call under a number. Of a count that can't rise nothing is lost.
+    /// What becomes of a stream's try of a call under a number. Nothing is lost where the count of losses can rise no more.
     fn passage(&mut self, stream: StreamId, number: u64) -> Passage
         ensures asked { asked self.old stream number result self.new }
         ensures count { losses self.new ≡ losses self.old + bit (is_lost result) }

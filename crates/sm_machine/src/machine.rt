@@ -4,7 +4,7 @@ ghost use Rattle.sm_placement.specs.Place.{down_count, entry_at};
 ghost use Rattle.sm_placement.specs.Lead.{IsSettled};
 ghost use Rattle.sm_protocol.specs.State.{opened, is_begun, progress_of, allowance, free_places, stream_count, plan_at, pool};
 ghost use Rattle.sm_protocol.specs.Ticket.{passes};
-ghost use Rattle.sm_machine.specs.declared.opened.OpenFault.TheVariants.{LogFull};
+ghost use Rattle.sm_machine.specs.declared.open_fault.OpenFault.TheVariants.{LogFull};
 ghost use Rattle.sm_placement.specs.Sums.{bit};
 ghost use Rattle.sm_placement.specs.Setup.{sizes_of};
 ghost use Rattle.sm_placement.specs.Layout.{place_of};
@@ -31,8 +31,8 @@ ghost use Rattle.sm_plan_code.specs.declared.limits.TheConstants.{MOST_CALLS, MO
 use crate::answer::{Answer, answer_to, answer_with};
 use crate::engine::Engine;
 use crate::link::Link;
-use crate::opened::{OpenFault, permits_of};
-use crate::permit::{Permit, close_permits};
+use crate::open_fault::OpenFault;
+use crate::permit::{Permit, close_permits, permits_of};
 use crate::ready_plan::{ReadyPlan, make_ready};
 use crate::rooms::Rooms;
 use crate::step::Step;
@@ -168,7 +168,7 @@ impl Machine {
         }
     }
 
-    /// A stream makes its next step, and no call is refused: the next instruction is made, or the end.
+    /// A stream makes its next step, where it can: its next instruction, or its end. No call is refused.
     ///
     /// Takes no memory.
     pub fn step(&mut self, token: &mut StreamToken) -> Step
@@ -199,7 +199,7 @@ impl Machine {
         self.engine.step_by(id, passage)
     }
 
-    /// A stream makes its next step, and its call, where it tries one, fares so.
+    /// A stream makes its next step. Where that tries a call, `passage` says whether the try gets through.
     pub(crate) fn step_by(&mut self, id: StreamId, passage: Passage) -> Step
         ensures answer { (step (state_of self.old) id passage).0 ≡ Answered (played_of result) }
         ensures state { state_of self.new ≡ (step (state_of self.old) id passage).1 }

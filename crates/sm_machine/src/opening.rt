@@ -9,7 +9,8 @@ use sm_server::{Cell, ServerId, ShardId};
 use std::alloc::{AllocError, Global};
 use std::marker::Model;
 
-/// The cells that are not Absent, the servers that are down, and what the published map says of each shard.
+/// The cells that are not Absent, the servers that are down, what the published map says of each shard, and how many servers may
+/// be down at once.
 pub(crate) struct Opening {
     cells: Vec<(ShardId, ServerId, Cell)>,
     listed: Vec<Option<ServerId>>,

@@ -1,4 +1,4 @@
-//! Steps that ask a link what becomes of their calls.
+//! What a link is asked about: whether the next step tries a call, and under which number.
 ghost use Rattle.std.specs.Prelude.{◌≡◌, true};
 ghost use Rattle.sm_protocol.specs.State.{is_begun, progress_of};
 ghost use Rattle.sm_protocol.specs.Steps.{call_number};

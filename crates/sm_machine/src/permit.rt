@@ -1,6 +1,9 @@
 //! Permits of restarts.
-ghost use Rattle.std.specs.Prelude.{◌≡◌};
+ghost use Rattle.std.specs.Prelude.{◌≡◌, ◌≤◌, [], length, vec_capacity};
+ghost use Rattle.sm_placement.specs.Layout.{place_of};
+ghost use Rattle.sm_machine.specs.Permits.{filter_below};
 
+use sm_placement::Placement;
 use sm_server::ServerId;
 use std::marker::Model;
 
@@ -44,6 +47,21 @@ impl Permit {
     fn close(self) {
         let Permit { server: _ } = self;
     }
+}
+
+/// A permit for each server that is down, by the servers' numbers.
+pub(crate) fn permits_of(mut permits: Vec<Permit>, placement: &Placement) -> Vec<Permit>
+    requires empty { permits.items ≡ [] }
+    requires room { length placement.now.setup.servers ≤ vec_capacity permits }
+    ensures { result.items ≡ filter_below (place_of placement.now).down (length placement.now.setup.servers) }
+{
+    for number in 0..placement.config().server_count() {
+        let server = ServerId::new(number);
+        if placement.is_down(server) {
+            permits.push_reserved(Permit::new(server));
+        }
+    }
+    permits
 }
 
 /// Permits end with their machine. Takes no memory.

@@ -9,7 +9,7 @@ ghost use Rattle.sm_machine.specs.State.{state_of};
 ghost use Rattle.sm_machine.specs.Hand.{AreFor, AreLeft, HasHandRoom, IsSameHand, IsTurn, game_of};
 ghost use Rattle.sm_plan_code.specs.declared.limits.TheConstants.{MOST_CALLS};
 
-use crate::answer::{is_spent, split};
+use crate::answer::{spends_ticket, split};
 use crate::answers::Answers;
 use crate::hand::{Hand, token_room};
 use crate::lists::{add_left, add_tokens, put_back, put_plan, settle};
@@ -78,7 +78,7 @@ impl Machine {
         };
         let ticket = hand.tickets.remove(at);
         let (answer, left) = split(self.pass_on(ticket));
-        settle(&mut hand.tickets, at, is_spent(&answer), left);
+        settle(&mut hand.tickets, at, spends_ticket(&answer), left);
         answer
     }
 
@@ -255,7 +255,7 @@ impl Machine {
         ensures left { AreLeft hand.old.plans.items hand.new.plans.items }
         ensures machine { OnErr result (self.new ≡ self.old) }
         ensures hand { OnErr result (IsSameHand hand.old hand.new) }
-        ensures headline { (n : ℕ) → IsPlayed self.old.placement.setup (take n events.now) (game_of self.old hand.old) }
+        ensures played { (n : ℕ) → IsPlayed self.old.placement.setup (take n events.now) (game_of self.old hand.old) }
     {
         self.plays_safely(hand, events);
         self.play_all(alloc, hand, events)

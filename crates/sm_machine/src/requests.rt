@@ -1,10 +1,8 @@
-//! What a server answers to a request, and the ticket of a request that it passes on.
+//! What a server answers to a request.
 ghost use Rattle.std.specs.Prelude.{◌≡◌, ◌<◌, ◌&&◌, ◌==◌, if◌then◌else◌, length, Some};
-ghost use Rattle.std.specs.Option.{option_to_list};
 ghost use Rattle.sm_placement.specs.Layout.{place_of};
 ghost use Rattle.sm_protocol.specs.declared.event.Played.TheVariants as played;
 ghost use Rattle.sm_protocol.specs.Happens.{answer_by};
-ghost use Rattle.sm_protocol.specs.Hand.{tickets_of};
 
 use crate::journal::TicketParts;
 use sm_placement::Placement;
@@ -57,20 +55,4 @@ pub(crate) fn reply(
         return Played::Unavailable;
     }
     answer_by(&placement.cell(shard, server), server, sent, place)
-}
-
-/// The ticket of a request for a shard that a server has passed on by its answer.
-pub(crate) fn ticket_of(shard: ShardId, server: ServerId, answer: &Played) -> Option<TicketParts>
-    ensures { option_to_list result ≡ tickets_of shard server answer.now }
-{
-    match answer {
-        Played::Passed { to, number, place } => Some(TicketParts {
-            place: *place,
-            shard,
-            sender: server,
-            target: *to,
-            number: *number,
-        }),
-        _ => None,
-    }
 }

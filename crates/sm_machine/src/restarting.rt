@@ -1,4 +1,4 @@
-//! Restarts of servers: their approvals and their ends, which are recorded.
+//! Restarts as events: an approval and an end, each recorded with its change; and which stream engages a server.
 ghost use Rattle.std.specs.Prelude.{◌≡◌, ◌<◌, None, true};
 ghost use Rattle.sm_task_controller.specs.Decision.{denial};
 ghost use Rattle.sm_protocol.specs.Happens.{engaged};

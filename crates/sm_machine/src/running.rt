@@ -146,7 +146,7 @@ impl Engine {
         }
     }
 
-    /// A step of a stream, whose call fares so on its way.
+    /// A stream makes its next step. Where that tries a call, `passage` says whether the try gets through.
     pub fn step_by(&mut self, id: StreamId, passage: Passage) -> Step
         requires { IsWorking (whole_of self.old) }
         ensures { IsStepped (whole_of self.old) id passage (played_of result) (whole_of self.new) }

@@ -8,13 +8,13 @@ pub enum Step {
     Moved,
     /// The signal that the stream waits for is not posted.
     Blocked { signal: u32 },
-    /// The stream has ended.
+    /// The stream has made its end, now or before.
     Done,
     /// The machine is halted.
     Halted,
     /// The stream was not begun.
     Unknown,
-    /// The call was lost.
+    /// The call was lost, or its answer.
     Lost,
     /// The next step is a call, and the tries of the stream equal its allowance.
     Spent,

@@ -25,6 +25,7 @@ use std::marker::Model;
 /// A stream that was begun.
 pub(crate) struct Course {
     progress: Progress,
+    /// What it holds; None once it has made its end.
     grant: Option<Grant>,
 }
 

@@ -36,7 +36,7 @@ const fn shard_of(instr: &Instr) -> Option<ShardId>
 }
 
 impl Engine {
-    /// The call of a stream's next try.
+    /// The call of a stream's next try, None where the instruction is no call.
     pub fn call_to_make(&self, progress: Progress, instr: &Instr) -> Option<ServerCall>
         requires shard { IfSome (shard_of instr.now) (λ s. s < (state_of self.now).sizes.shards) }
         requires numbers { (s : ℕ) → (state_of self.now).numbers s < numbers_end }
@@ -134,7 +134,7 @@ impl Engine {
         fresh
     }
 
-    /// A call that comes to its server, and whose answer comes back.
+    /// A call that comes to its server, and whose answer comes back. Answers whether it has its effect now.
     pub fn call_through(&mut self, id: StreamId, instr: &Instr, call: &ServerCall) -> bool
         requires { IsReadyToCall (whole_of self.old) id instr.now call.now }
         ensures effect { called_numbered (state_of self.old).sizes (state_of self.old).place call.now.shard call.now.server call.now.call (call_number (state_of self.old) (progress_of (state_of self.old) id)) ≡ Ok (record { place = (state_of self.new).place; fresh = result }) }
@@ -148,7 +148,7 @@ impl Engine {
         fresh
     }
 
-    /// A call that comes to its server, and whose answer is lost.
+    /// A call that comes to its server, and whose answer is lost. Answers whether it has its effect now.
     pub fn call_unanswered(&mut self, id: StreamId, instr: &Instr, call: &ServerCall) -> bool
         requires { IsReadyToCall (whole_of self.old) id instr.now call.now }
         ensures effect { called_numbered (state_of self.old).sizes (state_of self.old).place call.now.shard call.now.server call.now.call (call_number (state_of self.old) (progress_of (state_of self.old) id)) ≡ Ok (record { place = (state_of self.new).place; fresh = result }) }

@@ -4,6 +4,7 @@ use Rattle.std.specs.Prelude.{if◌then◌else◌}
 use Rattle.sm_placement.specs.Place.{set_down, is_live_at}
 use Rattle.sm_reservation.specs.Hold.{Hold}
 use Rattle.sm_reservation.specs.declared.stream_id.StreamId.{StreamId}
+use Rattle.sm_plan_code.specs.declared.limits.TheConstants.{MOST_CALLS}
 use Rattle.sm_task_controller.specs.Decision.{denial}
 use Rattle.sm_task_controller.proofs.Denials.{granted}
 use Rattle.sm_protocol.specs.declared.event.Event.{Event}
@@ -47,7 +48,7 @@ module _ (x : Whole) (g : IsWorking x) where
   }
 
   -- a refill
-  pub working_refilled : (id : StreamId) (more : ℕ) → more ≤ 262144 → refill_fault w id more ≡ None → is_running w id ≡ true → more + 1 ≤ x.free →
+  pub working_refilled : (id : StreamId) (more : ℕ) → more ≤ MOST_CALLS → refill_fault w id more ≡ None → is_running w id ≡ true → more + 1 ≤ x.free →
       IsWorking (record x { state = (refilled w id more None).1; free = x.free - (more + 1) })
   working_refilled id more few none runs enough = record {
     reached = subst (λ o. IsReached x.setup (refilled w id more o).1) none (reached_next x.setup w (Refill id more) g.reached few);

@@ -2,7 +2,7 @@
 use Rattle.std.proofs.Common.{sym, subst, false}
 use Rattle.sm_placement.specs.Place.{set_down}
 use Rattle.sm_machine.specs.State.{whole_of}
-use Rattle.sm_machine.specs.Restarts.{live_there, CanGetLive}
+use Rattle.sm_machine.specs.SpareReplicas.{live_there, CanGetLive}
 use Rattle.sm_machine.proofs.Restarted.{can_get_live, room_to_restart}
 use Rattle.sm_machine.proofs.engine.Engine.end_restart.Goals as goal
 

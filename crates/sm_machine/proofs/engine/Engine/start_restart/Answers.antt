@@ -1,7 +1,7 @@
 -- A restart begins.
 use Rattle.std.proofs.Common.{sym, subst}
 use Rattle.sm_machine.specs.State.{whole_of}
-use Rattle.sm_machine.specs.Restarts.{live_there, CanPayLive}
+use Rattle.sm_machine.specs.SpareReplicas.{live_there, CanPayLive}
 use Rattle.sm_machine.proofs.Restarted.{can_pay_live, room_to_approve}
 use Rattle.sm_machine.proofs.engine.Engine.start_restart.Goals as goal
 

@@ -3,6 +3,7 @@ use Rattle.std.proofs.Common.{◌≤◌, subst, ap, arith}
 use Rattle.sm_placement.specs.Setup.{IsSetup, sizes_of}
 use Rattle.sm_placement.specs.Place.{down_count}
 use Rattle.sm_placement.specs.Layout.{place_of}
+use Rattle.sm_plan_code.specs.declared.limits.TheConstants.{MOST_PLACES}
 use Rattle.sm_machine.specs.State.{Whole, whole_of}
 use Rattle.sm_machine.proofs.Setups.{setup_is}
 use Rattle.sm_machine.proofs.Turns.{opened_working}
@@ -14,7 +15,7 @@ invariant_of-result c =
     let b = c.if-log_room-down_count.false in
     let d = c.down_count.ensures in
     let least : down_count (sizes_of c.args.placement.setup) (place_of c.args.placement) ≤ c.args.log_room = omega arith in
-    let most : c.args.log_room ≤ 1048576 = omega arith in
+    let most : c.args.log_room ≤ MOST_PLACES = omega arith in
     opened_working (whole_of c.of-engine.result) c.args.placement.setup (place_of c.args.placement) c.args.log_room
     (record {
       rows = subst IsSetup c.config.ensures.setup c.server_count-servers.ensures.setup;

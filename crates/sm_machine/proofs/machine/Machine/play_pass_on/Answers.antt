@@ -21,5 +21,5 @@ returns c =
     c.remove-ticket.ensures.value c.split-answer.result.0 c.split-answer.result.1
     (c.pass_on.ensures.answer ∙ ap Answered (sym c.split-answer.ensures.played)) c.pass_on.ensures.state c.pass_on.ensures.setup
     (ticket_left c.split-answer.result.0 _ c.split-answer.result.1 c.remove-ticket.result (c.split-answer.ensures.ticket ∙ c.pass_on.ensures.tickets) c.split-answer.ensures.played)
-    (put_so c.is_spent.result _ c.remove-ticket.new.self.items _ c.in-Some.at c.split-answer.result.1 _ c.is_spent.ensures c.remove-ticket.ensures.items c.settle.ensures.items)
+    (put_so c.spends_ticket.result _ c.remove-ticket.new.self.items _ c.in-Some.at c.split-answer.result.1 _ c.spends_ticket.ensures c.remove-ticket.ensures.items c.settle.ensures.items)
     (record { tokens = refl; permits = refl; plans = refl; capacity = omega arith; count = omega arith })

@@ -1,6 +1,6 @@
 -- One shard more. A wrong version of the function fails here at once.
 use Rattle.std.proofs.Common.{rules}
-use Rattle.sm_machine.proofs.restarts.get_live.Goals as goal
+use Rattle.sm_machine.proofs.spare_replicas.get_live.Goals as goal
 
 pub put_one_spare-requires-clause-fits : goal.put_one_spare-requires-clause-fits
 put_one_spare-requires-clause-fits c = search rules

@@ -2,7 +2,7 @@ use Rattle.std.proofs.Common.{◌≡◌, ◌≤◌, length}
 use Rattle.std.specs.Prelude.{vec_len, vec_capacity}
 use Rattle.sm_placement.specs.Layout.{place_of}
 use Rattle.sm_machine.specs.Permits.{filter_below}
-use Rattle.sm_machine.proofs.opened.permits_of.Given as goal
+use Rattle.sm_machine.proofs.permit.permits_of.Given as goal
 
 -- the permits of the servers so far, and places for those of the others
 abbrev pub invariant-loop-number : goal.invariant-loop-number

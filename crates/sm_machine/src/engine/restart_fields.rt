@@ -1,16 +1,17 @@
 #![tactic(auto, unfolding(crate::specs::State::whole_of))]
-//! What restarts read and change: which servers are down, and what a restart takes out of the pool and gives back.
+//! The fields of a machine that restarts read and change: which servers are down, the pool that pays for it, and the list of
+//! unfinished plans. `restarting` records what happens.
 ghost use Rattle.std.specs.Prelude.{◌≡◌, ◌<◌, ◌^◌, Some, None, OnOk, IfErr, false, length, IsTrue};
 ghost use Rattle.sm_placement.specs.Place.{set_down};
 ghost use Rattle.sm_machine.specs.State.{whole_of, state_of};
 ghost use Rattle.sm_task_controller.specs.Decision.{denial};
 ghost use Rattle.sm_machine.specs.Engaged.{engaged_by};
-ghost use Rattle.sm_machine.specs.Restarts.{live_there, CanPayLive, CanGetLive};
+ghost use Rattle.sm_machine.specs.SpareReplicas.{live_there, CanPayLive, CanGetLive};
 ghost use Rattle.sm_machine.specs.Restarted.{down_whole, up_whole};
 ghost use Rattle.sm_machine.specs.Unfinished.{unfinished_below};
 
 use crate::engine::Engine;
-use crate::restarts::{get_live, pay_live};
+use crate::spare_replicas::{get_live, pay_live};
 use sm_reservation::StreamId;
 use sm_server::ServerId;
 use sm_task_controller::{Approved, Denied, decide};

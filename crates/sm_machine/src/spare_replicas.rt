@@ -1,10 +1,10 @@
-//! The spare replicas that go out of a pool with a server that goes down, and come back with one that comes up.
+//! The spare replicas that go out of a pool with a server that goes down, and come back with one that comes up, shard by shard.
 ghost use Rattle.std.specs.Prelude.{◌≡◌, ◌<◌, length};
 ghost use Rattle.sm_placement.specs.Setup.{sizes_of};
 ghost use Rattle.sm_placement.specs.Layout.{place_of};
 ghost use Rattle.sm_reservation.specs.Pool.{pool_hold, HasSize, SameSize};
 ghost use Rattle.sm_machine.specs.Tied.{pay_live, get_live};
-ghost use Rattle.sm_machine.specs.Restarts.{live_there, CanPayLive, CanGetLive};
+ghost use Rattle.sm_machine.specs.SpareReplicas.{live_there, CanPayLive, CanGetLive};
 
 use sm_placement::Placement;
 use sm_reservation::Pool;
