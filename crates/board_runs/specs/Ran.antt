@@ -1,5 +1,5 @@
 -- What is so of the placement to which a run comes.
--- `BeginsAs` is a step of the code's own way, which private functions' contracts cite: no reader of the public ones must believe it.
+-- `BeginsAs` is a step of the code's own way, which private functions' contracts cite: whoever reads the public ones need not read it.
 use Rattle.std.specs.Prelude.{◌≡◌, true, length}
 use Rattle.sm_placement.specs.Place.{Place}
 use Rattle.sm_reservation.specs.declared.stream_id.StreamId.{StreamId}

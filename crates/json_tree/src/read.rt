@@ -18,7 +18,7 @@ pub const MAX_DEPTH: usize = 127;
 /// Why a text was not read.
 #[derive(Clone, Copy, Debug, Drop, PartialEq, Eq, Error)]
 pub enum ReadFault {
-    #[error("no memory")]
+    #[error("out of memory")]
     NoMemory,
     /// The text is no JSON, nests too deep or has a number that no float is near.
     #[error("no JSON")]

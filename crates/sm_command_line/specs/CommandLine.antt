@@ -1,5 +1,5 @@
 -- The command line: which words name a command, and what is said of other words.
--- `TellsKind` is a step of the code's own way, which private functions' contracts cite: no reader of the public ones must believe it.
+-- `TellsKind` is a step of the code's own way, which private functions' contracts cite: whoever reads the public ones need not read it.
 use Rattle.std.specs.Prelude.{◌≡◌, ◌≢◌, ◌⊎◌, ℕ, true, List, [], ◌∷◌, Option, Some, None, if◌then◌else◌, codes, option_map}
 use Rattle.std.specs.Str.{bytes_eq}
 use Rattle.clap.specs.Words.{App, new_app, with_subcommand}

@@ -1,6 +1,6 @@
 -- What is so where a board is closed, and why one is not.
--- `AreAllBack` and `StaysOpenFor` are steps of the code's own way, which private functions' contracts cite: no reader of the
--- public ones must believe them.
+-- `AreAllBack` and `StaysOpenFor` are steps of the code's own way, which private functions' contracts cite: whoever reads the public
+-- ones need not read them.
 use Rattle.std.specs.Prelude.{◌≡◌, ◌↔◌, ◌++◌, ◌∷◌, [], ℕ, zero, suc, true, List, length, map, sum, if◌then◌else◌}
 use Rattle.sm_placement.specs.Setup.{Setup}
 use Rattle.sm_reservation.specs.declared.stream_id.StreamId.{StreamId}

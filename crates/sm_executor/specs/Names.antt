@@ -1,5 +1,5 @@
 -- The name of a board: what it is opened with.
--- `no_words`, `no_setup`, `no_place` and `no_state` are of a name of none, which no contract cites: no reader of public contracts must believe them.
+-- `no_words`, `no_setup`, `no_place` and `no_state` are of a name of none, which no contract cites: whoever reads public contracts need not read them.
 use Rattle.std.specs.Prelude.{◌≡◌, ℕ, [], false, None}
 use Rattle.sm_server.specs.declared.call.Cell.TheVariants.{Absent}
 use Rattle.sm_placement.specs.Setup.{Setup, sizes_of}

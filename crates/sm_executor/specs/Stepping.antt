@@ -1,5 +1,5 @@
 -- A stream's step at a board. What lies behind the lock then has no name in a contract, so the step is told by some state of the board.
--- `is_waiting` is a step of the code's own way, which private functions' contracts cite: no reader of the public ones must believe it.
+-- `is_waiting` is a step of the code's own way, which private functions' contracts cite: whoever reads the public ones need not read it.
 use Rattle.std.specs.Prelude.{ℕ, Bool, true, false, ◌≡◌}
 use Rattle.sm_reservation.specs.declared.stream_id.StreamId.{StreamId}
 use Rattle.sm_protocol.specs.declared.event.Passage.{Passage}

@@ -1,5 +1,5 @@
 -- What contracts see of what lies behind the lock, of a runner, of an end and of a caller.
--- `recorded_more` is a step of the code's own way, which private functions' contracts cite: no reader of the public ones must believe it.
+-- `recorded_more` is a step of the code's own way, which private functions' contracts cite: whoever reads the public ones need not read it.
 use Rattle.std.specs.Prelude.{◌≡◌, ◌<◌, ℕ, ◌-◌, List, length, map, slice_index_or}
 use Rattle.sm_placement.specs.declared.entry.Entry.{Entry}
 use Rattle.sm_reservation.specs.declared.stream_id.StreamId.{StreamId}

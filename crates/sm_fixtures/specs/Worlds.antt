@@ -1,5 +1,5 @@
 -- The worked placements: their servers and shards, and the cells and the listed servers that they are opened with.
--- `setup_by_names` is a step of the code's own way, which private functions' contracts cite: no reader of the public ones must believe it.
+-- `setup_by_names` is a step of the code's own way, which private functions' contracts cite: whoever reads the public ones need not read it.
 use Rattle.std.specs.Prelude.{ℕ, List, [], ◌∷◌, Option, Some, codes, map}
 use Rattle.std.specs.Borrow.{Bor}
 use Rattle.sm_server.specs.declared.call.Cell.TheVariants.{Primary, Secondary}

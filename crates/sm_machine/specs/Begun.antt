@@ -1,6 +1,6 @@
 -- A plan that was begun: its streams as they stand, and its signals with what they carry.
--- `with_course`, `with_carried` and `IsBegunParts` are steps of the code's own way, which private functions' contracts cite: no reader of the
--- public ones must believe them.
+-- `with_course`, `with_carried` and `IsBegunParts` are steps of the code's own way, which private functions' contracts cite: whoever reads the public
+-- ones need not read them.
 use Rattle.std.specs.Prelude.{◌≡◌, ℕ, Option, None, List, [], length, slice_index_or, slice_set}
 use Rattle.sm_reservation.specs.Capacity.{HoldModel}
 use Rattle.sm_plan_code.specs.Plan.{PlanModel}

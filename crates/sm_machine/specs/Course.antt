@@ -1,6 +1,6 @@
 -- A stream that was begun: how far it has come, and what it holds.
 -- Public functions' contracts come to `CourseModel` and `no_course` alone, by `state_of`. The others are steps of the code's own way, which
--- private functions' contracts cite: no reader of the public ones must believe them.
+-- private functions' contracts cite: whoever reads the public ones need not read them.
 use Rattle.std.specs.Prelude.{◌≡◌, ℕ, not, Option, Some, None, is_some}
 use Rattle.sm_reservation.specs.Hold.{Hold, no_hold}
 use Rattle.sm_reservation.specs.HoldOf.{hold_of}

@@ -1,5 +1,5 @@
 -- Which streams of a plan engage a server.
--- Steps of the code's own way, which private functions' contracts cite: no reader of the public ones must believe them.
+-- Steps of the code's own way, which private functions' contracts cite: whoever reads the public ones need not read them.
 use Rattle.std.specs.Prelude.{◌&&◌, ℕ, Bool, not, Option, Some, None, length, slice_index_or, if◌then◌else◌}
 use Rattle.std.specs.List.{list_any}
 use Rattle.sm_placement.specs.Sums.{first_from}

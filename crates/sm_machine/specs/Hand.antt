@@ -1,6 +1,6 @@
 -- Hands of events: what of a hand is the protocol's, and the room that it has for what events add.
 -- Public functions' contracts come to `hand_plan`, `hand_of`, `game_of`, `AreFor`, `AreLeft` and `IsSameHand` alone. The others are steps of the
--- code's own way, which private functions' contracts cite: no reader of the public ones must believe them.
+-- code's own way, which private functions' contracts cite: whoever reads the public ones need not read them.
 use Rattle.std.specs.Prelude.{◌≡◌, ◌≤◌, ◌<◌, ℕ, suc, ◌+◌, ◌++◌, Bool, true, false, Option, Some, None, List, [], ◌∷◌, length, map, slice_index_or, vec_capacity}
 use Rattle.std.specs.List.{sum_by, insert}
 use Rattle.sm_placement.specs.Setup.{Setup}

@@ -1,5 +1,5 @@
 -- Steps over links that may lose calls, refills, and how many steps were made.
--- `HasHappened` is a step of the code's own way, which private functions' contracts cite: no reader of the public ones must believe it.
+-- `HasHappened` is a step of the code's own way, which private functions' contracts cite: whoever reads the public ones need not read it.
 use Rattle.std.specs.Prelude.{◌≡◌, ℕ, ◌==◌, ◌&&◌, not, Bool, true, false, Option, Some, None, Result, Ok, Err}
 use Rattle.sm_reservation.specs.declared.stream_id.StreamId.{StreamId}
 use Rattle.sm_plan_code.specs.declared.instruction.Instr.{Instr}

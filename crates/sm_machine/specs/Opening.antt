@@ -1,6 +1,6 @@
 -- The placement at the opening, as rows.
--- `is_before` and `AreCellsBefore` are steps of the code's own way, which private functions' contracts cite: no reader of the public ones must
--- believe them.
+-- `is_before` and `AreCellsBefore` are steps of the code's own way, which private functions' contracts cite: whoever reads the public ones need not
+-- read them.
 use Rattle.std.specs.Prelude.{◌≡◌, ℕ, Bool, ◌==◌, ◌&&◌, ◌||◌, nat_lt, List, Option, None, if◌then◌else◌}
 use Rattle.std.specs.List.{list_any}
 use Rattle.sm_server.specs.declared.call.Cell.{Cell}

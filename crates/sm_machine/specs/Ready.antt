@@ -1,5 +1,5 @@
 -- What each kind of step asks for.
--- Steps of the code's own way, which private functions' contracts cite: no reader of the public ones must believe them.
+-- Steps of the code's own way, which private functions' contracts cite: whoever reads the public ones need not read them.
 use Rattle.std.specs.Prelude.{◌≡◌, ◌<◌, ◌^◌, ℕ, ◌-◌, Option, None, IfSome, true, false, length}
 use Rattle.std.specs.Option.{ForSome}
 use Rattle.sm_reservation.specs.HoldOf.{hold_of}

@@ -1,6 +1,6 @@
 -- The servers that codes mention, as a flag for each server up to the last of them.
--- Steps of the code's own way, which private functions' contracts cite, and what a `ReadyPlan` keeps: no reader of the public ones must
--- believe them.
+-- Steps of the code's own way, which private functions' contracts cite, and what a `ReadyPlan` keeps: whoever reads the public ones need not
+-- read them.
 use Rattle.std.specs.Prelude.{◌≡◌, ◌<◌, ℕ, Bool, false, ◌||◌, List, [], Option, Some, length, slice_index_or}
 use Rattle.std.specs.List.{list_any}
 use Rattle.sm_reservation.specs.Amounts.{same_listed}

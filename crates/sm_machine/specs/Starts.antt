@@ -1,6 +1,6 @@
 -- Plans that are ready to start, and what a start gives.
 -- Public functions' contracts cite `AreTokens` alone. The others are steps of the code's own way, which private functions' contracts cite, and
--- what a `ReadyPlan` keeps: no reader of the public ones must believe them.
+-- what a `ReadyPlan` keeps: whoever reads the public ones need not read them.
 use Rattle.std.specs.Prelude.{◌≡◌, ◌<◌, ◌≤◌, nat_lt, nat_le, ◌||◌, if◌then◌else◌, false, Option, None, ◌++◌, ◌∷◌, [], ℕ, zero, suc, Some, List, length, map, slice_index, slice_index_or}
 use Rattle.sm_reservation.specs.Rights.{Rights, no_rights}
 use Rattle.sm_reservation.specs.Capacity.{HoldModel, most_keys}

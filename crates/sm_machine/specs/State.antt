@@ -1,6 +1,6 @@
 -- The state of the protocol that a machine is in, with the rights that it keeps.
 -- Public functions' contracts come to `state_of` alone, by way of `Whole`, `state_parts` and `whole_of`. The others are steps of the code's own way,
--- which private functions' contracts cite: no reader of the public ones must believe them.
+-- which private functions' contracts cite: whoever reads the public ones need not read them.
 use Rattle.std.specs.Prelude.{ℕ, Option, map, reverse, slice_index_or, None, ◌-◌}
 use Rattle.sm_placement.specs.Sums.{put2}
 use Rattle.sm_placement.specs.Setup.{Setup, sizes_of}

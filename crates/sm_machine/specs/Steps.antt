@@ -1,5 +1,5 @@
 -- What steps leave.
--- Steps of the code's own way, which private functions' contracts cite: no reader of the public ones must believe them.
+-- Steps of the code's own way, which private functions' contracts cite: whoever reads the public ones need not read them.
 use Rattle.std.specs.Prelude.{ℕ, ◌-◌, ◌==◌, true, None, if◌then◌else◌}
 use Rattle.sm_placement.specs.Sums.{put, put2}
 use Rattle.sm_reservation.specs.Hold.{plus}

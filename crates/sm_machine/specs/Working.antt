@@ -1,6 +1,6 @@
 -- What every machine keeps.
--- Steps of the code's own way, which private functions' contracts cite, and what a `Machine` keeps: no reader of the public ones must
--- believe them.
+-- Steps of the code's own way, which private functions' contracts cite, and what a `Machine` keeps: whoever reads the public ones need not
+-- read them.
 use Rattle.std.specs.Prelude.{◌≡◌, ◌<◌, ◌≤◌, ℕ, Option, Some, None, true, false, length}
 use Rattle.sm_reservation.specs.Rights.{Rights, no_rights}
 use Rattle.sm_reservation.specs.Capacity.{HoldModel, most_keys}

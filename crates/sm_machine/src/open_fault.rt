@@ -5,7 +5,7 @@ use thiserror::Error;
 #[derive(Clone, Copy, Debug, PartialEq, Eq, Error)]
 pub enum OpenFault {
     /// Memory was short.
-    #[error("memory was short")]
+    #[error("out of memory")]
     NoMemory,
     /// The log would have too many places, or fewer than servers are down.
     #[error("the log has too many places, or too few")]

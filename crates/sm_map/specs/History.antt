@@ -1,6 +1,6 @@
 -- The entries of each shard, the newest first, and what a pass has seen of them.
--- `VersionsRise`, `word_at` and `words_for` are steps of the code's own way, which private functions' contracts cite: no reader of the public
--- ones must believe them.
+-- `VersionsRise`, `word_at` and `words_for` are steps of the code's own way, which private functions' contracts cite: whoever reads the public ones
+-- need not read them.
 use Rattle.std.specs.Prelude.{◌≡◌, ℕ, zero, suc, ◌+◌, ◌≤◌, ◌==◌, List, [], ◌∷◌, if◌then◌else◌, Option, Some, None, IsSomeAnd, All, Contains, map}
 use Rattle.sm_placement.specs.declared.entry.Entry.{Entry}
 use Rattle.sm_map.specs.Entry.{word_for}

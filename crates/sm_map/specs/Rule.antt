@@ -1,7 +1,7 @@
 -- The rule of the words, and what each step tells.
 -- Of a publisher and of a pass contracts see `publisher_of` and `pass_model`, and come to nothing else of this. The others are what the words,
 -- the publisher and a pass keep (`HasWords`, `IsPublisherSeat`, `IsPassSeat`), and steps of the code's own way, which the table's rule and its
--- steps cite: no reader of the public ones must believe them.
+-- steps cite: whoever reads the public ones need not read them.
 use Rattle.std.specs.Prelude.{◌≡◌, ℕ, ◌<◌, ◌≤◌, List, [], ◌∷◌, true, false, Some, All, length, slice_index}
 use mathlib.Core.Option.{some}
 use lib.ListN.{get_elem?}

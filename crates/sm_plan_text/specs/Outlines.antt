@@ -1,5 +1,5 @@
 -- What is read of a document whose longest lists are read as they come, and are empty in what is kept.
--- Steps of the code's own way, which private functions' contracts cite: no reader of the public ones must believe them.
+-- Steps of the code's own way, which private functions' contracts cite: whoever reads the public ones need not read them.
 use Rattle.std.specs.Prelude.{◌≡◌, ◌≤◌, ℕ, List, [], length, map, Option, Some, None, MatchOption}
 use Rattle.serde_json.specs.Data.{Data, array, object, Items, no_items, Members}
 use Rattle.serde_json.specs.Find.{get_member}

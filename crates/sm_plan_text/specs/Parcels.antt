@@ -1,5 +1,5 @@
 -- The parcels of a plan: what a signal carries, and what a stream holds at its start.
--- `HaveIds` is a step of the code's own way, which private functions' contracts cite: no reader of the public ones must believe it.
+-- `HaveIds` is a step of the code's own way, which private functions' contracts cite: whoever reads the public ones need not read it.
 use Rattle.std.specs.Prelude.{ℕ, ◌+◌, ◌≤◌, List, [], ◌∷◌, ◌++◌, length, codes, map, Option, Some, None, option_and_then, unwrap_or, is_some, if◌then◌else◌}
 use Rattle.std.specs.Str.{bytes_eq}
 use Rattle.serde_json.specs.Data.{Data}

@@ -1,6 +1,6 @@
 -- The text of a plan, over the names of the shards and servers: what is written for it.
--- `scalar_data`, `scalars_put`, `lead_text` and `step_data` are steps of the code's own way, which private functions' contracts cite: no reader
--- of the public ones must believe them.
+-- `scalar_data`, `scalars_put`, `lead_text` and `step_data` are steps of the code's own way, which private functions' contracts cite: whoever reads
+-- the public ones need not read them.
 use Rattle.std.specs.Prelude.{◌≡◌, ℕ, Bool, List, [], ◌∷◌, codes, map, slice_index_or, Option, Some, None, nat_lt, if◌then◌else◌}
 use Rattle.std.specs.List.{list_any}
 use Rattle.std.specs.Borrow.{Bor}

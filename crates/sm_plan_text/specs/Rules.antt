@@ -1,5 +1,5 @@
 -- The rules of the code as rows of a table, over the names that a scope has.
--- Steps of the code's own way, which private functions' contracts cite: no reader of the public ones must believe them.
+-- Steps of the code's own way, which private functions' contracts cite: whoever reads the public ones need not read them.
 use Rattle.std.specs.Prelude.{ℕ, Bool, false, ◌&&◌, not, List, [], ◌∷◌, Option, Some, None, is_some}
 use Rattle.serde_json.specs.Data.{Num}
 use Rattle.sm_placement.specs.Names.{is_name}

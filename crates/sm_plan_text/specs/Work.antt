@@ -1,5 +1,5 @@
 -- What a document says beside its servers and shards, whose names a scope has.
--- Steps of the code's own way, which private functions' contracts cite: no reader of the public ones must believe them.
+-- Steps of the code's own way, which private functions' contracts cite: whoever reads the public ones need not read them.
 use Rattle.std.specs.Prelude.{◌≡◌, [], Option, option_map, option_and_then, map}
 use Rattle.serde_json.specs.Data.{Data}
 use Rattle.sm_plan_text.specs.declared.fault.TextFault.{TextFault}

@@ -1,5 +1,5 @@
 -- What a plan is made from, and the moves that it is to make.
--- `basis_of` is a step of the code's own way, which private functions' contracts cite: no reader of the public ones must believe it.
+-- `basis_of` is a step of the code's own way, which private functions' contracts cite: whoever reads the public ones need not read it.
 use Rattle.std.specs.Prelude.{ℕ, ◌||◌, Bool, List, length, slice_index_or}
 use Rattle.sm_server.specs.declared.call.Cell.{Cell}
 use Rattle.sm_server.specs.Cell.{is_primary, is_secondary}

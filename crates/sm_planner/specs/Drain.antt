@@ -1,6 +1,6 @@
 -- To which servers the replicas of a server go that is to be emptied.
--- `AreStaying`, `IsMost`, `IsBestOf` and `IsRoomBeside` are steps of the code's own way, which private functions' contracts cite: no reader of the
--- public ones must believe them.
+-- `AreStaying`, `IsMost`, `IsBestOf` and `IsRoomBeside` are steps of the code's own way, which private functions' contracts cite: whoever reads the public
+-- ones need not read them.
 use Rattle.std.specs.Prelude.{◌≡◌, ◌<◌, ◌≤◌, ◌⊎◌, ℕ, zero, suc, ◌-◌, ◌&&◌, ◌||◌, ◌==◌, not, nat_le, Bool, true, false, Option, Some, None, option_map, MatchOption, length, slice_index, slice_index_or, List, [], ◌∷◌, ◌++◌, sum_by, if◌then◌else◌}
 use Rattle.std.specs.Option.{option_or}
 use Rattle.sm_server.specs.Cell.{is_absent, is_primary, is_secondary}

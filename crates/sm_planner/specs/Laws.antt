@@ -1,5 +1,5 @@
 -- Laws of the rule's plans.
--- `HasScene` is a step of the code's own way, which private functions' contracts cite: no reader of the public ones must believe it.
+-- `HasScene` is a step of the code's own way, which private functions' contracts cite: whoever reads the public ones need not read it.
 use Rattle.std.specs.Prelude.{◌≡◌, ◌≢◌, ◌⊎◌, ◌<◌, ℕ, None, List, All, length}
 use Rattle.sm_server.specs.declared.call.Cell.TheVariants as cell
 use Rattle.sm_placement.specs.declared.lead.Lead.{Lead}

@@ -1,5 +1,5 @@
 -- A placed move, with the stretches of room that it takes and frees.
--- Steps of the code's own way, which private functions' contracts cite: no reader of the public ones must believe them.
+-- Steps of the code's own way, which private functions' contracts cite: whoever reads the public ones need not read them.
 use Rattle.std.specs.Prelude.{◌<◌, ℕ, ◌&&◌, ◌==◌, not, nat_lt, Bool, List, length, map, filter, slice_index_or, if◌then◌else◌}
 use Rattle.std.specs.List.{range_with_len}
 use Rattle.sm_plan_code.specs.declared.moves.Move.{Move}

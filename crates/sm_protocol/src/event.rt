@@ -92,7 +92,7 @@ pub struct Logged {
 #[derive(Clone, Copy, Debug, PartialEq, Eq, Error)]
 pub enum BeginFault {
     /// Memory was short.
-    #[error("memory was short")]
+    #[error("out of memory")]
     NoMemory,
     /// Something holds the plan up.
     #[error("{0}")]

@@ -1,5 +1,5 @@
 -- Calls made one after the other, and the lines of their answers.
--- `IsKnownNamed` is a step of the code's own way, which private functions' contracts cite: no reader of the public ones must believe it.
+-- `IsKnownNamed` is a step of the code's own way, which private functions' contracts cite: whoever reads the public ones need not read it.
 use Rattle.std.specs.Prelude.{◌<◌, ℕ, ◌+◌, length, List, [], ◌∷◌, ◌++◌, codes, Option, Some, None, Result, Ok, Err}
 use Rattle.std.specs.Fmt.{decimal}
 use Rattle.sm_server.specs.declared.call.Refusal.{Refusal}

@@ -1,5 +1,5 @@
 -- What each command reports, for all the bytes that may be read.
--- `IsReadAs` is a step of the code's own way, which private functions' contracts cite: no reader of the public ones must believe it.
+-- `IsReadAs` is a step of the code's own way, which private functions' contracts cite: whoever reads the public ones need not read it.
 use Rattle.std.specs.Prelude.{◌≡◌, ℕ, Bool, true, false, List, [], ◌∷◌, ◌++◌, Option, Some, None, IfSome, Result}
 use Rattle.sm_placement.specs.Setup.{Setup, sizes_of}
 use Rattle.sm_placement.specs.Place.{Place}

@@ -1,6 +1,6 @@
 -- Plans that are made for a document: for its moves, or to empty a server.
--- `aim_of` and `IsAimOf` are steps of the code's own way, which private functions' contracts cite: no reader of the
--- public ones must believe them.
+-- `aim_of` and `IsAimOf` are steps of the code's own way, which private functions' contracts cite: whoever reads the public
+-- ones need not read them.
 use Rattle.std.specs.Prelude.{◌≡◌, ◌⊎◌, ◌<◌, ℕ, List, [], ◌∷◌, All, codes, length, Option, Some, None, Result, Ok, Err}
 use Rattle.sm_placement.specs.Setup.{Setup, sizes_of, names_of_servers, names_of_shards}
 use Rattle.sm_placement.specs.Place.{Place}

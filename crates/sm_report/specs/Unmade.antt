@@ -1,6 +1,6 @@
 -- Runs that have not come to their end.
 -- Public functions' contracts cite `unrun_text` alone (`report_run`, and `report_word` of `sm_command_line`). The others are steps of the code's own
--- way, which private functions' contracts cite: no reader of the public ones must believe them.
+-- way, which private functions' contracts cite: whoever reads the public ones need not read them.
 use Rattle.std.specs.Prelude.{List, ℕ, [], ◌∷◌, codes, Result, Ok, Err}
 use Rattle.sm_report.specs.declared.unmade.Unrun.{Unrun}
 use Rattle.sm_report.specs.declared.unmade.Unrun.TheVariants.{NoThread, Halted, Spent, NoCaller, OtherAsk, NotClosed}

@@ -1,6 +1,6 @@
 -- An ask: the hops that it makes at a desk, and what it is answered. Of a desk three things are known: what a caller may see of a
 -- shard, what a request may be answered, and what one that was passed on may be answered, each with the caller before and after.
--- `asked_after` is a step of the code's own way, which private functions' contracts cite: no reader of the public ones must believe it.
+-- `asked_after` is a step of the code's own way, which private functions' contracts cite: whoever reads the public ones need not read it.
 use Rattle.std.specs.Prelude.{◌≡◌, ◌≤◌, ◌<◌, ◌⊎◌, ℕ, Option, Some, None, List, [], ◌∷◌, length}
 use Rattle.sm_placement.specs.declared.entry.Entry.{Entry}
 use Rattle.sm_protocol.specs.Ticket.{Ticket}

@@ -1,5 +1,5 @@
 -- What is said of a stream that is not good.
--- `bad_at` is a step of the code's own way, which private functions' contracts cite: no reader of the public ones must believe it.
+-- `bad_at` is a step of the code's own way, which private functions' contracts cite: whoever reads the public ones need not read it.
 use Rattle.std.specs.Prelude.{ℕ}
 use Rattle.sm_verifier.specs.declared.steps.StepFault.{StepFault}
 use Rattle.sm_verifier.specs.declared.steps.StepFault.TheVariants as step

@@ -1,5 +1,5 @@
 -- The lowest number from a number on at which there is something.
--- Steps of the code's own way, which private functions' contracts cite: no reader of the public ones must believe them.
+-- Steps of the code's own way, which private functions' contracts cite: whoever reads the public ones need not read them.
 use Rattle.std.specs.Prelude.{◌≡◌, ◌≤◌, ◌<◌, ℕ, Option, Some, None, List, [], ◌∷◌, nat_lt, if◌then◌else◌}
 
 -- nothing is at the numbers from one on to below another

@@ -1,6 +1,6 @@
 -- What one instruction answers, what its maker must have capacity for, and how far amounts grow.
 -- Public functions' contracts cite `parcels_of`, by way of Stream. The others are steps of the code's own way, which private functions'
--- contracts cite: no reader of the public ones must believe them.
+-- contracts cite: whoever reads the public ones need not read them.
 use Rattle.std.specs.Prelude.{◌≡◌, ◌+◌, ◌≤◌, ℕ, Result, Ok, Err, List, length, slice_index_or}
 use Rattle.sm_reservation.specs.Rights.{Rights, no_rights}
 use Rattle.sm_reservation.specs.Hold.{Hold}
