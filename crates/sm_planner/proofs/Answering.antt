@@ -73,7 +73,7 @@ module _ (b : Basis) (v : ℕ) where
     ]
   ]
 
-  -- the rule refuses none of the moves that empty a server: nothing but short memory is a reason for no plan of them
+  -- in a configuration the rule refuses none of the moves that empty a server: nothing but short memory is a reason for no plan of them
   pub drain_refused : {T : Type 0} (moves : List Move) (r : Result T NoPlan) → IsSetup b.setup → AreDepartures b v moves → IfErr r (IsNoPlanFor b moves) → IfErr r (IsNoDrainFor b v)
   drain_refused moves (Ok x) setup go said = tt
   drain_refused moves (Err why) setup go said = elim said [

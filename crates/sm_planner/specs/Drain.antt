@@ -113,8 +113,8 @@ AreDepartures b v moves = (drain_refusal b v ≡ None) × AreLeaving b v (sizes_
 abbrev pub IsDrainPlan : Basis → ℕ → PlanModel → Type 0
 IsDrainPlan b v plan = (moves : List Move) × AreDepartures b v moves × IsPlanOf b moves plan
 
--- Why the rule doesn't empty a server: for the server's own reason, or for a shard that has no target. Of the moves to the targets it refuses
--- none.
+-- Why the rule doesn't empty a server: for the server's own reason, or where it has none, for the first shard that has no target. Where the setup
+-- is a configuration there is no other reason, since of the moves to the targets the rule then refuses none (`DrainsHavePlans`).
 abbrev pub IsDrainRefused : Basis → ℕ → NoPlan → Type 0
 IsDrainRefused b v why =
     (drain_refusal b v ≡ Some why)

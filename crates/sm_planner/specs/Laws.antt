@@ -85,7 +85,7 @@ abbrev pub DrainsEmpty : Type 0
 DrainsEmpty = (b : Basis) (v : ℕ) (moves : List Move) (plan : PlanModel) →
     v < (sizes_of b.setup).servers → AreLeaving b v (sizes_of b.setup).shards moves → IsPlanOf b moves plan → IsDrained b v plan
 
--- the rule refuses none of the moves of a drain: where the server may be emptied and each shard has a target, there is a plan
+-- in a configuration the rule refuses none of the moves of a drain: where the server may be emptied and each shard has a target, there is a plan
 abbrev pub DrainsHavePlans : Type 0
 DrainsHavePlans = (b : Basis) (v : ℕ) (moves : List Move) →
     IsSetup b.setup → drain_refusal b v ≡ None → AreLeaving b v (sizes_of b.setup).shards moves → (plan : PlanModel) × IsPlanOf b moves plan

@@ -47,7 +47,7 @@ instructions p m = if is_primary (left_cell p m) then handing_over (p.listed m.s
 abbrev pub signal_at : List Handed → ℕ → Handed
 signal_at signals q = slice_index_or signals q (handed 0 0)
 
--- the k-th placed move waits for the room that others hand to it, moves, and hands on what it freed
+-- the k-th placed move waits for the signals that carry room with which it pays
 abbrev pub waits_of : List Handed → ℕ → List Instr
 waits_of signals k = map Wait (filter (λ q. (signal_at signals q).payer == k) (range_with_len 0 (length signals)))
 
@@ -59,7 +59,7 @@ posts_of signals k = map Signal (filter (λ q. (signal_at signals q).source == k
 abbrev pub drafted_code : Place → List Move → List Handed → ℕ → List Instr
 drafted_code p order signals k = waits_of signals k ++ (instructions p (move_at order k) ++ posts_of signals k)
 
--- its code with the signals of all placed moves
+-- the code of the k-th placed move, where the signals are those of all moves that are placed in this order
 abbrev pub move_code : Basis → List Move → ℕ → List Instr
 move_code b order k = drafted_code b.place order (signals_of b order) k
 
@@ -80,11 +80,11 @@ abbrev pub crowns_of : Place → Move → List Crown
 crowns_of p m =
     if is_primary (left_cell p m) then record { shard = m.shard; lead = At m.from; listed = p.listed m.shard } ∷ [] else []
 
--- what these placed moves pay from the pool's room of a server
+-- how much of the pool's room of a server these placed moves pay with
 abbrev pub paid_by : Basis → List Move → List ℕ → ℕ → ℕ
 paid_by b order numbers v = sum_by (λ k. if (move_at order k).to == v then from_pool b order k else 0) numbers
 
--- the same as room of the server
+-- the amount of room of a server that these placed moves pay from the pool
 abbrev pub room_by : Basis → List Move → List ℕ → ℕ → Room
 room_by b order numbers v = record { server = v; amount = paid_by b order numbers v }
 
@@ -97,11 +97,11 @@ needs_by b order numbers = record {
   spare = [];
 }
 
--- a stream of these placed moves declares that, in the order of the keys
+-- what a stream of these placed moves declares: those rights in the order of their keys, without amounts of 0
 abbrev pub holds_by : Basis → List Move → List ℕ → Rights
 holds_by b order numbers = in_order (needs_by b order numbers)
 
--- a stream declares the rights that its moves need, and what they pay from the pool
+-- what the i-th stream declares, for the moves that it makes
 abbrev pub holds_of : Basis → List Move → ℕ → Rights
 holds_of b order i = holds_by b order (moves_of order i)
 
@@ -120,7 +120,7 @@ stream b order i = record {
   code = stream_code b order i;
 }
 
--- as many streams as moves, at most 64
+-- as many streams as moves, at most as many as a plan may have
 abbrev pub streams_of : Basis → List Move → List StreamModel
 streams_of b order = map (stream b order) (range_with_len 0 (min (length order) MOST_STREAMS))
 
