@@ -61,7 +61,7 @@ impl<'a> Tree<'a> {
     }
 }
 
-/// The next value of the reader, in which arrays and objects nest no deeper than that.
+/// The next value of the reader, in which arrays and objects nest at most `depth` deep.
 #[cycle(read)]
 #[inline(always)]
 pub fn read_value<'a>(

@@ -58,7 +58,7 @@ impl<'a> Tree<'a> {
         }
     }
 
-    /// The number that this is, where it is a whole one from 0 on.
+    /// The number that this is, where it is written as a whole one from 0 on, below 2^64.
     pub fn as_u64(&self) -> Option<u64>
         ensures { result ≡ option_and_then as_u64 (as_number (view self.now)) }
     {
