@@ -7,6 +7,7 @@ use Rattle.std.proofs.lemmas.List.Quantifiers.{position-Some}
 use Rattle.std.proofs.lemmas.Bool.Decides.{nat_tests}
 use Rattle.serde_json.specs.Data.{Data, Num, Items}
 use Rattle.serde_json.specs.Find.{as_str, as_array, as_number, as_u64}
+use Rattle.sm_plan_code.specs.declared.limits.TheConstants.{MOST_NUMBER}
 use Rattle.sm_plan_text.specs.declared.fault.TextFault.{TextFault}
 use Rattle.sm_plan_text.specs.declared.member.Member.{Member}
 use Rattle.sm_plan_text.specs.Faults.{noted, lower_fault}
@@ -119,7 +120,7 @@ text_passes m passes d h = passed_at m passes (found m d) h
 
 number_within : (names : List (List ℕ)) (s : List ℕ) (n : Option ℕ) → number_named names s ≡ n → IfSome (option_map id_of n) (λ id. id < length names)
 number_within names s None e = tt
-number_within names s (Some i) e = up_to_below 4294967295 i (length names) (position-Some (λ name. bytes_eq s name) names i [] e).0
+number_within names s (Some i) e = up_to_below MOST_NUMBER i (length names) (position-Some (λ name. bytes_eq s name) names i [] e).0
 
 text_within : (names : List (List ℕ)) (s : Option (List ℕ)) → IfSome (option_map id_of (option_and_then (number_named names) s)) (λ id. id < length names)
 text_within names None = tt

@@ -14,7 +14,9 @@ use Rattle.sm_placement.specs.Names.{is_name, has_double}
 use Rattle.sm_placement.specs.Setup.{is_well_named_server, is_well_named_shard, is_good_server, is_good_shard}
 use Rattle.sm_placement.specs.Opening.{NamedCell}
 use Rattle.sm_placement.specs.Rows.{IsKnownCall}
+use Rattle.sm_placement.specs.declared.limits.TheConstants.{MOST_LOAD, MOST_REPLICAS, MOST_CELLS}
 use Rattle.sm_plan_code.specs.Move.{IsKnownMove}
+use Rattle.sm_plan_code.specs.declared.limits.TheConstants.{MOST_CALLS, MOST_NUMBER}
 use Rattle.sm_placement.proofs.DoubleLemmas.{has_double_push}
 use Rattle.sm_plan_text.specs.declared.fault.TextFault.{TextFault}
 use Rattle.sm_plan_text.specs.declared.fault.TextFault.TheVariants.{Shape}
@@ -93,8 +95,8 @@ servers_distinct ds h = distinct_all server_faults (λ before d none. (server_go
 
 room_good : (d : Data) → is_good_server (server_in d) ≡ true
 room_good d =
-    let within = number_in-le members.Room 4294967295 d in
-    le-leb (number_in members.Room 4294967295 d) 4294967295 within
+    let within = number_in-le members.Room MOST_LOAD d in
+    le-leb (number_in members.Room MOST_LOAD d) MOST_LOAD within
 
 -- the room that is read of each server is within its limit
 pub servers_good : (ds : List Data) → list_all is_good_server (map server_in ds) ≡ true
@@ -105,7 +107,7 @@ down_from n total [] h = All-nil (λ id. id < total)
 down_from n total (d ∷ ds) h = with_flag (flag_in members.Down d) (down_from (n + 1) total ds (omega arith))
   where
     with_flag : (b : Bool) → All (λ id. id < total) (filter_map id_if_down (enumerate_from (n + 1) ds)) → All (λ id. id < total) (cons_option (cond b (Some (id_of n)) None) (filter_map id_if_down (enumerate_from (n + 1) ds)))
-    with_flag true rest = All-cons (λ id. id < total) (id_of n) (filter_map id_if_down (enumerate_from (n + 1) ds)) (up_to_below 4294967295 n total (omega arith)) rest
+    with_flag true rest = All-cons (λ id. id < total) (id_of n) (filter_map id_if_down (enumerate_from (n + 1) ds)) (up_to_below MOST_NUMBER n total (omega arith)) rest
     with_flag false rest = rest
 
 -- the ids of the servers that are read as down are below the count of servers
@@ -124,17 +126,17 @@ names_of_shard_rows (d ∷ ds) = ap (λ names. text_in members.Name d ∷ names)
 
 -- ---- shards
 
-cap_within : (d : Data) → row_faults d (one members.Want (whole 1024)) ≡ [] → number_in members.Cap (cap_limit d) d ≤ number_in members.Want 1024 d
+cap_within : (d : Data) → row_faults d (one members.Want (whole MOST_REPLICAS)) ≡ [] → number_in members.Cap (cap_limit d) d ≤ number_in members.Want MOST_REPLICAS d
 cap_within d h =
     let within = number_in-le members.Cap (cap_limit d) d in
-    let read = number_is_read members.Want 1024 d h in
+    let read = number_is_read members.Want MOST_REPLICAS d h in
     omega arith
 
 record IsShard (servers : List (List ℕ)) (before : List Data) (d : Data) : Type 0 where
   named : is_name (text_in members.Name d) ≡ true
   new : is_among (names_in before) (text_in members.Name d) ≡ false
-  cap : number_in members.Cap (cap_limit d) d ≤ number_in members.Want 1024 d
-  count : length (entries_in members.Cells d) ≤ 1048576 - cell_count before
+  cap : number_in members.Cap (cap_limit d) d ≤ number_in members.Want MOST_REPLICAS d
+  count : length (entries_in members.Cells d) ≤ MOST_CELLS - cell_count before
   cells : All (λ e. id_in servers members.Server e < length servers) (entries_in members.Cells d)
 
 cell_known : (servers : List (List ℕ)) (before : List Data) (d : Data) → cell_faults servers before d ≡ [] → id_in servers members.Server d < length servers
@@ -143,30 +145,30 @@ cell_known servers before d h =
     (nil_left (row_faults d (one members.Server (known servers))) _
     (nil_right (object_faults members.Cells (map (λ row. text_of row.member) (cell_table servers)) d) _ h))
 
-shard_own : (servers : List (List ℕ)) (before : List Data) (d : Data) → own_faults members.Shards (shard_table servers (names_in before) (1048576 - cell_count before) d) d ≡ [] → All (λ e. id_in servers members.Server e < length servers) (entries_in members.Cells d) → IsShard servers before d
+shard_own : (servers : List (List ℕ)) (before : List Data) (d : Data) → own_faults members.Shards (shard_table servers (names_in before) (MOST_CELLS - cell_count before) d) d ≡ [] → All (λ e. id_in servers members.Server e < length servers) (entries_in members.Cells d) → IsShard servers before d
 shard_own servers before d h cells =
-    let rows = nil_right (object_faults members.Shards (map (λ row. text_of row.member) (shard_table servers (names_in before) (1048576 - cell_count before) d)) d) _ h in
+    let rows = nil_right (object_faults members.Shards (map (λ row. text_of row.member) (shard_table servers (names_in before) (MOST_CELLS - cell_count before) d)) d) _ h in
     let is = new_name_is (names_in before) d (nil_left (row_faults d (one members.Name (new_name (names_in before)))) _ rows) in
     let after_name = nil_right (row_faults d (one members.Name (new_name (names_in before)))) _ rows in
-    let after_load = nil_right (row_faults d (one members.Load (whole 4294967295))) _ after_name in
-    let after_want = nil_right (row_faults d (one members.Want (whole 1024))) _ after_load in
+    let after_load = nil_right (row_faults d (one members.Load (whole MOST_LOAD))) _ after_name in
+    let after_want = nil_right (row_faults d (one members.Want (whole MOST_REPLICAS))) _ after_load in
     let after_cap = nil_right (row_faults d (one members.Cap (whole (cap_limit d)))) _ after_want in
-    let after_spread = nil_right (row_faults d (one members.Spread (whole 1024))) _ after_cap in
+    let after_spread = nil_right (row_faults d (one members.Spread (whole MOST_REPLICAS))) _ after_cap in
     let after_listed = nil_right (row_faults d (maybe members.Listed (known_or_null servers))) _ after_spread in
     record {
       named = is.0;
       new = is.1;
-      cap = cap_within d (nil_left (row_faults d (one members.Want (whole 1024))) _ after_load);
-      count = entries_within members.Cells (1048576 - cell_count before) d (nil_left (row_faults d (one members.Cells (list (1048576 - cell_count before)))) _ after_listed);
+      cap = cap_within d (nil_left (row_faults d (one members.Want (whole MOST_REPLICAS))) _ after_load);
+      count = entries_within members.Cells (MOST_CELLS - cell_count before) d (nil_left (row_faults d (one members.Cells (list (MOST_CELLS - cell_count before)))) _ after_listed);
       cells = cells;
     }
 
 shard_good : (servers : List (List ℕ)) (before : List Data) (d : Data) → shard_faults servers before d ≡ [] → IsShard servers before d
 shard_good servers before d h =
     shard_own servers before d
-    (nil_left (own_faults members.Shards (shard_table servers (names_in before) (1048576 - cell_count before) d) d) (walked (cell_faults servers) [] (entries_in members.Cells d)) h)
+    (nil_left (own_faults members.Shards (shard_table servers (names_in before) (MOST_CELLS - cell_count before) d) d) (walked (cell_faults servers) [] (entries_in members.Cells d)) h)
     (walked_entries (cell_faults servers) (λ e. id_in servers members.Server e < length servers) (cell_known servers) [] (entries_in members.Cells d)
-    (nil_right (own_faults members.Shards (shard_table servers (names_in before) (1048576 - cell_count before) d) d) (walked (cell_faults servers) [] (entries_in members.Cells d)) h))
+    (nil_right (own_faults members.Shards (shard_table servers (names_in before) (MOST_CELLS - cell_count before) d) d) (walked (cell_faults servers) [] (entries_in members.Cells d)) h))
 
 -- shards without faults have good names
 pub shards_named : (servers : List (List ℕ)) (ds : List Data) → walked (shard_faults servers) [] ds ≡ [] → list_all is_well_named_shard (map shard_in ds) ≡ true
@@ -176,16 +178,16 @@ shards_named servers ds h = all_rows is_well_named_shard shard_in ds (walked_ent
 pub shards_distinct : (servers : List (List ℕ)) (ds : List Data) → walked (shard_faults servers) [] ds ≡ [] → IsDistinct ds
 shards_distinct servers ds h = distinct_all (shard_faults servers) (λ before d none. (shard_good servers before d none).new) ds h
 
-numbers_good : (d : Data) → number_in members.Cap (cap_limit d) d ≤ number_in members.Want 1024 d → is_good_shard (shard_in d) ≡ true
+numbers_good : (d : Data) → number_in members.Cap (cap_limit d) d ≤ number_in members.Want MOST_REPLICAS d → is_good_shard (shard_in d) ≡ true
 numbers_good d cap =
-    let load = number_in-le members.Load 4294967295 d in
-    let want = number_in-le members.Want 1024 d in
-    let spread = number_in-le members.Spread 1024 d in
-    and_from (nat_le (number_in members.Load 4294967295 d) 4294967295) _ (le-leb (number_in members.Load 4294967295 d) 4294967295 load)
-    (and_from (nat_le (number_in members.Want 1024 d) 1024) _ (le-leb (number_in members.Want 1024 d) 1024 want)
-    (and_from (nat_le (number_in members.Cap (cap_limit d) d) 1024) _ (le-leb (number_in members.Cap (cap_limit d) d) 1024 (omega arith))
-    (and_from (nat_le (number_in members.Spread 1024 d) 1024) _ (le-leb (number_in members.Spread 1024 d) 1024 spread)
-    (le-leb (number_in members.Cap (cap_limit d) d) (number_in members.Want 1024 d) cap))))
+    let load = number_in-le members.Load MOST_LOAD d in
+    let want = number_in-le members.Want MOST_REPLICAS d in
+    let spread = number_in-le members.Spread MOST_REPLICAS d in
+    and_from (nat_le (number_in members.Load MOST_LOAD d) MOST_LOAD) _ (le-leb (number_in members.Load MOST_LOAD d) MOST_LOAD load)
+    (and_from (nat_le (number_in members.Want MOST_REPLICAS d) MOST_REPLICAS) _ (le-leb (number_in members.Want MOST_REPLICAS d) MOST_REPLICAS want)
+    (and_from (nat_le (number_in members.Cap (cap_limit d) d) MOST_REPLICAS) _ (le-leb (number_in members.Cap (cap_limit d) d) MOST_REPLICAS (omega arith))
+    (and_from (nat_le (number_in members.Spread MOST_REPLICAS d) MOST_REPLICAS) _ (le-leb (number_in members.Spread MOST_REPLICAS d) MOST_REPLICAS spread)
+    (le-leb (number_in members.Cap (cap_limit d) d) (number_in members.Want MOST_REPLICAS d) cap))))
 
 -- their numbers are within their limits, and each cap is within its want
 pub shards_good : (servers : List (List ℕ)) (ds : List Data) → walked (shard_faults servers) [] ds ≡ [] → list_all is_good_shard (map shard_in ds) ≡ true
@@ -200,9 +202,9 @@ cell_count_push before d =
     ap (λ n. cell_count before + n) (length-append (entries_in members.Cells d) [] ∙ add-zero (length (entries_in members.Cells d)))
 
 -- all shards together have no more cells than their limit
-pub cell_count_within : (servers : List (List ℕ)) (ds : List Data) → walked (shard_faults servers) [] ds ≡ [] → cell_count ds ≤ 1048576
+pub cell_count_within : (servers : List (List ℕ)) (ds : List Data) → walked (shard_faults servers) [] ds ≡ [] → cell_count ds ≤ MOST_CELLS
 cell_count_within servers ds h =
-    walked_front (shard_faults servers) (λ before. cell_count before ≤ 1048576)
+    walked_front (shard_faults servers) (λ before. cell_count before ≤ MOST_CELLS)
     (λ before d none within.
     let count = (shard_good servers before d none).count in
     let push = cell_count_push before d in
@@ -216,7 +218,7 @@ cells_from servers n total (d ∷ ds) h good =
     let entries : List Data = entries_in members.Cells d in
     All-append IsWithin (cells_of_shard servers (n, d)) (flat_map (cells_of_shard servers) (enumerate_from (n + 1) ds))
     (All-map IsWithin (named_cell servers (id_of n)) entries
-    (All-weaker (λ e. id_in servers members.Server e < length servers) (λ e. IsWithin (named_cell servers (id_of n) e)) (λ e is. (up_to_below 4294967295 n total (omega arith), is)) entries
+    (All-weaker (λ e. id_in servers members.Server e < length servers) (λ e. IsWithin (named_cell servers (id_of n) e)) (λ e is. (up_to_below MOST_NUMBER n total (omega arith), is)) entries
     (All-head (λ x. All (λ e. id_in servers members.Server e < length servers) (entries_in members.Cells x)) d ds good)))
     (cells_from servers (n + 1) total ds (omega arith) (All-tail (λ x. All (λ e. id_in servers members.Server e < length servers) (entries_in members.Cells x)) d ds good))
 
@@ -288,7 +290,7 @@ event_rest shards servers d event_word_of.PassOn h = tt
 event_rest shards servers d event_word_of.Approve h = id_known members.Server servers d (nil_left (row_faults d (one members.Server (known servers))) _ h)
 event_rest shards servers d event_word_of.Done h = id_known members.Server servers d (nil_left (row_faults d (one members.Server (known servers))) _ h)
 event_rest shards servers d event_word_of.Lose h = tt
-event_rest shards servers d event_word_of.Refill h = number_in-le members.More 262144 d
+event_rest shards servers d event_word_of.Refill h = number_in-le members.More MOST_CALLS d
 event_rest shards servers d event_word_of.Begin h = tt
 
 event_by_word : (shards servers : List (List ℕ)) (d : Data) (o : Option EventWord) → by_word members.Events members.Event (event_table shards servers) d o ≡ [] → IsKnownEvent (length shards) (length servers) (event_by shards servers d o)

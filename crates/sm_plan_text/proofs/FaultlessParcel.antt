@@ -22,7 +22,7 @@ use Rattle.sm_reservation.specs.Key.{key_of_cell, key_of_crown, key_of_room, key
 use Rattle.sm_reservation.specs.InOrder.{sorted}
 use Rattle.sm_reservation.proofs.Places.{same_trans, same_is}
 use Rattle.sm_reservation.proofs.SortedRows.{sorted_permutes}
-use Rattle.sm_plan_code.specs.declared.limits.TheConstants.{MOST_AMOUNT, MOST_NUMBER}
+use Rattle.sm_plan_code.specs.declared.limits.TheConstants.{MOST_AMOUNT, MOST_NUMBER, MOST_RIGHTS}
 use Rattle.sm_plan_code.specs.Plan.{IsSmallParcel, IsKnownCellRight, IsKnownLead, IsKnownCrown, IsKnownParcel}
 use Rattle.sm_plan_text.specs.declared.fault.TextFault.{TextFault}
 use Rattle.sm_plan_text.specs.declared.fault.TextFault.TheVariants.{Shape}
@@ -142,19 +142,19 @@ module _ {T : Type 0} (key_of : T → ℕ × ℕ) (make : Data → T) (key : Lis
 
 -- a list of no more entries than its limit, in which no key stands twice
 record IsKeyed (m : Member) (key : List Member) (d : Data) : Type 0 where
-  count : length (entries_in m d) ≤ 4096
+  count : length (entries_in m d) ≤ MOST_RIGHTS
   single : has_double_key (map (texts_found key) (entries_in m d)) ≡ false
 
 if_not : (b : Bool) (fault : TextFault) → cond b (fault ∷ []) [] ≡ [] → b ≡ false
 if_not true fault h = absurd (cc)
 if_not false fault h = refl
 
-keyed_list : (m : Member) (key : List Member) (d : Data) → row_faults d (maybe m (keyed 4096 key)) ≡ [] → IsKeyed m key d
+keyed_list : (m : Member) (key : List Member) (d : Data) → row_faults d (maybe m (keyed MOST_RIGHTS key)) ≡ [] → IsKeyed m key d
 keyed_list m key d h =
-    let faults : (row_faults d (maybe m (list 4096)) ++ double_faults m key (entries_in m d)) ≡ [] = sym (keyed_faults m 4096 key d) ∙ h in
+    let faults : (row_faults d (maybe m (list MOST_RIGHTS)) ++ double_faults m key (entries_in m d)) ≡ [] = sym (keyed_faults m MOST_RIGHTS key d) ∙ h in
     record {
-      count = optional_within m 4096 d (nil_left (row_faults d (maybe m (list 4096))) (double_faults m key (entries_in m d)) faults);
-      single = if_not (has_double_key (map (texts_found key) (entries_in m d))) _ (nil_right (row_faults d (maybe m (list 4096))) (double_faults m key (entries_in m d)) faults);
+      count = optional_within m MOST_RIGHTS d (nil_left (row_faults d (maybe m (list MOST_RIGHTS))) (double_faults m key (entries_in m d)) faults);
+      single = if_not (has_double_key (map (texts_found key) (entries_in m d))) _ (nil_right (row_faults d (maybe m (list MOST_RIGHTS))) (double_faults m key (entries_in m d)) faults);
     }
 
 -- ---- entries
@@ -239,14 +239,14 @@ faultless parent shards servers d h =
     let to_crowns = nil_left ((own ++ cells) ++ crowns) room to_room in
     let to_cells = nil_left (own ++ cells) crowns to_crowns in
     let rows = nil_right (object_faults parent (map (λ row. text_of row.member) parcel_table) d) _ (nil_left own cells to_cells) in
-    let after_cells = nil_right (row_faults d (maybe members.Cells (keyed 4096 (members.Shard ∷ members.Server ∷ [])))) _ rows in
-    let after_crowns = nil_right (row_faults d (maybe members.Crowns (keyed 4096 (members.Shard ∷ [])))) _ after_cells in
-    let after_room = nil_right (row_faults d (maybe members.Room (keyed 4096 (members.Server ∷ [])))) _ after_crowns in
+    let after_cells = nil_right (row_faults d (maybe members.Cells (keyed MOST_RIGHTS (members.Shard ∷ members.Server ∷ [])))) _ rows in
+    let after_crowns = nil_right (row_faults d (maybe members.Crowns (keyed MOST_RIGHTS (members.Shard ∷ [])))) _ after_cells in
+    let after_room = nil_right (row_faults d (maybe members.Room (keyed MOST_RIGHTS (members.Server ∷ [])))) _ after_crowns in
     record {
-      cell_list = keyed_list members.Cells (members.Shard ∷ members.Server ∷ []) d (nil_left (row_faults d (maybe members.Cells (keyed 4096 (members.Shard ∷ members.Server ∷ [])))) _ rows);
-      crown_list = keyed_list members.Crowns (members.Shard ∷ []) d (nil_left (row_faults d (maybe members.Crowns (keyed 4096 (members.Shard ∷ [])))) _ after_cells);
-      room_list = keyed_list members.Room (members.Server ∷ []) d (nil_left (row_faults d (maybe members.Room (keyed 4096 (members.Server ∷ [])))) _ after_crowns);
-      spare_list = keyed_list members.Spare (members.Shard ∷ []) d (nil_left (row_faults d (maybe members.Spare (keyed 4096 (members.Shard ∷ [])))) _ after_room);
+      cell_list = keyed_list members.Cells (members.Shard ∷ members.Server ∷ []) d (nil_left (row_faults d (maybe members.Cells (keyed MOST_RIGHTS (members.Shard ∷ members.Server ∷ [])))) _ rows);
+      crown_list = keyed_list members.Crowns (members.Shard ∷ []) d (nil_left (row_faults d (maybe members.Crowns (keyed MOST_RIGHTS (members.Shard ∷ [])))) _ after_cells);
+      room_list = keyed_list members.Room (members.Server ∷ []) d (nil_left (row_faults d (maybe members.Room (keyed MOST_RIGHTS (members.Server ∷ [])))) _ after_crowns);
+      spare_list = keyed_list members.Spare (members.Shard ∷ []) d (nil_left (row_faults d (maybe members.Spare (keyed MOST_RIGHTS (members.Shard ∷ [])))) _ after_room);
       cells = walked_entries (right_faults shards servers) (IsRight shards servers) (right_good shards servers) [] (entries_in members.Cells d) (nil_right own cells to_cells);
       crowns = walked_entries (crown_faults shards servers) (λ e. IsCrown shards servers e (crown_in shards servers e)) (crown_good shards servers) [] (entries_in members.Crowns d) (nil_right (own ++ cells) crowns to_crowns);
       room = walked_entries (room_faults servers) (λ e. row_faults e (one members.Server (known servers)) ≡ []) (room_good servers) [] (entries_in members.Room d) (nil_right ((own ++ cells) ++ crowns) room to_room);
@@ -301,11 +301,11 @@ parcel_is_once parent shards servers d few h = each
 all_sorted : {T : Type 0} (key_of : T → ℕ × ℕ) (P : T → Type 0) (make : Data → T) (ds : List Data) → All (λ d. P (make d)) ds → All P (sorted key_of (map make ds))
 all_sorted key_of P make ds h = All-permutation P (map make ds) (sorted key_of (map make ds)) (sorted_permutes key_of (map make ds)) (All-map P make ds h)
 
-sorted_length : {T : Type 0} (key_of : T → ℕ × ℕ) (make : Data → T) (ds : List Data) → length ds ≤ 4096 → length (sorted key_of (map make ds)) ≤ 4096
+sorted_length : {T : Type 0} (key_of : T → ℕ × ℕ) (make : Data → T) (ds : List Data) → length ds ≤ MOST_RIGHTS → length (sorted key_of (map make ds)) ≤ MOST_RIGHTS
 sorted_length key_of make ds h =
-    subst (λ n. n ≤ 4096) (sym (length_permutation (map make ds) (sorted key_of (map make ds)) (sorted_permutes key_of (map make ds)) ∙ length-map ds make)) h
+    subst (λ n. n ≤ MOST_RIGHTS) (sym (length_permutation (map make ds) (sorted key_of (map make ds)) (sorted_permutes key_of (map make ds)) ∙ length-map ds make)) h
 
-kept_length : {T : Type 0} (p : T → Bool) (xs : List T) → length xs ≤ 4096 → length (filter p xs) ≤ 4096
+kept_length : {T : Type 0} (p : T → Bool) (xs : List T) → length xs ≤ MOST_RIGHTS → length (filter p xs) ≤ MOST_RIGHTS
 kept_length p xs h =
     let kept = length-filter p xs in
     let within = count_by-le-length p xs in

@@ -9,6 +9,7 @@ use Rattle.serde_json.specs.Find.{as_object, as_number, as_u64}
 use Rattle.sm_reservation.specs.Rights.{Rights, no_rights}
 use Rattle.sm_plan_code.specs.declared.instruction.Instr.{Instr}
 use Rattle.sm_plan_code.specs.Plan.{StreamModel, PlanModel, IsSmallParcel, IsSmallStream, KnowsSignal, IsOrderedParcel, IsPlan, IsKnownParcel, IsKnownInstr, IsKnownStream, IsKnownPlan}
+use Rattle.sm_plan_code.specs.declared.limits.TheConstants.{MOST_CALLS, MOST_INSTRUCTIONS, MOST_NUMBER, MOST_SIGNALS, MOST_STREAMS}
 use Rattle.sm_plan_text.specs.declared.fault.TextFault.{TextFault}
 use Rattle.sm_plan_text.specs.declared.fault.TextFault.TheVariants.{Shape}
 use Rattle.sm_plan_text.specs.declared.member.Member.{Member}
@@ -61,7 +62,7 @@ index_kept_at m count (Some d) h = index_kept_of m count (as_number d) h
 
 -- a signal without a fault is below the count
 signal_known : (m : Member) (count : ℕ) (d : Data) → row_faults d (one m (below count)) ≡ [] → number_below count m d < count
-signal_known m count d h = up_to_below 4294967295 (under count (unwrap_or (option_and_then whole_number_of (found m d)) 0)) count (index_kept_at m count (found m d) h)
+signal_known m count d h = up_to_below MOST_NUMBER (under count (unwrap_or (option_and_then whole_number_of (found m d)) 0)) count (index_kept_at m count (found m d) h)
 
 -- an instruction fits, and knows its signal
 abbrev pub IsGoodInstr : ℕ → ℕ → ℕ → Instr → Type 0
@@ -118,8 +119,8 @@ holds_good : (shards servers : List (List ℕ)) (o : Option Data) → HaveIds sh
 holds_good shards servers None few h within = absurd (cc)
 holds_good shards servers (Some d) few h within = parcel_good members.Holds shards servers d few within
 
-retries_within : (retries : Bool) (d : Data) → cond retries (number_or 0 members.Retries 262144 d) 0 ≤ 262144
-retries_within true d = number_or-le 0 members.Retries 262144 d (omega arith)
+retries_within : (retries : Bool) (d : Data) → cond retries (number_or 0 members.Retries MOST_CALLS d) 0 ≤ MOST_CALLS
+retries_within true d = number_or-le 0 members.Retries MOST_CALLS d (omega arith)
 retries_within false d = omega arith
 
 -- a stream is within its limits, knows its signals, and fits
@@ -136,18 +137,18 @@ stream_good shards servers signals retries d few h =
     let of_code : List TextFault = walked (instr_faults shards servers signals) [] (entries_in members.Code d) in
     let to_holds : own ++ of_holds ≡ [] = nil_left (own ++ of_holds) of_code h in
     let rows = nil_right (object_faults members.Streams (map (λ row. text_of row.member) (stream_table retries)) d) (flat_map (row_faults d) (stream_table retries)) (nil_left own of_holds to_holds) in
-    let after_budget = nil_right (row_faults d (one members.Budget (whole 262144))) _ rows in
+    let after_budget = nil_right (row_faults d (one members.Budget (whole MOST_CALLS))) _ rows in
     let after_holds = nil_right (row_faults d (one members.Holds object)) _ after_budget in
     let holds = holds_good shards servers (found members.Holds d) few (nil_left (row_faults d (one members.Holds object)) _ after_budget) (nil_right own of_holds to_holds) in
     let code = code_good shards servers signals (entries_in members.Code d) (nil_right (own ++ of_holds) of_code h) in
-    let count : length (entries_in members.Code d) ≤ 4096 = entries_within members.Code 4096 d (nil_left (row_faults d (one members.Code (list 4096))) _ after_holds) in
+    let count : length (entries_in members.Code d) ≤ MOST_INSTRUCTIONS = entries_within members.Code MOST_INSTRUCTIONS d (nil_left (row_faults d (one members.Code (list MOST_INSTRUCTIONS))) _ after_holds) in
     let instructions : List Instr = map (instr_in shards servers signals) (entries_in members.Code d) in
     record {
       small = record {
-        budget = number_in-le members.Budget 262144 d;
+        budget = number_in-le members.Budget MOST_CALLS d;
         retries = retries_within retries d;
         holds = holds.small;
-        code = subst (λ n. n ≤ 4096) (sym (length-map (entries_in members.Code d) (instr_in shards servers signals))) count;
+        code = subst (λ n. n ≤ MOST_INSTRUCTIONS) (sym (length-map (entries_in members.Code d) (instr_in shards servers signals))) count;
       };
       fits = record {
         holds = holds.fits;
@@ -176,10 +177,10 @@ plan_good parent shards servers d few h =
     let to_signals : own ++ of_signals ≡ [] = nil_left (own ++ of_signals) of_streams h in
     let rows = nil_right (object_faults parent (map (λ row. text_of row.member) plan_table) d) (flat_map (row_faults d) plan_table) (nil_left own of_signals to_signals) in
     let after_format = nil_right (row_faults d (maybe members.Format format)) _ rows in
-    let after_budget = nil_right (row_faults d (one members.Budget (whole 262144))) _ after_format in
-    let after_signals = nil_right (row_faults d (maybe members.Signals (list 256))) _ after_budget in
-    let signals : length signal_items ≤ 256 = optional_within members.Signals 256 d (nil_left (row_faults d (maybe members.Signals (list 256))) _ after_budget) in
-    let streams : length stream_items ≤ 64 = entries_within members.Streams 64 d (nil_left (row_faults d (one members.Streams (list 64))) _ after_signals) in
+    let after_budget = nil_right (row_faults d (one members.Budget (whole MOST_CALLS))) _ after_format in
+    let after_signals = nil_right (row_faults d (maybe members.Signals (list MOST_SIGNALS))) _ after_budget in
+    let signals : length signal_items ≤ MOST_SIGNALS = optional_within members.Signals MOST_SIGNALS d (nil_left (row_faults d (maybe members.Signals (list MOST_SIGNALS))) _ after_budget) in
+    let streams : length stream_items ≤ MOST_STREAMS = entries_within members.Streams MOST_STREAMS d (nil_left (row_faults d (one members.Streams (list MOST_STREAMS))) _ after_signals) in
     let parcels : All (IsGoodParcel (length shards) (length servers)) (map (parcel_in shards servers) signal_items) =
     All-map (IsGoodParcel (length shards) (length servers)) (parcel_in shards servers) signal_items
     (walked_entries (parcel_faults members.Signals shards servers) (λ e. IsGoodParcel (length shards) (length servers) (parcel_in shards servers e)) (λ before e none. parcel_good members.Signals shards servers e few none) [] signal_items (nil_right own of_signals to_signals)) in
@@ -189,9 +190,9 @@ plan_good parent shards servers d few h =
     record {
       plan = record {
         small = record {
-          budget = number_in-le members.Budget 262144 d;
-          stream_count = subst (λ n. n ≤ 64) (sym (length-map stream_items read)) streams;
-          signal_count = subst (λ n. n ≤ 256) (sym (length-map signal_items (parcel_in shards servers))) signals;
+          budget = number_in-le members.Budget MOST_CALLS d;
+          stream_count = subst (λ n. n ≤ MOST_STREAMS) (sym (length-map stream_items read)) streams;
+          signal_count = subst (λ n. n ≤ MOST_SIGNALS) (sym (length-map signal_items (parcel_in shards servers))) signals;
           streams = All-weaker (IsGoodStream (length shards) (length servers) (signal_count_in d)) IsSmallStream (λ s is. is.small) (map read stream_items) good;
           signals = All-weaker (IsGoodParcel (length shards) (length servers)) IsSmallParcel (λ p is. is.small) (map (parcel_in shards servers) signal_items) parcels;
         };

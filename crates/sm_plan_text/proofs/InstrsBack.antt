@@ -1,18 +1,19 @@
 -- Instructions that are written are read as themselves.
-use Rattle.std.proofs.Common.{◌≡◌, ◌<◌, ◌≤◌, arith, ℕ, List, [], length, Some, unwrap_or, is_some, lt-ltb, refl, ap}
+use Rattle.std.proofs.Common.{◌≡◌, ◌<◌, ◌≤◌, arith, ℕ, List, [], length, Some, unwrap_or, is_some, lt-ltb, refl, ap, ap₂}
 use Rattle.std.proofs.lemmas.Bool.Decides.{nat_tests}
 use Rattle.sm_server.specs.declared.call.Role.{Role}
 use Rattle.sm_server.specs.declared.call.Role.TheVariants.{Primary, Secondary}
 use Rattle.sm_plan_code.specs.declared.instruction.Instr.{Instr}
 use Rattle.sm_plan_code.specs.declared.instruction.Instr.TheVariants as instr
 use Rattle.sm_plan_code.specs.Plan.{IsKnownInstr, KnowsSignal}
+use Rattle.sm_plan_code.specs.declared.limits.TheConstants.{MOST_SIGNALS}
 use Rattle.sm_plan_text.specs.declared.member.Member.{Member}
 use Rattle.sm_plan_text.specs.declared.member.Member.TheVariants.{Shard, Server, Other, Role as RoleMember, To, Signal}
 use Rattle.sm_plan_text.specs.Values.{role_named, under, id_of}
 use Rattle.sm_plan_text.specs.Tables.{text_fault, below_fault}
 use Rattle.sm_plan_text.specs.Instructions.{instr_faults, instr_in}
 use Rattle.sm_plan_text.specs.PlanTexts.{role_text, instr_data}
-use Rattle.sm_plan_text.proofs.NamesBack.{LeadBack, id_read, named, no_faults, both, three}
+use Rattle.sm_plan_text.proofs.NamesBack.{LeadBack, id_read, named, no_faults, three}
 
 role_no_fault : (m : Member) (role : Role) → text_fault m (λ s. is_some (role_named s)) (Some (role_text role)) ≡ []
 role_no_fault m Primary = refl
@@ -25,7 +26,7 @@ role_read Secondary = refl
 signal_no_fault : (n k : ℕ) → k < n → below_fault Signal n (Some k) ≡ []
 signal_no_fault n k h = rw (lt-ltb k n h) refl
 
-signal_read : (n k : ℕ) → n ≤ 256 → k < n → id_of (under n k) ≡ k
+signal_read : (n k : ℕ) → n ≤ MOST_SIGNALS → k < n → id_of (under n k) ≡ k
 signal_read n k few h = grind (arith, nat_tests)
 
 -- an instruction that is written has no fault
@@ -41,11 +42,11 @@ instr_no_fault shards servers signals (instr.Signal k) a b h known = no_faults _
 instr_no_fault shards servers signals (instr.Wait k) a b h known = no_faults _ _ (signal_no_fault signals k known) refl
 
 -- an instruction that is written is read as that instruction
-pub instr_back : (shards servers : List (List ℕ)) (signals : ℕ) (i : Instr) → signals ≤ 256 → LeadBack shards → LeadBack servers → IsKnownInstr (length shards) (length servers) i → KnowsSignal signals i → instr_in shards servers signals (instr_data shards servers i) ≡ i
+pub instr_back : (shards servers : List (List ℕ)) (signals : ℕ) (i : Instr) → signals ≤ MOST_SIGNALS → LeadBack shards → LeadBack servers → IsKnownInstr (length shards) (length servers) i → KnowsSignal signals i → instr_in shards servers signals (instr_data shards servers i) ≡ i
 instr_back shards servers signals (instr.PrepareAdd s v u) few a b (h, k, j) known = three instr.PrepareAdd _ _ _ _ _ _ (id_read shards s a h) (id_read servers v b k) (id_read servers u b j)
 instr_back shards servers signals (instr.PrepareDrop s u v) few a b (h, k, j) known = three instr.PrepareDrop _ _ _ _ _ _ (id_read shards s a h) (id_read servers u b k) (id_read servers v b j)
 instr_back shards servers signals (instr.Add s v role) few a b (h, k, j) known = three instr.Add _ _ _ _ _ _ (id_read shards s a h) (id_read servers v b k) (role_read role)
-instr_back shards servers signals (instr.Drop s v) few a b (h, k, j) known = both instr.Drop _ _ _ _ (id_read shards s a h) (id_read servers v b k)
+instr_back shards servers signals (instr.Drop s v) few a b (h, k, j) known = ap₂ instr.Drop (id_read shards s a h) (id_read servers v b k)
 instr_back shards servers signals (instr.Change s v to) few a b (h, k, j) known = three instr.Change _ _ _ _ _ _ (id_read shards s a h) (id_read servers v b k) (role_read to)
 instr_back shards servers signals (instr.Publish s) few a b (h, k, j) known = ap instr.Publish (id_read shards s a h)
 instr_back shards servers signals (instr.Unlist s) few a b (h, k, j) known = ap instr.Unlist (id_read shards s a h)

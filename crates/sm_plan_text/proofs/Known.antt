@@ -10,8 +10,10 @@ use Rattle.sm_placement.specs.declared.config.ConfigFault.TheVariants.{TooMany, 
 use Rattle.sm_placement.specs.Names.{has_double}
 use Rattle.sm_placement.specs.Setup.{Setup, is_too_large, has_good_names, has_doubled_name, has_good_numbers}
 use Rattle.sm_placement.specs.Config.{config_fault}
+use Rattle.sm_placement.specs.declared.limits.TheConstants.{MOST_SERVERS, MOST_SHARDS, MOST_CELLS}
 use Rattle.sm_plan_code.specs.Plan.{IsKnownPlan}
 use Rattle.sm_plan_code.specs.Move.{IsKnownMove}
+use Rattle.sm_plan_code.specs.declared.limits.TheConstants.{MOST_MOVES, MOST_PLACES, MOST_PLANS}
 use Rattle.sm_plan_text.specs.declared.fault.TextFault.{TextFault}
 use Rattle.sm_plan_text.specs.declared.member.Member.TheVariants as members
 use Rattle.sm_plan_text.specs.Members.{text_of}
@@ -25,6 +27,7 @@ use Rattle.sm_plan_text.specs.Plans.{faults_within, plan_faults, plan_in}
 use Rattle.sm_plan_text.specs.Events.{IsKnownEvent, event_faults, event_in}
 use Rattle.sm_plan_text.specs.Moves.{move_faults, move_in}
 use Rattle.sm_plan_text.specs.Documents.{document_table, document_faults, servers_in, shards_in, server_names_in, shard_names_in, setup_in, rows_in, IsDocument}
+use Rattle.sm_plan_text.specs.declared.limits.TheConstants.{MOST_EVENTS, MOST_ASKS, LOG_PLACES}
 use Rattle.sm_plan_text.proofs.Faultless.{nil_left, nil_right, walked_entries, entries_within, optional_within, names_known, id_within, number_in-le, number_or-le}
 use Rattle.sm_plan_text.proofs.FaultlessPlan.{plan_good}
 use Rattle.sm_plan_text.proofs.ShardLemmas.{cell_count_is}
@@ -32,11 +35,11 @@ use Rattle.sm_plan_text.proofs.FaultlessDocument.{IsDistinct, IsKnownNamedCall, 
 
 -- the parts of a document without faults have none
 record IsFaultless (d : Data) : Type 0 where
-  server_count : length (servers_in d) ≤ 1024
-  shard_count : length (shards_in d) ≤ 4096
-  plan_count : length (entries_in members.Plans d) ≤ 16
-  move_count : length (entries_in members.Moves d) ≤ 4096
-  asks : (length (entries_in members.Asks d) ≤ 16) × All (λ e. unwrap_or (id_named (shard_names_in d) e) 0 < length (shard_names_in d)) (entries_in members.Asks d)
+  server_count : length (servers_in d) ≤ MOST_SERVERS
+  shard_count : length (shards_in d) ≤ MOST_SHARDS
+  plan_count : length (entries_in members.Plans d) ≤ MOST_PLANS
+  move_count : length (entries_in members.Moves d) ≤ MOST_MOVES
+  asks : (length (entries_in members.Asks d) ≤ MOST_ASKS) × All (λ e. unwrap_or (id_named (shard_names_in d) e) 0 < length (shard_names_in d)) (entries_in members.Asks d)
   servers : walked server_faults [] (servers_in d) ≡ []
   shards : walked (shard_faults (server_names_in d)) [] (shards_in d) ≡ []
   calls : walked (call_faults (shard_names_in d) (server_names_in d)) [] (entries_in members.Calls d) ≡ []
@@ -64,22 +67,22 @@ faultless_parts d h =
     let to_shards : own ++ of_servers ++ of_shards ≡ [] = nil_left (own ++ of_servers ++ of_shards) of_calls to_calls in
     let to_servers : own ++ of_servers ≡ [] = nil_left (own ++ of_servers) of_shards to_shards in
     let rows = nil_right (object_faults members.Document (map (λ row. text_of row.member) (document_table N S)) d) (flat_map (row_faults d) (document_table N S)) (nil_left own of_servers to_servers) in
-    let after_limit = nil_right (row_faults d (one members.Limit (whole 1024))) _ rows in
-    let after_servers = nil_right (row_faults d (one members.Servers (list 1024))) _ after_limit in
-    let after_shards = nil_right (row_faults d (one members.Shards (list 4096))) _ after_servers in
-    let after_log = nil_right (row_faults d (maybe members.Log (whole 1048576))) _ after_shards in
-    let after_calls = nil_right (row_faults d (maybe members.Calls (list 1048576))) _ after_log in
+    let after_limit = nil_right (row_faults d (one members.Limit (whole MOST_SERVERS))) _ rows in
+    let after_servers = nil_right (row_faults d (one members.Servers (list MOST_SERVERS))) _ after_limit in
+    let after_shards = nil_right (row_faults d (one members.Shards (list MOST_SHARDS))) _ after_servers in
+    let after_log = nil_right (row_faults d (maybe members.Log (whole MOST_PLACES))) _ after_shards in
+    let after_calls = nil_right (row_faults d (maybe members.Calls (list MOST_EVENTS))) _ after_log in
     let after_plan = nil_right (row_faults d (maybe members.Plan object)) _ after_calls in
-    let after_plans = nil_right (row_faults d (maybe members.Plans (list 16))) _ after_plan in
-    let after_events = nil_right (row_faults d (maybe members.Events (list 1048576))) _ after_plans in
-    let after_moves = nil_right (row_faults d (maybe members.Moves (list 4096))) _ after_events in
+    let after_plans = nil_right (row_faults d (maybe members.Plans (list MOST_PLANS))) _ after_plan in
+    let after_events = nil_right (row_faults d (maybe members.Events (list MOST_EVENTS))) _ after_plans in
+    let after_moves = nil_right (row_faults d (maybe members.Moves (list MOST_MOVES))) _ after_events in
     let after_drain = nil_right (row_faults d (maybe members.Drain (known S))) _ after_moves in
     record {
-      server_count = entries_within members.Servers 1024 d (nil_left (row_faults d (one members.Servers (list 1024))) _ after_limit);
-      shard_count = entries_within members.Shards 4096 d (nil_left (row_faults d (one members.Shards (list 4096))) _ after_servers);
-      plan_count = optional_within members.Plans 16 d (nil_left (row_faults d (maybe members.Plans (list 16))) _ after_plan);
-      move_count = optional_within members.Moves 4096 d (nil_left (row_faults d (maybe members.Moves (list 4096))) _ after_events);
-      asks = names_known members.Asks 16 N d (nil_left (row_faults d (maybe members.Asks (known_list 16 N))) _ after_drain);
+      server_count = entries_within members.Servers MOST_SERVERS d (nil_left (row_faults d (one members.Servers (list MOST_SERVERS))) _ after_limit);
+      shard_count = entries_within members.Shards MOST_SHARDS d (nil_left (row_faults d (one members.Shards (list MOST_SHARDS))) _ after_servers);
+      plan_count = optional_within members.Plans MOST_PLANS d (nil_left (row_faults d (maybe members.Plans (list MOST_PLANS))) _ after_plan);
+      move_count = optional_within members.Moves MOST_MOVES d (nil_left (row_faults d (maybe members.Moves (list MOST_MOVES))) _ after_events);
+      asks = names_known members.Asks MOST_ASKS N d (nil_left (row_faults d (maybe members.Asks (known_list MOST_ASKS N))) _ after_drain);
       servers = nil_right own of_servers to_servers;
       shards = nil_right (own ++ of_servers) of_shards to_shards;
       calls = nil_right (own ++ of_servers ++ of_shards) of_calls to_calls;
@@ -98,7 +101,7 @@ no_fault false true true numbers l n d k = absurd (cc)
 no_fault false false doubled numbers l n d k = absurd (cc)
 no_fault true names doubled numbers l n d k = absurd (cc)
 
-not_large : (a b : ℕ) → a ≤ 1024 → b ≤ 4096 → (nat_lt 1024 a || nat_lt 4096 b) ≡ false
+not_large : (a b : ℕ) → a ≤ MOST_SERVERS → b ≤ MOST_SHARDS → (nat_lt MOST_SERVERS a || nat_lt MOST_SHARDS b) ≡ false
 not_large a b h k = grind (arith, nat_tests)
 
 -- the servers and shards of a document without faults are a configuration
@@ -108,8 +111,8 @@ setup_is_good d h =
     let setup : Setup = setup_in d in
     no_fault (is_too_large setup) (has_good_names setup) (has_doubled_name setup) (has_good_numbers setup)
     (not_large (length (map server_in (servers_in d))) (length (map shard_in (shards_in d)))
-    (subst (λ n. n ≤ 1024) (sym (length-map (servers_in d) server_in)) parts.server_count)
-    (subst (λ n. n ≤ 4096) (sym (length-map (shards_in d) shard_in)) parts.shard_count))
+    (subst (λ n. n ≤ MOST_SERVERS) (sym (length-map (servers_in d) server_in)) parts.server_count)
+    (subst (λ n. n ≤ MOST_SHARDS) (sym (length-map (shards_in d) shard_in)) parts.shard_count))
     (and_from _ _ (servers_named (servers_in d) parts.servers) (shards_named (server_names_in d) (shards_in d) parts.shards))
     (or_from _ _
     (ap has_double (names_of_rows (servers_in d)) ∙ (servers_distinct (servers_in d) parts.servers).single)
@@ -132,10 +135,10 @@ names_are_few d h =
     record { shards = omega arith; servers = omega arith }
 
 -- a document without faults has no more shards than a configuration may have
-pub shards_are_few : (d : Data) → document_faults d ≡ [] → length (rows_in d).setup.shards ≤ 4096
+pub shards_are_few : (d : Data) → document_faults d ≡ [] → length (rows_in d).setup.shards ≤ MOST_SHARDS
 shards_are_few d h =
     let parts : IsFaultless d = faultless_parts d h in
-    subst (λ n. n ≤ 4096) (sym (length-map (shards_in d) shard_in)) parts.shard_count
+    subst (λ n. n ≤ MOST_SHARDS) (sym (length-map (shards_in d) shard_in)) parts.shard_count
 
 -- what holds of all entries of a list that may be missing holds of them where it is there
 pub each_where_there : {A : Type 0} (P : A → Type 0) (f : Data → A) (o : Option (List Data)) → All P (map f (unwrap_or o [])) → IfSome (option_map (map f) o) (All P)
@@ -195,10 +198,10 @@ document_is_known d h =
       asks = subst (λ n. All (λ shard. shard < n) (ids_in (shard_names_in d) members.Asks d)) shards
           (All-map (λ shard. shard < length (shard_names_in d)) (λ entry. unwrap_or (id_named (shard_names_in d) entry) 0) (entries_in members.Asks d) parts.asks.1);
       listed_length = length-map (shards_in d) (listed_in (server_names_in d)) ∙ sym (length-map (shards_in d) shard_in);
-      cell_count = subst (λ n. n ≤ 1048576) (sym (cell_count_is (server_names_in d) (shards_in d))) (cell_count_within (server_names_in d) (shards_in d) parts.shards);
-      limit = number_in-le members.Limit 1024 d;
-      log = number_or-le 65536 members.Log 1048576 d (omega arith);
-      plan_count = counted_where_there 16 (plan_in (shard_names_in d) (server_names_in d)) (list_in members.Plans d) parts.plan_count;
-      move_count = counted_where_there 4096 (move_in (shard_names_in d) (server_names_in d)) (list_in members.Moves d) parts.move_count;
-      ask_count = subst (λ n. n ≤ 16) (sym (length-map (entries_in members.Asks d) (λ entry. unwrap_or (id_named (shard_names_in d) entry) 0))) parts.asks.0;
+      cell_count = subst (λ n. n ≤ MOST_CELLS) (sym (cell_count_is (server_names_in d) (shards_in d))) (cell_count_within (server_names_in d) (shards_in d) parts.shards);
+      limit = number_in-le members.Limit MOST_SERVERS d;
+      log = number_or-le LOG_PLACES members.Log MOST_PLACES d (omega arith);
+      plan_count = counted_where_there MOST_PLANS (plan_in (shard_names_in d) (server_names_in d)) (list_in members.Plans d) parts.plan_count;
+      move_count = counted_where_there MOST_MOVES (move_in (shard_names_in d) (server_names_in d)) (list_in members.Moves d) parts.move_count;
+      ask_count = subst (λ n. n ≤ MOST_ASKS) (sym (length-map (entries_in members.Asks d) (λ entry. unwrap_or (id_named (shard_names_in d) entry) 0))) parts.asks.0;
     }

@@ -22,7 +22,7 @@ use Rattle.sm_reservation.specs.declared.right.Spare.{Spare}
 use Rattle.sm_reservation.specs.Rights.{Rights}
 use Rattle.sm_plan_code.specs.declared.instruction.Instr.{Instr}
 use Rattle.sm_plan_code.specs.declared.instruction.Instr.TheVariants as instr
-use Rattle.sm_plan_code.specs.declared.limits.TheConstants.{MOST_AMOUNT}
+use Rattle.sm_plan_code.specs.declared.limits.TheConstants.{MOST_AMOUNT, MOST_SIGNALS}
 use Rattle.sm_plan_code.specs.Plan.{StreamModel, PlanModel, IsSmallParcel, IsSmallStream, KnowsSignal, IsPlan, IsKnownPlan}
 use Rattle.sm_plan_text.specs.declared.member.Member.TheVariants as members
 use Rattle.sm_plan_text.specs.Reading.{read_plan}
@@ -173,14 +173,14 @@ module _ (shards servers : List (List ℕ)) (shard_names : AreTexts shards) (ser
       (and_member _ _ _ _ _ _ refl (shard_readable s) refl
       (no_more _)))
 
-  signal_readable : (word : List ℕ) → are_ascii word ≡ true → (k : ℕ) → k < 256 → IsReadable (signal_data word k)
+  signal_readable : (word : List ℕ) → are_ascii word ≡ true → (k : ℕ) → k < MOST_SIGNALS → IsReadable (signal_data word k)
   signal_readable word ascii k h =
       object_readable _
       (and_member _ _ _ _ _ _ refl (word_readable word ascii) refl
       (and_member _ _ _ _ _ _ refl (whole_readable k (omega (arith, h))) refl
       (no_more _)))
 
-  instr_readable : (n : ℕ) → n ≤ 256 → (i : Instr) → KnowsSignal n i → IsReadable (instr_data shards servers i)
+  instr_readable : (n : ℕ) → n ≤ MOST_SIGNALS → (i : Instr) → KnowsSignal n i → IsReadable (instr_data shards servers i)
   instr_readable n few (instr.PrepareAdd s v u) h = prepare_readable _ refl s v u
   instr_readable n few (instr.PrepareDrop s u v) h = prepare_readable _ refl s u v
   instr_readable n few (instr.Add s v role) h =
@@ -214,10 +214,10 @@ module _ (shards servers : List (List ℕ)) (shard_names : AreTexts shards) (ser
   abbrev IsWritable : ℕ → StreamModel → Type 0
   IsWritable n s = IsSmallStream s × All (KnowsSignal n) s.code
 
-  code_readable : (n : ℕ) → n ≤ 256 → (s : StreamModel) → IsWritable n s → IsReadable (list_data (map (instr_data shards servers) s.code))
+  code_readable : (n : ℕ) → n ≤ MOST_SIGNALS → (s : StreamModel) → IsWritable n s → IsReadable (list_data (map (instr_data shards servers) s.code))
   code_readable n few s h = list_readable (instr_data shards servers) (KnowsSignal n) (instr_readable n few) s.code h.1
 
-  stream_readable : (n : ℕ) → n ≤ 256 → (retries : Bool) (s : StreamModel) → IsWritable n s → IsReadable (stream_data shards servers retries s)
+  stream_readable : (n : ℕ) → n ≤ MOST_SIGNALS → (retries : Bool) (s : StreamModel) → IsWritable n s → IsReadable (stream_data shards servers retries s)
   stream_readable n few true s h =
       object_readable _
       (and_member _ _ _ _ _ _ refl (whole_readable s.budget (omega (arith, h.0.budget))) refl
@@ -239,7 +239,7 @@ module _ (shards servers : List (List ℕ)) (shard_names : AreTexts shards) (ser
   plan_readable : (p : PlanModel) → IsPlan p → IsReadable (plan_data shards servers p)
   plan_readable p is =
       let n = length p.signals in
-      let few : n ≤ 256 = is.small.signal_count in
+      let few : n ≤ MOST_SIGNALS = is.small.signal_count in
       let all : All (IsWritable n) p.streams = λ k d h. (is.small.streams k d h, is.signals k d h) in
       object_readable _
       (and_member _ _ _ _ _ _ refl (whole_readable p.budget (omega (arith, is.small.budget))) refl

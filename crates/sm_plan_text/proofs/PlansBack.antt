@@ -14,7 +14,7 @@ use Rattle.sm_reservation.specs.Rights.{Rights}
 use Rattle.sm_reservation.specs.Key.{key_of_cell, key_of_crown, key_of_room, key_of_spare, IsOrdered}
 use Rattle.sm_reservation.specs.InOrder.{in_order}
 use Rattle.sm_plan_code.specs.declared.instruction.Instr.{Instr}
-use Rattle.sm_plan_code.specs.declared.limits.TheConstants.{MOST_AMOUNT, MOST_RIGHTS}
+use Rattle.sm_plan_code.specs.declared.limits.TheConstants.{MOST_AMOUNT, MOST_RIGHTS, MOST_CALLS, MOST_INSTRUCTIONS, MOST_SIGNALS, MOST_STREAMS}
 use Rattle.sm_plan_code.specs.Plan.{StreamModel, PlanModel, IsSmallParcel, IsSmallStream, IsSmallPlan, IsPlan, KnowsSignal, IsKnownCellRight, IsKnownCrown, IsKnownInstr, IsKnownParcel, IsKnownStream, IsKnownPlan}
 use Rattle.sm_plan_text.specs.declared.member.Member.{Member}
 use Rattle.sm_plan_text.specs.declared.member.Member.TheVariants as members
@@ -87,7 +87,7 @@ code_no_fault shards servers a b signals retries s h =
     walk_no_fault (instr_data shards servers) (instr_faults shards servers signals) (IsGoodInstr (length shards) (length servers) signals)
     (λ earlier i known. instr_no_fault shards servers signals i a b known.0 known.1) s.code (code_known (length shards) (length servers) signals retries s h)
 
-code_back : (shards servers : List (List ℕ)) → LeadBack shards → LeadBack servers → (signals : ℕ) → signals ≤ 256 → (retries : Bool) (s : StreamModel) → IsWritable (length shards) (length servers) signals retries s → map (instr_in shards servers signals) (entries (items_of (map (instr_data shards servers) s.code))) ≡ s.code
+code_back : (shards servers : List (List ℕ)) → LeadBack shards → LeadBack servers → (signals : ℕ) → signals ≤ MOST_SIGNALS → (retries : Bool) (s : StreamModel) → IsWritable (length shards) (length servers) signals retries s → map (instr_in shards servers signals) (entries (items_of (map (instr_data shards servers) s.code))) ≡ s.code
 code_back shards servers a b signals few retries s h =
     list_read (instr_data shards servers) (instr_in shards servers signals) (IsGoodInstr (length shards) (length servers) signals)
     (λ i known. instr_back shards servers signals i few a b known.0 known.1) s.code (code_known (length shards) (length servers) signals retries s h)
@@ -95,29 +95,29 @@ code_back shards servers a b signals few retries s h =
 pub stream_no_fault : (shards servers : List (List ℕ)) → LeadBack shards → LeadBack servers → (signals : ℕ) (retries : Bool) (earlier : List Data) (s : StreamModel) → IsWritable (length shards) (length servers) signals retries s → stream_faults shards servers signals retries earlier (stream_data shards servers retries s) ≡ []
 stream_no_fault shards servers a b signals true earlier s h =
     no_faults _ _ (no_faults _ _
-    (no_faults _ _ (number_no_fault members.Budget 262144 s.budget h.small.budget)
-    (no_faults _ _ (list_no_fault members.Code 4096 (map (instr_data shards servers) s.code) (mapped_within (instr_data shards servers) s.code 4096 h.small.code))
-    (no_faults _ _ (number_no_fault members.Retries 262144 s.retries h.small.retries) refl)))
+    (no_faults _ _ (number_no_fault members.Budget MOST_CALLS s.budget h.small.budget)
+    (no_faults _ _ (list_no_fault members.Code MOST_INSTRUCTIONS (map (instr_data shards servers) s.code) (mapped_within (instr_data shards servers) s.code MOST_INSTRUCTIONS h.small.code))
+    (no_faults _ _ (number_no_fault members.Retries MOST_CALLS s.retries h.small.retries) refl)))
     (parcel_no_fault members.Holds shards servers a b [] s.holds h.fits.holds h.small.holds h.placed))
     (code_no_fault shards servers a b signals true s h)
 stream_no_fault shards servers a b signals false earlier s h =
     no_faults _ _ (no_faults _ _
-    (no_faults _ _ (number_no_fault members.Budget 262144 s.budget h.small.budget)
-    (no_faults _ _ (list_no_fault members.Code 4096 (map (instr_data shards servers) s.code) (mapped_within (instr_data shards servers) s.code 4096 h.small.code)) refl))
+    (no_faults _ _ (number_no_fault members.Budget MOST_CALLS s.budget h.small.budget)
+    (no_faults _ _ (list_no_fault members.Code MOST_INSTRUCTIONS (map (instr_data shards servers) s.code) (mapped_within (instr_data shards servers) s.code MOST_INSTRUCTIONS h.small.code)) refl))
     (parcel_no_fault members.Holds shards servers a b [] s.holds h.fits.holds h.small.holds h.placed))
     (code_no_fault shards servers a b signals false s h)
 
 abbrev stream : ℕ → ℕ → Rights → List Instr → StreamModel
 stream budget retries holds code = record { budget = budget; retries = retries; holds = holds; code = code }
 
-pub stream_back : (shards servers : List (List ℕ)) → LeadBack shards → LeadBack servers → (signals : ℕ) → signals ≤ 256 → (retries : Bool) (s : StreamModel) → IsWritable (length shards) (length servers) signals retries s → stream_in shards servers signals retries (stream_data shards servers retries s) ≡ s
+pub stream_back : (shards servers : List (List ℕ)) → LeadBack shards → LeadBack servers → (signals : ℕ) → signals ≤ MOST_SIGNALS → (retries : Bool) (s : StreamModel) → IsWritable (length shards) (length servers) signals retries s → stream_in shards servers signals retries (stream_data shards servers retries s) ≡ s
 stream_back shards servers a b signals few true s h =
     four stream _ _ _ _ _ _ _ _
-    (up_to_same 262144 s.budget h.small.budget) (up_to_same 262144 s.retries h.small.retries)
+    (up_to_same MOST_CALLS s.budget h.small.budget) (up_to_same MOST_CALLS s.retries h.small.retries)
     (parcel_back shards servers a b s.holds h.fits.holds h.small.holds h.placed) (code_back shards servers a b signals few true s h)
 stream_back shards servers a b signals few false s h =
     four stream _ _ _ _ _ _ _ _
-    (up_to_same 262144 s.budget h.small.budget) (sym (h.retries refl))
+    (up_to_same MOST_CALLS s.budget h.small.budget) (sym (h.retries refl))
     (parcel_back shards servers a b s.holds h.fits.holds h.small.holds h.placed) (code_back shards servers a b signals few false s h)
 
 -- ---- plans
@@ -146,16 +146,16 @@ signals_counted shards servers p = ap length (entries_back (map (parcel_data sha
 plan_clean : (parent : Member) (shards servers : List (List ℕ)) → LeadBack shards → LeadBack servers → (retries : Bool) (p : PlanModel) → IsSmallPlan p → All (IsWritableParcel (length shards) (length servers)) p.signals → All (IsWritable (length shards) (length servers) (signals_read shards servers p) retries) p.streams → plan_faults parent shards servers [] (plan_as shards servers retries p) ≡ []
 plan_clean parent shards servers a b true p small parcels streams =
     no_faults _ _ (no_faults _ _
-    (no_faults _ _ (number_no_fault members.Budget 262144 p.budget small.budget)
-    (no_faults _ _ (list_no_fault members.Signals 256 (map (parcel_data shards servers) p.signals) (mapped_within (parcel_data shards servers) p.signals 256 small.signal_count))
-    (no_faults _ _ (list_no_fault members.Streams 64 (map (stream_data shards servers true) p.streams) (mapped_within (stream_data shards servers true) p.streams 64 small.stream_count)) refl)))
+    (no_faults _ _ (number_no_fault members.Budget MOST_CALLS p.budget small.budget)
+    (no_faults _ _ (list_no_fault members.Signals MOST_SIGNALS (map (parcel_data shards servers) p.signals) (mapped_within (parcel_data shards servers) p.signals MOST_SIGNALS small.signal_count))
+    (no_faults _ _ (list_no_fault members.Streams MOST_STREAMS (map (stream_data shards servers true) p.streams) (mapped_within (stream_data shards servers true) p.streams MOST_STREAMS small.stream_count)) refl)))
     (walk_no_fault (parcel_data shards servers) (parcel_faults members.Signals shards servers) (IsWritableParcel (length shards) (length servers)) (λ earlier r h. parcel_no_fault members.Signals shards servers a b earlier r h.fits h.small h.placed) p.signals parcels))
     (walk_no_fault (stream_data shards servers true) (stream_faults shards servers (signals_read shards servers p) true) (IsWritable (length shards) (length servers) (signals_read shards servers p) true) (stream_no_fault shards servers a b (signals_read shards servers p) true) p.streams streams)
 plan_clean parent shards servers a b false p small parcels streams =
     no_faults _ _ (no_faults _ _
-    (no_faults _ _ (number_no_fault members.Budget 262144 p.budget small.budget)
-    (no_faults _ _ (list_no_fault members.Signals 256 (map (parcel_data shards servers) p.signals) (mapped_within (parcel_data shards servers) p.signals 256 small.signal_count))
-    (no_faults _ _ (list_no_fault members.Streams 64 (map (stream_data shards servers false) p.streams) (mapped_within (stream_data shards servers false) p.streams 64 small.stream_count)) refl)))
+    (no_faults _ _ (number_no_fault members.Budget MOST_CALLS p.budget small.budget)
+    (no_faults _ _ (list_no_fault members.Signals MOST_SIGNALS (map (parcel_data shards servers) p.signals) (mapped_within (parcel_data shards servers) p.signals MOST_SIGNALS small.signal_count))
+    (no_faults _ _ (list_no_fault members.Streams MOST_STREAMS (map (stream_data shards servers false) p.streams) (mapped_within (stream_data shards servers false) p.streams MOST_STREAMS small.stream_count)) refl)))
     (walk_no_fault (parcel_data shards servers) (parcel_faults members.Signals shards servers) (IsWritableParcel (length shards) (length servers)) (λ earlier r h. parcel_no_fault members.Signals shards servers a b earlier r h.fits h.small h.placed) p.signals parcels))
     (walk_no_fault (stream_data shards servers false) (stream_faults shards servers (signals_read shards servers p) false) (IsWritable (length shards) (length servers) (signals_read shards servers p) false) (stream_no_fault shards servers a b (signals_read shards servers p) false) p.streams streams)
 
@@ -163,7 +163,7 @@ streams_back : (shards servers : List (List ℕ)) → LeadBack shards → LeadBa
     → map (stream_in shards servers (signals_read shards servers p) retries) (entries (items_of (map (stream_data shards servers retries) p.streams))) ≡ p.streams
 streams_back shards servers a b retries p small streams =
     let n : ℕ = signals_read shards servers p in
-    let few : n ≤ 256 = subst (λ k. k ≤ 256) (sym (signals_counted shards servers p)) small.signal_count in
+    let few : n ≤ MOST_SIGNALS = subst (λ k. k ≤ MOST_SIGNALS) (sym (signals_counted shards servers p)) small.signal_count in
     list_read (stream_data shards servers retries) (stream_in shards servers n retries) (IsWritable (length shards) (length servers) n retries) (stream_back shards servers a b n few retries) p.streams streams
 
 abbrev plan : ℕ → List StreamModel → List Rights → PlanModel
@@ -172,12 +172,12 @@ plan budget streams signals = record { budget = budget; streams = streams; signa
 plan_read_back : (shards servers : List (List ℕ)) → LeadBack shards → LeadBack servers → (retries : Bool) (p : PlanModel) → IsSmallPlan p → All (IsWritableParcel (length shards) (length servers)) p.signals → All (IsWritable (length shards) (length servers) (signals_read shards servers p) retries) p.streams → plan_in shards servers (plan_as shards servers retries p) ≡ p
 plan_read_back shards servers a b true p small parcels streams =
     three plan _ _ _ _ _ _
-    (up_to_same 262144 p.budget small.budget)
+    (up_to_same MOST_CALLS p.budget small.budget)
     (streams_back shards servers a b true p small streams)
     (list_read (parcel_data shards servers) (parcel_in shards servers) (IsWritableParcel (length shards) (length servers)) (λ r h. parcel_back shards servers a b r h.fits h.small h.placed) p.signals parcels)
 plan_read_back shards servers a b false p small parcels streams =
     three plan _ _ _ _ _ _
-    (up_to_same 262144 p.budget small.budget)
+    (up_to_same MOST_CALLS p.budget small.budget)
     (streams_back shards servers a b false p small streams)
     (list_read (parcel_data shards servers) (parcel_in shards servers) (IsWritableParcel (length shards) (length servers)) (λ r h. parcel_back shards servers a b r h.fits h.small h.placed) p.signals parcels)
 

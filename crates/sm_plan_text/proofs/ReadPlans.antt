@@ -3,6 +3,7 @@ use Rattle.std.proofs.Common.{◌≡◌, ◌≤◌, List, [], length, Option, So
 use Rattle.std.proofs.lemmas.List.Elements.{All-map}
 use Rattle.serde_json.specs.Data.{Data}
 use Rattle.sm_placement.specs.Setup.{Setup}
+use Rattle.sm_placement.specs.declared.limits.TheConstants.{MOST_SHARDS}
 use Rattle.sm_plan_code.specs.Plan.{PlanModel, IsPlan, IsKnownPlan}
 use Rattle.sm_plan_text.specs.declared.fault.TextFault.{TextFault}
 use Rattle.sm_plan_text.specs.declared.member.Member.TheVariants as members
@@ -27,7 +28,7 @@ pub record IsPlanOf (setup : Setup) (plan : PlanModel) : Type 0 where
 pub record HasItsPlans (d : DocumentModel) : Type 0 where
   pub plan : IfSome d.plan (IsPlanOf d.setup)
   pub plans : IfSome d.plans (All (IsPlanOf d.setup))
-  pub shards : length d.setup.shards ≤ 4096
+  pub shards : length d.setup.shards ≤ MOST_SHARDS
 
 plan_is : (shards servers : List (List ℕ)) (o : Option Data) → HaveIds shards servers → faults_within (plan_faults members.Plan shards servers []) o ≡ [] → IfSome (option_map (plan_in shards servers) o) IsPlan
 plan_is shards servers None few h = tt

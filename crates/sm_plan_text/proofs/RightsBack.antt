@@ -1,5 +1,5 @@
 -- Rights that are written are read as themselves.
-use Rattle.std.proofs.Common.{◌≡◌, ◌≤◌, ◌<◌, ◌&&◌, ℕ, Bool, true, false, List, [], ◌∷◌, length, Option, Some, None, unwrap_or, is_some, refl, ap, ◌∙◌, IfSome, arith}
+use Rattle.std.proofs.Common.{◌≡◌, ◌≤◌, ◌<◌, ◌&&◌, ℕ, Bool, true, false, List, [], ◌∷◌, length, Option, Some, None, unwrap_or, is_some, refl, ap, ap₂, ◌∙◌, IfSome, arith}
 use Rattle.std.specs.Str.{bytes_eq}
 use Rattle.std.proofs.lemmas.Bool.Decides.{nat_tests}
 use Rattle.serde_json.specs.Data.{Data}
@@ -21,7 +21,7 @@ use Rattle.sm_plan_text.specs.Tables.{known_or_null, text_fault, value_faults, t
 use Rattle.sm_plan_text.specs.Parcels.{plain_named, right_faults, right_in, crown_faults, crown_in, room_faults, room_in, spare_faults, spare_in}
 use Rattle.sm_plan_text.specs.PlanTexts.{name_at, plain_text, listed_data, right_data, crown_by_lead, crown_data, room_data, spare_data}
 use Rattle.sm_plan_text.proofs.Faultless.{up_to_same}
-use Rattle.sm_plan_text.proofs.NamesBack.{LeadBack, id_back, id_read, named, same_number, no_faults, both, three}
+use Rattle.sm_plan_text.proofs.NamesBack.{LeadBack, id_back, id_read, named, same_number, no_faults, three}
 use Rattle.sm_plan_text.proofs.ListsBack.{number_no_fault}
 
 -- ---- rights to cells
@@ -79,11 +79,11 @@ crown_read shards servers a b s lead.Gone o h k j =
 crown_read shards servers a b s (lead.At u) o h k j =
     three crown _ _ _ _ _ _ (id_read shards s a h) (ap lead.At (id_read servers u b k)) (listed_read servers o b j)
 crown_read shards servers a b s (lead.Ready u v) o h k j =
-    three crown _ _ _ _ _ _ (id_read shards s a h) (both lead.Ready _ _ _ _ (id_read servers u b k.0) (id_read servers v b k.1)) (listed_read servers o b j)
+    three crown _ _ _ _ _ _ (id_read shards s a h) (ap₂ lead.Ready (id_read servers u b k.0) (id_read servers v b k.1)) (listed_read servers o b j)
 crown_read shards servers a b s (lead.Handing u v) o h k j =
-    three crown _ _ _ _ _ _ (id_read shards s a h) (both lead.Handing _ _ _ _ (id_read servers u b k.0) (id_read servers v b k.1)) (listed_read servers o b j)
+    three crown _ _ _ _ _ _ (id_read shards s a h) (ap₂ lead.Handing (id_read servers u b k.0) (id_read servers v b k.1)) (listed_read servers o b j)
 crown_read shards servers a b s (lead.Handed u v) o h k j =
-    three crown _ _ _ _ _ _ (id_read shards s a h) (both lead.Handed _ _ _ _ (id_read servers u b k.0) (id_read servers v b k.1)) (listed_read servers o b j)
+    three crown _ _ _ _ _ _ (id_read shards s a h) (ap₂ lead.Handed (id_read servers u b k.0) (id_read servers v b k.1)) (listed_read servers o b j)
 
 -- and it is read as itself
 pub crown_back : (shards servers : List (List ℕ)) → LeadBack shards → LeadBack servers → (x : Crown) → IsKnownCrown (length shards) (length servers) x → crown_in shards servers (crown_data shards servers x) ≡ x
@@ -105,7 +105,7 @@ room_no_fault servers b earlier x h = no_faults _ _ (named members.Server server
 
 -- and it is read as itself
 pub room_back : (servers : List (List ℕ)) → LeadBack servers → (x : Room) → IsRoomWithin (length servers) x → room_in servers (room_data servers x) ≡ x
-room_back servers b x h = both (λ (v amount : ℕ). record { server = v; amount = amount }) _ _ _ _ (id_read servers x.server b h.0) (up_to_same MOST_AMOUNT x.amount h.1)
+room_back servers b x h = ap₂ (λ (v amount : ℕ). record { server = v; amount = amount }) (id_read servers x.server b h.0) (up_to_same MOST_AMOUNT x.amount h.1)
 
 -- spare replicas of a known shard, within their limit, have no fault as they are written
 pub spare_no_fault : (shards : List (List ℕ)) → LeadBack shards → (earlier : List Data) (x : Spare) → IsSpareWithin (length shards) x → spare_faults shards earlier (spare_data shards x) ≡ []
@@ -113,7 +113,7 @@ spare_no_fault shards a earlier x h = no_faults _ _ (named members.Shard shards 
 
 -- and they are read as themselves
 pub spare_back : (shards : List (List ℕ)) → LeadBack shards → (x : Spare) → IsSpareWithin (length shards) x → spare_in shards (spare_data shards x) ≡ x
-spare_back shards a x h = both (λ (s amount : ℕ). record { shard = s; amount = amount }) _ _ _ _ (id_read shards x.shard a h.0) (up_to_same MOST_AMOUNT x.amount h.1)
+spare_back shards a x h = ap₂ (λ (s amount : ℕ). record { shard = s; amount = amount }) (id_read shards x.shard a h.0) (up_to_same MOST_AMOUNT x.amount h.1)
 
 -- ---- keys
 
@@ -145,7 +145,7 @@ crown_key shards servers (lead.Handed u v) x = refl
 pub crowns_differ : (shards servers : List (List ℕ)) → LeadBack shards → (x y : Crown) → IsKnownCrown (length shards) (length servers) x → IsKnownCrown (length shards) (length servers) y → before (key_of_crown x) (key_of_crown y) ≡ true
     → is_same_key (texts_found (members.Shard ∷ []) (crown_data shards servers x)) (texts_found (members.Shard ∷ []) (crown_data shards servers y)) ≡ false
 crowns_differ shards servers a x y h k rises =
-    both is_same_key _ _ _ _ (crown_key shards servers x.lead x) (crown_key shards servers y.lead y)
+    ap₂ is_same_key (crown_key shards servers x.lead x) (crown_key shards servers y.lead y)
     ∙ one_text shards a x.shard y.shard h.0 k.0 rises _ refl
 
 -- so is room of two servers

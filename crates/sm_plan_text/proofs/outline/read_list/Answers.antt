@@ -1,4 +1,4 @@
-use Rattle.std.proofs.Common.{◌≡◌, ◌∙◌, ◌≤◌, List, [], ◌∷◌, ◌++◌, length, map, Some, None, refl, ap, sym, arith}
+use Rattle.std.proofs.Common.{◌≡◌, ◌∙◌, ◌≤◌, ◌-◌, List, [], ◌∷◌, ◌++◌, length, map, Some, None, refl, ap, sym, arith}
 use Rattle.json.specs.Token.{Token}
 use Rattle.json.specs.Json.{items, value, parse_map, after_end_array}
 use Rattle.json.proofs.Grammar.{after_end_array-shorter, value-begin_array}
@@ -7,7 +7,7 @@ use Rattle.serde_json.specs.Read.{of_json, of_items, converted}
 use Rattle.json_tree.specs.View.{view}
 use Rattle.json_tree.proofs.Turns.{converted-array, items_over}
 use Rattle.sm_plan_text.specs.declared.fault.TextFault.{TextFault}
-use Rattle.sm_plan_text.specs.declared.limits.TheConstants.{MOST_EVENTS}
+use Rattle.sm_plan_text.specs.declared.limits.TheConstants.{MOST_EVENTS, MOST_DEPTH}
 use Rattle.sm_plan_text.specs.Faults.{answered}
 use Rattle.sm_plan_text.specs.Values.{entries}
 use Rattle.sm_plan_text.specs.Tables.{walked}
@@ -24,13 +24,13 @@ entries-preserved g c =
     let l = c.entries in
     let going : (after_end_array l.reader ≡ None) × (c.take_end_array.new.self ≡ l.reader) = grind arith in
     let pushed : c.push.new.self.items ≡ l.values.items ++ c.in_ok-entry.entry ∷ [] = grind arith in
-    one_more_read (g.T.Entry.faults_of c.args.scope c.args.member) (g.T.Entry.value c.args.scope) (HasIds c.args.scope) (value 125) c.next.new.self l.reader c.read_value.new.reader
+    one_more_read (g.T.Entry.faults_of c.args.scope c.args.member) (g.T.Entry.value c.args.scope) (HasIds c.args.scope) (value (MOST_DEPTH - 1)) c.next.new.self l.reader c.read_value.new.reader
     l.faults.lowest c.read.new.faults.lowest l.values.items c.push.new.self.items (view c.in_ok-tree.tree) c.in_ok-entry.entry
     l.invariant going.0 (rw (← going.1) c.in_ok-tree.ensures.ok) (rw (← going.1) c.in_ok-tree.ensures.shorter) c.in_ok-entry.ensures.faults c.in_ok-entry.ensures.value pushed
 
 pub returns-clause-ok : goal.returns-clause-ok
 returns-clause-ok g c =
-    let p = value 125 in
+    let p = value (MOST_DEPTH - 1) in
     let l = c.entries in
     let done = l.invariant.0 in
     let behind = c.next.new.self in
@@ -43,7 +43,7 @@ returns-clause-ok g c =
     let few : length l.values.items ≤ MOST_EVENTS = omega arith in
     let faults : List Data → Data → List TextFault = λ _ entry. g.T.Entry.faults_of c.args.scope c.args.member entry in (
       ds,
-      ap (converted of_json) (ap (value 126) first ∙ value-begin_array 126 behind (omega arith)) ∙ converted-array (items p (length behind) behind) ∙ ap (parse_map array) read,
+      ap (converted of_json) (ap (value MOST_DEPTH) first ∙ value-begin_array MOST_DEPTH behind (omega arith)) ∙ converted-array (items p (length behind) behind) ∙ ap (parse_map array) read,
       l.invariant.5 ∙ ap (λ xs. answered (walked faults [] xs)) (sym (entries_before done)),
       rw (← count) few,
       λ ids none. l.invariant.7 ids none ∙ ap (map (g.T.Entry.value c.args.scope)) (sym (entries_before done)),

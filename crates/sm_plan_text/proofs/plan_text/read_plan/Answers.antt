@@ -3,6 +3,7 @@ use Rattle.std.proofs.lemmas.List.{length-map}
 use Rattle.serde_json.specs.Data.{Data}
 use Rattle.json_tree.specs.View.{view}
 use Rattle.sm_placement.specs.Setup.{Setup, IsSetup, ServerRow, ShardRow}
+use Rattle.sm_placement.specs.declared.limits.TheConstants.{MOST_SERVERS, MOST_SHARDS}
 use Rattle.sm_plan_code.specs.Plan.{IsKnownPlan}
 use Rattle.sm_plan_text.specs.declared.cursor.Cursor.{Cursor}
 use Rattle.sm_plan_text.specs.Parcels.{HaveIds}
@@ -20,8 +21,8 @@ returns-clause-fits c =
     let shard_count : length shards ≡ length setup.shards = ap (λ (p : Cursor). length p.scope.shards.now) c.new-cursor.ensures ∙ ap length c.in_ok-shards.ensures.names ∙ length-map setup.shards (λ (row : ShardRow). row.name) in
     let server_count : length servers ≡ length setup.servers = ap (λ (p : Cursor). length p.scope.servers.now) c.new-cursor.ensures ∙ ap length c.in_ok-servers.ensures.names ∙ length-map setup.servers (λ (row : ServerRow). row.name) in
     let is_setup : IsSetup setup = c.in_ok-shards.ensures.setup in
-    let most_shards : length setup.shards ≤ 4096 = is_setup.shards in
-    let most_servers : length setup.servers ≤ 1024 = is_setup.servers in
+    let most_shards : length setup.shards ≤ MOST_SHARDS = is_setup.shards in
+    let most_servers : length setup.servers ≤ MOST_SERVERS = is_setup.servers in
     let few : HaveIds shards servers = record { shards = omega arith; servers = omega arith } in
     let faults = plan_faults c.new-cursor.result.member shards servers [] d in
     let faultless : faults ≡ [] = none_noted faults (sym c.in_ok-plan.ensures.faults ∙ c.in-None.is) in

@@ -3,6 +3,7 @@ use Rattle.json.specs.Json.{value, read_key}
 use Rattle.json.proofs.Grammar.{read_key-shorter}
 use Rattle.serde_json.specs.Data.{put}
 use Rattle.json_tree.proofs.Turns.{member_read, members_over}
+use Rattle.sm_plan_text.specs.declared.limits.TheConstants.{MOST_DEPTH}
 use Rattle.sm_plan_text.proofs.outline.PartialOutline.read_members.Goals as goal
 
 pub members-init : goal.members-init
@@ -10,7 +11,7 @@ members-init c = (length c.args.reader.now, omega arith, λ whole is. (whole, is
 
 pub members-preserved : goal.members-preserved
 members-preserved c =
-    let p = value 126 in
+    let p = value MOST_DEPTH in
     let l = c.members in
     let n = l.invariant.0 in
     let k = c.in-Some.name.now in
@@ -32,7 +33,7 @@ members-preserved c =
 
 pub returns : goal.returns
 returns c =
-    let p = value 126 in
+    let p = value MOST_DEPTH in
     let l = c.members in
     let n = l.invariant.0 in λ whole is. let at = l.invariant.2 whole is in (
       at.0,
