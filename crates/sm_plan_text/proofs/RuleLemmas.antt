@@ -68,7 +68,7 @@ same_faults parent word table scope d (Some rules) None is = absurd (cc)
 same_faults parent word table scope d (Some rules) (Some w) is =
     ap (λ rows. object_faults parent (text_of word ∷ map (λ (row : Row). text_of row.member) rows) d ++ flat_map (row_faults d) rows) (ap (λ o. unwrap_or o []) is)
 
--- where a word is missing, none is listed
+-- a word that is missing says none of the tables
 at_word : {W : Type 0} (named : List ℕ → Option W) (found : Option (List ℕ)) → named [] ≡ None → option_and_then named found ≡ named (unwrap_or found [])
 at_word named None none = sym none
 at_word named (Some text) none = refl
@@ -83,20 +83,20 @@ worded_faults_noted parent word named table scope d text rules start end none is
     is_end ∙ ap (noted start) (same_faults parent word table scope d rules (named text) is_table ∙
     ap (by_word parent word table d) (ap named is_text ∙ sym (at_word named (text_found word d) none)))
 
--- an object whose word isn't listed has a fault
-listed : {W : Type 0} (P : Option W → Type 0) (Q : W → Type 0) (parent word : Member) (table : W → List Row) (d : Data) (o : Option W)
+-- what holds by each word that says a table holds by the word of an object without faults, which says one
+by_its_word : {W : Type 0} (P : Option W → Type 0) (Q : W → Type 0) (parent word : Member) (table : W → List Row) (d : Data) (o : Option W)
     → ((w : W) → Q w → P (Some w)) → by_word parent word table d o ≡ [] → IfSome o Q → P o
-listed P Q parent word table d None holds faultless is =
+by_its_word P Q parent word table d None holds faultless is =
     let some : (Shape word ∷ []) ≡ [] = nil_right (cond (is_some (as_object d)) [] (Shape parent ∷ [])) (Shape word ∷ []) faultless in
     absurd (cc)
-listed P Q parent word table d (Some w) holds faultless is = holds w is
+by_its_word P Q parent word table d (Some w) holds faultless is = holds w is
 
--- what holds by each word that is listed holds of an object in which nothing is wrong
+-- what holds by each word that says a table holds of an object in which nothing is wrong
 pub worded_value : {W : Type 0} (P : Option W → Type 0) (Q : W → Type 0) (parent word : Member) (named : List ℕ → Option W) (table : W → List Row) (d : Data) (text : List ℕ) (start end : Option TextFault)
     → named [] ≡ None → text ≡ text_in word d
     → ((w : W) → Q w → P (Some w)) → IfSome (named text) Q
     → end ≡ noted start (worded_faults parent word named table d) → end ≡ None
     → P (option_and_then named (text_found word d))
 worded_value P Q parent word named table d text start end none is_text holds is is_end is_none =
-    listed P Q parent word table d (option_and_then named (text_found word d)) holds (none_at_all start end (worded_faults parent word named table d) is_end is_none)
+    by_its_word P Q parent word table d (option_and_then named (text_found word d)) holds (none_at_all start end (worded_faults parent word named table d) is_end is_none)
     (subst (λ o. IfSome o Q) (ap named is_text ∙ sym (at_word named (text_found word d) none)) is)

@@ -103,7 +103,7 @@ rows_in d = record {
   asks = ids_in (shard_names_in d) members.Asks d;
 }
 
--- every id is below its count
+-- every id is below its count, and the numbers and lists that are told of here are within their limits
 pub record IsDocument (rows : DocumentModel) : Type 0 where
   pub cells : All (λ cell. (cell.0 < length rows.setup.shards) × (cell.1 < length rows.setup.servers)) rows.cells
   pub listed : All (λ entry. IfSome entry (λ server. server < length rows.setup.servers)) rows.listed

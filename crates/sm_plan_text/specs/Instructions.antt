@@ -63,7 +63,7 @@ instr_of shards servers signals d Unlist = instr.Unlist (id_in shards Shard d)
 instr_of shards servers signals d Signal = instr.Signal (number_below signals SignalMember d)
 instr_of shards servers signals d Wait = instr.Wait (number_below signals SignalMember d)
 
--- an instruction by its word; without a listed word, what stands for it in a plan that is refused
+-- an instruction by its word; where that says no instruction, what stands for it in a plan that is refused
 abbrev pub instr_by : List (List ℕ) → List (List ℕ) → ℕ → Data → Option InstrWord → Instr
 instr_by shards servers signals d None = instr.Signal 0
 instr_by shards servers signals d (Some w) = instr_of shards servers signals d w

@@ -55,7 +55,7 @@ IsOutlined (Some early) kept d = (some : Members) × (whole : Members) × (kept 
 abbrev pub IsOutline : Outline → Data → Type 0
 IsOutline outline d = IsOutlined outline.early (view outline.tree) d
 
--- the lists that were read early
+-- the list of calls that was read early, if there is one
 abbrev pub calls_of : Option Early → Option (EarlyList NamedCall)
 calls_of None = None
 calls_of (Some early) = early.calls

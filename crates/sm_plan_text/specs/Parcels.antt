@@ -93,7 +93,7 @@ lead_worded servers d Ready = lead.Ready (id_in servers members.From d) (id_in s
 lead_worded servers d Handing = lead.Handing (id_in servers members.From d) (id_in servers members.To d)
 lead_worded servers d Handed = lead.Handed (id_in servers members.From d) (id_in servers members.To d)
 
--- a crown by its word; without a listed word, what stands for it in a plan that is refused
+-- a crown by its word; where that says no lead, what stands for it in a plan that is refused
 abbrev pub crown_by : List (List ℕ) → List (List ℕ) → Data → Option LeadWord → Crown
 crown_by shards servers d None = record { shard = 0; lead = lead.Gone; listed = None }
 crown_by shards servers d (Some w) = record { shard = id_in shards members.Shard d; lead = lead_worded servers d w; listed = listed_in servers d }
@@ -130,7 +130,7 @@ spare_in shards d = record { shard = id_in shards members.Shard d; amount = numb
 
 -- ---- parcels
 
--- each key stands once in its list: a cell's shard and server, a crown's shard, a server, or a shard
+-- the members of a parcel. Each key stands once in its list: a cell's shard and server, a crown's shard, a room's server, a spare's shard
 abbrev pub parcel_table : List Row
 parcel_table =
     maybe members.Cells (keyed MOST_RIGHTS (members.Shard ∷ members.Server ∷ [])) ∷

@@ -99,7 +99,7 @@ right_data shards servers x = saying (
     (Shard, name_data shards x.shard) ∷
     (State, string (plain_text x.state)) ∷ [])
 
--- a crown of a handover from u to v
+-- what is written for a crown of a handover from u to v
 abbrev pub handover_data : List (List ℕ) → List (List ℕ) → List ℕ → ℕ → ℕ → Crown → Data
 handover_data shards servers word u v x = saying (
     (From, name_data servers u) ∷
@@ -108,7 +108,7 @@ handover_data shards servers word u v x = saying (
     (Shard, name_data shards x.shard) ∷
     (To, name_data servers v) ∷ [])
 
--- a crown with this lead
+-- what is written for a crown, by its lead
 abbrev pub crown_by_lead : List (List ℕ) → List (List ℕ) → Lead → Crown → Data
 crown_by_lead shards servers lead.Gone x = saying (
     (LeadMember, string (codes "gone")) ∷
@@ -145,7 +145,7 @@ parcel_data shards servers r = saying (
 
 -- ---- instructions
 
--- a step of a handover: the server at which it is made, and the other one
+-- what is written for a step of a handover: the server at which it is made, and the other one
 abbrev pub prepare_data : List (List ℕ) → List (List ℕ) → List ℕ → ℕ → ℕ → ℕ → Data
 prepare_data shards servers word s v other = saying (
     (Do, string word) ∷
@@ -195,7 +195,7 @@ instr_data shards servers (instr.Wait k) = signal_data (codes "wait") k
 abbrev pub has_retries : PlanModel → Bool
 has_retries p = list_any (λ s. nat_lt 0 s.retries) p.streams
 
--- a stream, whose retries are written in plans of format 2
+-- what is written for a stream, with its retries in plans of format 2
 abbrev pub stream_data : List (List ℕ) → List (List ℕ) → Bool → StreamModel → Data
 stream_data shards servers retries s = saying (
     (Budget, whole_data s.budget) ∷
@@ -203,7 +203,7 @@ stream_data shards servers retries s = saying (
     (Holds, parcel_data shards servers s.holds) ∷
     (if retries then (Retries, whole_data s.retries) ∷ [] else []))
 
--- Format 1 has no retries.
+-- the format that is written: 2 where a stream has retries, which format 1 doesn't know
 abbrev pub format_of : PlanModel → ℕ
 format_of p = if has_retries p then 2 else 1
 

@@ -18,7 +18,7 @@ use Rattle.sm_plan_text.specs.Parcels.{HaveIds, plain_named}
 use Rattle.sm_plan_text.specs.declared.limits.TheConstants.{MOST_ASKS}
 use Rattle.sm_plan_code.specs.declared.limits.TheConstants.{MOST_RIGHTS}
 
--- the texts of a form. A new name is one that the scope hasn't
+-- the texts of a form, which are none where it asks for no text of its own. A new name is one that the scope hasn't
 abbrev pub has_form : Scope → Form → List ℕ → Bool
 has_form scope form.Name s = is_name s
 has_form scope form.NewServer s = is_name s && not (is_among scope.servers.now s)
@@ -68,6 +68,6 @@ abbrev pub row_of : Scope → Rule → Row
 row_of scope (rule.One member form) = one member (want_of scope form)
 row_of scope (rule.Maybe member form) = maybe member (want_of scope form)
 
--- so few shards and servers that the number of each is an id
+-- a scope has so few names that the number of each is an id
 abbrev pub HasIds : Scope → Type 0
 HasIds scope = HaveIds scope.shards.now scope.servers.now

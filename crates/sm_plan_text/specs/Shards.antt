@@ -40,7 +40,7 @@ cell_table servers =
 abbrev pub cell_faults : List (List ℕ) → List Data → Data → List TextFault
 cell_faults servers before d = own_faults Cells (cell_table servers) d
 
--- the faults of a shard, and then of its cells. All shards may have 1,048,576 cells together
+-- the faults of a shard before which the shards have so many cells, and then of its cells. All shards together have `MOST_CELLS` at most
 abbrev pub faults_of_shard : List (List ℕ) → List (List ℕ) → ℕ → Data → List TextFault
 faults_of_shard servers taken cells d =
     own_faults Shards (shard_table servers taken (MOST_CELLS - cells) d) d

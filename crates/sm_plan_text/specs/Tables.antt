@@ -191,7 +191,7 @@ abbrev unknown_fault : Member → List (List ℕ) → Option Members → List Te
 unknown_fault parent names None = Shape parent ∷ []
 unknown_fault parent names (Some members) = if has_unknown_member names members then Shape parent ∷ [] else []
 
--- what stands in this member is no object, or has a member that is none of these
+-- the fault of what stands in this member where it is no object, or has a member that is none of these
 abbrev pub object_faults : Member → List (List ℕ) → Data → List TextFault
 object_faults parent names d = unknown_fault parent names (as_object d)
 
@@ -199,13 +199,13 @@ object_faults parent names d = unknown_fault parent names (as_object d)
 abbrev pub own_faults : Member → List Row → Data → List TextFault
 own_faults parent table d = object_faults parent (map (λ row. text_of row.member) table) d ++ flat_map (row_faults d) table
 
--- what stands in this member is no object, or a word of it isn't listed
-abbrev pub unlisted_faults : Member → Member → Data → List TextFault
-unlisted_faults parent word d = (if is_some (as_object d) then [] else Shape parent ∷ []) ++ Shape word ∷ []
+-- the faults of what stands in this member where its word says none of the tables: it may be no object, and the word has a fault
+abbrev pub wordless_faults : Member → Member → Data → List TextFault
+wordless_faults parent word d = (if is_some (as_object d) then [] else Shape parent ∷ []) ++ Shape word ∷ []
 
--- the faults of the object itself by its word, or of one that has no listed word
+-- the faults of the object itself by its word, or of one whose word says none of the tables
 abbrev pub by_word : {W : Type 0} → Member → Member → (W → List Row) → Data → Option W → List TextFault
-by_word parent word table d None = unlisted_faults parent word d
+by_word parent word table d None = wordless_faults parent word d
 by_word parent word table d (Some w) = object_faults parent (text_of word ∷ map (λ row. text_of row.member) (table w)) d ++ flat_map (row_faults d) (table w)
 
 -- the faults of the object itself, where a word of it says which table it has

@@ -1,5 +1,5 @@
--- What the members of a JSON object say. A member that is missing or not in its form says nothing, and stands for 0,
--- false, or what is empty: a document with such a member is refused.
+-- What the members of a JSON object say. A member that is missing or not in its form says nothing, and stands for 0, false, or what is empty, or
+-- where it is missing for a default. A document is refused in which one is not in its form, or one is missing that may not be.
 use Rattle.std.specs.Prelude.{ℕ, Bool, true, false, List, [], ◌∷◌, codes, fold, map, Option, Some, None, nat_le, nat_lt, option_and_then, option_map, unwrap_or, position, if◌then◌else◌}
 use Rattle.std.specs.Str.{bytes_eq}
 use Rattle.indexmap.specs.IndexSet.{insert_key}
@@ -28,11 +28,11 @@ text_in member d = unwrap_or (text_found member d) []
 abbrev pub flag_in : Member → Data → Bool
 flag_in member d = unwrap_or (option_and_then as_bool (found member d)) false
 
--- a number within its limit
+-- a number that is within its limit, and 0 for another one
 abbrev pub up_to : ℕ → ℕ → ℕ
 up_to limit n = if nat_le n limit then n else 0
 
--- a number below a count
+-- a number that is below a count, and 0 for another one
 abbrev pub under : ℕ → ℕ → ℕ
 under count n = if nat_lt n count then n else 0
 
@@ -48,7 +48,7 @@ limited limit d = up_to limit (unwrap_or (whole_number_of d) 0)
 abbrev pub number_in : Member → ℕ → Data → ℕ
 number_in member limit d = unwrap_or (option_map (limited limit) (found member d)) 0
 
--- a number that may be missing
+-- the same of a member that may be missing: it then says the default
 abbrev pub number_or : ℕ → Member → ℕ → Data → ℕ
 number_or default member limit d = unwrap_or (option_map (limited limit) (found member d)) default
 

@@ -26,7 +26,7 @@ AreKept scope early d calls events =
     IsKept (call_faults scope.shards.now scope.servers.now) (call_in scope.shards.now scope.servers.now) (HasIds scope) (calls_of early) (found members.Calls d) calls
     × IsKept (event_faults scope.shards.now scope.servers.now) (event_in scope.shards.now scope.servers.now) (HasIds scope) (events_of early) (found members.Events d) events
 
--- what is kept of the document, and where calls and events stand
+-- what was read is what the document says of these members, with the calls and events that were found
 pub record IsWork (scope : Scope) (d : Data) (found_calls found_events : Option Data) (work : Work) : Type 0 where
   pub limit : work.limit ≡ number_in members.Limit MOST_SERVERS d
   pub log : work.log ≡ number_or LOG_PLACES members.Log MOST_PLACES d

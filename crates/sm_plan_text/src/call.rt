@@ -28,7 +28,7 @@ fn rules_of(word: &str) -> Option<&'static [Rule]>
     }
 }
 
-/// What a call with this word is, which is listed.
+/// The call that an object says by its word, which is one of a call.
 fn call_of(word: &str, cursor: &Cursor<'_, '_>) -> Call
     ensures { IfSome (call_word word.now) (λ w. result ≡ call_worded cursor.now.scope.servers.now (view cursor.now.tree.now) w) }
 {

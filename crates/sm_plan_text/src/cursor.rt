@@ -1,4 +1,5 @@
-//! Where a text is read. A member of a value that is missing or not in its form stands for 0, false, or what is empty.
+//! Where a text is read. A member of a value that is missing or not in its form stands for 0, false, or what is empty, or where it is missing
+//! for a default.
 ghost use Rattle.std.specs.Prelude.{◌≡◌, [], option_map, option_and_then, map, false, IfOk, string_bytes};
 ghost use Rattle.sm_plan_text.specs.Words.{view, found, whole_number_of, text_in, role_named, role_in, after_named, flag_in, number_in, number_or, number_below, items_of, entries_in, id_of, id_named, id_in, plain_named};
 
@@ -8,7 +9,7 @@ use sm_reservation::PlainCell;
 use sm_server::{Role, ServerId, ShardId};
 use std::alloc::{AllocError, Global};
 
-/// The names of the shards and servers, how many signals the plan has, and whether its streams say how many retries they have.
+/// The names of the shards and servers, how many signals the plan has, and whether its streams may say how many retries they have.
 #[derive(Clone, Copy)]
 pub struct Scope<'p> {
     pub shards: &'p Names,

@@ -53,7 +53,7 @@ fn rules_of(word: &str) -> Option<&'static [Rule]>
     }
 }
 
-/// What an event with this word is, which is listed.
+/// The event that an object says by its word, which is one of an event.
 fn event_of(word: &str, cursor: &Cursor<'_, '_>) -> EventText
     ensures { IfSome (event_word word.now) (λ w. result ≡ event_of cursor.now.scope.shards.now cursor.now.scope.servers.now (view cursor.now.tree.now) w) }
 {

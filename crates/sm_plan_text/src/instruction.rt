@@ -23,7 +23,7 @@ fn rules_of(word: &str) -> Option<&'static [Rule]>
     }
 }
 
-/// What an instruction with this word is, which is listed.
+/// The instruction that an object says by its word, which is one of an instruction.
 fn instr_of(word: &str, cursor: &Cursor<'_, '_>) -> Instr
     ensures { IfSome (instr_word word.now) (λ w. result ≡ instr_of cursor.now.scope.shards.now cursor.now.scope.servers.now cursor.now.scope.signals (view cursor.now.tree.now) w) }
 {

@@ -4,7 +4,7 @@ ghost use Rattle.sm_plan_text.specs.Members.{text_of};
 
 use std::fmt;
 
-/// A member of an object, or the whole document where that is no object or has a member that it does not know.
+/// A member of an object, or the whole text, a document or a plan, where that is no object or has a member that it does not know.
 #[derive(Clone, Copy, Debug, PartialEq, Eq)]
 pub enum Member {
     Document,

@@ -182,7 +182,8 @@ impl<'a> PartialOutline<'a> {
 }
 
 impl<'a> Outline<'a> {
-    /// Reads a text, if it is one object in which servers and shards stand once and before the lists that name them.
+    /// Reads a text that is one object: calls and events early where servers and shards stand before them, and all else as trees. It answers
+    /// `NotJson` too where servers or shards come once more behind such a list, and where that is no list or has more entries than it may.
     pub fn read_early(
         alloc: Global,
         text: &'a str,

@@ -15,7 +15,7 @@ const AMOUNT: Rule = Rule::One(Member::Amount, Form::Whole(AMOUNT_LIMIT));
 
 const STATE: Rule = Rule::One(Member::State, Form::State);
 
-/// Each list of a parcel has a key of its own.
+/// The members of a parcel, in each of whose lists a key stands once.
 const PARCEL: &[Rule] = &[
     Rule::Maybe(Member::Cells, Form::ByCell),
     Rule::Maybe(Member::Crowns, Form::ByShard),
@@ -50,7 +50,7 @@ fn rules_of(word: &str) -> Option<&'static [Rule]>
     }
 }
 
-/// Where the primary stands, by the word of a crown, which is listed.
+/// The lead that a crown says by its word, which is one of a lead.
 fn lead_of(word: &str, cursor: &Cursor<'_, '_>) -> Lead
     ensures { IfSome (lead_word word.now) (λ w. result ≡ lead_worded cursor.now.scope.servers.now (view cursor.now.tree.now) w) }
 {

@@ -26,7 +26,7 @@ const PLAN: &[Rule] = &[
     Rule::One(Member::Streams, Form::List(MOST_STREAMS)),
 ];
 
-/// The streams of a plan say how many retries they have: in each format but 1, which a plan is of that says nothing.
+/// The streams of a plan may say how many retries they have: in each format but 1, which a plan is of that says no format.
 fn knows_retries(plan: &Cursor<'_, '_>) -> bool
     ensures { result ≡ knows_retries (view plan.now.tree.now) }
 {

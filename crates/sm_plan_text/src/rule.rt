@@ -79,7 +79,7 @@ impl Rule {
     }
 }
 
-/// The text is of the form, which is one of texts.
+/// The text is of the form, which no text is where the form asks for no text of its own.
 #[tactic(auto, using(crate::proofs::NameLemmas::found_among))]
 fn has_form(text: &str, form: Form, scope: &Scope<'_>) -> bool
     ensures { result ≡ has_form scope.now form text.now }
@@ -170,7 +170,7 @@ fn has_double_key(
     Ok(false)
 }
 
-/// Each call notes the faults of the value at a cursor, as it is to be so.
+/// Each call notes what is wrong with the value at the cursor, which is to be what the call's name and arguments say.
 impl<'p, 't> Cursor<'p, 't> {
     fn note_number(&self, form: Form, faults: &mut Faults)
         ensures { faults.new.lowest ≡ noted faults.old.lowest (number_faults self.now.scope form self.now.member (as_number (view self.now.tree.now))) }
@@ -301,7 +301,7 @@ impl<'p, 't> Cursor<'p, 't> {
         self.note_rows(rules, faults)
     }
 
-    /// An object whose word has these rules, or is not listed; without what stands in its members.
+    /// An object whose word has these rules, or has none where it is no word that may stand there; without what stands in its members.
     pub fn note_worded(
         &self,
         word: Member,
