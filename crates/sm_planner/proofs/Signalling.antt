@@ -9,7 +9,7 @@ use Rattle.sm_placement.specs.Setup.{Setup}
 use Rattle.sm_plan_code.specs.declared.moves.Move.{Move}
 use Rattle.sm_planner.specs.declared.payment.Placed.{Placed}
 use Rattle.sm_planner.specs.Basis.{Basis, IsMoveOf, no_move, move_at}
-use Rattle.sm_planner.specs.Payment.{Handed, handed, from_move, is_handed, signals_of, stream_of}
+use Rattle.sm_planner.specs.Payment.{HandedRoom, handed, from_move, is_handed, signals_of, stream_of}
 use Rattle.sm_planner.specs.Stretches.{stretch, no_stretch, placed_at, paid_from, is_paid_by, handed_to, IsGiven}
 use Rattle.sm_planner.proofs.Streams.{passed_known, beside_true}
 
@@ -40,7 +40,7 @@ paid_is b order placed k j is l m = ap (λ x. ltb 0 x && not (eqb (stream_of k) 
     at k l = ap (λ (xs : List Placed). get_or xs k no_stretch) is ∙ get_or-map-range_with_len (stretch b order) 0 (length order) k k no_stretch l (omega arith)
 
 -- the signals that are made of the stretches are those of the rule
-pub signals_are : (b : Basis) (order : List Move) (placed : List Placed) (signals : List Handed) → placed ≡ map (stretch b order) (range_with_len 0 (length order)) →
+pub signals_are : (b : Basis) (order : List Move) (placed : List Placed) (signals : List HandedRoom) → placed ≡ map (stretch b order) (range_with_len 0 (length order)) →
     signals ≡ flat_map (handed_to placed) (range_with_len 0 (length placed)) → signals ≡ signals_of b order
 signals_are b order placed signals is s =
     s ∙ ap (λ n. flat_map (handed_to placed) (range_with_len 0 n)) (ap length is ∙ length-map-range_with_len (stretch b order) 0 (length order))

@@ -4,7 +4,7 @@
 use Rattle.std.specs.Prelude.{ℕ, ◌+◌, ◌-◌, ◌%◌, ◌&&◌, ◌==◌, not, nat_lt, min, max, Bool, List, length, take, sum_by, filter, map, if◌then◌else◌}
 use Rattle.std.specs.List.{flat_map}
 use Rattle.std.specs.List.{range_with_len}
-use Rattle.sm_planner.specs.declared.payment.Handed as code
+use Rattle.sm_planner.specs.declared.payment.HandedRoom as code
 use Rattle.sm_plan_code.specs.declared.limits.TheConstants.{MOST_STREAMS}
 use Rattle.sm_plan_code.specs.declared.moves.Move.{Move}
 use Rattle.sm_planner.specs.Basis.{Basis, move_at, move_load}
@@ -38,11 +38,11 @@ abbrev pub stream_of : ℕ → ℕ
 stream_of k = k % MOST_STREAMS
 
 -- Room that one placed move hands on to another by a signal: who pays with it, and whose it was.
-abbrev pub Handed : Type 0
-Handed = code.Handed
+abbrev pub HandedRoom : Type 0
+HandedRoom = code.HandedRoom
 
 -- the k-th placed move pays with room of the j-th
-abbrev pub handed : ℕ → ℕ → Handed
+abbrev pub handed : ℕ → ℕ → HandedRoom
 handed k j = record { payer = k; source = j }
 
 -- the k-th placed move pays with room of the j-th, which is of another stream
@@ -50,6 +50,6 @@ abbrev pub is_handed : Basis → List Move → ℕ → ℕ → Bool
 is_handed b order k j = nat_lt 0 (from_move b order k j) && not (stream_of k == stream_of j)
 
 -- the signals, each at its number: by the move that pays, then by the one whose room it is
-abbrev pub signals_of : Basis → List Move → List Handed
+abbrev pub signals_of : Basis → List Move → List HandedRoom
 signals_of b order =
     flat_map (λ k. map (handed k) (filter (is_handed b order k) (range_with_len 0 k))) (range_with_len 0 (length order))

@@ -20,7 +20,7 @@ use Rattle.sm_plan_code.specs.Instr.{is_call}
 use Rattle.sm_plan_code.specs.Plan.{StreamModel, PlanModel}
 use Rattle.sm_plan_code.specs.declared.moves.Move.{Move}
 use Rattle.sm_planner.specs.Basis.{Basis, move_at, left_cell}
-use Rattle.sm_planner.specs.Payment.{Handed, handed, from_pool, from_move, stream_of, signals_of}
+use Rattle.sm_planner.specs.Payment.{HandedRoom, handed, from_pool, from_move, stream_of, signals_of}
 
 -- ---- instructions
 
@@ -44,19 +44,19 @@ abbrev pub instructions : Place → Move → List Instr
 instructions p m = if is_primary (left_cell p m) then handing_over (p.listed m.shard) m else copying m
 
 -- what the signal of this number hands on
-abbrev pub signal_at : List Handed → ℕ → Handed
+abbrev pub signal_at : List HandedRoom → ℕ → HandedRoom
 signal_at signals q = slice_index_or signals q (handed 0 0)
 
 -- the k-th placed move waits for the signals that carry room with which it pays
-abbrev pub waits_of : List Handed → ℕ → List Instr
+abbrev pub waits_of : List HandedRoom → ℕ → List Instr
 waits_of signals k = map Wait (filter (λ q. (signal_at signals q).payer == k) (range_with_len 0 (length signals)))
 
 -- the k-th placed move posts the signals that carry room which it freed
-abbrev pub posts_of : List Handed → ℕ → List Instr
+abbrev pub posts_of : List HandedRoom → ℕ → List Instr
 posts_of signals k = map Signal (filter (λ q. (signal_at signals q).source == k) (range_with_len 0 (length signals)))
 
 -- the code of the k-th placed move, where these are the signals: its waits, its instructions, its posts
-abbrev pub drafted_code : Place → List Move → List Handed → ℕ → List Instr
+abbrev pub drafted_code : Place → List Move → List HandedRoom → ℕ → List Instr
 drafted_code p order signals k = waits_of signals k ++ (instructions p (move_at order k) ++ posts_of signals k)
 
 -- the code of the k-th placed move, where the signals are those of all moves that are placed in this order
@@ -125,7 +125,7 @@ abbrev pub streams_of : Basis → List Move → List StreamModel
 streams_of b order = map (stream b order) (range_with_len 0 (min (length order) MOST_STREAMS))
 
 -- a signal carries the room that is handed on, and nothing else
-abbrev pub handed_parcel : Basis → List Move → Handed → Rights
+abbrev pub handed_parcel : Basis → List Move → HandedRoom → Rights
 handed_parcel b order h = record {
   cells = [];
   crowns = [];

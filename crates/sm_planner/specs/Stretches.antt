@@ -5,7 +5,7 @@ use Rattle.std.specs.List.{range_with_len}
 use Rattle.sm_plan_code.specs.declared.moves.Move.{Move}
 use Rattle.sm_planner.specs.declared.payment.Placed.{Placed}
 use Rattle.sm_planner.specs.Basis.{Basis, no_move, move_at, move_load}
-use Rattle.sm_planner.specs.Payment.{Handed, handed, overlap, takes_from, frees_from, from_move, stream_of}
+use Rattle.sm_planner.specs.Payment.{HandedRoom, handed, overlap, takes_from, frees_from, from_move, stream_of}
 
 -- the k-th placed move, what it weighs, what the pool has where it goes, and where its stretches begin
 abbrev pub stretch : Basis → List Move → ℕ → Placed
@@ -23,7 +23,7 @@ paid_from payer source =
     if source.wanted.from == payer.wanted.to then overlap payer.takes_from payer.load source.frees_from source.load else 0
 
 -- the room of each signal is handed on by an earlier move, and there is some
-pub record IsGiven (b : Basis) (order : List Move) (h : Handed) : Type 0 where
+pub record IsGiven (b : Basis) (order : List Move) (h : HandedRoom) : Type 0 where
   pub payer : h.payer < length order
   pub source : h.source < h.payer
   pub amount : 0 < from_move b order h.payer h.source
@@ -41,5 +41,5 @@ abbrev pub is_paid_by : List Placed → ℕ → ℕ → Bool
 is_paid_by placed k j = nat_lt 0 (paid_from (placed_at placed k) (placed_at placed j)) && not (stream_of k == stream_of j)
 
 -- the signals that hand room on to the k-th placed move
-abbrev pub handed_to : List Placed → ℕ → List Handed
+abbrev pub handed_to : List Placed → ℕ → List HandedRoom
 handed_to placed k = map (handed k) (filter (is_paid_by placed k) (range_with_len 0 k))

@@ -26,7 +26,7 @@ pub(crate) struct Placed {
 
 /// Room that one placed move hands on to another by a signal.
 #[derive(Clone, Copy, Debug, PartialEq, Eq)]
-pub(crate) struct Handed {
+pub(crate) struct HandedRoom {
     /// The place in the order of the move that pays with it.
     pub(crate) payer: usize,
     /// The place of the move that freed it.
@@ -107,13 +107,13 @@ fn is_paid_by(order: &[Placed], k: usize, j: usize) -> bool
 }
 
 /// Puts the room that is handed on to a placed move behind the signals so far.
-fn put_handed(order: &[Placed], k: usize, signals: &mut Vec<Handed>) -> Result<(), AllocError>
+fn put_handed(order: &[Placed], k: usize, signals: &mut Vec<HandedRoom>) -> Result<(), AllocError>
     requires { k < length order.now }
     ensures { OnOk result (signals.new.items ≡ signals.old.items ++ handed_to order.now k) }
 {
     for j in 0..k {
         if is_paid_by(order, k, j) {
-            signals.push(Handed {
+            signals.push(HandedRoom {
                 payer: k,
                 source: j,
             })?;
@@ -123,7 +123,7 @@ fn put_handed(order: &[Placed], k: usize, signals: &mut Vec<Handed>) -> Result<(
 }
 
 /// The signals in their order.
-pub(crate) fn signals(alloc: Global, order: &[Placed]) -> Result<Vec<Handed>, AllocError>
+pub(crate) fn signals(alloc: Global, order: &[Placed]) -> Result<Vec<HandedRoom>, AllocError>
     ensures { IfOk result (λ signals. signals.items ≡ flat_map (handed_to order.now) (range_with_len 0 (length order.now))) }
 {
     let mut signals = Vec::new(alloc);

@@ -17,7 +17,7 @@ ghost use Rattle.sm_planner.specs.Draft.{IsDraft, ArePayments};
 
 use crate::held::is_primary;
 use crate::marks::Amounts;
-use crate::payment::{Handed, Placed};
+use crate::payment::{HandedRoom, Placed};
 use crate::refusal::NoPlan;
 use sm_placement::{Lead, Placement};
 use sm_plan_code::{
@@ -31,7 +31,7 @@ use std::alloc::{AllocError, Global};
 pub(crate) struct Draft {
     pub(crate) moves: Vec<Move>,
     pub(crate) placed: Vec<Placed>,
-    pub(crate) signals: Vec<Handed>,
+    pub(crate) signals: Vec<HandedRoom>,
 }
 
 /// One call where it goes out of scope, and not one for each list.
@@ -115,7 +115,7 @@ fn put_instructions(
 }
 
 /// A placed move waits for the room that it is handed.
-fn put_waits(signals: &[Handed], k: usize, code: &mut Vec<Instr>) -> Result<(), AllocError>
+fn put_waits(signals: &[HandedRoom], k: usize, code: &mut Vec<Instr>) -> Result<(), AllocError>
     requires { length signals.now ≤ MOST_SIGNALS }
     ensures { OnOk result (code.new.items ≡ code.old.items ++ waits_of signals.now k) }
 {
@@ -129,7 +129,7 @@ fn put_waits(signals: &[Handed], k: usize, code: &mut Vec<Instr>) -> Result<(), 
 }
 
 /// It hands on what it freed.
-fn put_posts(signals: &[Handed], k: usize, code: &mut Vec<Instr>) -> Result<(), AllocError>
+fn put_posts(signals: &[HandedRoom], k: usize, code: &mut Vec<Instr>) -> Result<(), AllocError>
     requires { length signals.now ≤ MOST_SIGNALS }
     ensures { OnOk result (code.new.items ≡ code.old.items ++ posts_of signals.now k) }
 {
@@ -396,7 +396,7 @@ fn carried(
     placement: &Placement,
     pool: &Pool,
     draft: &Draft,
-    handed: &Handed,
+    handed: &HandedRoom,
 ) -> Result<Parcel, AllocError>
     requires drafted { IsDraft (basis_of placement.now pool.now) draft.now }
     requires given { IsGiven (basis_of placement.now pool.now) draft.now.moves.items handed.now }

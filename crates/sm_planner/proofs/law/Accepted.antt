@@ -13,7 +13,7 @@ use Rattle.sm_plan_code.specs.Instr.{names_of, Mentions}
 use Rattle.sm_plan_code.specs.Plan.{StreamModel, IsOrderedParcel, HasOrderedParcels}
 use Rattle.sm_verifier.specs.Admission.{AreUp}
 use Rattle.sm_planner.specs.Basis.{Basis, move_at, left_cell}
-use Rattle.sm_planner.specs.Payment.{Handed, from_move, stream_of, signals_of}
+use Rattle.sm_planner.specs.Payment.{HandedRoom, from_move, stream_of, signals_of}
 use Rattle.sm_planner.specs.Plan.{signal_at, handed_parcel, publication, handing_over, instructions, waits_of, posts_of, move_code, moves_of, stream, planned}
 use Rattle.sm_planner.proofs.law.Gathered.{stands_below, all_both, all_picked, all_of_parts}
 use Rattle.sm_planner.proofs.law.Codes.{width}
@@ -60,7 +60,7 @@ module _ (b : Basis) (order : List Move) (apart : AreAllApart b order) (opened :
 
   up_move : (k : ℕ) → k < length order → AllByRecursion Up (move_code b order k)
   up_move k l =
-      let signals : List Handed = signals_of b order in
+      let signals : List HandedRoom = signals_of b order in
       all_both Up (waits_of signals k) (instructions b.place (move_at order k) ++ posts_of signals k)
       (all_picked Up Wait (λ q. (signal_at signals q).payer == k) (range_with_len 0 (length signals)) (λ q s own. all_up b.place.down (Wait q) tt tt))
       (all_both Up (instructions b.place (move_at order k)) (posts_of signals k) (up_instructions (move_at order k) (opened k l))
@@ -77,7 +77,7 @@ module _ (b : Basis) (order : List Move) (apart : AreAllApart b order) (opened :
 
   -- ---- parcels in order
 
-  parcel_ordered : (h : Handed) → IsHandedOn b order h → IsOrderedParcel (handed_parcel b order h)
+  parcel_ordered : (h : HandedRoom) → IsHandedOn b order h → IsOrderedParcel (handed_parcel b order h)
   parcel_ordered h on = record {
     ordered = record { cells = tt; crowns = tt; room = (tt, tt); spare = tt };
     positive = record { room = (ltb-true 0 (from_move b order h.payer h.source) (and_parts (nat_lt 0 (from_move b order h.payer h.source)) (not (stream_of h.payer == stream_of h.source)) on.handed).0, tt); spare = tt };
@@ -90,6 +90,6 @@ module _ (b : Basis) (order : List Move) (apart : AreAllApart b order) (opened :
     signals = All-map IsOrderedParcel (handed_parcel b order) (signals_of b order) (All-from_recursion (λ h. IsOrderedParcel (handed_parcel b order h)) (signals_of b order) (all_ordered (signals_of b order) (are_handed_on b order)));
   }
     where
-      all_ordered : (hs : List Handed) → AllByRecursion (IsHandedOn b order) hs → AllByRecursion (λ h. IsOrderedParcel (handed_parcel b order h)) hs
+      all_ordered : (hs : List HandedRoom) → AllByRecursion (IsHandedOn b order) hs → AllByRecursion (λ h. IsOrderedParcel (handed_parcel b order h)) hs
       all_ordered [] a = tt
       all_ordered (h ∷ hs) a = (parcel_ordered h a.0, all_ordered hs a.1)

@@ -17,7 +17,7 @@ use Rattle.sm_plan_code.specs.declared.moves.Move.{Move}
 use Rattle.sm_verifier.specs.Step.{parcels_of}
 use Rattle.sm_verifier.proofs.SumLemmas.{sum_by-below}
 use Rattle.sm_planner.specs.Basis.{Basis}
-use Rattle.sm_planner.specs.Payment.{Handed, handed, from_move, is_handed, stream_of, signals_of}
+use Rattle.sm_planner.specs.Payment.{HandedRoom, handed, from_move, is_handed, stream_of, signals_of}
 use Rattle.sm_planner.specs.Plan.{signal_at, handed_parcel, planned, waits_of, posts_of}
 use Rattle.sm_planner.proofs.Ranges.{range_suc}
 use Rattle.sm_planner.proofs.law.Gathered.{StandsIn, stands_below}
@@ -71,11 +71,11 @@ cond_nothing true = refl
 cond_nothing false = refl
 
 module _ (b : Basis) (order : List Move) where
-  abbrev signals : List Handed
+  abbrev signals : List HandedRoom
   signals = signals_of b order
 
   -- a sum over the signals is one over the moves that pay and the moves before them
-  sum_of_signals : (g : Handed → ℕ) → sum_by (λ q. g (signal_at signals q)) (range_with_len 0 (length signals)) ≡ sum_below (length order) (λ k. sum_below k (λ j. cond (is_handed b order k j) (g (handed k j)) 0))
+  sum_of_signals : (g : HandedRoom → ℕ) → sum_by (λ q. g (signal_at signals q)) (range_with_len 0 (length signals)) ≡ sum_below (length order) (λ k. sum_below k (λ j. cond (is_handed b order k j) (g (handed k j)) 0))
   sum_of_signals g =
       sum_of_range (length signals) (λ q. g (signal_at signals q))
       ∙ sym (sum_by-below g signals (handed 0 0))

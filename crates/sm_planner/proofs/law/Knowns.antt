@@ -16,7 +16,7 @@ use Rattle.sm_plan_code.specs.declared.instruction.Instr.TheVariants.{Signal, Wa
 use Rattle.sm_plan_code.specs.Plan.{IsKnownCellRight, IsKnownCrown, IsKnownParcel, IsKnownInstr, IsKnownStream, IsKnownPlan}
 use Rattle.sm_plan_code.specs.declared.moves.Move.{Move}
 use Rattle.sm_planner.specs.Basis.{Basis, IsMoveOf, move_at, left_cell}
-use Rattle.sm_planner.specs.Payment.{Handed, stream_of, signals_of}
+use Rattle.sm_planner.specs.Payment.{HandedRoom, stream_of, signals_of}
 use Rattle.sm_planner.specs.Plan.{signal_at, handed_parcel, handing_over, instructions, waits_of, posts_of, move_code, moves_of, cells_needed, crowns_of, room_by, needs_by, holds_of, stream, planned}
 use Rattle.sm_planner.proofs.law.Gathered.{gathered, StandsIn, stands_below, all_both, all_picked, all_of_parts}
 use Rattle.sm_planner.proofs.law.Codes.{width}
@@ -56,7 +56,7 @@ module _ (b : Basis) (order : List Move) (known : (k : ℕ) → k < length order
 
   fits_move : (k : ℕ) → k < length order → AllByRecursion IsFit (move_code b order k)
   fits_move k l =
-      let signals : List Handed = signals_of b order in
+      let signals : List HandedRoom = signals_of b order in
       all_both IsFit (waits_of signals k) (instructions b.place (move_at order k) ++ posts_of signals k)
       (all_picked IsFit Wait (λ q. (signal_at signals q).payer == k) (range_with_len 0 (length signals)) (λ q s own. (tt, tt, tt)))
       (all_both IsFit (instructions b.place (move_at order k)) (posts_of signals k) (fits_instructions (move_at order k) (known k l))
@@ -105,7 +105,7 @@ module _ (b : Basis) (order : List Move) (known : (k : ℕ) → k < length order
     code = All-from_recursion IsFit (stream b order i).code (all_of_parts IsFit (move_code b order) (moves_of order i) (λ k s. fits_move k (stands_below (length order) k (stood (λ j. stream_of j == i) k (range_with_len 0 (length order)) s))));
   }
 
-  fits_parcel : (h : Handed) → IsHandedOn b order h → IsKnownParcel c.shards c.servers (handed_parcel b order h)
+  fits_parcel : (h : HandedRoom) → IsHandedOn b order h → IsKnownParcel c.shards c.servers (handed_parcel b order h)
   fits_parcel h on = record {
     cells = All-from_recursion (IsKnownCellRight c.shards c.servers) [] tt;
     crowns = All-from_recursion (IsKnownCrown c.shards c.servers) [] tt;
@@ -120,6 +120,6 @@ module _ (b : Basis) (order : List Move) (known : (k : ℕ) → k < length order
     signals = All-map (IsKnownParcel c.shards c.servers) (handed_parcel b order) (signals_of b order) (All-from_recursion (λ h. IsKnownParcel c.shards c.servers (handed_parcel b order h)) (signals_of b order) (fits_all (signals_of b order) (are_handed_on b order)));
   }
     where
-      fits_all : (hs : List Handed) → AllByRecursion (IsHandedOn b order) hs → AllByRecursion (λ h. IsKnownParcel c.shards c.servers (handed_parcel b order h)) hs
+      fits_all : (hs : List HandedRoom) → AllByRecursion (IsHandedOn b order) hs → AllByRecursion (λ h. IsKnownParcel c.shards c.servers (handed_parcel b order h)) hs
       fits_all [] a = tt
       fits_all (h ∷ hs) a = (fits_parcel h a.0, fits_all hs a.1)

@@ -9,14 +9,14 @@ use Rattle.sm_plan_code.specs.declared.instruction.Instr.{Instr}
 use Rattle.sm_plan_code.specs.declared.instruction.Instr.TheVariants.{Signal, Wait}
 use Rattle.sm_plan_code.specs.declared.moves.Move.{Move}
 use Rattle.sm_planner.specs.Basis.{Basis, move_at, left_cell}
-use Rattle.sm_planner.specs.Payment.{Handed, handed, is_handed, stream_of, signals_of}
+use Rattle.sm_planner.specs.Payment.{HandedRoom, handed, is_handed, stream_of, signals_of}
 use Rattle.sm_planner.specs.Plan.{signal_at, publication, instructions, waits_of, posts_of, move_code, planned}
 use Rattle.sm_planner.proofs.law.Gathered.{StandsIn, stands_right, stands_in_range, stands_below, stands_picked, all_both, all_picked, all_of_parts}
 use Rattle.sm_planner.proofs.law.Codes.{code_is, stream_count, stream_known}
 use Rattle.sm_planner.proofs.law.Orders.{IsServed, IsOfParts}
 
 -- what each signal is: of a later placed move and one of the moves placed before it
-pub record IsHandedOn (b : Basis) (order : List Move) (h : Handed) : Type 0 where
+pub record IsHandedOn (b : Basis) (order : List Move) (h : HandedRoom) : Type 0 where
   pub payer : h.payer < length order
   pub source : h.source < h.payer
   pub handed : is_handed b order h.payer h.source ≡ true
@@ -37,7 +37,7 @@ is_handed_on b order q l = All-get_or (IsHandedOn b order) (signals_of b order) 
 -- the signal is posted by the move whose room it is
 pub posted_by_source : (b : Basis) (order : List Move) (q : ℕ) → q < length (signals_of b order) → StandsIn (Signal q) (move_code b order (signal_at (signals_of b order) q).source)
 posted_by_source b order q l =
-    let signals : List Handed = signals_of b order in
+    let signals : List HandedRoom = signals_of b order in
     let source : ℕ = (signal_at signals q).source in
     stands_right (Signal q) (waits_of signals source) (instructions b.place (move_at order source) ++ posts_of signals source)
     (stands_right (Signal q) (instructions b.place (move_at order source)) (posts_of signals source)
@@ -59,7 +59,7 @@ module _ (b : Basis) (order : List Move) where
 
   served_move : (n : ℕ) → AllByRecursion (Served n) (move_code b order n)
   served_move n =
-      let signals : List Handed = signals_of b order in
+      let signals : List HandedRoom = signals_of b order in
       all_both (Served n) (waits_of signals n) (instructions b.place (move_at order n) ++ posts_of signals n)
       (all_picked (Served n) Wait (λ q. (signal_at signals q).payer == n) (range_with_len 0 (length signals)) (λ q s own.
       let known : q < length signals = stands_below (length signals) q s in

@@ -23,7 +23,7 @@ use Rattle.sm_plan_code.specs.Instr.{is_call}
 use Rattle.sm_plan_code.specs.Plan.{StreamModel, IsSmallParcel, IsSmallStream, IsSmallPlan}
 use Rattle.sm_plan_code.specs.declared.moves.Move.{Move}
 use Rattle.sm_planner.specs.Basis.{Basis, IsMoveOf, move_at, left_cell}
-use Rattle.sm_planner.specs.Payment.{Handed, stream_of, from_move, signals_of}
+use Rattle.sm_planner.specs.Payment.{HandedRoom, stream_of, from_move, signals_of}
 use Rattle.sm_planner.specs.Plan.{signal_at, handed_parcel, instructions, waits_of, posts_of, move_code, moves_of, cells_needed, crowns_of, paid_by, room_by, needs_by, holds_of, stream, streams_of, planned}
 use Rattle.sm_planner.proofs.law.Gathered.{gathered, gathered_own, gathered_other, StandsIn, stands_below}
 use Rattle.sm_planner.proofs.law.Codes.{width, stream_count}
@@ -98,7 +98,7 @@ length_sorted : {T : Type 0} (key_of : T → ℕ × ℕ) (xs : List T) → lengt
 length_sorted key_of xs = length_permutation xs (sorted key_of xs) (sorted_permutes key_of xs)
 
 module _ (b : Basis) (order : List Move) (few : length order ≤ 4096) (few_signals : length (signals_of b order) ≤ 256) where
-  abbrev signals : List Handed
+  abbrev signals : List HandedRoom
   signals = signals_of b order
 
   abbrev own : ℕ → ℕ
@@ -223,14 +223,14 @@ module _ (b : Basis) (order : List Move) (few : length order ≤ 4096) (few_sign
     small_load : (k : ℕ) → k < length order → load b order k ≤ MOST_LOAD
     small_load k l = All-get_or (λ r. r.load ≤ MOST_LOAD) b.setup.shards (move_at order k).shard no_shard (known k l).shard setup.good_loads
 
-    small_handed : (h : Handed) → IsHandedOn b order h → from_move b order h.payer h.source ≤ MOST_AMOUNT
+    small_handed : (h : HandedRoom) → IsHandedOn b order h → from_move b order h.payer h.source ≤ MOST_AMOUNT
     small_handed h on =
         let all = pays_its_load b order fits h.payer on.payer in
         let part = part_of_sum h.payer (from_move b order h.payer) h.source on.source in
         let most = small_load h.payer on.payer in
         omega arith
 
-    small_parcel : (h : Handed) → IsHandedOn b order h → IsSmallParcel (handed_parcel b order h)
+    small_parcel : (h : HandedRoom) → IsHandedOn b order h → IsSmallParcel (handed_parcel b order h)
     small_parcel h on = record {
       cells = omega arith;
       crowns = omega arith;
@@ -250,6 +250,6 @@ module _ (b : Basis) (order : List Move) (few : length order ≤ 4096) (few_sign
       signals = All-map IsSmallParcel (handed_parcel b order) signals (All-from_recursion (λ h. IsSmallParcel (handed_parcel b order h)) signals (all_small signals (are_handed_on b order)));
     }
       where
-        all_small : (hs : List Handed) → AllByRecursion (IsHandedOn b order) hs → AllByRecursion (λ h. IsSmallParcel (handed_parcel b order h)) hs
+        all_small : (hs : List HandedRoom) → AllByRecursion (IsHandedOn b order) hs → AllByRecursion (λ h. IsSmallParcel (handed_parcel b order h)) hs
         all_small [] a = tt
         all_small (h ∷ hs) a = (small_parcel h a.0, all_small hs a.1)

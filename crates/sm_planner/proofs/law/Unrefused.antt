@@ -28,7 +28,7 @@ use Rattle.sm_planner.specs.Refusal.{is_open, is_closed, first_not_there, first_
 use Rattle.sm_plan_code.specs.Plan.{PlanModel}
 use Rattle.sm_plan_code.specs.declared.limits.TheConstants.{MOST_MOVES, MOST_SIGNALS}
 use Rattle.sm_plan_code.specs.declared.moves.Move.{Move}
-use Rattle.sm_planner.specs.Payment.{Handed, from_move, stream_of, signals_of}
+use Rattle.sm_planner.specs.Payment.{HandedRoom, from_move, stream_of, signals_of}
 use Rattle.sm_planner.specs.Plan.{signal_at, planned}
 use Rattle.sm_planner.proofs.law.Signals.{is_handed_on}
 use Rattle.sm_planner.proofs.law.Payments.{to, from, from_move_other}
@@ -365,7 +365,7 @@ module _ (b : Basis) (v : ℕ) (moves : List Move) (most : (sizes_of b.setup).sh
     | inl none ↦ none
     | inr some ↦
         let on = is_handed_on b order 0 (omega arith) in
-        let h : Handed = signal_at (signals_of b order) 0 in
+        let h : HandedRoom = signal_at (signals_of b order) 0 in
         let source = on.source in
         let payer = on.payer in
         let paid = ltb-true 0 (from_move b order h.payer h.source) (and_parts (nat_lt 0 (from_move b order h.payer h.source)) (not (stream_of h.payer == stream_of h.source)) on.handed).0 in

@@ -20,7 +20,7 @@ use Rattle.sm_verifier.specs.Plan.{is_post, is_wait, posts, waits, KeepsBudget, 
 use Rattle.sm_verifier.proofs.SumLemmas.{sum_by-below}
 use Rattle.sm_verifier.proofs.Once.{hit}
 use Rattle.sm_planner.specs.Basis.{Basis, move_at, left_cell}
-use Rattle.sm_planner.specs.Payment.{Handed, stream_of, signals_of}
+use Rattle.sm_planner.specs.Payment.{HandedRoom, stream_of, signals_of}
 use Rattle.sm_planner.specs.Plan.{signal_at, handed_parcel, handing_over, instructions, waits_of, posts_of, move_code, moves_of, stream, planned}
 use Rattle.sm_planner.proofs.Ranges.{range_suc}
 use Rattle.sm_planner.proofs.law.Gathered.{gathered, gathered_own, gathered_other, stands_below, all_both, all_picked, all_of_parts}
@@ -105,7 +105,7 @@ once_in_range q (suc n) =
 module _ (b : Basis) (order : List Move) (t : Instr → Bool) where
   count_move : (k : ℕ) → count_by t (move_code b order k) ≡ count_by t (waits_of (signals_of b order) k) + (count_by t (instructions b.place (move_at order k)) + count_by t (posts_of (signals_of b order) k))
   count_move k =
-      let signals : List Handed = signals_of b order in
+      let signals : List HandedRoom = signals_of b order in
       let is : List Instr = instructions b.place (move_at order k) in
       count-append t (waits_of signals k) (is ++ posts_of signals k) ∙ ap (λ n. count_by t (waits_of signals k) + n) (count-append t is (posts_of signals k))
 
@@ -130,7 +130,7 @@ waits_nothing p m q = elim (cases_Bool (is_primary (left_cell p m))) [
 ]
 
 module _ (b : Basis) (order : List Move) (q : ℕ) (known : q < length (signals_of b order)) where
-  abbrev signals : List Handed
+  abbrev signals : List HandedRoom
   signals = signals_of b order
 
   abbrev source : ℕ
@@ -227,7 +227,7 @@ module _ (b : Basis) (order : List Move) where
 
   knows_move : (k : ℕ) → AllByRecursion Knows (move_code b order k)
   knows_move k =
-      let signals : List Handed = signals_of b order in
+      let signals : List HandedRoom = signals_of b order in
       let e = length-map (signals_of b order) (handed_parcel b order) in
       all_both Knows (waits_of signals k) (instructions b.place (move_at order k) ++ posts_of signals k)
       (all_picked Knows Wait (λ q. (signal_at signals q).payer == k) (range_with_len 0 (length signals)) (λ q s own. (let l = stands_below (length signals) q s in omega arith)))
