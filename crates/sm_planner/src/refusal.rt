@@ -32,7 +32,8 @@ pub enum NoPlan {
         /// The server.
         server: ServerId,
     },
-    /// The server never has room for the load that is to come.
+    /// No move that is left fits, in the order in which the rule places them. The first of them goes to this server. Another order might
+    /// fit.
     #[error("{server} has too little room")]
     NoRoom {
         /// The server.
