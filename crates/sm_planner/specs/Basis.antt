@@ -8,6 +8,7 @@ use Rattle.sm_placement.specs.Place.{Place}
 use Rattle.sm_placement.specs.Layout.{PlacementModel, place_of}
 use Rattle.sm_reservation.specs.Hold.{Hold}
 use Rattle.sm_reservation.specs.Pool.{PoolModel, pool_hold}
+use Rattle.sm_protocol.specs.State.{State, pool}
 use Rattle.sm_plan_code.specs.declared.moves.Move.{Move}
 use Rattle.sm_plan_code.specs.Move.{IsKnownMove}
 
@@ -24,6 +25,10 @@ basis setup place pool = record { setup = setup; place = place; pool = pool }
 -- what a plan is made from that is to be admitted at a placement with its pool
 abbrev pub basis_of : PlacementModel → PoolModel → Basis
 basis_of placement pool = basis placement.setup (place_of placement) (pool_hold pool)
+
+-- what a plan is made from at a state: its placement, and the rights that no stream has there
+abbrev pub basis_at : Setup → State → Basis
+basis_at setup w = basis setup w.place (pool w)
 
 -- what stands where the list has no such move
 abbrev pub no_move : Move

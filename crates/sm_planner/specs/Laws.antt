@@ -12,10 +12,10 @@ use Rattle.sm_verifier.specs.Admission.{IsAdmitted}
 use Rattle.sm_verifier.specs.Order.{HasOrder}
 use Rattle.sm_verifier.specs.Plan.{KeepsBudget, AreUsedOnce}
 use Rattle.sm_verifier.specs.PlanEnd.{end_of}
-use Rattle.sm_protocol.specs.State.{State, pool}
+use Rattle.sm_protocol.specs.State.{State}
 use Rattle.sm_protocol.specs.Laws.{IsCheckedPlan, IsReached}
 use Rattle.sm_planner.specs.declared.refusal.NoPlan.{NoPlan}
-use Rattle.sm_planner.specs.Basis.{Basis, basis, IsMoveOf, move_at, left_cell}
+use Rattle.sm_planner.specs.Basis.{Basis, basis_at, IsMoveOf, move_at, left_cell}
 use Rattle.sm_planner.specs.Plan.{planned}
 use Rattle.sm_planner.specs.Drain.{drain_refusal, AreLeaving}
 use Rattle.sm_planner.specs.Refusal.{IsRefused, IsPlanOf}
@@ -49,7 +49,7 @@ PlansAreUsable = (b : Basis) (leads : ℕ → Lead) (numbers : ℕ → ℕ) (mov
 -- and at each state that events lead to, with the rights that no stream has there
 abbrev pub PlansAreUsableAt : Type 0
 PlansAreUsableAt = (setup : Setup) (w : State) (moves : List Move) (plan : PlanModel) →
-    IsReached setup w → All (IsMoveOf setup) moves → IsPlanOf (basis setup w.place (pool w)) moves plan → IsUsable (basis setup w.place (pool w)) plan
+    IsReached setup w → All (IsMoveOf setup) moves → IsPlanOf (basis_at setup w) moves plan → IsUsable (basis_at setup w) plan
 
 -- Each replica that is moved has left its server, and stands at the new one as it stood at the old one; where nothing is
 -- moved to or from, all is as before.

@@ -4,7 +4,7 @@ ghost use Rattle.sm_protocol.specs.State.{pool};
 ghost use Rattle.sm_plan_code.specs.Plan.{PlanModel};
 ghost use Rattle.sm_verifier.specs.Admission.{IsAdmitted};
 ghost use Rattle.sm_machine.specs.State.{state_of};
-ghost use Rattle.sm_planner.specs.Basis.{basis, IsMoveOf};
+ghost use Rattle.sm_planner.specs.Basis.{basis_at, IsMoveOf};
 ghost use Rattle.sm_planner.specs.Refusal.{IsPlanOf, IsNoPlanFor};
 ghost use Rattle.sm_planner.specs.Drain.{IsDrainPlan, IsNoDrainFor};
 
@@ -22,9 +22,9 @@ pub fn moves(alloc: Global, machine: &Machine, moves: &[Move]) -> Result<Checked
     requires { All (IsMoveOf machine.now.placement.setup) moves.now }
     ensures setup { IfOk result (λ checked. checked.setup ≡ machine.now.placement.setup) }
     ensures admitted { IfOk result (λ checked. IsAdmitted (state_of machine.now).sizes (state_of machine.now).place (pool (state_of machine.now)) checked.plan) }
-    ensures plan { IfOk result (λ checked. IsPlanOf (basis machine.now.placement.setup (state_of machine.now).place (pool (state_of machine.now))) moves.now checked.plan) }
-    ensures refused { IfErr result (IsNoPlanFor (basis machine.now.placement.setup (state_of machine.now).place (pool (state_of machine.now))) moves.now) }
-    ensures memory { (plan : PlanModel) → IsPlanOf (basis machine.now.placement.setup (state_of machine.now).place (pool (state_of machine.now))) moves.now plan → IfErr result (λ why. why ≡ NoPlan.NoMemory) }
+    ensures plan { IfOk result (λ checked. IsPlanOf (basis_at machine.now.placement.setup (state_of machine.now)) moves.now checked.plan) }
+    ensures refused { IfErr result (IsNoPlanFor (basis_at machine.now.placement.setup (state_of machine.now)) moves.now) }
+    ensures memory { (plan : PlanModel) → IsPlanOf (basis_at machine.now.placement.setup (state_of machine.now)) moves.now plan → IfErr result (λ why. why ≡ NoPlan.NoMemory) }
 {
     machine.is_reached();
     moves_at(alloc, machine.placement(), machine.pool(), moves)
@@ -35,9 +35,9 @@ pub fn drain(alloc: Global, machine: &Machine, server: ServerId) -> Result<Check
     requires { server < length machine.now.placement.setup.servers }
     ensures setup { IfOk result (λ checked. checked.setup ≡ machine.now.placement.setup) }
     ensures admitted { IfOk result (λ checked. IsAdmitted (state_of machine.now).sizes (state_of machine.now).place (pool (state_of machine.now)) checked.plan) }
-    ensures plan { IfOk result (λ checked. IsDrainPlan (basis machine.now.placement.setup (state_of machine.now).place (pool (state_of machine.now))) server checked.plan) }
-    ensures refused { IfErr result (IsNoDrainFor (basis machine.now.placement.setup (state_of machine.now).place (pool (state_of machine.now))) server) }
-    ensures memory { (plan : PlanModel) → IsDrainPlan (basis machine.now.placement.setup (state_of machine.now).place (pool (state_of machine.now))) server plan → IfErr result (λ why. why ≡ NoPlan.NoMemory) }
+    ensures plan { IfOk result (λ checked. IsDrainPlan (basis_at machine.now.placement.setup (state_of machine.now)) server checked.plan) }
+    ensures refused { IfErr result (IsNoDrainFor (basis_at machine.now.placement.setup (state_of machine.now)) server) }
+    ensures memory { (plan : PlanModel) → IsDrainPlan (basis_at machine.now.placement.setup (state_of machine.now)) server plan → IfErr result (λ why. why ≡ NoPlan.NoMemory) }
 {
     machine.is_reached();
     drain_at(alloc, machine.placement(), machine.pool(), server)

@@ -6,10 +6,10 @@ use Rattle.sm_placement.specs.Setup.{Setup, sizes_of, names_of_servers, names_of
 use Rattle.sm_placement.specs.Place.{Place}
 use Rattle.sm_plan_code.specs.Plan.{PlanModel}
 use Rattle.sm_plan_code.specs.declared.moves.Move.{Move}
-use Rattle.sm_protocol.specs.State.{State, opened, pool}
+use Rattle.sm_protocol.specs.State.{opened}
 use Rattle.sm_planner.specs.declared.refusal.NoPlan.{NoPlan}
 use Rattle.sm_planner.specs.declared.refusal.NoPlan.TheVariants as no_plan
-use Rattle.sm_planner.specs.Basis.{Basis, basis, IsMoveOf}
+use Rattle.sm_planner.specs.Basis.{Basis, basis_at, IsMoveOf}
 use Rattle.sm_planner.specs.Refusal.{IsRefused, IsPlanOf}
 use Rattle.sm_planner.specs.Drain.{IsDrainPlan, IsDrainRefused}
 use Rattle.sm_plan_text.specs.declared.fault.TextFault.TheVariants.{Shape}
@@ -48,11 +48,7 @@ IsAimOf setup (Emptying server) = server < length setup.servers
 
 -- ---- what it is made from
 
--- the placement at a state, and the rights that no stream has there
-abbrev pub basis_at : Setup → State → Basis
-basis_at setup w = basis setup w.place (pool w)
-
--- so they are where a machine is opened over a placement
+-- what a plan is made from where a machine is opened over a placement
 abbrev pub opened_basis : Setup → Place → ℕ → Basis
 opened_basis setup p log = basis_at setup (opened (sizes_of setup) p log)
 

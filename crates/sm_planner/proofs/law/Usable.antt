@@ -10,7 +10,7 @@ use Rattle.sm_plan_code.specs.Effects.{IsScene}
 use Rattle.sm_plan_code.specs.declared.moves.Move.{Move}
 use Rattle.sm_verifier.specs.Plan.{IsSound}
 use Rattle.sm_verifier.proofs.WithinPool.{within_admitted}
-use Rattle.sm_planner.specs.Basis.{Basis, basis, IsMoveOf, move_at, no_move}
+use Rattle.sm_planner.specs.Basis.{Basis, basis, basis_at, IsMoveOf, move_at, no_move}
 use Rattle.sm_planner.specs.Placing.{IsPlacing}
 use Rattle.sm_planner.specs.Plan.{move_code, planned}
 use Rattle.sm_planner.specs.Refusal.{in_placed_order, refusal, IsPlanOf}
@@ -117,10 +117,10 @@ pool_scene setup w reached =
     )
 
 -- so it is at the placement and the pool of each state that events lead to
-pub plan_is_usable_at : (setup : Setup) (w : State) (moves : List Move) (plan : PlanModel) → IsReached setup w → All (IsMoveOf setup) moves → IsPlanOf (basis setup w.place (pool w)) moves plan → IsUsable (basis setup w.place (pool w)) plan
+pub plan_is_usable_at : (setup : Setup) (w : State) (moves : List Move) (plan : PlanModel) → IsReached setup w → All (IsMoveOf setup) moves → IsPlanOf (basis_at setup w) moves plan → IsUsable (basis_at setup w) plan
 plan_is_usable_at setup w moves plan reached all by =
     let scene = pool_scene setup w reached in
-    plan_is_usable (basis setup w.place (pool w)) scene.0 w.numbers moves plan reached.opening.rows scene.1 all by
+    plan_is_usable (basis_at setup w) scene.0 w.numbers moves plan reached.opening.rows scene.1 all by
 
 -- so it is where a configuration has the state's sizes
 pub scene_at : (setup own : Setup) (w : State) (place : Place) (free : Hold) → IsReached setup w → sizes_of own ≡ w.sizes → place ≡ w.place → free ≡ pool w → HasScene (basis own place free)

@@ -4,7 +4,7 @@ use Rattle.sm_placement.specs.Layout.{place_of}
 use Rattle.sm_reservation.specs.Pool.{pool_hold}
 use Rattle.sm_protocol.specs.State.{pool}
 use Rattle.sm_machine.specs.State.{state_of}
-use Rattle.sm_planner.specs.Basis.{Basis, basis}
+use Rattle.sm_planner.specs.Basis.{Basis, basis_at}
 use Rattle.sm_planner.specs.Drain.{IsNoDrainFor}
 use Rattle.sm_planner.proofs.Answering.{same_basis, memory_alone_drained}
 use Rattle.sm_planner.proofs.law.Usable.{scene_at}
@@ -18,7 +18,7 @@ drain_at-requires-clause-scene c =
 pub returns-clause-memory : goal.returns-clause-memory
 returns-clause-memory c =
     let w = state_of c.args.machine.now in
-    let here : Basis = basis c.args.machine.now.placement.setup w.place (pool w) in
+    let here : Basis = basis_at c.args.machine.now.placement.setup w in
     let same = same_basis c.placement.result.now.setup c.args.machine.now.placement.setup (place_of c.placement.result.now) w.place (pool_hold c.pool.result.now) (pool w)
     c.placement.ensures.setup c.placement.ensures.place c.pool.ensures.hold in
     memory_alone_drained here c.args.server c.drain_at.result (subst (λ b. IfErr c.drain_at.result (IsNoDrainFor b c.args.server)) same c.drain_at.ensures.refused)
