@@ -1,17 +1,20 @@
 -- Where the rule has a plan it has no reason why not.
-use Rattle.std.proofs.Common.{◌≡◌, ◌<◌, ◌∙◌, ◌++◌, ◌∷◌, [], ℕ, zero, suc, List, Result, Ok, Err, inl, inr, refl, sym, ap, subst, arith}
-use Rattle.std.specs.Prelude.{IfErr}
+use Rattle.std.proofs.Common.{◌≡◌, ◌≢◌, ◌<◌, ◌∙◌, ◌++◌, ◌∷◌, [], ℕ, zero, suc, List, Option, Some, None, length, Result, Ok, Err, inl, inr, refl, sym, ap, subst, arith}
+use Rattle.std.specs.Prelude.{IfErr, ◌||◌, not, find, option_map}
+use Rattle.std.specs.Option.{option_or}
+use Rattle.std.proofs.lemmas.Option.{same_Some}
 use Rattle.std.proofs.lemmas.Bool.{cases_Bool, cases_eq, both_ways}
 use Rattle.sm_server.specs.Cell.{is_absent}
+use Rattle.sm_placement.specs.Opening.{first_below}
 use Rattle.sm_placement.specs.Place.{Place}
 use Rattle.sm_placement.specs.Setup.{Setup, IsSetup, sizes_of}
 use Rattle.sm_reservation.specs.Hold.{Hold}
 use Rattle.sm_plan_code.specs.Plan.{PlanModel}
 use Rattle.sm_plan_code.specs.declared.moves.Move.{Move}
 use Rattle.sm_planner.specs.declared.refusal.NoPlan.{NoPlan}
-use Rattle.sm_planner.specs.declared.refusal.NoPlan.TheVariants.{NoMemory}
-use Rattle.sm_planner.specs.Basis.{Basis, basis}
-use Rattle.sm_planner.specs.Refusal.{IsPlanOf, IsNoPlanFor}
+use Rattle.sm_planner.specs.declared.refusal.NoPlan.TheVariants.{NoMemory, NotThere, Held, ServerDown}
+use Rattle.sm_planner.specs.Basis.{Basis, basis, move_at, left_cell, is_replica}
+use Rattle.sm_planner.specs.Refusal.{is_closed, end_down, first_not_there, first_held, first_down, first_refused, IsPlanOf, IsNoPlanFor}
 use Rattle.sm_planner.specs.Drain.{may_take, leaving, IsTarget, AreLeaving, IsStuck, AreDepartures, IsDrainPlan, IsNoDrainFor}
 use Rattle.sm_planner.proofs.law.Existing.{rule_answers}
 use Rattle.sm_planner.proofs.law.Unrefused.{drain_has_plan}
@@ -24,6 +27,22 @@ same_basis s t p q h k e f g = rw (e, f, g) refl
 pub memory_alone : {T : Type 0} (b : Basis) (moves : List Move) (r : Result T NoPlan) → IfErr r (IsNoPlanFor b moves) → (plan : PlanModel) → IsPlanOf b moves plan → IfErr r (λ why. why ≡ NoMemory)
 memory_alone b moves (Ok x) said plan by = tt
 memory_alone b moves (Err why) said plan by = elim said [ inl short ↦ short | inr reason ↦ absurd ((rule_answers b moves).not_both plan why by reason) ]
+
+told_or : (x y : Option NoPlan) → ((why : NoPlan) → x ≡ Some why → why ≢ NoMemory) → ((why : NoPlan) → y ≡ Some why → why ≢ NoMemory) → (why : NoPlan) → option_or x y ≡ Some why → why ≢ NoMemory
+told_or None y one two why e = two why e
+told_or (Some x) y one two why e = one why e
+
+told_of : {A : Type 0} (f : A → NoPlan) → ((x : A) → f x ≢ NoMemory) → (o : Option A) (why : NoPlan) → option_map f o ≡ Some why → why ≢ NoMemory
+told_of f other None why e short = cc
+told_of f other (Some x) why e short = other x (same_Some (f x) why e ∙ short)
+
+-- what one of the moves gives alone is not short memory
+pub alone_not_memory : (b : Basis) (moves : List Move) (why : NoPlan) → first_refused b moves ≡ Some why → why ≡ NoMemory → first_refused b moves ≡ None
+alone_not_memory b moves why e short = absurd (told_or (first_not_there b.place moves) (option_or (first_held b moves) (first_down b.place moves))
+    (told_of (λ m. NotThere m.shard m.from) (λ m z. cc) (find (λ m. not (is_replica (left_cell b.place m))) moves))
+    (told_or (first_held b moves) (first_down b.place moves)
+    (told_of (λ i. Held (move_at moves i).shard (move_at moves i).to) (λ i z. cc) (first_below (length moves) (is_closed b moves)))
+    (told_of (λ m. ServerDown (end_down b.place m)) (λ m z. cc) (find (λ m. b.place.down m.from || b.place.down m.to) moves))) why e short)
 
 -- ---- drains
 

@@ -1,5 +1,5 @@
 //! To which servers the replicas of a server go that is to be emptied.
-ghost use Rattle.std.specs.Prelude.{◌≡◌, ◌<◌, ◌+◌, ◌&&◌, ◌||◌, ◌==◌, ℕ, not, nat_le, nat_lt, true, All, MatchOption, IfOk, IfErr, OnOk, length, slice_index};
+ghost use Rattle.std.specs.Prelude.{◌≡◌, ◌<◌, ◌+◌, ◌&&◌, ◌||◌, ◌==◌, ℕ, not, nat_le, nat_lt, true, None, All, MatchOption, IfOk, IfErr, OnOk, length, slice_index};
 ghost use Rattle.std.specs.Bool.{MatchBool};
 ghost use Rattle.sm_server.specs.Cell.{is_absent};
 ghost use Rattle.sm_placement.specs.Layout.{place_of};
@@ -8,7 +8,7 @@ ghost use Rattle.sm_reservation.specs.Amounts.{is_cell};
 ghost use Rattle.sm_reservation.specs.Pool.{pool_hold};
 ghost use Rattle.sm_planner.specs.Basis.{basis_of, is_replica, move_load, IsMoveOf};
 ghost use Rattle.sm_planner.specs.Spread.{region_count, spread_of};
-ghost use Rattle.sm_planner.specs.Drain.{may_leave, first_stuck, has_place, IsBestOf, AreStaying, IsRoomBeside, AreLeaving, IsStuck, AreDepartures, IsNoDrainFor};
+ghost use Rattle.sm_planner.specs.Drain.{may_leave, first_stuck, drain_refusal, has_place, IsBestOf, AreStaying, IsRoomBeside, AreLeaving, IsStuck, AreDepartures, IsNoDrainFor};
 
 use crate::held::{has_absent, has_crown, has_secondary, is_absent, is_primary, is_secondary};
 use crate::marks::{Amounts, is_marked, mark};
@@ -244,6 +244,7 @@ pub(crate) fn leaving(
     ensures known { IfOk result (λ moves. All (IsMoveOf placement.now.setup) moves.items) }
     ensures leaving { IfOk result (λ moves. AreDepartures (basis_of placement.now pool.now) server moves.items) }
     ensures refused { IfErr result (IsNoDrainFor (basis_of placement.now pool.now) server) }
+    ensures early { IfErr result (λ why. why ≡ NoPlan.NoMemory → drain_refusal (basis_of placement.now pool.now) server ≡ None) }
 {
     if let Some(shard) = first_stuck(placement, pool, server) {
         return Err(NoPlan::Held { shard, server });

@@ -1,12 +1,12 @@
 //! Plans for a machine as it stands.
-ghost use Rattle.std.specs.Prelude.{◌≡◌, ◌<◌, All, IfOk, IfErr, length};
+ghost use Rattle.std.specs.Prelude.{◌≡◌, ◌<◌, None, All, IfOk, IfErr, length};
 ghost use Rattle.sm_protocol.specs.State.{pool};
 ghost use Rattle.sm_plan_code.specs.Plan.{PlanModel};
 ghost use Rattle.sm_verifier.specs.Admission.{IsAdmitted};
 ghost use Rattle.sm_machine.specs.State.{state_of};
 ghost use Rattle.sm_planner.specs.Basis.{basis_at, IsMoveOf};
-ghost use Rattle.sm_planner.specs.Refusal.{IsPlanOf, IsNoPlanFor};
-ghost use Rattle.sm_planner.specs.Drain.{IsDrainPlan, IsNoDrainFor};
+ghost use Rattle.sm_planner.specs.Refusal.{first_refused, IsPlanOf, IsNoPlanFor};
+ghost use Rattle.sm_planner.specs.Drain.{drain_refusal, IsDrainPlan, IsNoDrainFor};
 
 use crate::planner::{drain_at, moves_at};
 use crate::refusal::NoPlan;
@@ -25,6 +25,7 @@ pub fn moves(alloc: Global, machine: &Machine, moves: &[Move]) -> Result<Checked
     ensures plan { IfOk result (λ checked. IsPlanOf (basis_at machine.now.placement.setup (state_of machine.now)) moves.now checked.plan) }
     ensures refused { IfErr result (IsNoPlanFor (basis_at machine.now.placement.setup (state_of machine.now)) moves.now) }
     ensures memory { (plan : PlanModel) → IsPlanOf (basis_at machine.now.placement.setup (state_of machine.now)) moves.now plan → IfErr result (λ why. why ≡ NoPlan.NoMemory) }
+    ensures early { IfErr result (λ why. why ≡ NoPlan.NoMemory → first_refused (basis_at machine.now.placement.setup (state_of machine.now)) moves.now ≡ None) }
 {
     machine.is_reached();
     moves_at(alloc, machine.placement(), machine.pool(), moves)
@@ -38,6 +39,7 @@ pub fn drain(alloc: Global, machine: &Machine, server: ServerId) -> Result<Check
     ensures plan { IfOk result (λ checked. IsDrainPlan (basis_at machine.now.placement.setup (state_of machine.now)) server checked.plan) }
     ensures refused { IfErr result (IsNoDrainFor (basis_at machine.now.placement.setup (state_of machine.now)) server) }
     ensures memory { (plan : PlanModel) → IsDrainPlan (basis_at machine.now.placement.setup (state_of machine.now)) server plan → IfErr result (λ why. why ≡ NoPlan.NoMemory) }
+    ensures early { IfErr result (λ why. why ≡ NoPlan.NoMemory → drain_refusal (basis_at machine.now.placement.setup (state_of machine.now)) server ≡ None) }
 {
     machine.is_reached();
     drain_at(alloc, machine.placement(), machine.pool(), server)

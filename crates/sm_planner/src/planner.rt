@@ -8,7 +8,7 @@ ghost use Rattle.sm_planner.specs.Basis.{basis_of, IsMoveOf};
 ghost use Rattle.sm_planner.specs.Laws.{IsUsable, HasScene};
 ghost use Rattle.sm_planner.specs.Refusal.{first_refused, IsPlanOf, IsNoPlanFor};
 ghost use Rattle.sm_planner.specs.Draft.{IsDraftOf};
-ghost use Rattle.sm_planner.specs.Drain.{IsDrainPlan, IsNoDrainFor};
+ghost use Rattle.sm_planner.specs.Drain.{drain_refusal, IsDrainPlan, IsNoDrainFor};
 
 use crate::draining::leaving;
 use crate::held::first_refused;
@@ -72,7 +72,7 @@ fn checked(alloc: Global, placement: &Placement, pool: &Pool, plan: Plan) -> Res
 }
 
 /// A plan that makes the moves, at a placement with its pool.
-#[tactic(auto, using(crate::proofs::law::Existing::refused_alone))]
+#[tactic(auto, using(crate::proofs::law::Existing::refused_alone, crate::proofs::Answering::alone_not_memory))]
 pub(crate) fn moves_at(
     alloc: Global,
     placement: &Placement,
@@ -85,6 +85,7 @@ pub(crate) fn moves_at(
     ensures admitted { IfOk result (λ checked. IsAdmitted (sizes_of placement.now.setup) (place_of placement.now) (pool_hold pool.now) checked.plan) }
     ensures plan { IfOk result (λ checked. IsPlanOf (basis_of placement.now pool.now) moves.now checked.plan) }
     ensures refused { IfErr result (IsNoPlanFor (basis_of placement.now pool.now) moves.now) }
+    ensures early { IfErr result (λ why. why ≡ NoPlan.NoMemory → first_refused (basis_of placement.now pool.now) moves.now ≡ None) }
 {
     if let Some(why) = first_refused(placement, pool, moves) {
         return Err(why);
@@ -108,6 +109,7 @@ pub(crate) fn drain_at(
     ensures admitted { IfOk result (λ checked. IsAdmitted (sizes_of placement.now.setup) (place_of placement.now) (pool_hold pool.now) checked.plan) }
     ensures plan { IfOk result (λ checked. IsDrainPlan (basis_of placement.now pool.now) server checked.plan) }
     ensures refused { IfErr result (IsNoDrainFor (basis_of placement.now pool.now) server) }
+    ensures early { IfErr result (λ why. why ≡ NoPlan.NoMemory → drain_refusal (basis_of placement.now pool.now) server ≡ None) }
 {
     let moves = leaving(alloc, placement, pool, server)?;
     moves_at(alloc, placement, pool, &moves)
