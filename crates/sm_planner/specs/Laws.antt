@@ -1,7 +1,8 @@
 -- Laws of the rule's plans.
 -- `HasScene` is a step of the code's own way, which private functions' contracts cite: whoever reads the public ones need not read it.
-use Rattle.std.specs.Prelude.{◌≡◌, ◌≢◌, ◌⊎◌, ◌<◌, ℕ, None, List, All, length}
+use Rattle.std.specs.Prelude.{◌≡◌, ◌≢◌, ◌⊎◌, ◌<◌, ℕ, true, false, None, option_map, List, All, length}
 use Rattle.sm_server.specs.declared.call.Cell.TheVariants as cell
+use Rattle.sm_server.specs.Cell.{is_primary}
 use Rattle.sm_placement.specs.declared.lead.Lead.{Lead}
 use Rattle.sm_placement.specs.Setup.{Setup, IsSetup, sizes_of}
 use Rattle.sm_placement.specs.Place.{Place}
@@ -52,12 +53,17 @@ PlansAreUsableAt = (setup : Setup) (w : State) (moves : List Move) (plan : PlanM
     IsReached setup w → All (IsMoveOf setup) moves → IsPlanOf (basis_at setup w) moves plan → IsUsable (basis_at setup w) plan
 
 -- Each replica that is moved has left its server, and stands at the new one as it stood at the old one; where nothing is
--- moved to or from, all is as before.
+-- moved to or from, all is as before. Where the published map names a server of a shard whose primary is moved, it names the new one;
+-- of all other shards it says what it said before.
 pub record HasMoved (old new : Place) (moves : List Move) : Type 0 where
   pub left : (i : ℕ) → i < length moves → new.cells (move_at moves i).shard (move_at moves i).from ≡ cell.Absent
   pub come : (i : ℕ) → i < length moves → new.cells (move_at moves i).shard (move_at moves i).to ≡ left_cell old (move_at moves i)
   pub others : (s v : ℕ) →
       ((i : ℕ) → i < length moves → (move_at moves i).shard ≡ s → ((move_at moves i).to ≢ v) × ((move_at moves i).from ≢ v)) → new.cells s v ≡ old.cells s v
+  pub listed : (i : ℕ) → i < length moves → is_primary (left_cell old (move_at moves i)) ≡ true →
+      new.listed (move_at moves i).shard ≡ option_map (λ v. (move_at moves i).to) (old.listed (move_at moves i).shard)
+  pub unchanged : (s : ℕ) → ((i : ℕ) → i < length moves → (move_at moves i).shard ≡ s → is_primary (left_cell old (move_at moves i)) ≡ false) →
+      new.listed s ≡ old.listed s
 
 -- so it is at the end of the rule's plan
 abbrev pub PlansMove : Type 0

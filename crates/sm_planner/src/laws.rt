@@ -14,7 +14,8 @@ pub fn plans_are_usable()
     ensures reached { PlansAreUsableAt }
 {}
 
-/// At the end of the plan each moved replica stands at its new server as it stood at the old one; all other cells are as before.
+/// At the end of the plan each moved replica stands at its new server as it stood at the old one; all other cells are as before. The
+/// published map names the new server of each moved primary whose shard it named a server of, and says else what it said before.
 pub fn plans_move()
     ensures { PlansMove }
 {}

@@ -1,6 +1,7 @@
--- The end of the rule's plan: each moved replica stands at its new server as it stood at the old one, where nothing is left.
-use Rattle.std.proofs.Common.{◌≡◌, ◌≢◌, ℕ, zero, suc, ◌<◌, ◌≤◌, Bool, true, false, cond, Option, None, List, length, get_or, refl, sym, ap, ◌∙◌, arith, inl, inr, ◌⊎◌, subst}
-use Rattle.std.specs.Prelude.{All, ◌==◌, ◌&&◌}
+-- The end of the rule's plan: each moved replica stands at its new server as it stood at the old one, where nothing is left, and the
+-- published map names the new servers of primaries.
+use Rattle.std.proofs.Common.{◌≡◌, ◌≢◌, ℕ, zero, suc, ◌<◌, ◌≤◌, Bool, true, false, cond, Option, Some, None, List, length, get_or, refl, sym, ap, ◌∙◌, arith, inl, inr, ◌⊎◌, subst}
+use Rattle.std.specs.Prelude.{All, ◌==◌, ◌&&◌, option_map}
 use Rattle.std.proofs.lemmas.Bool.{cases_Bool, cases_eq, eq-eqb, ne_eqb, eqb-true, and_parts, and_from, both_ways}
 use Rattle.sm_server.specs.declared.call.Cell.{Cell}
 use Rattle.sm_server.specs.declared.call.Cell.TheVariants as cell
@@ -13,7 +14,7 @@ use Rattle.sm_reservation.specs.Hold.{Hold}
 use Rattle.sm_plan_code.specs.Plan.{StreamModel, PlanModel}
 use Rattle.sm_plan_code.specs.declared.moves.Move.{Move}
 use Rattle.sm_verifier.specs.Stream.{course_of, final_hold, stream_at}
-use Rattle.sm_verifier.specs.PlanEnd.{cell_by_crown, cell_by_right, set_by_streams, end_of}
+use Rattle.sm_verifier.specs.PlanEnd.{cell_by_crown, cell_by_right, listed_by, set_by_streams, end_of}
 use Rattle.sm_planner.specs.Basis.{Basis, IsMoveOf, move_at, left_cell}
 use Rattle.sm_planner.specs.Payment.{stream_of}
 use Rattle.sm_planner.specs.Plan.{planned}
@@ -23,7 +24,7 @@ use Rattle.sm_planner.specs.Laws.{HasMoved}
 use Rattle.sm_planner.proofs.law.Codes.{width, stream_count, stream_is, stream_known}
 use Rattle.sm_planner.proofs.law.Payments.{to, from, IsAffordable}
 use Rattle.sm_planner.proofs.law.Placings.{move_is, count_is, place_known, all_placed, affordable}
-use Rattle.sm_planner.proofs.law.Moving.{IsMoved}
+use Rattle.sm_planner.proofs.law.Moving.{IsMoved, named_after}
 use Rattle.sm_planner.proofs.law.Streams.{shard, leads_shard, AreAllApart, IsAt}
 use Rattle.sm_planner.proofs.law.Opened.{IsOpened, one_of_two, none_left, order_opened, order_apart}
 use Rattle.sm_planner.proofs.law.Good.{ends, ends_there}
@@ -55,6 +56,10 @@ secondary_is (cell.Prepared from number) e = cc
 secondary_is cell.Secondary e = refl
 secondary_is cell.Primary e = cc
 secondary_is (cell.Forwarding to number) e = cc
+
+named_is : (o : Option ℕ) (v : ℕ) → named_after o v ≡ option_map (λ u. v) o
+named_is None v = refl
+named_is (Some u) v = refl
 
 module _ (b : Basis) (order : List Move) (apart : AreAllApart b order) (opened : (k : ℕ) → k < length order → IsOpened b (move_at order k)) (known : (k : ℕ) → k < length order → to b order k < (sizes_of b.setup).servers) (fits : IsAffordable b order) where
   abbrev c : Sizes
@@ -164,6 +169,43 @@ module _ (b : Basis) (order : List Move) (apart : AreAllApart b order) (opened :
   pub others_stay : (s v : ℕ) → ((k : ℕ) → k < length order → shard b order k ≡ s → (to b order k ≢ v) × (from b order k ≢ v)) → (end_of c plan b.place).cells s v ≡ b.place.cells s v
   others_stay s v none = end_cells s v ∙ all_quiet (width order) s v (omega arith) (λ i. quiet i s v (λ k l own same. none k l same))
 
+  -- ---- the published map
+
+  -- a stream that moves no primary of the shard does not set its entry
+  no_crown : (i s : ℕ) → ((k : ℕ) → k < length order → stream_of k ≡ i → leads_shard b order k ≡ true → shard b order k ≢ s) → (final i).crowns s ≡ None
+  no_crown i s none = (at_end i).no_crown s none
+
+  one_listed : (n s : ℕ) → n < width order → (set_to (suc n)).listed s ≡ listed_by ((final n).crowns s) ((set_to n).listed s)
+  one_listed n s l = ap (λ (h : Hold). listed_by (h.crowns s) ((set_to n).listed s)) (final_is n l)
+
+  one_unlisted : (n s : ℕ) → n < width order → (final n).crowns s ≡ None → (set_to (suc n)).listed s ≡ (set_to n).listed s
+  one_unlisted n s l none = one_listed n s l ∙ ap (λ (o : Option (Lead × Option ℕ)). listed_by o ((set_to n).listed s)) none
+
+  none_listed : (n s : ℕ) → n ≤ width order → ((i : ℕ) → (final i).crowns s ≡ None) → (set_to n).listed s ≡ b.place.listed s
+  none_listed zero s l none = refl
+  none_listed (suc n) s l none = one_unlisted n s (omega arith) (none n) ∙ none_listed n s (omega arith) none
+
+  listed_by_one : (n s i : ℕ) (x : Option ℕ) → n ≤ width order → i < n → ((j : ℕ) → j ≢ i → (final j).crowns s ≡ None) → ((old : Option ℕ) → listed_by ((final i).crowns s) old ≡ x) → (set_to n).listed s ≡ x
+  listed_by_one zero s i x l m none sets = absurd (omega arith)
+  listed_by_one (suc n) s i x l m none sets = elim (cases_eq n i) [
+    | inl same ↦ one_listed n s (omega arith) ∙ ap (λ j. listed_by ((final j).crowns s) ((set_to n).listed s)) same ∙ sets ((set_to n).listed s)
+    | inr other ↦ one_unlisted n s (omega arith) (none n other) ∙ listed_by_one n s i x (omega arith) (omega arith) none sets
+  ]
+
+  end_listed : (s : ℕ) → (end_of c plan b.place).listed s ≡ (set_to (width order)).listed s
+  end_listed s = ap (λ n. (set_to n).listed s) (stream_count b order)
+
+  pub lists_the_new : (k : ℕ) → k < length order → leads_shard b order k ≡ true → (end_of c plan b.place).listed (shard b order k) ≡ option_map (λ v. to b order k) (b.place.listed (shard b order k))
+  lists_the_new k l leads =
+      end_listed (shard b order k)
+      ∙ listed_by_one (width order) (shard b order k) (stream_of k) (named_after (b.place.listed (shard b order k)) (to b order k)) (omega arith) (stream_known order k l)
+      (λ j other. no_crown j (shard b order k) (λ i m own here same. (apart i k m l (λ e. other (sym own ∙ ap stream_of e)) same).crowns here leads))
+      (λ old. ap (λ (o : Option (Lead × Option ℕ)). listed_by o old) ((moved_in k l).crown leads))
+      ∙ named_is (b.place.listed (shard b order k)) (to b order k)
+
+  pub lists_as_before : (s : ℕ) → ((k : ℕ) → k < length order → shard b order k ≡ s → leads_shard b order k ≡ false) → (end_of c plan b.place).listed s ≡ b.place.listed s
+  lists_as_before s none = end_listed s ∙ none_listed (width order) s (omega arith) (λ i. no_crown i s (λ k l own leads same. both_ways (leads_shard b order k) (none k l same) leads))
+
 -- ---- of the moves as they were listed
 
 -- the end of the rule's plan has each replica where its move was to bring it
@@ -193,4 +235,11 @@ has_moved b moves plan all by = subst (λ p. HasMoved b.place (end_of (sizes_of 
               let at = move_is b moves placed is.greedy k (omega arith) in
               let off = away (get_or placed k 0) (place_known b moves placed is.greedy k (omega arith)) (ap (λ (m : Move). m.shard) (sym at) ∙ same) in
               (λ e. off.0 (ap (λ (m : Move). m.to) (sym at) ∙ e), λ e. off.1 (ap (λ (m : Move). m.from) (sym at) ∙ e)));
+          listed = λ i l leads.
+              let at = where_is i l in
+              let there : is_primary (left_cell b.place (move_at order at.0)) ≡ true = subst (λ (m : Move). is_primary (left_cell b.place m) ≡ true) (sym at.2) leads in
+              subst (λ (m : Move). (end_of (sizes_of b.setup) (planned b order) b.place).listed m.shard ≡ option_map (λ v. m.to) (b.place.listed m.shard)) at.2 (lists_the_new b order apart opened known fits at.0 at.1 there);
+          unchanged = λ s none. lists_as_before b order apart opened known fits s (λ k l same.
+              let at = move_is b moves placed is.greedy k (omega arith) in
+              subst (λ (m : Move). is_primary (left_cell b.place m) ≡ false) (sym at) (none (get_or placed k 0) (place_known b moves placed is.greedy k (omega arith)) (ap (λ (m : Move). m.shard) (sym at) ∙ same)));
         }
