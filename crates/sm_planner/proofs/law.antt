@@ -23,3 +23,4 @@ pub mod Ended
 pub mod Small
 pub mod Drained
 pub mod Unrefused
+pub mod Spreading

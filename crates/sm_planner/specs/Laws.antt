@@ -1,6 +1,6 @@
 -- Laws of the rule's plans.
 -- `HasScene` is a step of the code's own way, which private functions' contracts cite: whoever reads the public ones need not read it.
-use Rattle.std.specs.Prelude.{◌≡◌, ◌≢◌, ◌⊎◌, ◌<◌, ℕ, true, false, None, option_map, List, All, length}
+use Rattle.std.specs.Prelude.{◌≡◌, ◌≢◌, ◌⊎◌, ◌<◌, ◌≤◌, ℕ, true, false, None, option_map, List, All, length}
 use Rattle.sm_server.specs.declared.call.Cell.TheVariants as cell
 use Rattle.sm_server.specs.Cell.{is_primary}
 use Rattle.sm_placement.specs.declared.lead.Lead.{Lead}
@@ -16,9 +16,10 @@ use Rattle.sm_verifier.specs.PlanEnd.{end_of}
 use Rattle.sm_protocol.specs.State.{State}
 use Rattle.sm_protocol.specs.Laws.{IsCheckedPlan, IsReached}
 use Rattle.sm_planner.specs.declared.refusal.NoPlan.{NoPlan}
-use Rattle.sm_planner.specs.Basis.{Basis, basis_at, IsMoveOf, move_at, left_cell}
+use Rattle.sm_planner.specs.Basis.{Basis, basis_at, IsMoveOf, move_at, left_cell, is_replica}
 use Rattle.sm_planner.specs.Plan.{planned}
 use Rattle.sm_planner.specs.Drain.{drain_refusal, AreLeaving}
+use Rattle.sm_planner.specs.Spread.{region_count, spread_of}
 use Rattle.sm_planner.specs.Refusal.{IsRefused, IsPlanOf}
 
 -- The streams' budgets add up to the plan's at most, each signal is of the plan, posted once and awaited once, and there is
@@ -70,6 +71,16 @@ abbrev pub PlansMove : Type 0
 PlansMove = (b : Basis) (moves : List Move) (plan : PlanModel) →
     All (IsMoveOf b.setup) moves → IsPlanOf b moves plan → HasMoved b.place (end_of (sizes_of b.setup) plan b.place) moves
 
+-- the shard's replicas lie in as many regions as it is to be in, or in more
+abbrev pub IsSpread : Setup → Place → ℕ → Type 0
+IsSpread setup p s = spread_of setup s ≤ region_count setup (λ v. is_replica (p.cells s v))
+
+-- so it is of each moved shard at the end of the rule's plan
+abbrev pub PlansSpread : Type 0
+PlansSpread = (b : Basis) (moves : List Move) (plan : PlanModel) (i : ℕ) →
+    All (IsMoveOf b.setup) moves → IsPlanOf b moves plan → i < length moves →
+    IsSpread b.setup (end_of (sizes_of b.setup) plan b.place) (move_at moves i).shard
+
 -- the rule has a plan for the moves or a reason why not, never both, and never two of either
 pub record AnswersOnce (b : Basis) (moves : List Move) : Type 0 where
   pub some : ((plan : PlanModel) × IsPlanOf b moves plan) ⊎ ((why : NoPlan) × IsRefused b moves why)
@@ -81,9 +92,11 @@ pub record AnswersOnce (b : Basis) (moves : List Move) : Type 0 where
 abbrev pub RuleAnswersOnce : Type 0
 RuleAnswersOnce = (b : Basis) (moves : List Move) → AnswersOnce b moves
 
--- At the end of the plan of a drain's moves the server has nothing of any shard, and the plan is as good as any of the rule's.
+-- At the end of the plan of a drain's moves the server has nothing of any shard, each shard that it had is spread, and the plan is as good
+-- as any of the rule's.
 pub record IsDrained (b : Basis) (v : ℕ) (plan : PlanModel) : Type 0 where
   pub empty : (s : ℕ) → s < (sizes_of b.setup).shards → (end_of (sizes_of b.setup) plan b.place).cells s v ≡ cell.Absent
+  pub spread : (s : ℕ) → s < (sizes_of b.setup).shards → b.place.cells s v ≢ cell.Absent → IsSpread b.setup (end_of (sizes_of b.setup) plan b.place) s
   pub usable : (leads : ℕ → Lead) (numbers : ℕ → ℕ) → IsSetup b.setup → IsScene (sizes_of b.setup) b.place leads numbers b.pool → IsUsable b plan
 
 -- so it is of the rule's plan of a drain's moves

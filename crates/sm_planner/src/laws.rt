@@ -1,5 +1,5 @@
 //! Laws of the rule's plans.
-ghost use Rattle.sm_planner.specs.Laws.{PlansAreOrderly, PlansAreUsable, PlansAreUsableAt, PlansMove, RuleAnswersOnce, DrainsEmpty, DrainsHavePlans};
+ghost use Rattle.sm_planner.specs.Laws.{PlansAreOrderly, PlansAreUsable, PlansAreUsableAt, PlansMove, PlansSpread, RuleAnswersOnce, DrainsEmpty, DrainsHavePlans};
 
 /// The plan of moves in any order keeps its budget, uses each signal once, and has an order of its steps: a signal goes
 /// from a move to one that is placed later.
@@ -20,12 +20,17 @@ pub fn plans_move()
     ensures { PlansMove }
 {}
 
+/// At the end of the plan the replicas of each moved shard lie in as many regions as it is to be in, or in more.
+pub fn plans_spread()
+    ensures { PlansSpread }
+{}
+
 /// The rule has one plan for any moves, or one reason why not.
 pub fn rule_answers_once()
     ensures { RuleAnswersOnce }
 {}
 
-/// At the end of the plan of a drain the server has nothing; and the plan is sound and admitted.
+/// At the end of the plan of a drain the server has nothing, and each shard that it had is spread; and the plan is sound and admitted.
 pub fn drains_empty()
     ensures { DrainsEmpty }
 {}

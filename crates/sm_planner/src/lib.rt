@@ -15,7 +15,7 @@ mod writing;
 
 pub use entry::{drain, moves};
 pub use laws::{
-    drains_empty, drains_have_plans, plans_are_orderly, plans_are_usable, plans_move,
+    drains_empty, drains_have_plans, plans_are_orderly, plans_are_usable, plans_move, plans_spread,
     rule_answers_once,
 };
 pub use refusal::NoPlan;

@@ -1,5 +1,5 @@
--- The drain of a server: at the end of its plan the server has nothing.
-use Rattle.std.proofs.Common.{◌≡◌, ℕ, zero, suc, ◌<◌, true, false, List, [], ◌∷◌, ◌++◌, refl, sym, ap, ◌∙◌, arith, inl, inr, subst}
+-- The drain of a server: at the end of its plan the server has nothing, and the shards that it had are spread.
+use Rattle.std.proofs.Common.{◌≡◌, ◌≢◌, ℕ, zero, suc, ◌<◌, true, false, List, [], ◌∷◌, ◌++◌, refl, sym, ap, ◌∙◌, arith, inl, inr, subst}
 use Rattle.std.specs.Prelude.{All, Contains}
 use Rattle.std.proofs.lemmas.Bool.{cases_Bool, cases_eq, both_ways}
 use Rattle.std.proofs.lemmas.List.{get_or_default}
@@ -14,7 +14,9 @@ use Rattle.sm_verifier.specs.PlanEnd.{end_of}
 use Rattle.sm_planner.specs.Basis.{Basis, IsMoveOf, move_at, no_move}
 use Rattle.sm_planner.specs.Drain.{leaving, AreLeaving}
 use Rattle.sm_planner.specs.Refusal.{IsPlanOf}
+use Rattle.sm_planner.specs.Laws.{IsSpread}
 use Rattle.sm_planner.proofs.law.Ended.{has_moved}
+use Rattle.sm_planner.proofs.law.Spreading.{is_spread}
 
 absent_is : (x : Cell) → is_absent x ≡ true → x ≡ cell.Absent
 absent_is cell.Absent e = refl
@@ -22,6 +24,13 @@ absent_is (cell.Prepared from number) e = absurd cc
 absent_is cell.Secondary e = absurd cc
 absent_is cell.Primary e = absurd cc
 absent_is (cell.Forwarding to number) e = absurd cc
+
+not_absent : (x : Cell) → x ≢ cell.Absent → is_absent x ≡ false
+not_absent cell.Absent some = absurd (some refl)
+not_absent (cell.Prepared from number) some = refl
+not_absent cell.Secondary some = refl
+not_absent cell.Primary some = refl
+not_absent (cell.Forwarding to number) some = refl
 
 module _ (b : Basis) (v : ℕ) (known : v < (sizes_of b.setup).servers) where
   -- a move away from the server, of a shard of which it has something
@@ -83,3 +92,10 @@ module _ (b : Basis) (v : ℕ) (known : v < (sizes_of b.setup).servers) where
               let is : move_at moves at.1.0 ≡ leaving v s at.0 = get_or_default moves at.1.0 no_move (leaving v s at.0) at.1.1 ∙ at.1.2 in
               subst (λ (m : Move). (end_of (sizes_of b.setup) plan b.place).cells m.shard m.from ≡ cell.Absent) is (moved.left at.1.0 at.1.1)
         ]
+
+    -- nor is there a shard that it had and that then lies in too few regions
+    pub is_spread_after : (plan : PlanModel) → IsPlanOf b moves plan → (s : ℕ) → s < (sizes_of b.setup).shards → b.place.cells s v ≢ cell.Absent → IsSpread b.setup (end_of (sizes_of b.setup) plan b.place) s
+    is_spread_after plan by s l some =
+        let at = moved_away (sizes_of b.setup).shards moves leave s l (not_absent (b.place.cells s v) some) in
+        let is : move_at moves at.1.0 ≡ leaving v s at.0 = get_or_default moves at.1.0 no_move (leaving v s at.0) at.1.1 ∙ at.1.2 in
+        subst (λ (m : Move). IsSpread b.setup (end_of (sizes_of b.setup) plan b.place) m.shard) is (is_spread b moves plan at.1.0 leaving_known by at.1.1)

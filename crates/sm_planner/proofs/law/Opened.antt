@@ -141,6 +141,7 @@ module _ (b : Basis) (moves : List Move) (none : first_refused b moves ≡ None)
   open_at : (i : ℕ) → i < length moves → is_open b (take i moves) (move_at moves i) ≡ true
   open_at i l = not-false (is_open b (take i moves) (move_at moves i)) (first_none (length moves) (is_closed b moves) none_closed i l)
 
+  -- that is known of each move of the list
   pub is_opened : (i : ℕ) → i < length moves → IsOpened b (move_at moves i)
   is_opened i l =
       let m : Move = move_at moves i in

@@ -268,7 +268,8 @@ module _ (b : Basis) (v : ℕ) (n : ℕ) (moves : List Move) (leave : AreLeaving
   pub none_left_over : first_left moves placed ≡ None
   none_left_over = first_none_from (length moves) (λ i. not (is_placed placed i)) fit_all
 
-any_at : {X : Type 0} (test : X → Bool) (xs : List X) (d : X) → list_any test xs ≡ true → (k : ℕ) × (k < length xs) × (test (get_or xs k d) ≡ true)
+-- a test that is passed by some element of a list is passed by one at a place of it
+pub any_at : {X : Type 0} (test : X → Bool) (xs : List X) (d : X) → list_any test xs ≡ true → (k : ℕ) × (k < length xs) × (test (get_or xs k d) ≡ true)
 any_at test [] d e = absurd cc
 any_at test (x ∷ xs) d e = elim (cases_Bool (test x)) [
   | inl passes ↦ (0, omega arith, passes)
