@@ -5,7 +5,7 @@ ghost use Rattle.sm_placement.specs.Layout.{place_of};
 ghost use Rattle.sm_protocol.specs.State.{opened};
 ghost use Rattle.sm_machine.specs.State.{state_of};
 ghost use Rattle.sm_executor.specs.Names.{IsLedgerOf};
-ghost use Rattle.board_runs.specs.Ran.{IsClosedAt, HasRunTo};
+ghost use Rattle.board_runs.specs.Ran.{IsDoneAt, HasRunTo};
 
 use crate::begun::{Begun, Prepared};
 use crate::fault::Fault;
@@ -39,7 +39,7 @@ fn run_on_stage<
     gate: &G,
 ) -> Result<Placement, Fault>
     ensures setup { IfOk result (λ placement. placement.setup ≡ N.setup) }
-    ensures closed { IfOk result (λ placement. IsClosedAt N.opened (place_of placement)) }
+    ensures done { IfOk result (λ placement. IsDoneAt N.setup N.opened (place_of placement)) }
 {
     let board = &stage.board;
     let seats = stage.crew.seats.as_mut_slice();
@@ -69,7 +69,7 @@ fn run_on_ground<
     requires executed { IsLedgerOf prepared.base.executed B.name B.parts }
     requires refused { IsLedgerOf prepared.base.refused C.name C.parts }
     ensures setup { IfOk result (λ placement. placement.setup ≡ N.setup) }
-    ensures closed { IfOk result (λ placement. IsClosedAt N.opened (place_of placement)) }
+    ensures done { IfOk result (λ placement. IsDoneAt N.setup N.opened (place_of placement)) }
 {
     match Stage::<A, B, C, N>::open(rt, alloc, prepared) {
         Ok(stage) => run_on_stage(rt, alloc, stage, workers, gate),
@@ -86,7 +86,7 @@ fn run_begun<W: Worker + Sync, R: Threads + Wait + Clock + Sync, G: Gate + Sync>
     gate: &G,
 ) -> Result<Placement, Fault>
     ensures setup { IfOk result (λ placement. placement.setup ≡ begun.machine.placement.setup) }
-    ensures closed { IfOk result (λ placement. IsClosedAt (state_of begun.machine) (place_of placement)) }
+    ensures done { IfOk result (λ placement. IsDoneAt begun.machine.placement.setup (state_of begun.machine) (place_of placement)) }
 {
     match Prepared::new(alloc, begun, workers.len()) {
         Ok(prepared) => run_on_ground::<Brand, Brand, Brand, Brand, W, R, G>(
@@ -112,7 +112,7 @@ pub fn run_at<W: Worker + Sync, R: Threads + Wait + Clock + Sync, G: Gate + Sync
     gate: &G,
 ) -> Result<Placement, Fault>
     ensures setup { IfOk result (λ ended. ended.setup ≡ placement.setup) }
-    ensures ran { IfOk result (λ ended. HasRunTo (opened (sizes_of placement.setup) (place_of placement) places) checked.plan (place_of ended)) }
+    ensures ran { IfOk result (λ ended. HasRunTo placement.setup (opened (sizes_of placement.setup) (place_of placement) places) checked.plan (place_of ended)) }
 {
     match Begun::at(alloc, placement, places, checked) {
         Ok(begun) => run_begun(rt, alloc, begun, workers, gate),

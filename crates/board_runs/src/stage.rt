@@ -3,7 +3,7 @@ ghost use Rattle.std.specs.Prelude.{◌≡◌, ◌≤◌, ◌+◌, IfOk, vec_len
 ghost use Rattle.sm_placement.specs.Layout.{place_of};
 ghost use Rattle.sm_machine.specs.State.{state_of};
 ghost use Rattle.sm_executor.specs.Names.{IsLedgerOf};
-ghost use Rattle.board_runs.specs.Ran.{IsClosedAt};
+ghost use Rattle.board_runs.specs.Ran.{IsDoneAt};
 
 use crate::begun::{Begun, Prepared};
 use crate::crew::Crew;
@@ -107,7 +107,7 @@ impl<A: Ledger, B: Ledger, C: Ledger, N: Naming> Stage<A, B, C, N> {
     /// Closes the board with all that it and its machine have given out.
     pub fn close(self, alloc: Global) -> Result<Placement, Fault>
         ensures setup { IfOk result (λ placement. placement.setup ≡ N.setup) }
-        ensures closed { IfOk result (λ placement. IsClosedAt N.opened (place_of placement)) }
+        ensures done { IfOk result (λ placement. IsDoneAt N.setup N.opened (place_of placement)) }
     {
         let Stage {
             board,

@@ -35,8 +35,8 @@ unfinished_streams w = unfinished_to w (length w.plans)
 abbrev pub HasMorePlans : State → State → Type 0
 HasMorePlans opened now = (begun : List Start) × (now.plans ≡ opened.plans ++ begun)
 
--- The configuration, the placement from which the ends of plans are told, and the log's room are still those of the opening, and
--- the log and the list of plans have only grown since.
+-- The numbers of the configuration, the placement from which the ends of plans are told, and the log's room are still those of the
+-- opening, and the log and the list of plans have only grown since.
 pub record GoesOn (opened now : State) : Type 0 where
   pub sizes : now.sizes ≡ opened.sizes
   pub opening : now.opening ≡ opened.opening
@@ -44,11 +44,19 @@ pub record GoesOn (opened now : State) : Type 0 where
   pub log : (since : List Logged) × (now.log ≡ opened.log ++ since)
   pub plans : HasMorePlans opened now
 
--- A state of a board: events led to it, and it goes on from the opening.
-pub record IsBoardState (opened now : State) : Type 0 where
-  pub setup : Setup
+-- A state of a board with this configuration: events have led to it from a placement of the configuration, and it goes on from the
+-- board's opening.
+pub record IsBoardState (setup : Setup) (opened now : State) : Type 0 where
   pub reached : IsReached setup now
   pub goes_on : GoesOn opened now
+
+-- A state of the board at which every stream has made its end: the log has each stream's instructions in their order, each once, and
+-- then its end; and the placement is the end of the plans in the order of their starts, whatever the schedule was.
+pub record IsDoneState (setup : Setup) (opened now : State) : Type 0 where
+  pub state : IsBoardState setup opened now
+  pub done : AreDone now
+  pub in_log : (id : StreamId) → is_begun now id ≡ true → IsInLog now id
+  pub at_ends : IsAtEnds now
 
 -- ---- the account
 
@@ -56,16 +64,10 @@ pub record IsBoardState (opened now : State) : Type 0 where
 abbrev pub IsAccount : State → State → List EndedModel → List CallerModel → Type 0
 IsAccount opened now ended callers = IsBooked opened now (sum (map (λ e. e.counted) ended)) (sum (map (λ c. c.executed) callers)) (sum (map (λ c. c.refused) callers))
 
--- Events led to this state, and every stream has made its end: the log has each stream's instructions in their order, each once, and
--- then its end; the placement is the end of the plans in the order of their starts, whatever the schedule was; and the log since the
--- opening has as many steps, executed and refused requests as these ends and callers have counted.
-pub record IsClosed (opened now : State) (ended : List EndedModel) (callers : List CallerModel) : Type 0 where
-  pub setup : Setup
-  pub reached : IsReached setup now
-  pub goes_on : GoesOn opened now
-  pub done : AreDone now
-  pub in_log : (id : StreamId) → is_begun now id ≡ true → IsInLog now id
-  pub at_ends : IsAtEnds now
+-- At this state of the board every stream has made its end, and the log since the opening has as many steps, executed and refused
+-- requests as these ends and callers have counted.
+pub record IsClosed (setup : Setup) (opened now : State) (ended : List EndedModel) (callers : List CallerModel) : Type 0 where
+  pub state : IsDoneState setup opened now
   pub account : IsAccount opened now ended callers
 
 -- as many ends and callers are handed in as runners and callers were given out
@@ -86,8 +88,8 @@ pub record NotClosedModel : Type 0 where
   pub positions : List (StreamId × ℕ)
 
 -- The streams named are those that have not made their ends at a state of the board, and NotDone is told just where there are some.
-pub record IsNotClosed (opened : State) (fault : CloseFault) (positions : List (StreamId × ℕ)) : Type 0 where
+pub record IsNotClosed (setup : Setup) (opened : State) (fault : CloseFault) (positions : List (StreamId × ℕ)) : Type 0 where
   pub now : State
-  pub state : IsBoardState opened now
+  pub state : IsBoardState setup opened now
   pub named : positions ≡ unfinished_streams now
   pub not_done : (fault ≡ NotDone) ↔ ¬ (positions ≡ [])

@@ -1,19 +1,20 @@
 -- A stream's end at a board. What lies behind the lock then has no name in a contract, so the end is told by some state of the board.
 use Rattle.std.specs.Prelude.{◌≡◌, true, false}
+use Rattle.sm_placement.specs.Setup.{Setup}
 use Rattle.sm_protocol.specs.State.{State}
 use Rattle.sm_machine.specs.Retired.{has_ended}
 use Rattle.sm_executor.specs.Closed.{IsBoardState}
 use Rattle.sm_executor.specs.Views.{EndedModel, RunnerModel, running, end_in}
 
 -- At a state of the board the stream has made its end, and its steps, its tries and how many it was allowed are what that state has of it.
-pub record HasEnded (opened : State) (finish : EndedModel) : Type 0 where
+pub record HasEnded (setup : Setup) (opened : State) (finish : EndedModel) : Type 0 where
   pub now : State
-  pub state : IsBoardState opened now
+  pub state : IsBoardState setup opened now
   pub done : has_ended now finish.stream ≡ true
   pub counts : finish ≡ end_in now (running finish.stream finish.counted)
 
 -- At a state of the board the runner's stream has not made its end.
-pub record HasNotEnded (opened : State) (runner : RunnerModel) : Type 0 where
+pub record HasNotEnded (setup : Setup) (opened : State) (runner : RunnerModel) : Type 0 where
   pub now : State
-  pub state : IsBoardState opened now
+  pub state : IsBoardState setup opened now
   pub not_done : has_ended now runner.stream ≡ false

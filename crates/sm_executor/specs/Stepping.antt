@@ -1,6 +1,7 @@
 -- A stream's step at a board. What lies behind the lock then has no name in a contract, so the step is told by some state of the board.
 -- `is_waiting` is a step of the code's own way, which private functions' contracts cite: whoever reads the public ones need not read it.
 use Rattle.std.specs.Prelude.{ℕ, Bool, true, false, ◌≡◌}
+use Rattle.sm_placement.specs.Setup.{Setup}
 use Rattle.sm_reservation.specs.declared.stream_id.StreamId.{StreamId}
 use Rattle.sm_protocol.specs.declared.event.Passage.{Passage}
 use Rattle.sm_protocol.specs.declared.event.Played.{Played}
@@ -20,20 +21,20 @@ is_waiting (Blocked signal) = true
 is_waiting _ = false
 
 -- a state of the board at which a runner's stream makes a step with this answer, and what that does to the runner's count
-pub record IsStepAt (opened now : State) (before after : RunnerModel) (answer : Played) : Type 0 where
-  pub state : IsBoardState opened now
+pub record IsStepAt (setup : Setup) (opened now : State) (before after : RunnerModel) (answer : Played) : Type 0 where
+  pub state : IsBoardState setup opened now
   pub counts : Counts (progress_of now before.stream).done answer before.steps after.steps
 
 -- At such a state the stream has made its step over the link: the link was asked once where the step tries a call there, and else not at
 -- all, and Lost is answered just where it has lost the try.
-pub record HasStepped {L : Type 0} (asked : L → StreamId → ℕ → Passage → L → Type 0) (old new : L) (opened : State) (before after : RunnerModel) (answer : Played) : Type 0 where
+pub record HasStepped {L : Type 0} (asked : L → StreamId → ℕ → Passage → L → Type 0) (old new : L) (setup : Setup) (opened : State) (before after : RunnerModel) (answer : Played) : Type 0 where
   pub now : State
   pub next : State
-  pub step : IsStepAt opened now before after answer
+  pub step : IsStepAt setup opened now before after answer
   pub over : IsStepOver asked old new now before.stream answer next
 
 -- At such a state the stream has made its next step, of which this is the answer.
-pub record HasMadeStep (opened : State) (before after : RunnerModel) (answer : Played) : Type 0 where
+pub record HasMadeStep (setup : Setup) (opened : State) (before after : RunnerModel) (answer : Played) : Type 0 where
   pub now : State
-  pub step : IsStepAt opened now before after answer
+  pub step : IsStepAt setup opened now before after answer
   pub event : (happens now (NextStep before.stream)).0 ≡ Answered answer

@@ -17,7 +17,7 @@ ghost use Rattle.sm_machine.specs.Restarted.{approval_of, restart_of};
 ghost use Rattle.sm_machine.specs.Losses.{refill_answer, is_lost_answer};
 ghost use Rattle.sm_placement.specs.Sums.{bit};
 ghost use Rattle.sm_executor.specs.Answering.{HasAnswered};
-ghost use Rattle.sm_executor.specs.Closed.{GoesOn};
+ghost use Rattle.sm_executor.specs.Closed.{IsBoardState};
 ghost use Rattle.sm_executor.specs.Counting.{executes, refuses};
 ghost use Rattle.sm_executor.specs.Ending.{HasEnded, HasNotEnded};
 ghost use Rattle.sm_executor.specs.Starting.{HasBegun, HasNotBegun};
@@ -113,7 +113,7 @@ impl<A: Ledger, B: Ledger, C: Ledger, N: Naming> Board<A, B, C, N> {
         requires room { MOST_UNFINISHED ≤ vec_capacity positions }
         ensures { result.positions.items ≡ positions.items }
     {
-        held.goes_on();
+        held.is_of_board();
         Board {
             held: Mutex::new(held),
             moved,
@@ -141,13 +141,12 @@ impl<A: Ledger, B: Ledger, C: Ledger, N: Naming> Board<A, B, C, N> {
         checked: Checked,
     ) -> Result<Vec<Runner<A>>, (Checked, BeginFault)>
         requires { checked.setup ≡ N.setup }
-        ensures begun { IfOk result (λ runners. HasBegun N.opened checked.plan runners.items) }
-        ensures refused { IfErr result (λ e. e.1 ≢ fault.NoMemory → HasNotBegun N.opened checked.plan e.1) }
+        ensures begun { IfOk result (λ runners. HasBegun N.setup N.opened checked.plan runners.items) }
+        ensures refused { IfErr result (λ e. e.1 ≢ fault.NoMemory → HasNotBegun N.setup N.opened checked.plan e.1) }
         ensures back { IfErr result (λ e. e.0 ≡ checked) }
     {
         let mut held = self.held.lock(rt);
-        held.goes_on();
-        held.machine().is_reached();
+        held.is_of_board();
         held.begin(alloc, checked)
     }
 
@@ -155,20 +154,19 @@ impl<A: Ledger, B: Ledger, C: Ledger, N: Naming> Board<A, B, C, N> {
     /// its stream has not made its end.
     pub fn retire<R: Wait>(&self, rt: &R, runner: Runner<A>) -> Result<Ended<A>, Runner<A>>
         ensures ended { IfOk result (λ end. (end.stream ≡ runner.stream) × (end.counted ≡ runner.steps)) }
-        ensures at { IfOk result (λ end. HasEnded N.opened end) }
-        ensures unfinished { IfErr result (λ r. HasNotEnded N.opened r) }
+        ensures at { IfOk result (λ end. HasEnded N.setup N.opened end) }
+        ensures unfinished { IfErr result (λ r. HasNotEnded N.setup N.opened r) }
         ensures back { IfErr result (λ r. r ≡ runner) }
     {
         let held = self.held.lock(rt);
-        held.goes_on();
-        held.machine().is_reached();
+        held.is_of_board();
         held.retire(runner)
     }
 
     /// The runner's next step over a link, which is asked for the try of a call.
     pub fn step_over<R: Wait, L: Link>(&self, rt: &R, runner: &mut Runner<A>, link: &mut L) -> Step
         ensures stream { runner.new.stream ≡ runner.old.stream }
-        ensures over { HasStepped L.asked link.old link.new N.opened runner.old runner.new (played_of result) }
+        ensures over { HasStepped L.asked link.old link.new N.setup N.opened runner.old runner.new (played_of result) }
         ensures lost { L.losses link.new ≡ L.losses link.old + bit (is_lost_answer (played_of result)) }
     {
         let step = self.held.lock(rt).make_step(&self.words, runner, link);
@@ -187,7 +185,7 @@ impl<A: Ledger, B: Ledger, C: Ledger, N: Naming> Board<A, B, C, N> {
     #[tactic(auto, using(crate::proofs::SureSteps::made_surely))]
     pub fn step<R: Wait>(&self, rt: &R, runner: &mut Runner<A>) -> Step
         ensures stream { runner.new.stream ≡ runner.old.stream }
-        ensures made { HasMadeStep N.opened runner.old runner.new (played_of result) }
+        ensures made { HasMadeStep N.setup N.opened runner.old runner.new (played_of result) }
     {
         self.step_over(rt, runner, &mut Sure)
     }
@@ -205,7 +203,7 @@ impl<A: Ledger, B: Ledger, C: Ledger, N: Naming> Board<A, B, C, N> {
         link: &mut L,
     ) -> Step
         ensures stream { runner.new.stream ≡ runner.old.stream }
-        ensures over { HasStepped L.asked link.old link.new N.opened runner.old runner.new (played_of result) }
+        ensures over { HasStepped L.asked link.old link.new N.setup N.opened runner.old runner.new (played_of result) }
         ensures lost { L.losses link.new ≡ L.losses link.old + bit (is_lost_answer (played_of result)) }
     {
         let mut held = self.held.lock(rt);
@@ -252,26 +250,24 @@ impl<A: Ledger, B: Ledger, C: Ledger, N: Naming> Board<A, B, C, N> {
     ) -> Answer
         requires shard { shard < length N.words.opening }
         requires server { server < N.words.servers }
-        ensures at { HasAnswered N.opened (happening.Arrive shard server) (played_by result) }
+        ensures at { HasAnswered N.setup N.opened (happening.Arrive shard server) (played_by result) }
         ensures tickets { tickets_in result ≡ tickets_of shard server (played_by result) }
         ensures caller { caller.new ≡ calling caller.old.seen (caller.old.executed + executes result) (caller.old.refused + refuses result) }
     {
         let mut held = self.held.lock(rt);
-        held.goes_on();
-        held.machine().is_reached();
+        held.is_of_board();
         held.arrive(caller, shard, server)
     }
 
     /// A request that was passed on comes to the server that it was passed to. Its ticket is spent by an answer of the server, and
     /// else comes back.
     pub fn pass_on<R: Wait>(&self, rt: &R, caller: &mut Caller<B, C, N>, ticket: Ticket) -> Answer
-        ensures at { HasAnswered N.opened (happening.PassOn ticket) (played_by result) }
+        ensures at { HasAnswered N.setup N.opened (happening.PassOn ticket) (played_by result) }
         ensures tickets { tickets_in result ≡ (if spends (played_by result) then tickets_of ticket.shard ticket.target (played_by result) else ticket ∷ []) }
         ensures caller { caller.new ≡ calling caller.old.seen (caller.old.executed + executes result) (caller.old.refused + refuses result) }
     {
         let mut held = self.held.lock(rt);
-        held.goes_on();
-        held.machine().is_reached();
+        held.is_of_board();
         held.pass_on(caller, ticket)
     }
 
@@ -291,15 +287,15 @@ impl<A: Ledger, B: Ledger, C: Ledger, N: Naming> Board<A, B, C, N> {
         guard.held.look_held(&self.words, caller, shard)
     }
 
-    /// The locked machine.
+    /// The locked machine, which is at a state of the board.
     pub fn hold<R: Wait>(&self, rt: &R) -> Guard<'_, A, B, C, N>
-        ensures goes_on { GoesOn N.opened (state_in result) }
+        ensures state { IsBoardState N.setup N.opened (state_in result) }
         ensures setup { result.machine.placement.setup ≡ N.setup }
         ensures shards { length N.words.opening ≡ length N.setup.shards }
         ensures servers { N.words.servers ≡ length N.setup.servers }
     {
         let held = self.held.lock(rt);
-        held.goes_on();
+        held.is_of_board();
         Guard { held }
     }
 }

@@ -206,9 +206,9 @@ pub fn run_beside<
     gate: &G,
 ) -> Result<Vec<Ended<A>>, NotRun<A>>
     ensures ended { IfOk result (λ ended. streams_ended ended.items ≡ streams_run runners.items) }
-    ensures at { IfOk result (λ ended. All (HasEnded N.opened) ended.items) }
-    ensures back_at { IfErr result (λ back. All (HasEnded N.opened) back.ended.items) }
-    ensures unfinished { IfErr result (λ back. may_have_stepped back.fault ≡ true → All (HasNotEnded N.opened) back.runners.items) }
+    ensures at { IfOk result (λ ended. All (HasEnded N.setup N.opened) ended.items) }
+    ensures back_at { IfErr result (λ back. All (HasEnded N.setup N.opened) back.ended.items) }
+    ensures unfinished { IfErr result (λ back. may_have_stepped back.fault ≡ true → All (HasNotEnded N.setup N.opened) back.runners.items) }
     ensures back { IfErr result (ComesBack (vec_len runners)) }
     ensures memory { IfErr result (λ back. back.fault ≡ NoMemory → back.runners.items ≡ runners.items) }
     ensures clients { length clients.new ≡ length clients.old }

@@ -2,7 +2,7 @@
 ghost use Rattle.std.specs.Prelude.{◌≡◌, ◌≤◌, ◌↔◌, IfOk, IfErr, IfSome, IfNone, IsTrue, OnOk, length, vec_capacity};
 ghost use Rattle.sm_protocol.specs.Laws.{AreDone};
 ghost use Rattle.sm_machine.specs.State.{state_of};
-ghost use Rattle.sm_executor.specs.Closed.{unfinished_streams, AreAllBack, IsAccount, IsClosed, IsNotClosed, StaysOpenFor, GoesOn};
+ghost use Rattle.sm_executor.specs.Closed.{unfinished_streams, AreAllBack, IsAccount, IsClosed, IsBoardState, IsNotClosed, StaysOpenFor};
 ghost use Rattle.sm_executor.specs.Views.{state_in};
 ghost use Rattle.sm_executor.specs.declared.limits.TheConstants.{MOST_UNFINISHED};
 
@@ -186,10 +186,10 @@ impl<A: Ledger, B: Ledger, C: Ledger, N: Naming> Board<A, B, C, N> {
         ended: Vec<Ended<A>>,
         callers: Vec<Caller<B, C, N>>,
     ) -> Result<Machine, NotClosed<A, B, C, N>>
-        ensures closed { IfOk result (λ machine. IsClosed N.opened (state_of machine) ended.items callers.items) }
+        ensures closed { IfOk result (λ machine. IsClosed N.setup N.opened (state_of machine) ended.items callers.items) }
         ensures setup { IfOk result (λ machine. machine.placement.setup ≡ N.setup) }
         ensures back { IfErr result (λ e. (e.ended ≡ ended.items) × (e.callers ≡ callers.items)) }
-        ensures why { IfErr result (λ e. IsNotClosed N.opened e.fault e.positions) }
+        ensures why { IfErr result (λ e. IsNotClosed N.setup N.opened e.fault e.positions) }
     {
         let Board {
             held,
@@ -199,8 +199,7 @@ impl<A: Ledger, B: Ledger, C: Ledger, N: Naming> Board<A, B, C, N> {
             mut positions,
         } = self;
         let held = held.into_inner();
-        held.goes_on();
-        held.machine().is_reached();
+        held.is_of_board();
         ends_are_reached();
         match held.close(ended, callers, &mut positions) {
             Ok(machine) => Ok(machine),
@@ -221,9 +220,9 @@ impl<A: Ledger, B: Ledger, C: Ledger, N: Naming> Board<A, B, C, N> {
         }
     }
 
-    /// The machine as it stands, with nothing told of what was counted.
+    /// The machine as it stands, which is at a state of the board, with nothing told of what was counted.
     pub fn give_up(self, ended: Vec<Ended<A>>, callers: Vec<Caller<B, C, N>>) -> Machine
-        ensures goes_on { GoesOn N.opened (state_of result) }
+        ensures state { IsBoardState N.setup N.opened (state_of result) }
         ensures setup { result.placement.setup ≡ N.setup }
     {
         spend_ended(ended);
@@ -236,7 +235,7 @@ impl<A: Ledger, B: Ledger, C: Ledger, N: Naming> Board<A, B, C, N> {
             positions: _,
         } = self;
         let held = held.into_inner();
-        held.goes_on();
+        held.is_of_board();
         held.give_up()
     }
 }

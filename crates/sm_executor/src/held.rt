@@ -20,7 +20,7 @@ ghost use Rattle.sm_machine.specs.Started.{IsNotStarted};
 ghost use Rattle.sm_placement.specs.Sums.{bit};
 ghost use Rattle.sm_protocol.specs.declared.event.BeginFault.TheVariants as fault;
 ghost use Rattle.sm_protocol.specs.declared.event.Played.TheVariants as played;
-ghost use Rattle.sm_executor.specs.Closed.{GoesOn};
+ghost use Rattle.sm_executor.specs.Closed.{IsBoardState};
 ghost use Rattle.sm_executor.specs.Counting.{Counts, executes, refuses};
 ghost use Rattle.sm_executor.specs.Names.{IsLedgerOf};
 ghost use Rattle.sm_executor.specs.Stepping.{HasStepped, is_waiting};
@@ -163,15 +163,15 @@ impl<A: Ledger, B: Ledger, C: Ledger, N: Naming> Held<A, B, C, N> {
         }
     }
 
-    /// A law: the machine goes on from the opening, and its configuration is the board's, which has as many shards and servers as the
+    /// A law: the machine is at a state of the board, and its configuration is the board's, which has as many shards and servers as the
     /// words.
-    pub fn goes_on(&self)
-        ensures goes_on { GoesOn N.opened (state_in self.now) }
+    pub fn is_of_board(&self)
+        ensures state { IsBoardState N.setup N.opened (state_in self.now) }
         ensures setup { self.now.machine.placement.setup ≡ N.setup }
         ensures shards { length N.words.opening ≡ length N.setup.shards }
         ensures servers { N.words.servers ≡ length N.setup.servers }
     {
-        let _runners = self.runners;
+        self.machine.is_reached();
     }
 
     /// The machine.
@@ -218,13 +218,12 @@ impl<A: Ledger, B: Ledger, C: Ledger, N: Naming> Held<A, B, C, N> {
         ensures over { IsStepOver L.asked link.old link.new (state_in self.old) runner.old.stream (played_of result) (state_in self.new) }
         ensures others { self.new ≡ held_model self.new.machine self.old.runners self.old.callers }
         ensures stream { runner.new.stream ≡ runner.old.stream }
-        ensures at { HasStepped L.asked link.old link.new N.opened runner.old runner.new (played_of result) }
+        ensures at { HasStepped L.asked link.old link.new N.setup N.opened runner.old runner.new (played_of result) }
         ensures lost { L.losses link.new ≡ L.losses link.old + bit (is_lost_answer (played_of result)) }
         ensures unasked { is_waiting result ≡ true → link.new ≡ link.old }
         ensures waits { is_waiting result ≡ true → runner.new ≡ runner.old }
     {
-        self.goes_on();
-        self.machine.is_reached();
+        self.is_of_board();
         self.step_over(words, runner, link)
     }
 

@@ -178,8 +178,8 @@ fn retire_all<A: Ledger, B: Ledger, C: Ledger, N: Naming, R: Wait>(
     requires none { (ended.old.items ≡ []) × (left.old.items ≡ []) }
     requires ended { vec_len ended.old + vec_len runners ≤ vec_capacity ended.old }
     requires left { vec_len left.old + vec_len runners ≤ vec_capacity left.old }
-    ensures at { All (HasEnded N.opened) ended.new.items }
-    ensures unfinished { All (HasNotEnded N.opened) left.new.items }
+    ensures at { All (HasEnded N.setup N.opened) ended.new.items }
+    ensures unfinished { All (HasNotEnded N.setup N.opened) left.new.items }
     ensures all { vec_len left.new + vec_len ended.new ≡ vec_len left.old + vec_len ended.old + vec_len runners }
 {
     runners.reverse();
@@ -249,9 +249,9 @@ impl<A: Ledger> Lists<A> {
     ) -> Result<Vec<Ended<A>>, NotRun<A>>
         requires room { (vec_len runners ≤ vec_capacity self.ended) × (vec_len runners ≤ vec_capacity self.left) }
         ensures ended { IfOk result (λ ended. streams_ended ended.items ≡ self.streams.items) }
-        ensures at { IfOk result (λ ended. All (HasEnded N.opened) ended.items) }
-        ensures back_at { IfErr result (λ back. All (HasEnded N.opened) back.ended.items) }
-        ensures unfinished { IfErr result (λ back. may_have_stepped back.fault ≡ true → All (HasNotEnded N.opened) back.runners.items) }
+        ensures at { IfOk result (λ ended. All (HasEnded N.setup N.opened) ended.items) }
+        ensures back_at { IfErr result (λ back. All (HasEnded N.setup N.opened) back.ended.items) }
+        ensures unfinished { IfErr result (λ back. may_have_stepped back.fault ≡ true → All (HasNotEnded N.setup N.opened) back.runners.items) }
         ensures back { IfErr result (ComesBack (vec_len runners)) }
         ensures memory { IfErr result (λ back. back.fault ≢ NoMemory) }
     {
@@ -304,9 +304,9 @@ pub fn run_over<
     gate: &G,
 ) -> Result<Vec<Ended<A>>, NotRun<A>>
     ensures ended { IfOk result (λ ended. streams_ended ended.items ≡ streams_run runners.items) }
-    ensures at { IfOk result (λ ended. All (HasEnded N.opened) ended.items) }
-    ensures back_at { IfErr result (λ back. All (HasEnded N.opened) back.ended.items) }
-    ensures unfinished { IfErr result (λ back. may_have_stepped back.fault ≡ true → All (HasNotEnded N.opened) back.runners.items) }
+    ensures at { IfOk result (λ ended. All (HasEnded N.setup N.opened) ended.items) }
+    ensures back_at { IfErr result (λ back. All (HasEnded N.setup N.opened) back.ended.items) }
+    ensures unfinished { IfErr result (λ back. may_have_stepped back.fault ≡ true → All (HasNotEnded N.setup N.opened) back.runners.items) }
     ensures back { IfErr result (ComesBack (vec_len runners)) }
     ensures memory { IfErr result (λ back. back.fault ≡ NoMemory → back.runners.items ≡ runners.items) }
 {
@@ -334,9 +334,9 @@ pub fn run<
     gate: &G,
 ) -> Result<Vec<Ended<A>>, NotRun<A>>
     ensures ended { IfOk result (λ ended. streams_ended ended.items ≡ streams_run runners.items) }
-    ensures at { IfOk result (λ ended. All (HasEnded N.opened) ended.items) }
-    ensures back_at { IfErr result (λ back. All (HasEnded N.opened) back.ended.items) }
-    ensures unfinished { IfErr result (λ back. may_have_stepped back.fault ≡ true → All (HasNotEnded N.opened) back.runners.items) }
+    ensures at { IfOk result (λ ended. All (HasEnded N.setup N.opened) ended.items) }
+    ensures back_at { IfErr result (λ back. All (HasEnded N.setup N.opened) back.ended.items) }
+    ensures unfinished { IfErr result (λ back. may_have_stepped back.fault ≡ true → All (HasNotEnded N.setup N.opened) back.runners.items) }
     ensures back { IfErr result (ComesBack (vec_len runners)) }
     ensures memory { IfErr result (λ back. back.fault ≡ NoMemory → back.runners.items ≡ runners.items) }
 {

@@ -134,16 +134,16 @@ callers_of clients = map (λ client. client.caller) clients
 
 -- the report of the machine of a board that is closed, at which one plan has begun
 pub is_told : (begun now : State) (setup given : Setup) (ended : List EndedModel) (callers : List CallerModel) (accepted asked : List ℕ) (result : Result Output Unmade)
-    → given ≡ setup → IsClosed begun now ended callers → OnOk result (length now.plans ≡ 1)
+    → given ≡ setup → IsClosed setup begun now ended callers → OnOk result (length now.plans ≡ 1)
     → IfOk result (λ made. made ≡ done (accepted ++ end_lines now 0 ++ asked ++ ending given now.place)) → IfErr result (λ why. IfUnmade why (λ made. ⊥))
-    → IfRan result (λ made. (x : State) × IsClosed begun x ended callers × (length x.plans ≡ 1) × (made ≡ done (accepted ++ end_lines x 0 ++ asked ++ ending setup x.place)))
+    → IfRan result (λ made. (x : State) × IsClosed setup begun x ended callers × (length x.plans ≡ 1) × (made ≡ done (accepted ++ end_lines x 0 ++ asked ++ ending setup x.place)))
 is_told begun now setup given ended callers accepted asked (Ok made) same closed alone text none = (now, closed, alone, text ∙ ap (λ (s : Setup). done (accepted ++ end_lines now 0 ++ asked ++ ending s now.place)) same)
 is_told begun now setup given ended callers accepted asked (Err why) same closed alone text none =
-    unmade_weaker why (λ made. ⊥) (λ made. (x : State) × IsClosed begun x ended callers × (length x.plans ≡ 1) × (made ≡ done (accepted ++ end_lines x 0 ++ asked ++ ending setup x.place))) (λ made never. absurd never) none
+    unmade_weaker why (λ made. ⊥) (λ made. (x : State) × IsClosed setup begun x ended callers × (length x.plans ≡ 1) × (made ≡ done (accepted ++ end_lines x 0 ++ asked ++ ending setup x.place))) (λ made never. absurd never) none
 
 -- with these ends and clients the board is closed at a state at which one plan has begun, and these lines are told of it
 abbrev pub IsTold : State → Setup → List EndedModel → List ClientModel → List ℕ → List ℕ → Output → Type 0
-IsTold begun setup ended clients accepted asked made = (now : State) × IsClosed begun now ended (map (λ client. client.caller) clients) × (length now.plans ≡ 1) × (made ≡ done (accepted ++ end_lines now 0 ++ asked ++ ending setup now.place))
+IsTold begun setup ended clients accepted asked made = (now : State) × IsClosed setup begun now ended (map (λ client. client.caller) clients) × (length now.plans ≡ 1) × (made ≡ done (accepted ++ end_lines now 0 ++ asked ++ ending setup now.place))
 
 -- the report of such a run on a board that is closed
 pub was_run : (begun : State) (setup : Setup) (asks : List ℕ) (ended : List EndedModel) (clients : List ClientModel) (accepted asked : List ℕ) (result : Result Output Unmade)
@@ -159,7 +159,7 @@ was_run begun setup asks ended clients accepted asked result one ran shards ways
       shards = shards;
       ways = ways;
       closed = is.1;
-      alone = nothing_more begun is.0 is.1.goes_on.plans one is.2;
+      alone = nothing_more begun is.0 is.1.state.state.goes_on.plans one is.2;
       told = is.3
           ∙ ap (λ text. done (text ++ end_lines is.0 0 ++ asked ++ ending setup is.0.place)) front
           ∙ ap (λ text. done (accepted_line (plan_at begun 0) ++ end_lines is.0 0 ++ text ++ ending setup is.0.place)) lines;

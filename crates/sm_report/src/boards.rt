@@ -224,7 +224,7 @@ fn report_ran<A: Ledger, B: Ledger, C: Ledger, N: Naming>(
 ) -> Result<Made, Unmade>
     requires none { given.callers.items ≡ [] }
     requires room { vec_len given.clients ≤ vec_capacity given.callers }
-    ensures { IfRan result (λ made. (now : State) × IsClosed N.opened now given.ended.items (map (λ client. client.caller) given.clients.items)
+    ensures { IfRan result (λ made. (now : State) × IsClosed N.setup N.opened now given.ended.items (map (λ client. client.caller) given.clients.items)
         × (length now.plans ≡ 1)
         × (made ≡ done (string_bytes accepted ++ end_lines now 0 ++ string_bytes asked ++ ending N.setup now.place))) }
 {

@@ -5,8 +5,8 @@ use Rattle.sm_executor.proofs.threads.retire_all.Given as goal
 
 abbrev pub invariant-loop-runner : goal.invariant-loop-runner
 invariant-loop-runner g l =
-    All (HasEnded g.N.Naming.opened) l.ended.items
-    × All (HasNotEnded g.N.Naming.opened) l.left.items
+    All (HasEnded g.N.Naming.setup g.N.Naming.opened) l.ended.items
+    × All (HasNotEnded g.N.Naming.setup g.N.Naming.opened) l.left.items
     × (vec_len l.ended + vec_len l.runners ≤ vec_capacity l.ended)
     × (vec_len l.left + vec_len l.runners ≤ vec_capacity l.left)
     × (vec_len l.left + vec_len l.ended + vec_len l.runners ≡ vec_len l.fn.left + vec_len l.fn.ended + vec_len l.fn.runners)

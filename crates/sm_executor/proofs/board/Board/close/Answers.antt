@@ -1,6 +1,5 @@
 -- A board is closed.
 use Rattle.std.proofs.Common.{◌∙◌, length, sym, subst}
-use Rattle.sm_protocol.specs.Laws.{IsReached}
 use Rattle.sm_machine.specs.Machine.{MachineModel}
 use Rattle.sm_machine.specs.State.{state_of}
 use Rattle.sm_executor.specs.Closed.{IsClosed}
@@ -10,22 +9,19 @@ use Rattle.sm_executor.proofs.board.Board.close.Goals as goal
 
 pub returns-in-Ok-clause-closed : goal.returns-in-Ok-clause-closed
 returns-in-Ok-clause-closed g c =
-    let h = c.into_inner-held.result in
-    let w = state_in h in
-    let reached = subst (λ (m : MachineModel). IsReached m.placement.setup (state_of m)) c.machine.ensures c.is_reached.ensures in
+    let state = c.is_of_board.ensures.state in
     let done = c.in-Ok.ensures.done in
-    let ends = c.ends_are_reached.ensures h.machine.placement.setup w reached done in
-    subst (λ (m : MachineModel). IsClosed g.N.Naming.opened (state_of m) c.args.ended.items c.args.callers.items) (sym c.in-Ok.ensures.machine)
-    (record { setup = h.machine.placement.setup; reached = reached; goes_on = c.goes_on.ensures.goes_on; done = done; in_log = ends.0; at_ends = ends.1; account = c.in-Ok.ensures.account })
+    let ends = c.ends_are_reached.ensures g.N.Naming.setup (state_in c.into_inner-held.result) state.reached done in
+    subst (λ (m : MachineModel). IsClosed g.N.Naming.setup g.N.Naming.opened (state_of m) c.args.ended.items c.args.callers.items) (sym c.in-Ok.ensures.machine)
+    (record { state = record { state = state; done = done; in_log = ends.0; at_ends = ends.1 }; account = c.in-Ok.ensures.account })
 
 pub returns-in-Err-clause-why : goal.returns-in-Err-clause-why
 returns-in-Err-clause-why g c =
     let h = c.into_inner-held.result in
-    let reached = subst (λ (m : MachineModel). IsReached m.placement.setup (state_of m)) c.machine.ensures c.is_reached.ensures in
     let named = c.again.ensures ∙ c.close.ensures.items in
     record {
       now = state_in h;
-      state = record { setup = h.machine.placement.setup; reached = reached; goes_on = c.goes_on.ensures.goes_on };
+      state = c.is_of_board.ensures.state;
       named = named;
       not_done = told_by_list h (length c.args.ended.items) (length c.args.callers.items) _ _ named c.in-Err.ensures.why;
     }

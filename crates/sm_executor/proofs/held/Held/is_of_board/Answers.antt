@@ -1,14 +1,17 @@
--- The machine goes on from the opening, and the words are of the board's configuration.
+-- The machine is at a state of the board, and the words are of the board's configuration.
 use Rattle.std.proofs.Common.{◌∙◌, ap, length, subst}
 use Rattle.sm_placement.specs.Setup.{Setup, Sizes}
+use Rattle.sm_protocol.specs.Laws.{IsReached}
+use Rattle.sm_machine.specs.State.{state_of}
 use Rattle.sm_machine.proofs.HandPlays.{sizes_are}
-use Rattle.sm_executor.specs.Closed.{GoesOn}
+use Rattle.sm_executor.specs.Closed.{IsBoardState}
 use Rattle.sm_executor.specs.Views.{HeldModel, state_in}
-use Rattle.sm_executor.proofs.held.Held.goes_on.Goals as goal
+use Rattle.sm_executor.proofs.held.Held.is_of_board.Goals as goal
 
-pub returns-clause-goes_on : goal.returns-clause-goes_on
-returns-clause-goes_on g c =
-    subst (λ (h : HeldModel). GoesOn g.N.Naming.opened (state_in h)) c.self.view_is c.self.invariant.14
+pub returns-clause-state : goal.returns-clause-state
+returns-clause-state g c =
+    subst (λ (h : HeldModel). IsBoardState g.N.Naming.setup g.N.Naming.opened (state_in h)) c.self.view_is
+    (record { reached = subst (λ (s : Setup). IsReached s (state_of c.self.inside.machine)) c.self.invariant.12 c.is_reached.ensures; goes_on = c.self.invariant.14 })
 
 pub returns-clause-shards : goal.returns-clause-shards
 returns-clause-shards g c =
