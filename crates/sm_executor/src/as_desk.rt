@@ -13,7 +13,7 @@ use std::sync::ledger::Ledger;
 
 impl<A: Ledger, B: Ledger, C: Ledger, N: Naming> Desk for Board<A, B, C, N> {
     ghost use Rattle.std.specs.Prelude.{length};
-    ghost use Rattle.sm_executor.specs.Clients.{looked, answer_counted};
+    ghost use Rattle.sm_executor.specs.Clients.{looked, HasArrived, HasPassedOn};
 
     type Caller = Caller<B, C, N>;
 
@@ -23,9 +23,9 @@ impl<A: Ledger, B: Ledger, C: Ledger, N: Naming> Desk for Board<A, B, C, N> {
 
     ghost looked = { λ board. looked };
 
-    ghost arrived = { λ board old shard server. answer_counted old };
+    ghost arrived = { λ board. HasArrived N.setup N.opened };
 
-    ghost passed_on = { λ board old ticket. answer_counted old };
+    ghost passed_on = { λ board. HasPassedOn N.setup N.opened };
 
     #[tactic(auto, using(crate::proofs::Ranges::known_server))]
     fn look(&self, caller: &mut Caller<B, C, N>, shard: ShardId) -> Entry {

@@ -39,7 +39,7 @@ impl<B: Ledger, C: Ledger, N: Naming> Model for Client<B, C, N> {
 
     ghost view = { λ c. asking c.shard c.asked c.caller };
 
-    ghost invariant = { λ c. (c.shard < length N.words.opening) × IsClient (asking c.shard c.asked c.caller) };
+    ghost invariant = { λ c. (c.shard < length N.words.opening) × IsClient N.setup N.opened (asking c.shard c.asked c.caller) };
 }
 
 impl<B: Ledger, C: Ledger, N: Naming> Client<B, C, N> {
@@ -67,7 +67,7 @@ impl<B: Ledger, C: Ledger, N: Naming> Client<B, C, N> {
     pub fn ask<A: Ledger, R: Wait>(&mut self, rt: &R, board: &Board<A, B, C, N>)
         ensures shard { self.new.shard ≡ self.old.shard }
         ensures asked { self.new.asked ≢ None }
-        ensures once { AsksOnce self.old self.new }
+        ensures once { AsksOnce N.setup N.opened self.old self.new }
     {
         if self.asked.is_none() {
             self.asked = Some(ask(rt, board, &mut self.caller, self.shard));
@@ -77,7 +77,7 @@ impl<B: Ledger, C: Ledger, N: Naming> Client<B, C, N> {
     /// What it was answered. None where it has not asked yet.
     pub fn asked(&self) -> Option<Asked>
         ensures answer { result ≡ self.now.asked }
-        ensures way { IsClient self.now }
+        ensures way { IsClient N.setup N.opened self.now }
     {
         self.asked
     }

@@ -147,7 +147,7 @@ IsTold begun setup ended clients accepted asked made = (now : State) × IsClosed
 
 -- the report of such a run on a board that is closed
 pub was_run : (begun : State) (setup : Setup) (asks : List ℕ) (ended : List EndedModel) (clients : List ClientModel) (accepted asked : List ℕ) (result : Result Output Unmade)
-    → length begun.plans ≡ 1 → HasRun (stream_count begun 0) ended clients → shards_of clients ≡ asks → All IsClient clients → accepted ≡ accepted_line (plan_at begun 0) → asked ≡ client_lines setup 0 clients
+    → length begun.plans ≡ 1 → HasRun (stream_count begun 0) ended clients → shards_of clients ≡ asks → All (IsClient setup begun) clients → accepted ≡ accepted_line (plan_at begun 0) → asked ≡ client_lines setup 0 clients
     → IfRan result (IsTold begun setup ended clients accepted asked) → IfRan result (WasRun begun setup asks)
 was_run begun setup asks ended clients accepted asked result one ran shards ways front lines h =
     ran_weaker result (IsTold begun setup ended clients accepted asked) (WasRun begun setup asks)

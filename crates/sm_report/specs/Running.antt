@@ -41,7 +41,7 @@ pub record WasRun (begun : State) (setup : Setup) (asks : List ℕ) (output : Ou
   pub clients : List ClientModel
   pub ran : HasRun (stream_count begun 0) ended clients
   pub shards : map (λ client. client.shard) clients ≡ asks
-  pub ways : All IsClient clients
+  pub ways : All (IsClient setup begun) clients
   pub closed : IsClosed setup begun now ended (map (λ client. client.caller) clients)
   pub alone : now.plans ≡ begun.plans
   pub told : output ≡ done (accepted_line (plan_at begun 0) ++ end_lines now 0 ++ client_lines setup 0 clients ++ ending setup now.place)

@@ -136,7 +136,7 @@ fn tell_asks<B: Ledger, C: Ledger, N: Naming>(
 ) -> Result<String, Unmade>
     ensures shards { OnOk result (map (λ client. client.shard) clients.now ≡ asks.now) }
     ensures asked { IfOk result (λ asked. string_bytes asked ≡ client_lines config.now 0 clients.now) }
-    ensures ways { OnOk result (All IsClient clients.now) }
+    ensures ways { OnOk result (All (IsClient N.setup N.opened) clients.now) }
     ensures why { IfErr result (λ why. IfUnmade why (λ made. ⊥)) }
 {
     if !are_of(clients, asks) {
@@ -171,7 +171,7 @@ fn run_told<
     ensures ran { OnOk result (HasRun (stream_count N.opened 0) given.new.ended.items given.new.clients.items) }
     ensures shards { OnOk result (map (λ client. client.shard) given.new.clients.items ≡ asks.now) }
     ensures asked { IfOk result (λ asked. string_bytes asked ≡ client_lines N.setup 0 given.new.clients.items) }
-    ensures ways { OnOk result (All IsClient given.new.clients.items) }
+    ensures ways { OnOk result (All (IsClient N.setup N.opened) given.new.clients.items) }
     ensures why { IfErr result (λ why. IfUnmade why (λ made. ⊥)) }
 {
     run_begun(rt, alloc, board, runners, asks, given)?;

@@ -112,7 +112,7 @@ pub fn push_clients<B: Ledger, C: Ledger, N: Naming>(
 ) -> Result<(), AllocError>
     ensures lines { OnOk result (string_bytes out.new ≡ string_bytes out.old ++ client_lines config.now 0 clients.now) }
     // Each answer is one that the client's ask may come to.
-    ensures ways { OnOk result (All IsClient clients.now) }
+    ensures ways { OnOk result (All (IsClient N.setup N.opened) clients.now) }
 {
     for (i, client) in clients.iter().enumerate() {
         push_client(out, config, i, client.asked())?;
