@@ -1,5 +1,6 @@
 pub mod Effects
 pub mod Keeps
+pub mod Knowing
 pub mod Ranges
 pub mod Starting
 pub mod StillRunning

@@ -1,8 +1,8 @@
 -- What an ask at a board may come to.
-use Rattle.std.specs.Prelude.{◌≡◌, ◌+◌, ◌∷◌, [], ℕ, Option, Some, None, if◌then◌else◌}
+use Rattle.std.specs.Prelude.{◌≡◌, ◌+◌, ◌∷◌, [], ℕ, List, Option, Some, None, if◌then◌else◌}
 use Rattle.sm_placement.specs.Setup.{Setup}
 use Rattle.sm_placement.specs.declared.entry.Entry.{Entry}
-use Rattle.sm_map.specs.History.{NoneNewer}
+use Rattle.sm_map.specs.History.{AllSameOrOlder}
 use Rattle.sm_protocol.specs.Ticket.{Ticket}
 use Rattle.sm_protocol.specs.State.{State}
 use Rattle.sm_protocol.specs.Happens.{Arrive, PassOn}
@@ -13,15 +13,16 @@ use Rattle.sm_router.specs.Asking.{HasAsked}
 use Rattle.sm_router.specs.declared.asking.Asked.{Asked}
 use Rattle.sm_executor.specs.Answering.{HasAnswered}
 use Rattle.sm_executor.specs.Counting.{executes, refuses}
-use Rattle.sm_executor.specs.Views.{CallerModel, calling}
+use Rattle.sm_executor.specs.Looking.{KnowsSameOrOlder}
+use Rattle.sm_executor.specs.Views.{CallerModel, calling, IsNewCaller}
 
--- a look adds the entry to what the caller has seen, and is no older than that
+-- a look adds the entry to what the caller has seen, and is no older than that and than what the caller knows
 abbrev pub looked : CallerModel → ℕ → Entry → CallerModel → Type 0
-looked old shard entry new = (new ≡ calling ((shard, entry) ∷ old.seen) old.executed old.refused) × NoneNewer old.seen shard entry
+looked old shard entry new = (new ≡ calling old.known ((shard, entry) ∷ old.seen) old.executed old.refused) × AllSameOrOlder old.seen shard entry × KnowsSameOrOlder old shard entry
 
 -- an answer is counted by the caller whose request it answers
 abbrev pub answer_counted : CallerModel → Answer → CallerModel → Type 0
-answer_counted old answer new = new ≡ calling old.seen (old.executed + executes answer) (old.refused + refuses answer)
+answer_counted old answer new = new ≡ calling old.known old.seen (old.executed + executes answer) (old.refused + refuses answer)
 
 -- A request for the shard came to the server: at a state of the board it is answered so, a pass gives its ticket, and the caller counts
 -- the answer.
@@ -52,13 +53,14 @@ asking shard asked caller = record { shard = shard; asked = asked; caller = call
 abbrev pub IsAsk : Setup → State → ℕ → CallerModel → Asked → CallerModel → Type 0
 IsAsk setup opened shard = HasAsked looked (HasArrived setup opened) (HasPassedOn setup opened) shard
 
--- Before its ask at such a board a client's caller has seen and counted nothing, and then what this ask has seen and counted.
+-- Before its ask at such a board a client's caller has seen and counted nothing, and then what this ask has seen and counted, whatever it
+-- knew of the map.
 abbrev pub IsClient : Setup → State → ClientModel → Type 0
 IsClient setup opened client = stands client.asked
   where
     stands : Option Asked → Type 0
-    stands None = client.caller ≡ calling [] 0 0
-    stands (Some said) = IsAsk setup opened client.shard (calling [] 0 0) said client.caller
+    stands None = IsNewCaller client.caller
+    stands (Some said) = (known : List Entry) × IsAsk setup opened client.shard (calling known [] 0 0) said client.caller
 
 -- A client that had not asked has asked once at such a board, for its shard. One that had is as it was.
 abbrev pub AsksOnce : Setup → State → ClientModel → ClientModel → Type 0

@@ -1,3 +1,4 @@
+pub mod Looking
 pub mod Names
 pub mod Counting
 pub mod Tied

@@ -1,6 +1,6 @@
 -- What contracts see of what lies behind the lock, of a runner, of an end and of a caller.
 -- `recorded_more` is a step of the code's own way, which private functions' contracts cite: whoever reads the public ones need not read it.
-use Rattle.std.specs.Prelude.{◌≡◌, ◌<◌, ℕ, ◌-◌, List, length, map, slice_index_or}
+use Rattle.std.specs.Prelude.{◌≡◌, ◌<◌, ℕ, ◌-◌, List, [], length, map, slice_index_or}
 use Rattle.sm_placement.specs.declared.entry.Entry.{Entry}
 use Rattle.sm_reservation.specs.declared.stream_id.StreamId.{StreamId}
 use Rattle.sm_protocol.specs.State.{State, stream_id, progress_of, allowance}
@@ -65,12 +65,18 @@ end_in w runner = finished runner.stream (steps_at_end w runner.stream) (progres
 abbrev pub recorded_more : State → State → ℕ
 recorded_more old new = length new.log - length old.log
 
--- what a caller has seen, and how many of its requests were executed and refused
+-- the entries that a caller knows to have been in the map, one for each shard, what it has seen of the map, the last first, and how many of its
+-- requests were executed and refused
 pub record CallerModel : Type 0 where
+  pub known : List Entry
   pub seen : List (ℕ × Entry)
   pub executed : ℕ
   pub refused : ℕ
 
--- a caller that has seen this, with these counts
-abbrev pub calling : List (ℕ × Entry) → ℕ → ℕ → CallerModel
-calling seen executed refused = record { seen = seen; executed = executed; refused = refused }
+-- a caller that knows and has seen this, with these counts
+abbrev pub calling : List Entry → List (ℕ × Entry) → ℕ → ℕ → CallerModel
+calling known seen executed refused = record { known = known; seen = seen; executed = executed; refused = refused }
+
+-- a caller that has seen and counted nothing
+abbrev pub IsNewCaller : CallerModel → Type 0
+IsNewCaller caller = caller ≡ calling caller.known [] 0 0

@@ -5,7 +5,7 @@
 ghost use Rattle.std.specs.Prelude.{◌≡◌, ◌≢◌, ◌<◌, ◌≤◌, ◌+◌, ◌∷◌, [], length, IfOk, IfErr, IfSome, if◌then◌else◌, vec_capacity};
 ghost use Rattle.sm_placement.specs.Place.{entry_at};
 ghost use Rattle.sm_map.specs.Entry.{IsInRange};
-ghost use Rattle.sm_map.specs.History.{NoneNewer};
+ghost use Rattle.sm_map.specs.History.{AllSameOrOlder};
 ghost use Rattle.sm_protocol.specs.Steps.{Answered};
 ghost use Rattle.sm_protocol.specs.declared.event.BeginFault.TheVariants as fault;
 ghost use Rattle.sm_protocol.specs.Happens as happening;
@@ -20,10 +20,11 @@ ghost use Rattle.sm_executor.specs.Answering.{HasAnswered};
 ghost use Rattle.sm_executor.specs.Closed.{IsBoardState};
 ghost use Rattle.sm_executor.specs.Counting.{executes, refuses};
 ghost use Rattle.sm_executor.specs.Ending.{HasEnded, HasNotEnded};
+ghost use Rattle.sm_executor.specs.Looking.{HasKnownMap, KnowsMap, KnowsSameOrOlder};
 ghost use Rattle.sm_executor.specs.Starting.{HasBegun, HasNotBegun};
 ghost use Rattle.sm_executor.specs.Stepping.{HasMadeStep, HasStepped, is_waiting};
 ghost use Rattle.sm_executor.specs.Tied.{HasStood};
-ghost use Rattle.sm_executor.specs.Views.{held_model, state_in, calling};
+ghost use Rattle.sm_executor.specs.Views.{held_model, state_in, calling, IsNewCaller};
 ghost use Rattle.sm_plan_code.specs.declared.limits.TheConstants.{MOST_CALLS};
 ghost use Rattle.sm_executor.specs.declared.limits.TheConstants.{MOST_UNFINISHED};
 
@@ -174,11 +175,14 @@ impl<A: Ledger, B: Ledger, C: Ledger, N: Naming> Board<A, B, C, N> {
         step
     }
 
-    /// A new caller, which has seen nothing. None where the board has given out 4,096.
+    /// A new caller, which has seen nothing and knows the entries of some state of the board. None where the board has given out 4,096.
     pub fn caller<R: Wait>(&self, rt: &R) -> Option<Caller<B, C, N>>
-        ensures { IfSome result (λ caller. caller ≡ calling [] 0 0) }
+        ensures new { IfSome result (λ caller. IsNewCaller caller) }
+        ensures known { IfSome result (λ caller. HasKnownMap N.setup N.opened caller) }
     {
-        self.held.lock(rt).caller(&self.words)
+        let mut held = self.held.lock(rt);
+        held.is_of_board();
+        held.caller(&self.words)
     }
 
     /// The runner's next step, of which no call is lost.
@@ -230,11 +234,13 @@ impl<A: Ledger, B: Ledger, C: Ledger, N: Naming> Board<A, B, C, N> {
         self.moved.notify_all();
     }
 
-    /// The map's entry of a shard, by one load of its word and without the lock.
+    /// The map's entry of a shard, by one load of its word and without the lock. It is no older than what the caller has seen, and than what it
+    /// knows: the entry of the map when it was given out, or when it last looked behind the lock.
     pub fn look(&self, caller: &mut Caller<B, C, N>, shard: ShardId) -> Entry
         requires { shard < length N.words.opening }
-        ensures seen { caller.new ≡ calling ((shard, result) ∷ caller.old.seen) caller.old.executed caller.old.refused }
-        ensures not_older { NoneNewer caller.old.seen shard result }
+        ensures seen { caller.new ≡ calling caller.old.known ((shard, result) ∷ caller.old.seen) caller.old.executed caller.old.refused }
+        ensures not_older { AllSameOrOlder caller.old.seen shard result }
+        ensures not_before { KnowsSameOrOlder caller.old shard result }
         ensures in_range { IsInRange N.words.servers result }
     {
         caller.look(&self.words, shard)
@@ -252,7 +258,7 @@ impl<A: Ledger, B: Ledger, C: Ledger, N: Naming> Board<A, B, C, N> {
         requires server { server < N.words.servers }
         ensures at { HasAnswered N.setup N.opened (happening.Arrive shard server) (played_by result) }
         ensures tickets { tickets_in result ≡ tickets_of shard server (played_by result) }
-        ensures caller { caller.new ≡ calling caller.old.seen (caller.old.executed + executes result) (caller.old.refused + refuses result) }
+        ensures caller { caller.new ≡ calling caller.old.known caller.old.seen (caller.old.executed + executes result) (caller.old.refused + refuses result) }
     {
         let mut held = self.held.lock(rt);
         held.is_of_board();
@@ -264,14 +270,15 @@ impl<A: Ledger, B: Ledger, C: Ledger, N: Naming> Board<A, B, C, N> {
     pub fn pass_on<R: Wait>(&self, rt: &R, caller: &mut Caller<B, C, N>, ticket: Ticket) -> Answer
         ensures at { HasAnswered N.setup N.opened (happening.PassOn ticket) (played_by result) }
         ensures tickets { tickets_in result ≡ (if spends (played_by result) then tickets_of ticket.shard ticket.target (played_by result) else ticket ∷ []) }
-        ensures caller { caller.new ≡ calling caller.old.seen (caller.old.executed + executes result) (caller.old.refused + refuses result) }
+        ensures caller { caller.new ≡ calling caller.old.known caller.old.seen (caller.old.executed + executes result) (caller.old.refused + refuses result) }
     {
         let mut held = self.held.lock(rt);
         held.is_of_board();
         held.pass_on(caller, ticket)
     }
 
-    /// The machine's entry of a shard, which the caller has then seen. Each entry that the caller had seen is one of the machine's.
+    /// The machine's entry of a shard, which the caller has then seen. The caller then knows the machine's entry of each shard. Each entry that
+    /// the caller had seen is one of the machine's.
     pub fn look_held(
         &self,
         guard: &mut Guard<'_, A, B, C, N>,
@@ -282,7 +289,8 @@ impl<A: Ledger, B: Ledger, C: Ledger, N: Naming> Board<A, B, C, N> {
         ensures entry { result ≡ entry_at (state_in guard.old).place shard }
         ensures same { guard.new ≡ guard.old }
         ensures stood { HasStood N.words N.opened (state_in guard.old) caller.old.seen }
-        ensures seen { caller.new ≡ calling ((shard, result) ∷ caller.old.seen) caller.old.executed caller.old.refused }
+        ensures known { KnowsMap (state_in guard.old) caller.new }
+        ensures seen { caller.new ≡ calling caller.new.known ((shard, result) ∷ caller.old.seen) caller.old.executed caller.old.refused }
     {
         guard.held.look_held(&self.words, caller, shard)
     }

@@ -1,7 +1,8 @@
 //! Who asks at a board.
 ghost use Rattle.std.specs.Prelude.{◌≡◌, ◌<◌, ◌∷◌, length};
 ghost use Rattle.sm_map.specs.Entry.{IsInRange};
-ghost use Rattle.sm_map.specs.History.{NoneNewer};
+ghost use Rattle.sm_map.specs.History.{AllSameOrOlder};
+ghost use Rattle.sm_executor.specs.Looking.{KnowsSameOrOlder};
 ghost use Rattle.sm_executor.specs.Views.{calling};
 
 use crate::names::Naming;
@@ -13,7 +14,8 @@ use std::sync::ledger::{Ledger, Share};
 /// A pass of the map, and shares of the requests that were executed and of those that were refused. It can be neither copied
 /// nor dropped.
 ///
-/// A contract sees what it has seen of the map, the last first, and both counts.
+/// A contract sees which entry of each shard it knows, what it has seen of the map, the last first, and both counts. It knows the entries that
+/// the map had when it was given out, or when it last looked behind the lock.
 pub struct Caller<B: Ledger, C: Ledger, N: Naming> {
     pub(crate) pass: Pass,
     pub(crate) executed: Share<B>,
@@ -23,11 +25,12 @@ pub struct Caller<B: Ledger, C: Ledger, N: Naming> {
 
 impl<B: Ledger, C: Ledger, N: Naming> Model for Caller<B, C, N> {
     ghost use Rattle.std.specs.Prelude.{◌≡◌};
+    ghost use Rattle.sm_executor.specs.Looking.{known_of};
     ghost use Rattle.sm_executor.specs.Views.{CallerModel, calling};
 
     ghost Value = { CallerModel };
 
-    ghost view = { λ c. calling c.pass.seen c.executed.amount c.refused.amount };
+    ghost view = { λ c. calling (known_of c.pass.words.opening c.pass.since) c.pass.seen c.executed.amount c.refused.amount };
 
     ghost invariant = { λ c. (c.pass.words ≡ N.words) × (c.executed.parts ≡ 1) × (c.refused.parts ≡ 1) };
 }
@@ -37,8 +40,9 @@ impl<B: Ledger, C: Ledger, N: Naming> Caller<B, C, N> {
     pub(crate) fn look(&mut self, words: &Words, shard: ShardId) -> Entry
         requires words { words.now ≡ N.words }
         requires shard { shard < length N.words.opening }
-        ensures seen { self.new ≡ calling ((shard, result) ∷ self.old.seen) self.old.executed self.old.refused }
-        ensures not_older { NoneNewer self.old.seen shard result }
+        ensures seen { self.new ≡ calling self.old.known ((shard, result) ∷ self.old.seen) self.old.executed self.old.refused }
+        ensures not_older { AllSameOrOlder self.old.seen shard result }
+        ensures not_before { KnowsSameOrOlder self.old shard result }
         ensures in_range { IsInRange N.words.servers result }
     {
         words.look(&mut self.pass, shard)

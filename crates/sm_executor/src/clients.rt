@@ -1,9 +1,9 @@
 //! Clients that ask at a board, each in a thread of its own, beside a run.
-ghost use Rattle.std.specs.Prelude.{◌≡◌, ◌≢◌, ◌<◌, [], None, IfOk, IfErr, OnOk, All, length, true, vec_len};
+ghost use Rattle.std.specs.Prelude.{◌≡◌, ◌≢◌, ◌<◌, None, IfOk, IfErr, OnOk, All, length, true, vec_len};
 ghost use Rattle.sm_executor.specs.Clients.{asking, AsksOnce, IsClient};
 ghost use Rattle.sm_executor.specs.Ending.{HasEnded, HasNotEnded};
 ghost use Rattle.sm_executor.specs.NotRun.{ComesBack, may_have_stepped};
-ghost use Rattle.sm_executor.specs.Views.{calling, streams_ended, streams_run};
+ghost use Rattle.sm_executor.specs.Views.{IsNewCaller, streams_ended, streams_run};
 ghost use Rattle.sm_executor.specs.declared.threads.RunFault.TheVariants.{NoMemory};
 
 use crate::board::Board;
@@ -46,8 +46,8 @@ impl<B: Ledger, C: Ledger, N: Naming> Client<B, C, N> {
     /// A client that has not asked yet, with a caller that the board has given out.
     pub fn new(caller: Caller<B, C, N>, shard: ShardId) -> Client<B, C, N>
         requires shard { shard < length N.words.opening }
-        requires new { caller ≡ calling [] 0 0 }
-        ensures { result ≡ asking shard None (calling [] 0 0) }
+        requires new { IsNewCaller caller }
+        ensures { result ≡ asking shard None caller }
     {
         Client {
             caller,

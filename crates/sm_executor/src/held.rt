@@ -4,7 +4,7 @@
 //! and what a step publishes is stored in the words before the method returns.
 ghost use Rattle.std.specs.Prelude.{◌≡◌, ◌≢◌, OnOk, OnErr, ◌<◌, ◌≤◌, ◌+◌, ◌*◌, ◌++◌, ◌∷◌, [], length, map, IfOk, IfErr, IfSome, IfNone, true, false, if◌then◌else◌, vec_len, vec_capacity};
 ghost use Rattle.sm_placement.specs.Place.{entry_at};
-ghost use Rattle.sm_map.specs.History.{NoneNewer};
+ghost use Rattle.sm_map.specs.History.{AllSameOrOlder};
 ghost use Rattle.sm_protocol.specs.State.{progress_of, is_running};
 ghost use Rattle.sm_protocol.specs.Steps.{Answered};
 ghost use Rattle.sm_protocol.specs.Happens as happening;
@@ -22,10 +22,11 @@ ghost use Rattle.sm_protocol.specs.declared.event.BeginFault.TheVariants as faul
 ghost use Rattle.sm_protocol.specs.declared.event.Played.TheVariants as played;
 ghost use Rattle.sm_executor.specs.Closed.{IsBoardState};
 ghost use Rattle.sm_executor.specs.Counting.{Counts, executes, refuses};
+ghost use Rattle.sm_executor.specs.Looking.{KnowsMap};
 ghost use Rattle.sm_executor.specs.Names.{IsLedgerOf};
 ghost use Rattle.sm_executor.specs.Stepping.{HasStepped, is_waiting};
 ghost use Rattle.sm_executor.specs.Tied.{IsPublished, IsBehind, HasStood};
-ghost use Rattle.sm_executor.specs.Views.{held_model, state_in, running, recorded_more, calling, AreRunners, end_in};
+ghost use Rattle.sm_executor.specs.Views.{held_model, state_in, running, recorded_more, calling, IsNewCaller, AreRunners, end_in};
 ghost use Rattle.sm_plan_code.specs.declared.limits.TheConstants.{MOST_CALLS, MOST_STREAMS};
 ghost use Rattle.sm_executor.specs.declared.limits.TheConstants.{MOST_CALLERS};
 
@@ -116,7 +117,7 @@ fn count_answer<B: Ledger, C: Ledger, N: Naming>(
 )
     ensures executed { executed.new.total ≡ executed.old.total + executes answer.now }
     ensures refused { refused.new.total ≡ refused.old.total + refuses answer.now }
-    ensures caller { caller.new ≡ calling caller.old.seen (caller.old.executed + executes answer.now) (caller.old.refused + refuses answer.now) }
+    ensures caller { caller.new ≡ calling caller.old.known caller.old.seen (caller.old.executed + executes answer.now) (caller.old.refused + refuses answer.now) }
 {
     match answer {
         Answer::Executed { .. } => executed.add(&mut caller.executed, 1),
@@ -320,7 +321,7 @@ impl<A: Ledger, B: Ledger, C: Ledger, N: Naming> Held<A, B, C, N> {
         ensures state { state_in self.new ≡ (happens (state_in self.old) (happening.Arrive shard server)).1 }
         ensures tickets { tickets_in result ≡ tickets_of shard server (played_by result) }
         ensures others { self.new ≡ held_model self.new.machine self.old.runners self.old.callers }
-        ensures caller { caller.new ≡ calling caller.old.seen (caller.old.executed + executes result) (caller.old.refused + refuses result) }
+        ensures caller { caller.new ≡ calling caller.old.known caller.old.seen (caller.old.executed + executes result) (caller.old.refused + refuses result) }
     {
         let answer = self.machine.arrive(shard, server);
         count_answer(&mut self.executed, &mut self.refused, caller, &answer);
@@ -333,19 +334,20 @@ impl<A: Ledger, B: Ledger, C: Ledger, N: Naming> Held<A, B, C, N> {
         ensures state { state_in self.new ≡ (happens (state_in self.old) (happening.PassOn ticket)).1 }
         ensures tickets { tickets_in result ≡ (if spends (played_by result) then tickets_of ticket.shard ticket.target (played_by result) else ticket ∷ []) }
         ensures others { self.new ≡ held_model self.new.machine self.old.runners self.old.callers }
-        ensures caller { caller.new ≡ calling caller.old.seen (caller.old.executed + executes result) (caller.old.refused + refuses result) }
+        ensures caller { caller.new ≡ calling caller.old.known caller.old.seen (caller.old.executed + executes result) (caller.old.refused + refuses result) }
     {
         let answer = self.machine.pass_on(ticket);
         count_answer(&mut self.executed, &mut self.refused, caller, &answer);
         answer
     }
 
-    /// A new caller, which has seen nothing. None where the board has given out 4,096.
+    /// A new caller, which has seen nothing and knows the machine's entries. None where the board has given out 4,096.
     ///
     /// Takes no memory.
     pub fn caller(&mut self, words: &Words) -> Option<Caller<B, C, N>>
         requires { words.now ≡ N.words }
-        ensures some { IfSome result (λ caller. (caller ≡ calling [] 0 0) × (self.new ≡ held_model self.old.machine self.old.runners (self.old.callers + 1))) }
+        ensures some { IfSome result (λ caller. IsNewCaller caller × (self.new ≡ held_model self.old.machine self.old.runners (self.old.callers + 1))) }
+        ensures known { IfSome result (λ caller. KnowsMap (state_in self.old) caller) }
         ensures none { IfNone result ((self.new ≡ self.old) × (self.old.callers ≡ MOST_CALLERS)) }
     {
         if self.callers >= MOST_CALLERS {
@@ -363,7 +365,7 @@ impl<A: Ledger, B: Ledger, C: Ledger, N: Naming> Held<A, B, C, N> {
         })
     }
 
-    /// The machine's entry of a shard, which the caller has then seen. Each entry that the caller had seen is one of those with which
+    /// The machine's entry of a shard, which the caller has then seen. The caller then knows the machine's entry of each shard. Each entry that the caller had seen is one of those with which
     /// the board was opened, or one that the machine has published since.
     pub fn look_held(
         &mut self,
@@ -376,8 +378,9 @@ impl<A: Ledger, B: Ledger, C: Ledger, N: Naming> Held<A, B, C, N> {
         ensures entry { result ≡ entry_at (state_in self.old).place shard }
         ensures same { self.new ≡ self.old }
         ensures stood { HasStood N.words N.opened (state_in self.old) caller.old.seen }
-        ensures seen { caller.new ≡ calling ((shard, result) ∷ caller.old.seen) caller.old.executed caller.old.refused }
-        ensures not_older { NoneNewer caller.old.seen shard result }
+        ensures known { KnowsMap (state_in self.old) caller.new }
+        ensures seen { caller.new ≡ calling caller.new.known ((shard, result) ∷ caller.old.seen) caller.old.executed caller.old.refused }
+        ensures not_older { AllSameOrOlder caller.old.seen shard result }
     {
         words.meet_in(&mut self.publisher, &mut caller.pass, shard)
     }

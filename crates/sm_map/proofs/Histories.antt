@@ -1,12 +1,12 @@
--- Lists of entries: what a store adds, and that what was seen is no newer than the newest entry.
-use Rattle.std.proofs.Common.{◌≡◌, ◌≢◌, ℕ, zero, suc, ◌<◌, ◌≤◌, List, [], ◌∷◌, map, length, Bool, true, false, refl, sym, ap, subst, arith, eqb, eq-eqb, ne_eqb}
+-- Lists of entries: what a store adds, and that what was seen or stored earlier is the newest entry or an older one.
+use Rattle.std.proofs.Common.{◌≡◌, ◌≢◌, inl, inr, ℕ, zero, suc, ◌+◌, ◌<◌, ◌≤◌, List, [], ◌∷◌, ◌++◌, map, length, Bool, true, false, refl, sym, ap, ◌∙◌, subst, arith, eqb, eq-eqb, ne_eqb}
 use Rattle.std.specs.Prelude.{slice_index, slice_index_or, if◌then◌else◌, Option, Some, None, All, Contains}
-use Rattle.std.proofs.lemmas.List.Elements.{All-nil, All-cons, All-head, All-tail}
+use Rattle.std.proofs.lemmas.List.Elements.{All-nil, All-cons, All-head, All-tail, Contains-get_or}
 use mathlib.Core.Logic.{dite}
 use native.Mathlib.Decide.{ℕ_discrete}
 use Rattle.sm_placement.specs.declared.entry.Entry.{Entry}
 use Rattle.sm_map.specs.Entry.{word_for, IsKnownServer, IsInRange}
-use Rattle.sm_map.specs.History.{opened_at, entries_of_shard, newest, Follows, VersionsRise, NoneNewer, AllStand, word_at, words_for}
+use Rattle.sm_map.specs.History.{opened_at, entries_of_shard, newest, Follows, VersionsRise, IsSameOrOlder, AllSameOrOlder, IsNotBefore, AllStand, word_at, words_for}
 
 -- an entry that is in range stays so for a larger count
 pub in_range_more : (few many : ℕ) (entry : Entry) → few ≤ many → IsInRange few entry → IsInRange many entry
@@ -16,12 +16,16 @@ in_range_more few many entry more good = (below_more entry.server good.0, good.1
     below_more None below = tt
     below_more (Some server) below = omega arith
 
--- an entry of a rising list is no newer than the first
-no_newer : (first : Entry) (rest : List Entry) (entry : Entry) → VersionsRise (first ∷ rest) → Contains (first ∷ rest) entry → entry.version ≤ first.version
-no_newer first rest entry rises (zero, inside, is) = let same : first.version ≡ entry.version = ap (λ (e : Entry). e.version) is in omega arith
-no_newer first [] entry rises (suc k, inside, is) = absurd (omega arith)
-no_newer first (next ∷ rest) entry rises (suc k, inside, is) =
-    let below : entry.version ≤ next.version = no_newer next rest entry rises.1 (k, omega arith, is) in let up = rises.0 in omega arith
+-- what is next to the first in a rising list, or older than that, is older than the first
+older : (first next entry : Entry) → first.version ≡ next.version + 1 → IsSameOrOlder next entry → entry.version < first.version
+older first next entry up (inl is) = let same : entry.version ≡ next.version = ap (λ (e : Entry). e.version) is in omega arith
+older first next entry up (inr below) = omega arith
+
+-- an entry of a rising list is the first, or older
+same_or_older : (first : Entry) (rest : List Entry) (entry : Entry) → VersionsRise (first ∷ rest) → Contains (first ∷ rest) entry → IsSameOrOlder first entry
+same_or_older first rest entry rises (zero, inside, is) = inl (sym is)
+same_or_older first [] entry rises (suc k, inside, is) = absurd (omega arith)
+same_or_older first (next ∷ rest) entry rises (suc k, inside, is) = inr (older first next entry rises.0 (same_or_older next rest entry rises.1 (k, omega arith, is)))
 
 opened_some : (opening : List Entry) (shard : ℕ) → shard < length opening → (entry : Entry) × (opened_at opening shard ≡ entry ∷ [])
 opened_some [] shard inside = absurd (omega arith)
@@ -60,11 +64,26 @@ pub stand_more : (opening : List Entry) (stores : List (ℕ × Entry)) (shard : 
 stand_more opening stores shard entry rest seen is stand =
     All-cons (λ (x : ℕ × Entry). Contains (entries_of_shard opening stores x.0) x.1) (shard, entry) seen (subst (λ (l : List Entry). Contains l entry) (sym is) (zero, omega arith, refl)) stand
 
--- what was seen of a shard is no newer than its newest entry
-pub none_newer : (opening : List Entry) (stores seen : List (ℕ × Entry)) (shard : ℕ) (entry : Entry) (rest : List Entry) → VersionsRise (entry ∷ rest) → entries_of_shard opening stores shard ≡ entry ∷ rest → AllStand opening stores seen → NoneNewer seen shard entry
-none_newer opening stores seen shard entry rest rises is stand k d inside same =
+-- what was seen of a shard is its newest entry, or older
+pub all_same_or_older : (opening : List Entry) (stores seen : List (ℕ × Entry)) (shard : ℕ) (entry : Entry) (rest : List Entry) → VersionsRise (entry ∷ rest) → entries_of_shard opening stores shard ≡ entry ∷ rest → AllStand opening stores seen → AllSameOrOlder seen shard entry
+all_same_or_older opening stores seen shard entry rest rises is stand k d inside same =
     let x = slice_index_or seen k d in
-    no_newer entry rest x.1 rises (subst (λ (l : List Entry). Contains l x.1) is (subst (λ (j : ℕ). Contains (entries_of_shard opening stores j) x.1) same (stand k d inside)))
+    same_or_older entry rest x.1 rises (subst (λ (l : List Entry). Contains l x.1) is (subst (λ (j : ℕ). Contains (entries_of_shard opening stores j) x.1) same (stand k d inside)))
+
+-- what stood in a shard's list stands in it however much is stored later
+stays : (opening : List Entry) (later stores : List (ℕ × Entry)) (shard : ℕ) (entry : Entry) → Contains (entries_of_shard opening stores shard) entry → Contains (entries_of_shard opening (later ++ stores) shard) entry
+stays opening [] stores shard entry stood = stood
+stays opening (x ∷ later) stores shard entry stood =
+    let all = later ++ stores in
+    let still = stays opening later stores shard entry stood in
+    after_store opening all x.0 shard x.1 (λ l. Contains l entry) (λ _. contains_more x.1 entry (entries_of_shard opening all shard) still) (λ _. still)
+
+-- what a shard had earlier is its newest entry, or older
+pub is_not_before : (opening : List Entry) (stores later since : List (ℕ × Entry)) (shard : ℕ) (entry : Entry) (rest : List Entry) → VersionsRise (entry ∷ rest) → entries_of_shard opening stores shard ≡ entry ∷ rest → stores ≡ later ++ since → IsNotBefore opening since shard entry
+is_not_before opening stores later since shard entry rest rises is earlier k d inside =
+    let old = slice_index_or (entries_of_shard opening since shard) k d in
+    let now : Contains (entries_of_shard opening (later ++ since) shard) old = stays opening later since shard old (Contains-get_or (entries_of_shard opening since shard) k d inside) in
+    same_or_older entry rest old rises (subst (λ (l : List Entry). Contains l old) ((λ j. entries_of_shard opening (sym earlier j) shard) ∙ is) now)
 
 -- a list that rises goes on rising by an entry that follows
 pub rises_more : (entries : List Entry) (entry : Entry) → Follows entries entry → VersionsRise entries → VersionsRise (entry ∷ entries)

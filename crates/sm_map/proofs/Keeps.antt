@@ -1,5 +1,5 @@
 -- Each step keeps the rule of the words.
-use Rattle.std.proofs.Common.{◌≡◌, ◌≢◌, ℕ, zero, suc, ◌<◌, ◌≤◌, List, [], ◌∷◌, length, set, get_or, true, true≢false, refl, sym, ap, ◌∙◌, subst, ⊎_elim, arith, length-set, get_or-set_other, get_or-set_same}
+use Rattle.std.proofs.Common.{◌≡◌, ◌≢◌, ℕ, zero, suc, ◌<◌, ◌≤◌, List, [], ◌∷◌, ◌++◌, length, set, get_or, true, true≢false, refl, sym, ap, ◌∙◌, subst, ⊎_elim, arith, append-nil, length-set, get_or-set_other, get_or-set_same}
 use Rattle.std.specs.Prelude.{Some, All, Contains}
 use Rattle.std.proofs.lemmas.List.Elements.{All-nil, All-cons, All-head, All-same}
 use mathlib.Core.Option.{some, none, some-ne-none, some-injective}
@@ -10,13 +10,17 @@ use Rattle.atomic_table.proofs.Lists.{at_set, at_snoc}
 use Rattle.sm_placement.specs.declared.entry.Entry.{Entry}
 use Rattle.sm_map.specs.declared.rule.View.{View}
 use Rattle.sm_map.specs.Entry.{IsInRange, word_for, entry_for}
-use Rattle.sm_map.specs.History.{entries_of_shard, newest, Follows, VersionsRise, AllStand, word_at, words_for}
+use Rattle.sm_map.specs.History.{entries_of_shard, newest, Follows, VersionsRise, IsNotBefore, AllStand, word_at, words_for}
 use Rattle.sm_map.specs.Rule.{publisher_view, pass_view, spent, joined, publisher_part, pass_part, with_seen, with_store, Fits, Kept, Finds, Looks, Meets, Stores}
-use Rattle.sm_map.proofs.Histories.{some_newest, after_store, stand_after, stand_more, none_newer, rises_more, enough_words, first_words, first_rises, first_in_range}
+use Rattle.sm_map.proofs.Histories.{some_newest, after_store, stand_after, stand_more, all_same_or_older, is_not_before, rises_more, enough_words, first_words, first_rises, first_in_range}
 
--- a view that is no publisher's fits where what it has seen stands
-pass_fits : (servers : ℕ) (opened : List Entry) (publisher : ℕ) (stores : List (ℕ × Entry)) (seat n : ℕ) (o : List Entry) (seen : List (ℕ × Entry)) → AllStand opened stores seen → Fits servers opened publisher stores seat (pass_view n o seen)
-pass_fits servers opened publisher stores seat n o seen stand = record { one = λ t. absurd (true≢false (sym t)); stand = stand }
+-- a view that is no publisher's fits where what was stored is the earlier part of what is, and what it has seen stands
+pass_fits : (servers : ℕ) (opened : List Entry) (publisher : ℕ) (stores : List (ℕ × Entry)) (seat n : ℕ) (o : List Entry) (later since seen : List (ℕ × Entry)) → stores ≡ later ++ since → AllStand opened stores seen → Fits servers opened publisher stores seat (pass_view n o since seen)
+pass_fits servers opened publisher stores seat n o later since seen earlier stand = record { one = λ t. absurd (true≢false (sym t)); later = later; earlier = earlier; stand = stand }
+
+-- nothing is the earlier part of what is stored
+nothing_since : (stores : List (ℕ × Entry)) → stores ≡ stores ++ []
+nothing_since stores = sym (append-nil stores)
 
 -- where nothing was seen, all of it stands
 none_seen : (opened : List Entry) (stores : List (ℕ × Entry)) → AllStand opened stores []
@@ -47,31 +51,33 @@ module _ (S : Type 0) (servers : ℕ) (opened : List Entry) where
   }
 
   -- what a load finds: the shard's newest entry. The view fits with it seen, and the step tells what it should
-  finds : (s : State S View) (r : Rule s) (slots id : ℕ) (m : Me S View) (shard : ℕ) → shard < length opened → m.0.servers ≡ servers → get_elem? s.views id ≡ some m.0
+  finds : (s : State S View) (r : Rule s) (slots id : ℕ) (m : Me S View) (shard : ℕ) → shard < length opened → m.0.servers ≡ servers → m.0.opening ≡ opened → get_elem? s.views id ≡ some m.0
       → (entry : Entry) × (newest (entries_of_shard opened r.stores shard) ≡ Some entry) × Fits servers opened r.publisher r.stores id (with_seen m.0 shard entry) × Finds (step slots shard 0 0 none) m (get_or s.words shard 0) (with_seen m.0 shard entry, m.1) entry
-  finds s r slots id m shard inside count at =
+  finds s r slots id m shard inside count same at =
       let first = some_newest opened r.stores shard inside in
       let entry : Entry = first.0 in
       let rest : List Entry = first.1 in
       let is : entries_of_shard opened r.stores shard ≡ entry ∷ rest = first.2 in
+      let rises : VersionsRise (entry ∷ rest) = subst VersionsRise is (r.rises shard) in
       let mine : Fits servers opened r.publisher r.stores id m.0 = r.each id m.0 at in
       let good : IsInRange servers entry = All-head (IsInRange servers) entry rest (All-same (IsInRange servers) (entry ∷ rest) (entries_of_shard opened r.stores shard) (sym is) (r.in_range shard)) in (
         entry,
         ap newest is,
-        record { one = mine.one; stand = stand_more opened r.stores shard entry rest m.0.seen is mine.stand },
+        record { one = mine.one; later = mine.later; earlier = mine.earlier; stand = stand_more opened r.stores shard entry rest m.0.seen is mine.stand },
         record {
           word = r.words shard ∙ ap (λ (l : List Entry). word_at (newest l)) is;
           in_range = subst (λ (n : ℕ). IsInRange n entry) (sym count) good;
-          not_older = none_newer opened r.stores m.0.seen shard entry rest (subst VersionsRise is (r.rises shard)) is mine.stand;
+          not_older = all_same_or_older opened r.stores m.0.seen shard entry rest rises is mine.stand;
+          not_before = subst (λ (o : List Entry). IsNotBefore o m.0.since shard entry) (sym same) (is_not_before opened r.stores mine.later m.0.since shard entry rest rises is mine.earlier);
           view = refl;
           slots = refl;
         },
       )
 
   -- a load by a pass
-  pub looks : (slots id : ℕ) (m : Me S View) (shard : ℕ) → shard < length opened → m.0.servers ≡ servers → Allows Rule slots id m shard (λ x. x) (Looks (step slots shard 0 0 none) m)
-  looks slots id m shard inside count s r _ at _ =
-      let found = finds s r slots id m shard inside count at in
+  pub looks : (slots id : ℕ) (m : Me S View) (shard : ℕ) → shard < length opened → m.0.servers ≡ servers → m.0.opening ≡ opened → Allows Rule slots id m shard (λ x. x) (Looks (step slots shard 0 0 none) m)
+  looks slots id m shard inside count same s r _ at _ =
+      let found = finds s r slots id m shard inside count same at in
       (with_seen m.0 shard found.0, keeps, tt, unmoved s r shard id m.1 (with_seen m.0 shard found.0) found.2, (found.0, found.3))
 
   -- a load by the publisher's seat with a pass's view
@@ -79,7 +85,7 @@ module _ (S : Type 0) (servers : ℕ) (opened : List Entry) where
   meets slots id m shard publishes inside count s r _ at _ =
       let mine : Fits servers opened r.publisher r.stores id m.0 = r.each id m.0 at in
       let one = mine.one publishes in
-      let found = finds s r slots id m shard inside count at in (
+      let found = finds s r slots id m shard inside count one.2 at in (
         with_seen m.0 shard found.0,
         keeps,
         tt,
@@ -88,6 +94,8 @@ module _ (S : Type 0) (servers : ℕ) (opened : List Entry) where
           entry = found.0;
           finds = found.3;
           last = (λ k. newest (entries_of_shard (one.2 k) (one.3 k) shard)) ∙ found.1;
+          later = mine.later;
+          earlier = one.3 ∙ mine.earlier;
           stand = subst (λ (x : List Entry × List (ℕ × Entry)). AllStand x.0 x.1 m.0.seen) (λ k. (sym one.2 k, sym one.3 k)) mine.stand;
         },
       )
@@ -114,15 +122,15 @@ module _ (S : Type 0) (servers : ℕ) (opened : List Entry) where
           rises = λ j. after_store opened r.stores shard j entry VersionsRise (λ t. rises_more (entries_of_shard opened r.stores j) entry (subst (λ (k : ℕ). Follows (entries_of_shard opened r.stores k) entry) t follows') (r.rises j)) (λ t. r.rises j);
           in_range = λ j. after_store opened r.stores shard j entry (All (IsInRange servers)) (λ t. All-cons (IsInRange servers) entry (entries_of_shard opened r.stores j) good (r.in_range j)) (λ t. r.in_range j);
           each = fits_set r.publisher ((shard, entry) ∷ r.stores) s.views id w
-              (λ j u apart there. let f : Fits servers opened r.publisher r.stores j u = r.each j u there in record { one = λ t. absurd (apart ((f.one t).0 ∙ sym one.0)); stand = stand_after opened r.stores shard entry u.seen f.stand })
-              record { one = λ _. (one.0, one.1, one.2, ap (λ l. (shard, entry) ∷ l) one.3); stand = stand_after opened r.stores shard entry m.0.seen mine.stand };
+              (λ j u apart there. let f : Fits servers opened r.publisher r.stores j u = r.each j u there in record { one = λ t. absurd (apart ((f.one t).0 ∙ sym one.0)); later = (shard, entry) ∷ f.later; earlier = ap (λ l. (shard, entry) ∷ l) f.earlier; stand = stand_after opened r.stores shard entry u.seen f.stand })
+              record { one = λ _. (one.0, one.1, one.2, ap (λ l. (shard, entry) ∷ l) one.3); later = (shard, entry) ∷ mine.later; earlier = ap (λ l. (shard, entry) ∷ l) mine.earlier; stand = stand_after opened r.stores shard entry m.0.seen mine.stand };
         },
         record { view = ap (λ (e : Entry). with_store m.0 shard e) (sym back); slots = refl },
       )
 
   -- a pass is parted from the publisher
-  pub splits : (id : ℕ) (v : View) → Splits Rule id v (publisher_part v) (pass_part v)
-  splits id v s r at =
+  pub splits : (id : ℕ) (v : View) → v.publishes ≡ true → Splits Rule id v (publisher_part v) (pass_part v)
+  splits id v publishes s r at =
       let f : Fits servers opened r.publisher r.stores id v = r.each id v at in
       record {
         publisher = r.publisher;
@@ -132,8 +140,8 @@ module _ (S : Type 0) (servers : ℕ) (opened : List Entry) where
         rises = r.rises;
         in_range = r.in_range;
         each = λ j u there. ⊎_elim
-            (λ was. fits_set r.publisher r.stores s.views id (publisher_part v) (λ i x _ at'. r.each i x at') record { one = f.one; stand = none_seen opened r.stores } j u was)
-            (λ (same : pass_part v ≡ u). subst (Fits servers opened r.publisher r.stores j) same (pass_fits servers opened r.publisher r.stores j v.servers v.opening v.seen f.stand))
+            (λ was. fits_set r.publisher r.stores s.views id (publisher_part v) (λ i x _ at'. r.each i x at') record { one = f.one; later = r.stores; earlier = nothing_since r.stores; stand = none_seen opened r.stores } j u was)
+            (λ (same : pass_part v ≡ u). subst (Fits servers opened r.publisher r.stores j) same (pass_fits servers opened r.publisher r.stores j v.servers v.opening [] v.stores v.seen (sym (f.one publishes).3) f.stand))
             (at_snoc (set s.views id (publisher_part v)) (pass_part v) u j there);
       }
 
@@ -151,8 +159,8 @@ module _ (S : Type 0) (servers : ℕ) (opened : List Entry) where
         rises = r.rises;
         in_range = r.in_range;
         each = fits_set r.publisher r.stores (set s.views id both) other spent
-            (λ j u _ at'. fits_set r.publisher r.stores s.views id both (λ i x _ at''. r.each i x at'') record { one = f.one; stand = theirs.stand } j u at')
-            (pass_fits servers opened r.publisher r.stores other 0 [] [] (none_seen opened r.stores));
+            (λ j u _ at'. fits_set r.publisher r.stores s.views id both (λ i x _ at''. r.each i x at'') record { one = f.one; later = theirs.later; earlier = theirs.earlier; stand = theirs.stand } j u at')
+            (pass_fits servers opened r.publisher r.stores other 0 [] r.stores [] [] (nothing_since r.stores) (none_seen opened r.stores));
       }
 
   -- the rule holds at the opening
@@ -168,5 +176,5 @@ module _ (S : Type 0) (servers : ℕ) (opened : List Entry) where
   }
     where
       one : (seat : ℕ) (view : View) → get_elem? (publisher_view servers opened [] ∷ []) seat ≡ some view → Fits servers opened 0 [] seat view
-      one zero view at = subst (Fits servers opened 0 [] 0) (some-injective _ _ at) record { one = λ _. (refl, refl, refl, refl); stand = none_seen opened [] }
+      one zero view at = subst (Fits servers opened 0 [] 0) (some-injective _ _ at) record { one = λ _. (refl, refl, refl, refl); later = []; earlier = refl; stand = none_seen opened [] }
       one (suc seat) view at = absurd (some-ne-none view (sym at))

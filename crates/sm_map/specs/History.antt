@@ -1,7 +1,7 @@
 -- The entries of each shard, the newest first, and what a pass has seen of them.
 -- `VersionsRise`, `word_at` and `words_for` are steps of the code's own way, which private functions' contracts cite: whoever reads the public ones
 -- need not read them.
-use Rattle.std.specs.Prelude.{◌≡◌, ℕ, zero, suc, ◌+◌, ◌≤◌, ◌==◌, List, [], ◌∷◌, if◌then◌else◌, Option, Some, None, IsSomeAnd, All, Contains, map}
+use Rattle.std.specs.Prelude.{◌≡◌, ◌⊎◌, ℕ, zero, suc, ◌+◌, ◌<◌, ◌==◌, List, [], ◌∷◌, if◌then◌else◌, Option, Some, None, IsSomeAnd, All, Contains, map}
 use Rattle.sm_placement.specs.declared.entry.Entry.{Entry}
 use Rattle.sm_map.specs.Entry.{word_for}
 
@@ -31,9 +31,17 @@ VersionsRise [] = Unit {0}
 VersionsRise (entry ∷ []) = Unit {0}
 VersionsRise (entry ∷ last ∷ entries) = (entry.version ≡ last.version + 1) × VersionsRise (last ∷ entries)
 
--- no entry that was seen of the shard is newer than this one
-abbrev pub NoneNewer : List (ℕ × Entry) → ℕ → Entry → Type 0
-NoneNewer seen shard entry = All (λ x. x.0 ≡ shard → x.1.version ≤ entry.version) seen
+-- the entry is this one, or an older one: its version is lower
+abbrev pub IsSameOrOlder : Entry → Entry → Type 0
+IsSameOrOlder this entry = (entry ≡ this) ⊎ (entry.version < this.version)
+
+-- each entry that was seen of the shard is this one, or an older one
+abbrev pub AllSameOrOlder : List (ℕ × Entry) → ℕ → Entry → Type 0
+AllSameOrOlder seen shard this = All (λ x. x.0 ≡ shard → IsSameOrOlder this x.1) seen
+
+-- each entry that the shard had when this was stored is this one, or an older one
+abbrev pub IsNotBefore : List Entry → List (ℕ × Entry) → ℕ → Entry → Type 0
+IsNotBefore opening since shard this = All (IsSameOrOlder this) (entries_of_shard opening since shard)
 
 -- each entry that was seen of a shard is one of the shard's
 abbrev pub AllStand : List Entry → List (ℕ × Entry) → List (ℕ × Entry) → Type 0

@@ -1,12 +1,12 @@
 //! The words of the map, their one publisher, and the passes by which they are read.
 //!
 //! No call here waits or takes a lock, and none but `open` takes memory. A publisher and a pass take no bytes:
-//! proofs know by them what was stored and what was seen. Nothing is said of how old a look may be beyond
-//! what its pass has seen.
+//! proofs know by them what was stored and what was seen. A look is no older than what its pass has seen, and than
+//! what had been stored when the pass was made or last met the publisher. How old it may be beyond that is not said.
 ghost use Rattle.std.specs.Prelude.{◌≡◌, ◌<◌, ◌≤◌, [], ◌∷◌, Some, All, IfOk, length};
 ghost use Rattle.sm_map.specs.Entry.{IsInRange};
-ghost use Rattle.sm_map.specs.History.{Follows, NoneNewer, newest, words_for};
-ghost use Rattle.sm_map.specs.Models.{HasAllSeen, history};
+ghost use Rattle.sm_map.specs.History.{AllSameOrOlder, Follows, IsNotBefore, newest, words_for};
+ghost use Rattle.sm_map.specs.Models.{HasAllSeen, IsSince, history};
 ghost use Rattle.sm_placement.specs.declared.limits.TheConstants.{MOST_SERVERS};
 
 use crate::entry::{entry_of, word_of};
@@ -107,22 +107,24 @@ impl Words {
         Ok((Words { table }, Publisher { seat }))
     }
 
-    /// A new pass, which has seen nothing.
+    /// A new pass, which has seen nothing. Each look by it is no older than what is stored by now.
     pub fn pass(&self, publisher: &mut Publisher) -> Pass
         requires { publisher.old.words ≡ self.now }
         ensures same { publisher.new ≡ publisher.old }
-        ensures pass { result ≡ record { words = self.now; seen = [] } }
+        ensures pass { result ≡ record { words = self.now; since = publisher.old.stores; seen = [] } }
     {
         let seat = self.table.shared.split_seat::<Parts>(&mut publisher.seat);
         Pass { seat }
     }
 
-    /// The entry of a shard, by one load of its word.
+    /// The entry of a shard, by one load of its word. It is no older than what the pass has seen, and than what had been stored when the
+    /// pass was made or last met the publisher.
     pub fn look(&self, pass: &mut Pass, shard: ShardId) -> Entry
         requires pass { pass.old.words ≡ self.now }
         requires shard { shard < length self.now.opening }
-        ensures seen { pass.new ≡ record { words = self.now; seen = (shard, result) ∷ pass.old.seen } }
-        ensures not_older { NoneNewer pass.old.seen shard result }
+        ensures seen { pass.new ≡ record { words = self.now; since = pass.old.since; seen = (shard, result) ∷ pass.old.seen } }
+        ensures not_older { AllSameOrOlder pass.old.seen shard result }
+        ensures not_before { IsNotBefore self.now.opening pass.old.since shard result }
         ensures in_range { IsInRange self.now.servers result }
     {
         let shared = &self.table.shared;
@@ -151,10 +153,11 @@ impl Words {
         requires pass { pass.old.words ≡ self.now }
         requires shard { shard < length self.now.opening }
         ensures same { publisher.new ≡ publisher.old }
-        ensures seen { pass.new ≡ record { words = self.now; seen = (shard, result) ∷ pass.old.seen } }
+        ensures seen { pass.new ≡ record { words = self.now; since = publisher.old.stores; seen = (shard, result) ∷ pass.old.seen } }
         ensures last { newest (history publisher.old shard) ≡ Some result }
+        ensures earlier { IsSince publisher.old pass.old }
         ensures stand { HasAllSeen publisher.old pass.old }
-        ensures not_older { NoneNewer pass.old.seen shard result }
+        ensures not_older { AllSameOrOlder pass.old.seen shard result }
         ensures in_range { IsInRange self.now.servers result }
     {
         let shared = &self.table.shared;
@@ -177,10 +180,11 @@ impl Words {
         requires pass { pass.words ≡ self.now }
         requires shard { shard < length self.now.opening }
         ensures same { result.0 ≡ publisher }
-        ensures seen { result.1 ≡ record { words = self.now; seen = (shard, result.2) ∷ pass.seen } }
+        ensures seen { result.1 ≡ record { words = self.now; since = publisher.stores; seen = (shard, result.2) ∷ pass.seen } }
         ensures last { newest (history publisher shard) ≡ Some result.2 }
+        ensures earlier { IsSince publisher pass }
         ensures stand { HasAllSeen publisher pass }
-        ensures not_older { NoneNewer pass.seen shard result.2 }
+        ensures not_older { AllSameOrOlder pass.seen shard result.2 }
         ensures in_range { IsInRange self.now.servers result.2 }
     {
         let entry = self.meet_in(&mut publisher, &mut pass, shard);

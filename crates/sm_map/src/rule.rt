@@ -6,15 +6,17 @@
 //! - each word is that of its shard's newest entry, and a word that stands for no shard is 0;
 //! - along a list the versions rise by one and stay below 2^47, and each server is below the count with which
 //!   the words were opened;
-//! - each entry that a seat has seen stands in its shard's list.
+//! - each entry that a seat has seen stands in its shard's list;
+//! - what had been stored when a seat was parted from the publisher is the earlier part of what is stored.
 //!
 //! The steps:
 //!
 //! - A pass loads a shard's word (`Look`). It has then seen the word's entry.
 //! - The publisher stores a shard's word (`Store`). Its list of the shard then has the entry.
-//! - A load parts a pass from the publisher (`Parts`, as a `Split`). The pass has what was seen: nothing where it is new.
+//! - A load parts a pass from the publisher (`Parts`, as a `Split`). The pass has what was seen: nothing where it is new. It knows too what
+//!   is stored by then.
 //! - A pass joins the publisher (`Parts`, as a `Join`), and the two load a shard's word as one (`Meet`).
-//!   They then know that the entry is the newest. The pass's old seat stays behind, with nothing seen.
+//!   They then know that the entry is the newest. The pass's old seat stays behind, with nothing stored and nothing seen.
 use atomic_table::{Join, Play, Split, TableRule};
 use sm_placement::Entry;
 use sm_server::ShardId;
@@ -27,13 +29,14 @@ pub struct Opening {
     pub entries: Vec<Entry>,
 }
 
-/// What a seat knows: what the words were opened with and, the newest first, what the publisher has stored
-/// and what a pass has seen. No value of it is made.
+/// What a seat knows: what the words were opened with and, the newest first, what the publisher has stored,
+/// what it had stored when a pass was parted from it, and what that pass has seen. No value of it is made.
 pub struct View {
     pub publishes: bool,
     pub servers: u32,
     pub opening: LinkedList<Entry>,
     pub stores: LinkedList<(ShardId, Entry)>,
+    pub since: LinkedList<(ShardId, Entry)>,
     pub seen: LinkedList<(ShardId, Entry)>,
 }
 

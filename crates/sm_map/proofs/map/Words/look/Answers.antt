@@ -11,4 +11,4 @@ load-word-requires c =
     let below = c.requires.shard in
     let inside : c.number.result < length c.self.inside.table.shared.key.entries.items = omega arith in
     let enough = c.self.invariant.enough in
-    (ap (λ (w : WordsModel). w.table) same, omega arith, keep.looks (Unit {0}) _ _ _ _ _ _ inside (ap (λ (w : WordsModel). w.servers) same))
+    (ap (λ (w : WordsModel). w.table) same, omega arith, keep.looks (Unit {0}) _ _ _ _ _ _ inside (ap (λ (w : WordsModel). w.servers) same) (ap (λ (w : WordsModel). w.opening) same))

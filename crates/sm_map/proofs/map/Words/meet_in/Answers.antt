@@ -10,7 +10,7 @@ use Rattle.sm_map.proofs.map.Words.meet_in.Goals as goal
 pub split_seat-place-requires : goal.split_seat-place-requires
 split_seat-place-requires c =
     let same = ap (λ (p : PublisherModel). p.words) c.publisher.view_is ∙ c.requires.publisher ∙ sym c.self.view_is in
-    (ap (λ (w : WordsModel). w.table) same, c.self.invariant.some, keep.splits (Unit {0}) _ _ _ _)
+    (ap (λ (w : WordsModel). w.table) same, c.self.invariant.some, keep.splits (Unit {0}) _ _ _ _ (ap (λ (v : View). v.publishes) c.publisher.invariant.view))
 
 pub join_seat-requires : goal.join_seat-requires
 join_seat-requires c =
@@ -41,7 +41,12 @@ load-word-requires c =
 pub split_seat-requires : goal.split_seat-requires
 split_seat-requires c =
     let same = ap (λ (p : PublisherModel). p.words) c.publisher.view_is ∙ c.requires.publisher ∙ sym c.self.view_is in
-    (c.load-word.ensures.0 ∙ c.join_seat.ensures.0 ∙ c.split_seat-place.ensures.0 ∙ ap (λ (w : WordsModel). w.table) same, c.self.invariant.some, keep.splits (Unit {0}) _ _ _ _)
+    let view = ap (λ m. m.0) c.join_seat.ensures.2 ∙ (λ k. joined (c.split_seat-place.ensures.2 k).0 (c.replace-seat.ensures.value k).me.0) in
+    let publishes = ap (λ (v : View). v.publishes) c.load-word.ensures.2.finds.view ∙ ap (λ (v : View). v.publishes) view ∙ ap (λ (v : View). v.publishes) c.publisher.invariant.view in (
+      c.load-word.ensures.0 ∙ c.join_seat.ensures.0 ∙ c.split_seat-place.ensures.0 ∙ ap (λ (w : WordsModel). w.table) same,
+      c.self.invariant.some,
+      keep.splits (Unit {0}) _ _ _ _ publishes,
+    )
 
 pub returns-clause-stand : goal.returns-clause-stand
 returns-clause-stand c =
