@@ -8,8 +8,7 @@ use Rattle.sm_reservation.specs.InOrder.{sorted}
 use Rattle.sm_reservation.proofs.Places.{same_here, same_trans, same_is, before_not_same}
 use Rattle.sm_reservation.proofs.ElementLemmas.{later, same_elements}
 use Rattle.sm_reservation.proofs.SortedRows.{sorted_permutes, sorted_rises}
-use Rattle.sm_verifier.proofs.Once.{hit}
-use Rattle.sm_planner.proofs.law.Gathered.{gathered, gathered_own, gathered_other, StandsIn, stands_left, stands_right}
+use Rattle.sm_planner.proofs.law.Gathered.{hit, gathered, gathered_own, gathered_other, StandsIn, stands_left, stands_right}
 
 -- ---- elements
 

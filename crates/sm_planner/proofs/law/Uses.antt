@@ -18,12 +18,11 @@ use Rattle.sm_verifier.specs.Stream.{no_stream}
 use Rattle.sm_verifier.specs.Order.{code_at}
 use Rattle.sm_verifier.specs.Plan.{is_post, is_wait, posts, waits, KeepsBudget, AreUsedOnce}
 use Rattle.sm_verifier.proofs.SumLemmas.{sum_by-below}
-use Rattle.sm_verifier.proofs.Once.{hit}
 use Rattle.sm_planner.specs.Basis.{Basis, move_at, left_cell}
 use Rattle.sm_planner.specs.Payment.{HandedRoom, stream_of, signals_of}
 use Rattle.sm_planner.specs.Plan.{signal_at, handed_parcel, handing_over, instructions, waits_of, posts_of, move_code, moves_of, stream, planned}
 use Rattle.sm_planner.proofs.Ranges.{range_suc}
-use Rattle.sm_planner.proofs.law.Gathered.{gathered, gathered_own, gathered_other, stands_below, all_both, all_picked, all_of_parts}
+use Rattle.sm_planner.proofs.law.Gathered.{hit, gathered, gathered_own, gathered_other, stands_below, all_both, all_picked, all_of_parts}
 use Rattle.sm_planner.proofs.law.Codes.{width, code_is, stream_count, stream_known}
 use Rattle.sm_planner.proofs.law.Signals.{is_handed_on}
 
