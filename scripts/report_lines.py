@@ -65,7 +65,7 @@ LINES = [
     (("play",), ["stream J: at P of LENGTH", "stream J: done", "plan K stream J: at P of LENGTH", "plan K stream J: done", "plan K: not begun"]),
     (("run",), ["stream I: steps N calls C budget B",
                 *(f"ask I: {it}" for it in ("executed at V", "not listed", "unavailable", "log full", "too many hops"))]),
-    (("run",), [f"not run: {it}" for it in ("2 NoThread", "3 Halted", "4 Spent", "5 NoCaller", "6 OtherAsk", "7 NotClosed")]),
+    (("run",), [f"not run: {it}" for it in ("2 NoThread", "3 Halted", "4 Spent", "5 NoCaller", "6 OtherAsk", "7 NotClosed", "8 OtherEvents")]),
     # (the end placement: a run ends with no handover under way)
     (("calls", "play", "run"), ["server V room N load N up", "server V room N load N down",
                                 "shard S live N floor N listed V version N", "shard S live N floor N listed none version N",
@@ -80,6 +80,7 @@ ELSEWHERE = {
     "not run: 5 NoCaller": "a board gives out more callers than a document may have asks",
     "not run: 6 OtherAsk": "a client asks for the shard that it was made for",
     "not run: 7 NotClosed": "a board on which each stream has made its end is closed",
+    "not run: 8 OtherEvents": "nothing but the run and the asks happens on the board of a report",
     "ask I: too many hops": "eight servers in turn send the client on while streams run, as the schedule is; sm_tests_board has it",
 }
 # What the words in capitals stand for that are no numbers.

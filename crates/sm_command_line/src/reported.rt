@@ -1,11 +1,11 @@
 //! The report that a word of the command line asks for.
-ghost use Rattle.std.specs.Prelude.{◌≡◌, ◌<◌, ℕ, List, take};
+ghost use Rattle.std.specs.Prelude.{◌≡◌, ◌<◌, ℕ, length, take};
 ghost use Rattle.std.specs.Io.KnownBytes.{Appends, Keeps};
 ghost use Rattle.sm_report.specs.Report.{Output};
 ghost use Rattle.sm_report.specs.Status.{code_of};
-ghost use Rattle.sm_report.specs.Unmade.{unrun_text};
+ghost use Rattle.sm_report.specs.Unmade.{unrun_text, not_run};
 ghost use Rattle.sm_report.specs.declared.unmade.Unrun.{Unrun};
-ghost use Rattle.sm_command_line.specs.Reported.{IsReported, IsWrittenFor};
+ghost use Rattle.sm_command_line.specs.Reported.{IsReported};
 
 use crate::words::Word;
 use sm_report::{Status, report, report_run};
@@ -27,12 +27,14 @@ pub fn report_word<R: AllocGlobal + Threads + Wait + Sync, I: Read, W: Write>(
     // Without memory, and after a read that fails, nothing is written.
     ensures memory { result ≡ Status.NoMemory → Keeps (W.contents writer.old) (W.contents writer.new) }
     ensures read_fault { result ≡ Status.ReadFailed → Keeps (W.contents writer.old) (W.contents writer.new) }
-    // After a write that fails, a front of what would be written is.
-    ensures write_fault { result ≡ Status.WriteFailed → (text : List ℕ)
-        × IsWrittenFor word (I.remaining reader.old) text
-        × (k : ℕ) × Appends (W.contents writer.old) (W.contents writer.new) (take k text) }
-    // A thread is missed by a run alone, of whose plan it is then told that it was not run to its end.
-    ensures threads { result ≡ Status.NoThread → (word ≡ Word.Run) × (why : Unrun) × Appends (W.contents writer.old) (W.contents writer.new) (unrun_text why) }
+    // After a write that fails, a front of the report's text is written, and not all of it.
+    ensures write_fault { result ≡ Status.WriteFailed → (output : Output)
+        × IsReported word (I.remaining reader.old) output
+        × (k : ℕ) × (k < length output.text) × Appends (W.contents writer.old) (W.contents writer.new) (take k output.text) }
+    // A thread is missed by a run alone, whose plan has begun and was not run to its end: why is all that is written.
+    ensures threads { result ≡ Status.NoThread → (word ≡ Word.Run) × (why : Unrun)
+        × IsReported word (I.remaining reader.old) (not_run why)
+        × Appends (W.contents writer.old) (W.contents writer.new) (unrun_text why) }
 {
     match word {
         Word::Report(command) => report(rt.alloc(), command, reader, writer),

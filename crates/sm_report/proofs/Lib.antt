@@ -6,4 +6,6 @@ pub mod OneReport
 pub mod SomeReport
 pub mod EventTurns
 pub mod PlayStages
+pub mod RunLines
 pub mod RunStages
+pub mod OneRun

@@ -22,16 +22,20 @@ use Rattle.sm_report.specs.Checking.{stuck_line, fault_line, holding_line, accep
 use Rattle.sm_report.specs.Playing.{Scene}
 use Rattle.sm_report.specs.PlayLines.{plan_front}
 use Rattle.sm_plan_text.specs.declared.event.EventText.{EventText}
-use Rattle.sm_report.specs.Stages.{Then, read_stage, member_stage, alone_stage, placement_stage, log_stage, begin_stage, AtCheck, AtChecks, AtStart}
+use Rattle.sm_report.specs.Stages.{Then, read_stage, member_stage, alone_stage, placement_stage, log_stage, begin_stage, IsFaultReport, AtCheck, AtChecks, AtStart}
 use Rattle.sm_report.specs.Output.{IsCalled, IsOpenedForCalls, IsAcceptedReport, IsPlanReport, IsOpenedForCheck, plans_of, has_list, IsPlayedOutput, IsBegunForPlay, IsLoggedForPlay, IsPlacedForPlay, IsOpenedForPlay, IsAloneForPlay, IsPlayReport, IsLoggedForPlan, IsPlacedForPlan, IsOpenedForPlan, IsPlanningReport, IsDocumentReport, IsReport}
 use Rattle.sm_report.specs.Planning.{aim_stage, opened_basis}
 use Rattle.sm_planner.specs.Laws.{RuleAnswersOnce}
 use Rattle.sm_report.proofs.PlanAnswers.{answered_one}
 
--- the verdict on a plan is one, and so is the planner's answer
-pub record IsOneVerdict : Type 0 where
+-- the check's verdict on a plan is one
+pub record IsOneCheck : Type 0 where
   pub fault : (c : Sizes) (plan : PlanModel) (f g : Fault) → IsFault c plan f → IsFault c plan g → f ≢ NoMemory → g ≢ NoMemory → IsSameFault f g
   pub sound : (c : Sizes) (plan : PlanModel) (f : Fault) → IsSound c plan → IsFault c plan f → f ≡ NoMemory
+
+-- the verdict on a plan is one, and so is the planner's answer
+pub record IsOneVerdict : Type 0 where
+  pub check : IsOneCheck
   pub holding : (c : Sizes) (p : Place) (pool : Hold) (plan : PlanModel) (h k : Holding) → IsHolding c p pool plan h → IsHolding c p pool plan k → h ≡ k
   pub admitted : (c : Sizes) (p : Place) (pool : Hold) (plan : PlanModel) (h : Holding) → IsAdmitted c p pool plan → ¬ IsHolding c p pool plan h
   pub rule : RuleAnswersOnce
@@ -59,18 +63,26 @@ same_line (Stuck ps) (SignalNotOnce k posted awaited) e = ap fault_line e
 same_line (Stuck ps) (Stream i at why) e = ap fault_line e
 same_line (Stuck ps) (Stuck qs) e = ap stuck_line e
 
+-- the report of a plan's fault is one
+pub fault_one : IsOneCheck → (c : Sizes) (front : List ℕ) (plan : PlanModel) → IsOne (IsFaultReport c front plan)
+fault_one check c front plan a b x y = x.3 ∙ ap (λ text. refused (front ++ text)) (same_line x.0 y.0 (check.fault c plan x.0 y.0 x.1 y.1 x.2 y.2)) ∙ sym y.3
+
+-- a plan with such a report does not pass the check
+pub fault_alone : IsOneCheck → (c : Sizes) (front : List ℕ) (plan : PlanModel) (a : Output) → IsFaultReport c front plan a → ¬ IsSound c plan
+fault_alone check c front plan a x sound = x.2 (check.sound c plan x.0 sound x.1)
+
 -- the plan passes the check
-check_one : IsOneVerdict → (c : Sizes) (front : List ℕ) (plan : PlanModel) (Next : Output → Type 0) → IsOne Next → IsOne (AtCheck c front plan Next)
-check_one verdict c front plan Next one a b (inl x) (inl y) = x.3 ∙ ap (λ text. refused (front ++ text)) (same_line x.0 y.0 (verdict.fault c plan x.0 y.0 x.1 y.1 x.2 y.2)) ∙ sym y.3
-check_one verdict c front plan Next one a b (inl x) (inr y) = absurd (x.2 (verdict.sound c plan x.0 y.0 x.1))
-check_one verdict c front plan Next one a b (inr x) (inl y) = absurd (y.2 (verdict.sound c plan y.0 x.0 y.1))
-check_one verdict c front plan Next one a b (inr x) (inr y) = one a b x.1 y.1
+check_one : IsOneCheck → (c : Sizes) (front : List ℕ) (plan : PlanModel) (Next : Output → Type 0) → IsOne Next → IsOne (AtCheck c front plan Next)
+check_one check c front plan Next one a b (inl x) (inl y) = fault_one check c front plan a b x y
+check_one check c front plan Next one a b (inl x) (inr y) = absurd (fault_alone check c front plan a x y.0)
+check_one check c front plan Next one a b (inr x) (inl y) = absurd (fault_alone check c front plan b y x.0)
+check_one check c front plan Next one a b (inr x) (inr y) = one a b x.1 y.1
 
 -- each plan passes the check
-checks_one : IsOneVerdict → (c : Sizes) (many : Bool) (k : ℕ) (plans : List PlanModel) (Next : Output → Type 0) → IsOne Next → IsOne (AtChecks c many k plans Next)
-checks_one verdict c many k [] Next one = one
-checks_one verdict c many k (plan ∷ plans) Next one =
-    check_one verdict c (plan_front many k) plan (AtChecks c many (k + 1) plans Next) (checks_one verdict c many (k + 1) plans Next one)
+checks_one : IsOneCheck → (c : Sizes) (many : Bool) (k : ℕ) (plans : List PlanModel) (Next : Output → Type 0) → IsOne Next → IsOne (AtChecks c many k plans Next)
+checks_one check c many k [] Next one = one
+checks_one check c many k (plan ∷ plans) Next one =
+    check_one check c (plan_front many k) plan (AtChecks c many (k + 1) plans Next) (checks_one check c many (k + 1) plans Next one)
 
 -- the plan may start
 start_one : IsOneVerdict → (setup : Setup) (p : Place) (plan : PlanModel) (Next : Output → Type 0) → IsOne Next → IsOne (AtStart setup p plan Next)
@@ -88,7 +100,7 @@ given_one given = λ a b x y. x ∙ sym y
 
 plan_one : IsOneVerdict → (setup : Setup) (plan : PlanModel) (p : Place) → IsOne (IsPlanReport setup plan p)
 plan_one verdict setup plan p =
-    check_one verdict (sizes_of setup) [] plan (AtStart setup p plan (IsAcceptedReport plan))
+    check_one verdict.check (sizes_of setup) [] plan (AtStart setup p plan (IsAcceptedReport plan))
     (start_one verdict setup p plan (IsAcceptedReport plan) (given_one _))
 
 begun_one : (setup : Setup) (plan : Option PlanModel) (plans : Option (List PlanModel)) (events : List EventText) (x : Scene) → IsOne (IsBegunForPlay setup plan plans events x)
@@ -102,7 +114,7 @@ play_one verdict d =
     then_one (member_stage member.Events d.events) (IsOpenedForPlay d) (λ events.
     then_one (placement_stage d) (IsPlacedForPlay d events) (λ p.
     then_one (log_stage d p) (IsLoggedForPlay d events p) (λ room.
-    checks_one verdict (sizes_of d.setup) (has_list d.plans) 0 (plans_of d.plan d.plans) _ (begun_one d.setup d.plan d.plans events _)))))
+    checks_one verdict.check (sizes_of d.setup) (has_list d.plans) 0 (plans_of d.plan d.plans) _ (begun_one d.setup d.plan d.plans events _)))))
 
 planning_one : IsOneVerdict → (d : DocumentModel) → IsOne (IsPlanningReport d)
 planning_one verdict d =

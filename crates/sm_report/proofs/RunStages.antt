@@ -1,5 +1,5 @@
 -- The stages of a report of a plan that is run, and what came of the run.
-use Rattle.std.proofs.Common.{◌≡◌, ◌≢◌, ◌<◌, ◌+◌, ◌∙◌, ◌++◌, None, append_assoc, drop, drop-cons, length-append, take, ℕ, zero, suc, Option, Result, Ok, Err, List, [], ◌∷◌, length, map, refl, sym, ap, subst, arith, inr}
+use Rattle.std.proofs.Common.{true, ◌≡◌, ◌≢◌, ◌<◌, ◌+◌, ◌∙◌, ◌++◌, None, append_assoc, drop, drop-cons, length-append, take, ℕ, zero, suc, Option, Result, Ok, Err, List, [], ◌∷◌, length, map, refl, sym, ap, subst, arith, inl, inr}
 use Rattle.std.specs.Prelude.{All, IfErr, IfOk, OnOk, slice_index_or}
 use Rattle.std.specs.List.{range_with_len}
 use Rattle.std.proofs.lemmas.List.{append-nil, nil_from_length}
@@ -29,17 +29,18 @@ use Rattle.sm_report.specs.Ending.{ending}
 use Rattle.sm_report.specs.Output.{IsReadAs}
 use Rattle.sm_report.specs.PlayLines.{not_begun_line}
 use Rattle.sm_report.specs.Report.{Output, done, refused}
-use Rattle.sm_report.specs.RunLines.{end_lines, client_line, client_lines}
-use Rattle.sm_report.specs.Running.{HasRun, WasRun, IsStartedForRun, IsRunReport, IsRunReportOf, first_streams}
+use Rattle.sm_report.specs.RunLines.{end_lines, run_lines, client_line, client_lines}
+use Rattle.sm_report.specs.Running.{HasRun, WasRunOrNot, IsStartedForRun, IsRunReport, IsRunReportOf, first_streams, are_steps_and_requests}
 use Rattle.sm_report.specs.Stages.{begun_or_refused, read_stage, start_stage, AtCheck}
-use Rattle.sm_report.specs.Unmade.{IfUnmade, IfRan, IfReadRan}
+use Rattle.sm_report.specs.Unmade.{IfUnmade, IfRan, IfReadRan, IsOfRun, not_run}
 use Rattle.sm_report.proofs.Onward.{ends_there, goes_on, ended_weaker}
 use Rattle.sm_report.proofs.Inputs.{read_weaker}
+use Rattle.sm_report.proofs.RunLines.{down_as_opened, lines_are}
 
 -- what is said of a report of a run is said of it in weaker words
 unmade_weaker : (why : Unmade) (P Q : Output → Type 0) → ((made : Output) → P made → Q made) → IfUnmade why P → IfUnmade why Q
 unmade_weaker (unmade.Early ended) P Q weaker h = ended_weaker ended P Q weaker h
-unmade_weaker (unmade.Unrun why) P Q weaker h = tt
+unmade_weaker (unmade.Unrun why) P Q weaker h = weaker (not_run why) h
 
 pub ran_weaker : (result : Result Output Unmade) (P Q : Output → Type 0) → ((made : Output) → P made → Q made) → IfRan result P → IfRan result Q
 ran_weaker (Ok made) P Q weaker h = weaker made h
@@ -65,7 +66,7 @@ behind_reading (Ok made) P Q weaker h = weaker made h
 behind_reading (Err (unmade.Early early.NoMemory)) P Q weaker h = tt
 behind_reading (Err (unmade.Early early.ReadFailed)) P Q weaker h = tt
 behind_reading (Err (unmade.Early (early.Report made))) P Q weaker h = weaker made h
-behind_reading (Err (unmade.Unrun why)) P Q weaker h = tt
+behind_reading (Err (unmade.Unrun why)) P Q weaker h = weaker (not_run why) h
 
 -- a report that ends where the bytes are read
 pub run_unread : (most : ℕ) (left : Option (List ℕ)) (ended : Early) (result : Result Output Unmade) → result ≡ Err (unmade.Early ended)
@@ -132,47 +133,60 @@ nothing_more begun now more one alone =
 abbrev pub callers_of : List ClientModel → List CallerModel
 callers_of clients = map (λ client. client.caller) clients
 
--- the report of the machine of a board that is closed, at which one plan has begun
-pub is_told : (begun now : State) (setup given : Setup) (ended : List EndedModel) (callers : List CallerModel) (accepted asked : List ℕ) (result : Result Output Unmade)
-    → given ≡ setup → IsClosed setup begun now ended callers → OnOk result (length now.plans ≡ 1)
-    → IfOk result (λ made. made ≡ done (accepted ++ end_lines now 0 ++ asked ++ ending given now.place)) → IfErr result (λ why. IfUnmade why (λ made. ⊥))
-    → IfRan result (λ made. (x : State) × IsClosed setup begun x ended callers × (length x.plans ≡ 1) × (made ≡ done (accepted ++ end_lines x 0 ++ asked ++ ending setup x.place)))
-is_told begun now setup given ended callers accepted asked (Ok made) same closed alone text none = (now, closed, alone, text ∙ ap (λ (s : Setup). done (accepted ++ end_lines now 0 ++ asked ++ ending s now.place)) same)
-is_told begun now setup given ended callers accepted asked (Err why) same closed alone text none =
-    unmade_weaker why (λ made. ⊥) (λ made. (x : State) × IsClosed setup begun x ended callers × (length x.plans ≡ 1) × (made ≡ done (accepted ++ end_lines x 0 ++ asked ++ ending setup x.place))) (λ made never. absurd never) none
-
--- with these ends and clients the board is closed at a state at which one plan has begun, and these lines are told of it
+-- with these ends and clients the board is closed at a state at which one plan has begun and the log has steps and requests alone, and
+-- these lines are told of it
 abbrev pub IsTold : State → Setup → List EndedModel → List ClientModel → List ℕ → List ℕ → Output → Type 0
-IsTold begun setup ended clients accepted asked made = (now : State) × IsClosed setup begun now ended (map (λ client. client.caller) clients) × (length now.plans ≡ 1) × (made ≡ done (accepted ++ end_lines now 0 ++ asked ++ ending setup now.place))
+IsTold begun setup ended clients accepted asked made =
+    (now : State) × IsClosed setup begun now ended (callers_of clients) × (length now.plans ≡ 1) × (are_steps_and_requests now.log ≡ true)
+    × (made ≡ done (accepted ++ end_lines now 0 ++ asked ++ ending setup now.place))
+
+-- the report of the machine of a board that is closed, at which one plan has begun
+pub is_told : (begun now : State) (setup given : Setup) (ended : List EndedModel) (clients : List ClientModel) (accepted asked : List ℕ) (result : Result Output Unmade)
+    → given ≡ setup → IsClosed setup begun now ended (callers_of clients) → OnOk result (length now.plans ≡ 1) → OnOk result (are_steps_and_requests now.log ≡ true)
+    → IfOk result (λ made. made ≡ done (accepted ++ end_lines now 0 ++ asked ++ ending given now.place)) → IfOk result (IsTold begun setup ended clients accepted asked)
+is_told begun now setup given ended clients accepted asked (Ok made) same closed alone own text =
+    (now, closed, alone, own, text ∙ ap (λ (s : Setup). done (accepted ++ end_lines now 0 ++ asked ++ ending s now.place)) same)
+is_told begun now setup given ended clients accepted asked (Err why) same closed alone own text = tt
+
+-- where no stage before the run has ended the report, it says why the plan was not run to its end, if there is one
+pub was_not_run : (begun : State) (setup : Setup) (asks : List ℕ) (why : Unmade) → IsOfRun why → IfUnmade why (WasRunOrNot begun setup asks)
+was_not_run begun setup asks (unmade.Early ended) h = ended_weaker ended (λ made. ⊥) (WasRunOrNot begun setup asks) (λ made never. absurd never) h
+was_not_run begun setup asks (unmade.Unrun why) h = inr (why, refl)
 
 -- the report of such a run on a board that is closed
 pub was_run : (begun : State) (setup : Setup) (asks : List ℕ) (ended : List EndedModel) (clients : List ClientModel) (accepted asked : List ℕ) (result : Result Output Unmade)
     → length begun.plans ≡ 1 → HasRun (stream_count begun 0) ended clients → shards_of clients ≡ asks → All (IsClient setup begun) clients → accepted ≡ accepted_line (plan_at begun 0) → asked ≡ client_lines setup 0 clients
-    → IfRan result (IsTold begun setup ended clients accepted asked) → IfRan result (WasRun begun setup asks)
-was_run begun setup asks ended clients accepted asked result one ran shards ways front lines h =
-    ran_weaker result (IsTold begun setup ended clients accepted asked) (WasRun begun setup asks)
-    (λ made is. record {
-      now = is.0;
+    → IfOk result (IsTold begun setup ended clients accepted asked) → IfErr result IsOfRun → IfRan result (WasRunOrNot begun setup asks)
+was_run begun setup asks ended clients accepted asked (Err why) one ran shards ways front lines told unrun = was_not_run begun setup asks why unrun
+was_run begun setup asks ended clients accepted asked (Ok made) one ran shards ways front lines told unrun =
+    let same = nothing_more begun told.0 told.1.state.state.goes_on.plans one told.2 in
+    let ran_lines : end_lines told.0 0 ≡ run_lines (plan_at begun 0) =
+    lines_are setup told.0 told.1.state.state.reached told.1.state.done told.1.state.in_log told.3 told.2
+    ∙ ap (λ (ps : List Start). run_lines (slice_index_or ps 0 no_start).plan) same in
+    inl (record {
+      now = told.0;
       ended = ended;
       clients = clients;
       ran = ran;
       shards = shards;
       ways = ways;
-      closed = is.1;
-      alone = nothing_more begun is.0 is.1.state.state.goes_on.plans one is.2;
-      told = is.3
-          ∙ ap (λ text. done (text ++ end_lines is.0 0 ++ asked ++ ending setup is.0.place)) front
-          ∙ ap (λ text. done (accepted_line (plan_at begun 0) ++ end_lines is.0 0 ++ text ++ ending setup is.0.place)) lines;
-    }) h
+      closed = told.1;
+      alone = same;
+      own = told.3;
+      down = λ v. down_as_opened told.0 told.1.state.at_ends told.3 v ∙ ap (λ (p : Place). p.down v) told.1.state.state.goes_on.opening;
+      told = told.4
+          ∙ ap (λ text. done (text ++ end_lines told.0 0 ++ asked ++ ending setup told.0.place)) front
+          ∙ ap (λ text. done (accepted_line (plan_at begun 0) ++ text ++ asked ++ ending setup told.0.place)) ran_lines
+          ∙ ap (λ text. done (accepted_line (plan_at begun 0) ++ run_lines (plan_at begun 0) ++ text ++ ending setup told.0.place)) lines;
+    })
 
 -- ---- the plan's start
 
 -- the report of a plan that has not begun
-pub start_refused : (setup : Setup) (w : State) (plan : PlanModel) (fault : BeginFault) (asks : List ℕ) (why : Unmade) → (fault ≢ NoMemory → IsNotStarted w plan fault)
-    → IfUnmade why (λ made. (fault ≢ NoMemory) × (made ≡ refused (not_begun_line setup fault))) → IfUnmade why (IsStartedForRun w setup plan asks)
-start_refused setup w plan fault asks why is h =
-    unmade_weaker why (λ made. (fault ≢ NoMemory) × (made ≡ refused (not_begun_line setup fault))) (IsStartedForRun w setup plan asks)
-    (λ made told. ends_there (start_stage setup w plan) (λ b. WasRun b setup asks) made (ap (λ (o : Outcome × State). begun_or_refused setup o.0 o.1) (is told.0) ∙ ap Err (sym told.1))) h
+pub start_refused : (setup : Setup) (w : State) (plan : PlanModel) (fault : BeginFault) (asks : List ℕ) (made : Output) → (fault ≢ NoMemory → IsNotStarted w plan fault)
+    → (fault ≢ NoMemory) × (made ≡ refused (not_begun_line setup fault)) → IsStartedForRun w setup plan asks made
+start_refused setup w plan fault asks made is told =
+    ends_there (start_stage setup w plan) (λ b. WasRunOrNot b setup asks) made (ap (λ (o : Outcome × State). begun_or_refused setup o.0 o.1) (is told.0) ∙ ap Err (sym told.1))
 
 -- a plan that begins where none had is the only one
 pub one_begun : (w begun : State) (plan : PlanModel) → begun ≡ started w plan → w.plans ≡ [] → length begun.plans ≡ 1

@@ -90,31 +90,27 @@ not_begun_line setup (begin_fault.Holding h) = holding_line setup h
 not_begun_line setup begin_fault.LogFull = word_line (codes "not begun: 4 LogFull")
 not_begun_line setup begin_fault.TooManyPlans = word_line (codes "not begun: 5 TooManyPlans")
 
--- The words of an answer that says no more than its name. Halted has none, and no line in any report: nothing halts the machine.
-abbrev pub played_words : Played → List ℕ
-played_words played.Moved = codes "moved"
-played_words played.Done = codes "done"
-played_words played.Lost = codes "lost"
-played_words played.Spent = codes "spent"
-played_words played.Refilled = codes "refilled"
-played_words played.NotOwner = codes "not owner"
-played_words played.Unavailable = codes "unavailable"
-played_words played.LogFull = codes "log full"
-played_words played.Approved = codes "approved"
-played_words played.Up = codes "up"
-played_words played.Unknown = codes "unknown"
-played_words _ = []
-
--- what an event is answered, at the scene after it
+-- What an event is answered, at the scene after it. Halted has no line in any report: nothing halts the machine.
 abbrev pub played_line : Setup → Bool → Scene → Played → List ℕ
+played_line setup many x played.Moved = word_line (codes "moved")
 played_line setup many x (played.Blocked signal) = blocked_line signal
+played_line setup many x played.Done = word_line (codes "done")
+played_line setup many x played.Halted = []
+played_line setup many x played.Lost = word_line (codes "lost")
+played_line setup many x played.Spent = word_line (codes "spent")
+played_line setup many x played.Refilled = word_line (codes "refilled")
 played_line setup many x (played.RefillRefused why) = refill_line why
 played_line setup many x (played.Executed server) = executed_line (server_name setup server)
 played_line setup many x (played.Passed to number place) = passed_line (server_name setup to) number place
+played_line setup many x played.NotOwner = word_line (codes "not owner")
+played_line setup many x played.Unavailable = word_line (codes "unavailable")
+played_line setup many x played.LogFull = word_line (codes "log full")
+played_line setup many x played.Approved = word_line (codes "approved")
 played_line setup many x (played.Denied why) = denied_line setup many x.places why
+played_line setup many x played.Up = word_line (codes "up")
 played_line setup many x (played.Begun number) = begun_line (plan_at x.state number)
 played_line setup many x (played.NotBegun why) = not_begun_line setup why
-played_line setup many x answer = word_line (played_words answer)
+played_line setup many x played.Unknown = word_line (codes "unknown")
 
 -- the event in front of its answer
 abbrev pub event_front : ℕ → List ℕ

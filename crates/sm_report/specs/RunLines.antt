@@ -1,9 +1,13 @@
 -- The lines of a plan that was run, and of what was asked beside it.
-use Rattle.std.specs.Prelude.{ℕ, ◌+◌, Option, Some, None, List, [], ◌∷◌, ◌++◌, codes}
+-- `end_line` and `end_lines` are steps of the code's own way, which private functions' contracts cite: whoever reads the public ones need not read them.
+use Rattle.std.specs.Prelude.{ℕ, ◌+◌, Option, Some, None, List, [], ◌∷◌, ◌++◌, codes, count_by, length, slice_index_or}
 use Rattle.std.specs.List.{flat_map, range_with_len}
 use Rattle.std.specs.Fmt.{decimal}
 use Rattle.sm_placement.specs.Setup.{Setup}
 use Rattle.sm_reservation.specs.declared.stream_id.StreamId.{StreamId}
+use Rattle.sm_plan_code.specs.Instr.{is_call}
+use Rattle.sm_plan_code.specs.Plan.{PlanModel, StreamModel}
+use Rattle.sm_verifier.specs.Stream.{no_stream}
 use Rattle.sm_protocol.specs.State.{State, stream_id, stream_count, progress_of, allowance}
 use Rattle.sm_machine.specs.Retired.{steps_at_end}
 use Rattle.sm_router.specs.declared.asking.Asked.{Asked}
@@ -27,6 +31,15 @@ end_line w id = stream_end_line id.stream (steps_at_end w id) (progress_of w id)
 -- the lines of all streams of the plan with this number
 abbrev pub end_lines : State → ℕ → List ℕ
 end_lines w number = flat_map (λ i. end_line w (stream_id number i)) (range_with_len 0 (stream_count w number))
+
+-- The line of a stream that was run to its end, where each of its calls was tried once: its steps are its instructions and its end, its
+-- tries its calls, and it was allowed its budget and its retries.
+abbrev pub run_line : ℕ → StreamModel → List ℕ
+run_line i stream = stream_end_line i (length stream.code + 1) (count_by is_call stream.code) (stream.budget + stream.retries)
+
+-- the lines of all streams of a plan that was run so
+abbrev pub run_lines : PlanModel → List ℕ
+run_lines plan = flat_map (λ i. run_line i (slice_index_or plan.streams i no_stream)) (range_with_len 0 (length plan.streams))
 
 -- ---- asks
 

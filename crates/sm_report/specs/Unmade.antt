@@ -1,9 +1,10 @@
 -- Runs that have not come to their end.
--- Public functions' contracts cite `unrun_text` alone (`report_run`, and `report_word` of `sm_command_line`). The others are steps of the code's own
--- way, which private functions' contracts cite: whoever reads the public ones need not read them.
-use Rattle.std.specs.Prelude.{List, ℕ, [], ◌∷◌, codes, Result, Ok, Err}
+-- Public functions' contracts cite `unrun_text`, `not_run` and `IsUnrun` alone (`report_run`, and `report_word` of `sm_command_line`). The others are
+-- steps of the code's own way, which private functions' contracts cite: whoever reads the public ones need not read them.
+use Rattle.std.specs.Prelude.{◌≡◌, List, ℕ, [], ◌∷◌, codes, Result, Ok, Err}
+use Rattle.sm_report.specs.declared.status.Status.TheVariants as status
 use Rattle.sm_report.specs.declared.unmade.Unrun.{Unrun}
-use Rattle.sm_report.specs.declared.unmade.Unrun.TheVariants.{NoThread, Halted, Spent, NoCaller, OtherAsk, NotClosed}
+use Rattle.sm_report.specs.declared.unmade.Unrun.TheVariants.{NoThread, Halted, Spent, NoCaller, OtherAsk, NotClosed, OtherEvents}
 use Rattle.sm_report.specs.declared.unmade.Unmade.{Unmade}
 use Rattle.sm_report.specs.declared.unmade.Unmade.TheVariants as unmade
 use Rattle.sm_report.specs.Early.{IfEnded, IfReadEnded}
@@ -11,7 +12,7 @@ use Rattle.sm_report.specs.Lines.{line}
 use Rattle.sm_report.specs.Report.{Output}
 
 -- What is written where a plan has begun and was not run to its end. Of the texts behind the first none is wanted: nothing halts the
--- board of a report, and it is closed where all streams have made their ends; but no contract rules them out.
+-- board of a report, or happens on it beside the run, and it is closed where all streams have made their ends; but no contract rules them out.
 abbrev pub unrun_text : Unrun → List ℕ
 unrun_text NoThread = line (codes "not run: 2 NoThread" ∷ [])
 unrun_text Halted = line (codes "not run: 3 Halted" ∷ [])
@@ -19,11 +20,25 @@ unrun_text Spent = line (codes "not run: 4 Spent" ∷ [])
 unrun_text NoCaller = line (codes "not run: 5 NoCaller" ∷ [])
 unrun_text OtherAsk = line (codes "not run: 6 OtherAsk" ∷ [])
 unrun_text NotClosed = line (codes "not run: 7 NotClosed" ∷ [])
+unrun_text OtherEvents = line (codes "not run: 8 OtherEvents" ∷ [])
+
+-- the report of a plan that has begun and was not run to its end
+abbrev pub not_run : Unrun → Output
+not_run why = record { text = unrun_text why; status = status.NoThread }
+
+-- the report says why the plan was not run to its end
+abbrev pub IsUnrun : Output → Type 0
+IsUnrun output = (why : Unrun) × (output ≡ not_run why)
 
 -- the report with which a stage ended is one of these, where there is one
 abbrev pub IfUnmade : Unmade → (Output → Type 0) → Type 0
 IfUnmade (unmade.Early early) Is = IfEnded early Is
-IfUnmade (unmade.Unrun why) Is = Unit {0}
+IfUnmade (unmade.Unrun why) Is = Is (not_run why)
+
+-- no stage before the run has ended the report
+abbrev pub IsOfRun : Unmade → Type 0
+IsOfRun (unmade.Early early) = IfEnded early (λ made. ⊥)
+IsOfRun (unmade.Unrun why) = Unit {0}
 
 -- the report that was made is one of these, where there is one
 abbrev pub IfRan : Result Output Unmade → (Output → Type 0) → Type 0
@@ -33,7 +48,7 @@ IfRan (Err why) Is = IfUnmade why Is
 -- the same of a stage that reads
 abbrev pub IfReadUnmade : Unmade → (Output → Type 0) → Type 0
 IfReadUnmade (unmade.Early early) Is = IfReadEnded early Is
-IfReadUnmade (unmade.Unrun why) Is = Unit {0}
+IfReadUnmade (unmade.Unrun why) Is = Is (not_run why)
 
 -- the same of all stages, with the one that reads: where a read failed, there is no report either
 abbrev pub IfReadRan : Result Output Unmade → (Output → Type 0) → Type 0

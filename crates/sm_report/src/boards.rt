@@ -14,8 +14,8 @@ ghost use Rattle.sm_report.specs.Ending.{ending};
 ghost use Rattle.sm_report.specs.PlayLines.{not_begun_line};
 ghost use Rattle.sm_report.specs.Report.{done, refused};
 ghost use Rattle.sm_report.specs.RunLines.{end_lines, client_lines};
-ghost use Rattle.sm_report.specs.Running.{HasRun, WasRun, IsStartedForRun};
-ghost use Rattle.sm_report.specs.Unmade.{IfUnmade, IfRan};
+ghost use Rattle.sm_report.specs.Running.{HasRun, WasRunOrNot, IsStartedForRun, is_step_or_request, are_steps_and_requests};
+ghost use Rattle.sm_report.specs.Unmade.{IfRan, IsOfRun};
 ghost use Rattle.sm_plan_code.specs.declared.limits.TheConstants.{MOST_STREAMS};
 
 use crate::begun::Begun;
@@ -30,29 +30,27 @@ use sm_executor::{
 };
 use sm_machine::{BeginFault, Machine, Permit, StreamToken};
 use sm_placement::Config;
+use sm_protocol::{Event, Logged};
 use sm_server::ShardId;
 use sm_verifier::Checked;
-use std::alloc::Global;
+use std::alloc::{AllocError, Global};
 use std::marker::Brand;
 use std::sync::Wait;
 use std::sync::ledger::Ledger;
 use std::thread::Threads;
 
-/// Why there is no report of a plan that does not begin.
-fn not_begun(alloc: Global, config: &Config, fault: BeginFault) -> Unmade
-    ensures { IfUnmade result (λ made. (fault ≢ begin_fault.NoMemory) × (made ≡ refused (not_begun_line config.now fault))) }
+/// The report of a plan that does not begin; none where memory was short for its start.
+fn not_begun(alloc: Global, config: &Config, fault: BeginFault) -> Result<Made, AllocError>
+    ensures { IfOk result (λ made. (fault ≢ begin_fault.NoMemory) × (made ≡ refused (not_begun_line config.now fault))) }
 {
     if fault == BeginFault::NoMemory {
-        return Unmade::Early(Early::NoMemory);
+        return Err(AllocError);
     }
-    match Made::not_begun(alloc, config, fault) {
-        Ok(made) => Unmade::Early(Early::Report(made)),
-        Err(_) => Unmade::Early(Early::NoMemory),
-    }
+    Made::not_begun(alloc, config, fault)
 }
 
 /// A client for each ask, into an empty list with room for all; false where the board gives out no more callers.
-fn call_clients<A: Ledger, B: Ledger, C: Ledger, N: Naming, R: Wait>(
+fn make_clients<A: Ledger, B: Ledger, C: Ledger, N: Naming, R: Wait>(
     rt: &R,
     board: &Board<A, B, C, N>,
     asks: &[ShardId],
@@ -111,9 +109,9 @@ fn run_begun<
     ensures callers { given.new.callers ≡ given.old.callers }
     ensures most { vec_len given.new.clients ≤ length asks.now }
     ensures ran { OnOk result (HasRun (stream_count N.opened 0) given.new.ended.items given.new.clients.items) }
-    ensures why { IfErr result (λ why. IfUnmade why (λ made. ⊥)) }
+    ensures why { IfErr result IsOfRun }
 {
-    if !call_clients(rt, board, asks, &mut given.clients) {
+    if !make_clients(rt, board, asks, &mut given.clients) {
         take_tokens(runners, &mut given.tokens);
         return Err(Unmade::Unrun(Unrun::NoCaller));
     }
@@ -137,7 +135,7 @@ fn tell_asks<B: Ledger, C: Ledger, N: Naming>(
     ensures shards { OnOk result (map (λ client. client.shard) clients.now ≡ asks.now) }
     ensures asked { IfOk result (λ asked. string_bytes asked ≡ client_lines config.now 0 clients.now) }
     ensures ways { OnOk result (All (IsClient N.setup N.opened) clients.now) }
-    ensures why { IfErr result (λ why. IfUnmade why (λ made. ⊥)) }
+    ensures why { IfErr result IsOfRun }
 {
     if !are_of(clients, asks) {
         return Err(Unmade::Unrun(Unrun::OtherAsk));
@@ -172,20 +170,43 @@ fn run_told<
     ensures shards { OnOk result (map (λ client. client.shard) given.new.clients.items ≡ asks.now) }
     ensures asked { IfOk result (λ asked. string_bytes asked ≡ client_lines N.setup 0 given.new.clients.items) }
     ensures ways { OnOk result (All (IsClient N.setup N.opened) given.new.clients.items) }
-    ensures why { IfErr result (λ why. IfUnmade why (λ made. ⊥)) }
+    ensures why { IfErr result IsOfRun }
 {
     run_begun(rt, alloc, board, runners, asks, given)?;
     tell_asks(alloc, board.config(), given.clients.as_slice(), asks)
 }
 
-/// Adds the lines of the streams of a machine's one plan.
+/// Whether an event is a step of a stream by which no call is lost, or a request.
+fn is_step_or_request(event: &Event) -> bool
+    ensures { result ≡ is_step_or_request event.now }
+{
+    match event {
+        Event::Step { .. } | Event::Arrive { .. } | Event::PassOn { .. } => true,
+        Event::Lose { .. }
+        | Event::Refill { .. }
+        | Event::Approve { .. }
+        | Event::Done { .. }
+        | Event::Begin { .. } => false,
+    }
+}
+
+/// Whether all events of a log are steps by which no call is lost, and requests.
+fn are_steps_and_requests(log: &[Logged]) -> bool
+    ensures { result ≡ are_steps_and_requests log.now }
+{
+    log.iter().all(|line| is_step_or_request(&line.event))
+}
+
+/// Adds the lines of the streams of a machine's one plan. What threads did to a board is not told to who closes it, so it is looked
+/// whether another plan has begun, and whether the log has other events than the run's.
 fn push_plan_ends(out: &mut String, machine: &Machine) -> Result<(), Unmade>
     ensures alone { OnOk result (length (state_of machine.now).plans ≡ 1) }
+    ensures own { OnOk result (are_steps_and_requests (state_of machine.now).log ≡ true) }
     ensures lines { OnOk result (string_bytes out.new ≡ string_bytes out.old ++ end_lines (state_of machine.now) 0) }
-    ensures why { IfErr result (λ why. IfUnmade why (λ made. ⊥)) }
+    ensures why { IfErr result IsOfRun }
 {
-    if machine.plan_count() != 1 {
-        return Err(Unmade::Unrun(Unrun::NotClosed));
+    if machine.plan_count() != 1 || !are_steps_and_requests(machine.log()) {
+        return Err(Unmade::Unrun(Unrun::OtherEvents));
     }
     push_ends(out, machine)?;
     Ok(())
@@ -201,8 +222,9 @@ fn report_machine(
     asked: String,
 ) -> Result<Made, Unmade>
     ensures alone { OnOk result (length (state_of machine).plans ≡ 1) }
+    ensures own { OnOk result (are_steps_and_requests (state_of machine).log ≡ true) }
     ensures text { IfOk result (λ made. made ≡ done (string_bytes accepted ++ end_lines (state_of machine) 0 ++ string_bytes asked ++ ending machine.placement.setup (state_of machine).place)) }
-    ensures why { IfErr result (λ why. IfUnmade why (λ made. ⊥)) }
+    ensures why { IfErr result IsOfRun }
 {
     let mut text = accepted;
     let ends = push_plan_ends(&mut text, &machine);
@@ -224,9 +246,11 @@ fn report_ran<A: Ledger, B: Ledger, C: Ledger, N: Naming>(
 ) -> Result<Made, Unmade>
     requires none { given.callers.items ≡ [] }
     requires room { vec_len given.clients ≤ vec_capacity given.callers }
-    ensures { IfRan result (λ made. (now : State) × IsClosed N.setup N.opened now given.ended.items (map (λ client. client.caller) given.clients.items)
+    ensures told { IfOk result (λ made. (now : State) × IsClosed N.setup N.opened now given.ended.items (map (λ client. client.caller) given.clients.items)
         × (length now.plans ≡ 1)
+        × (are_steps_and_requests now.log ≡ true)
         × (made ≡ done (string_bytes accepted ++ end_lines now 0 ++ string_bytes asked ++ ending N.setup now.place))) }
+    ensures why { IfErr result IsOfRun }
 {
     let Given {
         ended,
@@ -290,7 +314,7 @@ fn report_given<
     requires runners { AreRunners 0 (stream_count N.opened 0) runners.items }
     requires accepted { string_bytes accepted ≡ accepted_line (plan_at N.opened 0) }
     requires known { All (λ shard. shard < length N.words.opening) asks.now }
-    ensures { IfRan result (WasRun N.opened N.setup asks.now) }
+    ensures { IfRan result (WasRunOrNot N.opened N.setup asks.now) }
 {
     match run_told(rt, alloc, &board, runners, asks, &mut given) {
         Ok(asked) => report_ran(alloc, board, given, permits, accepted, asked),
@@ -320,7 +344,7 @@ fn report_on_ground<
     requires few { length begun.tokens.items ≤ MOST_STREAMS }
     requires accepted { string_bytes begun.accepted ≡ accepted_line (plan_at (state_of begun.machine) 0) }
     requires known { All (λ shard. shard < length N.words.opening) asks.now }
-    ensures { IfRan result (WasRun N.opened N.setup asks.now) }
+    ensures { IfRan result (WasRunOrNot N.opened N.setup asks.now) }
 {
     let (begun, given) = begun.with_room(alloc, asks.len())?;
     let Begun {
@@ -358,7 +382,7 @@ fn report_on_board<R: Threads + Wait + Sync>(
     requires tokens { AreTokens 0 (stream_count (state_of begun.machine) 0) begun.tokens.items }
     requires accepted { string_bytes begun.accepted ≡ accepted_line (plan_at (state_of begun.machine) 0) }
     requires known { All (λ shard. shard < length begun.machine.placement.setup.shards) asks.now }
-    ensures { IfRan result (WasRun (state_of begun.machine) begun.machine.placement.setup asks.now) }
+    ensures { IfRan result (WasRunOrNot (state_of begun.machine) begun.machine.placement.setup asks.now) }
 {
     // (a plan has 64 streams at most)
     begun.machine.is_reached();
@@ -401,9 +425,9 @@ pub fn report_started<R: Threads + Wait + Sync>(
             report_on_board(rt, alloc, begun, asks)
         }
         Err((_back, fault)) => {
-            let why = not_begun(alloc, machine.config(), fault);
+            let made = not_begun(alloc, machine.config(), fault);
             machine.give_up(Vec::new(alloc), permits, Vec::new(alloc));
-            Err(why)
+            Ok(made?)
         }
     }
 }

@@ -1,6 +1,6 @@
 //! What a board has given out, and takes back where it ends.
 ghost use Rattle.std.specs.Prelude.{◌≡◌, ◌≤◌, ◌+◌, IfOk, [], map, vec_len, vec_capacity};
-ghost use Rattle.sm_report.specs.Unmade.{IfUnmade};
+ghost use Rattle.sm_report.specs.Unmade.{IsOfRun};
 
 use crate::early::Early;
 use crate::unmade::{Unmade, Unrun};
@@ -78,7 +78,7 @@ pub fn keep_ends<A: Ledger>(kept: &mut Vec<Ended<A>>, ended: Vec<Ended<A>>)
 
 /// Why there is no report of a run whose streams have not made their ends.
 fn unmade_of(why: RunFault) -> Unmade
-    ensures { IfUnmade result (λ made. ⊥) }
+    ensures { IsOfRun result }
 {
     match why {
         RunFault::NoMemory => Unmade::Early(Early::NoMemory),
@@ -96,7 +96,7 @@ pub fn keep_back<A: Ledger>(
 ) -> Unmade
     requires none { kept.old.items ≡ [] }
     requires room { vec_len tokens.old + vec_len back.runners ≤ vec_capacity tokens.old }
-    ensures { IfUnmade result (λ made. ⊥) }
+    ensures { IsOfRun result }
 {
     let NotRun {
         fault,

@@ -34,5 +34,5 @@ mod verdict;
 pub use command::Command;
 pub use input::{InputFault, take_input};
 pub use reporting::{one_report, report, some_report};
-pub use running::report_run;
+pub use running::{one_run_report, report_run};
 pub use status::Status;

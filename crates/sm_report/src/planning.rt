@@ -16,7 +16,7 @@ ghost use Rattle.sm_report.specs.Output.{IsLoggedForPlan, IsPlacedForPlan, IsOpe
 
 use crate::early::Early;
 use crate::made::Made;
-use crate::stages::{director, has_log, placement};
+use crate::stages::{director, placement, require_log_room};
 use sm_machine::Machine;
 use sm_placement::{Config, Placement};
 use sm_plan_code::Move;
@@ -24,7 +24,7 @@ use sm_plan_text::{Document, Member, TextFault};
 use sm_planner::{NoPlan, drain, moves};
 use sm_server::ServerId;
 use sm_verifier::Checked;
-use std::alloc::Global;
+use std::alloc::{AllocError, Global};
 
 /// What a plan is wanted for.
 #[derive(Clone, Copy)]
@@ -35,14 +35,11 @@ pub enum Wanted<'a> {
     Drain(ServerId),
 }
 
-/// How the report ends of a document that is not one for a plan.
-fn misfit(alloc: Global, member: Member) -> Early
-    ensures { IfEnded result (λ made. made ≡ bad_input (text_fault_line (TextFault.Shape member))) }
+/// The report of a document that is not one for a plan.
+fn misfit(alloc: Global, member: Member) -> Result<Made, AllocError>
+    ensures { IfOk result (λ made. made ≡ bad_input (text_fault_line (TextFault.Shape member))) }
 {
-    match Made::bad_input(alloc, TextFault::Shape { member }) {
-        Ok(made) => Early::Report(made),
-        Err(_) => Early::NoMemory,
-    }
+    Made::bad_input(alloc, TextFault::Shape { member })
 }
 
 /// What a document wants a plan for: its moves, or a server that is to be emptied, and not both.
@@ -55,8 +52,8 @@ fn wanted_of(alloc: Global, document: &Document) -> Result<Wanted<'_>, Early>
     match (&document.moves, document.drain) {
         (Some(list), None) => Ok(Wanted::Moves(list.as_slice())),
         (None, Some(server)) => Ok(Wanted::Drain(server)),
-        (Some(_), Some(_)) => Err(misfit(alloc, Member::Drain)),
-        (None, None) => Err(misfit(alloc, Member::Moves)),
+        (Some(_), Some(_)) => Err(Early::Report(misfit(alloc, Member::Drain)?)),
+        (None, None) => Err(Early::Report(misfit(alloc, Member::Moves)?)),
     }
 }
 
@@ -124,7 +121,7 @@ fn report_placed(
     requires aim { IsAimOf (rows_of document.now).setup (aim_of wanted.now) }
     ensures { IfMade result (IsPlacedForPlan (rows_of document.now) (aim_of wanted.now) (place_of placement)) }
 {
-    has_log(alloc, document, &placement)?;
+    require_log_room(alloc, document, &placement)?;
     report_logged(alloc, document, placement, wanted)
 }
 

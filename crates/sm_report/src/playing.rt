@@ -5,7 +5,7 @@ ghost use Rattle.sm_protocol.specs.declared.event.Played.TheVariants as played;
 ghost use Rattle.sm_protocol.specs.State.{is_begun, progress_of};
 ghost use Rattle.sm_machine.specs.State.{state_of};
 ghost use Rattle.sm_report.specs.Playing.{event_turn, scene_after};
-ghost use Rattle.sm_report.specs.PlayLines.{begun_line, played_words, played_line, outcome_line, event_lines, stream_text, progress_line_of, progress_lines, plan_lines, all_plan_lines};
+ghost use Rattle.sm_report.specs.PlayLines.{begun_line, played_line, outcome_line, event_lines, stream_text, progress_line_of, progress_lines, plan_lines, all_plan_lines};
 ghost use Rattle.sm_report.specs.Player.{scene_of, IsSetUp, IsBegunThere};
 
 use crate::names::server_name;
@@ -29,26 +29,6 @@ fn push_begun_plan(out: &mut String, plan: &Plan) -> Result<(), AllocError>
     push_begun(out, call_count(plan), plan.streams().len())
 }
 
-/// The words of an answer that says no more than its name; of any other, none.
-fn words_of(answer: Played) -> &'static str
-    ensures { result.now ≡ played_words answer }
-{
-    match answer {
-        Played::Moved => "moved",
-        Played::Done => "done",
-        Played::Lost => "lost",
-        Played::Spent => "spent",
-        Played::Refilled => "refilled",
-        Played::NotOwner => "not owner",
-        Played::Unavailable => "unavailable",
-        Played::LogFull => "log full",
-        Played::Approved => "approved",
-        Played::Up => "up",
-        Played::Unknown => "unknown",
-        _ => "",
-    }
-}
-
 /// Adds the line of an answer.
 fn push_answer(
     out: &mut String,
@@ -62,17 +42,27 @@ fn push_answer(
     ensures { OnOk result (string_bytes out.new ≡ string_bytes out.old ++ played_line config.now many (scene_of player.now) answer) }
 {
     match answer {
-        Played::Halted => unreachable!(),
+        Played::Moved => push_word(out, "moved"),
         Played::Blocked { signal } => push_blocked(out, signal),
+        Played::Done => push_word(out, "done"),
+        Played::Halted => unreachable!(),
+        Played::Lost => push_word(out, "lost"),
+        Played::Spent => push_word(out, "spent"),
+        Played::Refilled => push_word(out, "refilled"),
         Played::RefillRefused(fault) => push_refill_fault(out, fault),
         Played::Executed { server } => push_executed(out, server_name(config, server)),
         Played::Passed { to, number, place } => {
             push_passed(out, server_name(config, to), number, place)
         }
+        Played::NotOwner => push_word(out, "not owner"),
+        Played::Unavailable => push_word(out, "unavailable"),
+        Played::LogFull => push_word(out, "log full"),
+        Played::Approved => push_word(out, "approved"),
         Played::Denied(denied) => push_denied(out, config, many, player.places(), denied),
+        Played::Up => push_word(out, "up"),
         Played::Begun { number } => push_begun_plan(out, player.machine().plan(number)),
         Played::NotBegun(fault) => push_not_begun(out, config, fault),
-        _ => push_word(out, words_of(answer)),
+        Played::Unknown => push_word(out, "unknown"),
     }
 }
 

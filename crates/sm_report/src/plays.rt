@@ -26,7 +26,7 @@ use crate::made::Made;
 use crate::play_lines::push_plan_front;
 use crate::player::Player;
 use crate::playing::play_events;
-use crate::stages::{alone, checked, has_log, member, placement};
+use crate::stages::{checked, member, placement, require_log_room, require_one_source_of_plans};
 use crate::verdict::push_accepted;
 use sm_placement::{Config, Placement};
 use sm_plan_code::Plan;
@@ -255,7 +255,7 @@ fn report_placed(
     requires events { All (IsKnownEvent (length (rows_of document.old).setup.shards) (length (rows_of document.old).setup.servers)) events.now }
     ensures { IfMade result (IsPlacedForPlay (rows_of document.old) events.now (place_of placement)) }
 {
-    has_log(alloc, document, &placement)?;
+    require_log_room(alloc, document, &placement)?;
     report_logged(alloc, document, placement, events)
 }
 
@@ -287,6 +287,6 @@ pub fn report_play(alloc: Global, document: &mut Document) -> Result<Made, Early
     requires { IsDocument (rows_of document.old) }
     ensures { IfMade result (IsPlayReport (rows_of document.old)) }
 {
-    alone(alloc, document)?;
+    require_one_source_of_plans(alloc, document)?;
     report_alone(alloc, document)
 }

@@ -91,10 +91,10 @@ pub fn report<R: Read, W: Write>(
     // Without memory, and after a read that fails, nothing is written.
     ensures memory { result ≡ Status.NoMemory → Keeps (W.contents writer.old) (W.contents writer.new) }
     ensures read_fault { result ≡ Status.ReadFailed → Keeps (W.contents writer.old) (W.contents writer.new) }
-    // After a write that fails, a front of the report's text is written.
+    // After a write that fails, a front of the report's text is written, and not all of it.
     ensures write_fault { result ≡ Status.WriteFailed → (output : Output)
         × IsReportOf command MOST_BYTES (R.remaining reader.old) output
-        × (k : ℕ) × Appends (W.contents writer.old) (W.contents writer.new) (take k output.text) }
+        × (k : ℕ) × (k < length output.text) × Appends (W.contents writer.old) (W.contents writer.new) (take k output.text) }
     // No thread is asked for.
     ensures threads { result ≢ Status.NoThread }
 {

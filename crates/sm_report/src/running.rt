@@ -1,5 +1,5 @@
 //! The report of a document's plan, which is run: a thread for each of its streams, and one for each ask.
-ghost use Rattle.std.specs.Prelude.{◌≡◌, ◌≢◌, ◌≤◌, ◌<◌, ℕ, All, List, length, take};
+ghost use Rattle.std.specs.Prelude.{◌≡◌, ◌≢◌, ◌≤◌, ◌<◌, ℕ, [], All, length, take};
 ghost use Rattle.std.specs.Io.KnownBytes.{Appends, Keeps};
 ghost use Rattle.sm_placement.specs.Setup.{sizes_of};
 ghost use Rattle.sm_placement.specs.Place.{down_count};
@@ -7,14 +7,14 @@ ghost use Rattle.sm_placement.specs.Layout.{place_of};
 ghost use Rattle.sm_placement.specs.Lead.{IsSettled};
 ghost use Rattle.sm_plan_code.specs.Plan.{IsKnownPlan};
 ghost use Rattle.sm_protocol.specs.State.{opened};
-ghost use Rattle.sm_plan_text.specs.Documents.{IsDocument};
+ghost use Rattle.sm_plan_text.specs.Documents.{DocumentModel, IsDocument};
 ghost use Rattle.sm_plan_text.specs.Reading.{rows_of};
 ghost use Rattle.sm_report.specs.declared.limits.TheConstants.{MOST_BYTES};
 ghost use Rattle.sm_report.specs.declared.unmade.Unrun.{Unrun};
 ghost use Rattle.sm_report.specs.Report.{Output};
-ghost use Rattle.sm_report.specs.Running.{IsStartedForRun, IsLoggedForRun, IsPlacedForRun, IsOpenedForRun, IsRunReport, IsRunReportOf, IsWritten};
+ghost use Rattle.sm_report.specs.Running.{IsStartedForRun, IsLoggedForRun, IsPlacedForRun, IsOpenedForRun, IsRunReport, IsRunReportOf};
 ghost use Rattle.sm_report.specs.Status.{code_of};
-ghost use Rattle.sm_report.specs.Unmade.{unrun_text, IfRan, IfReadRan};
+ghost use Rattle.sm_report.specs.Unmade.{unrun_text, not_run, IfRan, IfReadRan};
 ghost use Rattle.sm_plan_code.specs.declared.limits.TheConstants.{MOST_PLACES};
 
 use crate::boards::report_started;
@@ -22,7 +22,7 @@ use crate::delivery::deliver;
 use crate::early::Early;
 use crate::made::Made;
 use crate::reporting::read_input;
-use crate::stages::{checked, has_log, member, placement};
+use crate::stages::{checked, member, placement, require_log_room};
 use crate::status::Status;
 use crate::unmade::{Unmade, Unrun};
 use crate::verdict::push_accepted;
@@ -31,7 +31,7 @@ use sm_placement::Placement;
 use sm_plan_code::Plan;
 use sm_plan_text::{Document, Member};
 use sm_server::ShardId;
-use sm_verifier::Checked;
+use sm_verifier::{Checked, one_fault};
 use std::alloc::Global;
 use std::io::{Read, Write};
 use std::sync::Wait;
@@ -98,7 +98,7 @@ fn report_placed<R: Threads + Wait + Sync>(
     requires plan { IsKnownPlan (length placement.setup.shards) (length placement.setup.servers) plan }
     ensures { IfRan result (IsPlacedForRun (rows_of document.now) plan (place_of placement)) }
 {
-    has_log(alloc, document, &placement)?;
+    require_log_room(alloc, document, &placement)?;
     report_logged(rt, alloc, document, placement, plan)
 }
 
@@ -146,7 +146,7 @@ fn report_reader<R: Threads + Wait + Sync, I: Read>(
 fn write_unrun<W: Write>(writer: &mut W, unrun: Unrun) -> Status
     ensures status { (result ≢ Status.WriteFailed) → result ≡ Status.NoThread }
     ensures text { result ≡ Status.NoThread → Appends (W.contents writer.old) (W.contents writer.new) (unrun_text unrun) }
-    ensures front { (k : ℕ) × Appends (W.contents writer.old) (W.contents writer.new) (take k (unrun_text unrun)) }
+    ensures front { result ≡ Status.WriteFailed → (k : ℕ) × (k < length (unrun_text unrun)) × Appends (W.contents writer.old) (W.contents writer.new) (take k (unrun_text unrun)) }
 {
     if deliver(writer, unrun.text().as_bytes()) {
         Status::NoThread
@@ -170,12 +170,14 @@ pub fn report_run<R: Threads + Wait + Sync, I: Read, W: Write>(
     // Without memory, and after a read that fails, nothing is written.
     ensures memory { result ≡ Status.NoMemory → Keeps (W.contents writer.old) (W.contents writer.new) }
     ensures read_fault { result ≡ Status.ReadFailed → Keeps (W.contents writer.old) (W.contents writer.new) }
-    // Where the plan was not run to its end, that is all that is written.
-    ensures threads { result ≡ Status.NoThread → (why : Unrun) × Appends (W.contents writer.old) (W.contents writer.new) (unrun_text why) }
-    // After a write that fails, a front of what would be written is.
-    ensures write_fault { result ≡ Status.WriteFailed → (text : List ℕ)
-        × IsWritten MOST_BYTES (I.remaining reader.old) text
-        × (k : ℕ) × Appends (W.contents writer.old) (W.contents writer.new) (take k text) }
+    // Where the plan has begun and was not run to its end, why is all that is written.
+    ensures threads { result ≡ Status.NoThread → (why : Unrun)
+        × IsRunReportOf MOST_BYTES (I.remaining reader.old) (not_run why)
+        × Appends (W.contents writer.old) (W.contents writer.new) (unrun_text why) }
+    // After a write that fails, a front of the report's text is written, and not all of it.
+    ensures write_fault { result ≡ Status.WriteFailed → (output : Output)
+        × IsRunReportOf MOST_BYTES (I.remaining reader.old) output
+        × (k : ℕ) × (k < length output.text) × Appends (W.contents writer.old) (W.contents writer.new) (take k output.text) }
 {
     match report_reader(rt, alloc, reader) {
         Ok(made) => made.write(writer),
@@ -186,4 +188,11 @@ pub fn report_run<R: Threads + Wait + Sync, I: Read, W: Write>(
         },
         Err(Unmade::Unrun(unrun)) => write_unrun(writer, unrun),
     }
+}
+
+/// Of a document without asks `run` reports the same in each run that comes to its end, whatever the schedule is.
+pub fn one_run_report()
+    ensures { (d : DocumentModel) (a b : Output) → d.asks ≡ [] → IsRunReport d a → IsRunReport d b → a.status ≢ Status.NoThread → b.status ≢ Status.NoThread → a ≡ b }
+{
+    one_fault();
 }

@@ -53,24 +53,21 @@ pub fn placement(alloc: Global, document: &Document) -> Result<Placement, Early>
     }
 }
 
-/// How the report of a plan ends that did not pass the check, behind a front.
-fn fault_ending(alloc: Global, front: &str, fault: &Fault) -> Early
-    ensures { IfEnded result (λ made. (fault.now ≢ Fault.NoMemory) × (made ≡ refused (front.now ++ fault_line fault.now))) }
+/// The report of a plan that did not pass the check, behind a front; none where memory was short for the check.
+fn fault_report(alloc: Global, front: &str, fault: &Fault) -> Result<Made, AllocError>
+    ensures { IfOk result (λ made. (fault.now ≢ Fault.NoMemory) × (made ≡ refused (front.now ++ fault_line fault.now))) }
 {
     match fault {
-        Fault::NoMemory => Early::NoMemory,
+        Fault::NoMemory => Err(AllocError),
         Fault::Budget { .. }
         | Fault::SignalNotOnce { .. }
         | Fault::Stream { .. }
-        | Fault::Stuck { .. } => match Made::unsound(alloc, front, fault) {
-            Ok(made) => Early::Report(made),
-            Err(_) => Early::NoMemory,
-        },
+        | Fault::Stuck { .. } => Made::unsound(alloc, front, fault),
     }
 }
 
 /// Ends the report where a document has one plan and a list of plans.
-pub fn alone(alloc: Global, document: &Document) -> Result<(), Early>
+pub fn require_one_source_of_plans(alloc: Global, document: &Document) -> Result<(), Early>
     ensures ok { OnOk result (alone_stage (rows_of document.now).plan (rows_of document.now).plans ≡ Ok tt) }
     ensures ends { IfErr result (λ early. IfEnded early (λ made. alone_stage (rows_of document.now).plan (rows_of document.now).plans ≡ Err made)) }
 {
@@ -84,7 +81,11 @@ pub fn alone(alloc: Global, document: &Document) -> Result<(), Early>
 }
 
 /// Ends the report where the log has fewer places than servers are down.
-pub fn has_log(alloc: Global, document: &Document, placement: &Placement) -> Result<(), Early>
+pub fn require_log_room(
+    alloc: Global,
+    document: &Document,
+    placement: &Placement,
+) -> Result<(), Early>
     requires { placement.now.setup ≡ (rows_of document.now).setup }
     ensures ok { OnOk result (log_stage (rows_of document.now) (place_of placement.now) ≡ Ok tt) }
     ensures room { OnOk result (down_count (sizes_of placement.now.setup) (place_of placement.now) ≤ document.now.log) }
@@ -126,7 +127,7 @@ pub fn checked(
 {
     match check(alloc, placement.config(), plan) {
         Ok(checked) => Ok(checked),
-        Err((_, fault)) => Err(fault_ending(alloc, front, &fault)),
+        Err((_, fault)) => Err(Early::Report(fault_report(alloc, front, &fault)?)),
     }
 }
 

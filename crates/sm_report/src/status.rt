@@ -18,7 +18,7 @@ pub enum Status {
     NoThread,
     /// A read failed, or the document did not come to an end. Nothing was written.
     ReadFailed,
-    /// A write failed. What was written is a front of the report.
+    /// A write failed. What was written is a front of the report, and not all of it.
     WriteFailed,
 }
 

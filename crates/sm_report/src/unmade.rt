@@ -5,8 +5,8 @@ ghost use Rattle.sm_report.specs.Unmade.{unrun_text};
 use crate::early::Early;
 use std::alloc::AllocError;
 
-/// Why a plan that has begun was not run to its end. Nothing halts the board of a report, and no call is lost on it: so each but the
-/// first would be a fault of this program.
+/// Why a plan that has begun was not run to its end. Nothing halts the board of a report, no call is lost on it, and no server is
+/// restarted: so each but the first would be a fault of this program.
 #[derive(Clone, Copy, Debug, PartialEq, Eq)]
 pub enum Unrun {
     /// A thread could not be started, and no stream has stepped.
@@ -19,8 +19,10 @@ pub enum Unrun {
     NoCaller,
     /// A client has asked for another shard than its ask names.
     OtherAsk,
-    /// The board could not be closed, or another plan has begun on it.
+    /// The board could not be closed.
     NotClosed,
+    /// Another plan has begun on the board, or an event has happened on it that is no step of a stream and no request.
+    OtherEvents,
 }
 
 impl Unrun {
@@ -35,6 +37,7 @@ impl Unrun {
             Unrun::NoCaller => "not run: 5 NoCaller\n",
             Unrun::OtherAsk => "not run: 6 OtherAsk\n",
             Unrun::NotClosed => "not run: 7 NotClosed\n",
+            Unrun::OtherEvents => "not run: 8 OtherEvents\n",
         }
     }
 }

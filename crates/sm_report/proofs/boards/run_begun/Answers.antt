@@ -6,6 +6,6 @@ pub returns-in-Ok-clause-ran : goal.returns-in-Ok-clause-ran
 returns-in-Ok-clause-ran g c =
     let lent = ap length c.as_mut_slice-clients.ensures.value in
     let kept = c.in-Ok.ensures.clients in
-    let ok = c.call_clients.new.clients.ok in
+    let ok = c.make_clients.new.clients.ok in
     has_run _ _ c.args.runners.items c.in-Ok.ended.items c.keep_ends.new.kept.items c.run_beside.new.clients _ c.requires.runners c.in-Ok.ensures.ended c.keep_ends.ensures
     (omega (arith, lent, kept, ok)) c.in-Ok.ensures.asked

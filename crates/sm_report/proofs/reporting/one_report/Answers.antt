@@ -3,8 +3,7 @@ use Rattle.sm_report.proofs.reporting.one_report.Goals as goal
 
 pub returns : goal.returns
 returns c = same_report record {
-  fault = c.one_fault.ensures.same;
-  sound = c.one_fault.ensures.sound;
+  check = record { fault = c.one_fault.ensures.same; sound = c.one_fault.ensures.sound };
   holding = c.one_holding.ensures.same;
   admitted = c.one_holding.ensures.admitted;
   rule = c.rule_answers_once.ensures;
