@@ -1,5 +1,5 @@
 -- A plan more is begun, seen by the whole.
-use Rattle.std.proofs.Common.{◌≡◌, ◌<◌, ◌≤◌, ◌++◌, ◌∷◌, [], ℕ, zero, suc, List, length, get_or, map, refl, sym, ap, ◌∙◌, subst, arith, inl, inr, Some}
+use Rattle.std.proofs.Common.{◌≡◌, ◌<◌, ◌≤◌, ◌++◌, ◌∷◌, [], ℕ, zero, suc, List, length, get_or, map, refl, sym, ap, ◌∙◌, subst, arith, inl, inr, Some, None}
 use Rattle.std.specs.Prelude.{slice_index}
 use Rattle.std.proofs.lemmas.Bool.{cases_lt}
 use Rattle.std.proofs.lemmas.List.{get_or_past, length-map, map-append}
@@ -38,6 +38,13 @@ module _ (p : CheckedModel) (courses : List CourseModel) (f : AreFilled p.plan.s
   courses_fresh i = elim (cases_lt i streams) [
     | inl l ↦ (f.filled i l).progress ∙ ap (λ (x : CourseModel). x.progress) (ready_at i l)
     | inr l ↦ ap (λ (x : CourseModel). x.progress) (f.left i l ∙ get_or_past (ready_courses p) i no_course (subst (λ k. k ≤ i) (sym (first_count peaks streams)) l))
+  ]
+
+  -- nor a step
+  pub courses_unstepped : (i : ℕ) → (get_or courses i no_course).since ≡ None
+  courses_unstepped i = elim (cases_lt i streams) [
+    | inl l ↦ (f.filled i l).since ∙ ap (λ (x : CourseModel). x.since) (ready_at i l)
+    | inr l ↦ ap (λ (x : CourseModel). x.since) (f.left i l ∙ get_or_past (ready_courses p) i no_course (subst (λ k. k ≤ i) (sym (first_count peaks streams)) l))
   ]
 
   -- each stream has what it declares
@@ -109,6 +116,10 @@ begun_in b p courses free f h = record {
   running = refl;
   free = refl;
 }
+
+-- no stream of a plan that takes what it declares has made a step
+pub filled_unstepped : (p : CheckedModel) (old n : BegunModel) (since : ℕ) → old ≡ begun_of p since → AreFilled old.plan.streams (length old.plan.streams) old.courses n.courses → (i : ℕ) → (course_at n i).since ≡ None
+filled_unstepped p old n since is f = courses_unstepped p n.courses (subst (λ (m : BegunModel). AreFilled m.plan.streams (length m.plan.streams) m.courses n.courses) is f)
 
 -- where the plan is put behind the others and its streams have what they declare from the pool, it is begun
 pub begun_from : (b w : MachineModel) (z : b ≡ w) (p : CheckedModel) (old n : BegunModel) (free : PoolModel) (since : ℕ) (plans : List BegunModel) → old ≡ begun_of p since → since ≡ length b.journal.log →

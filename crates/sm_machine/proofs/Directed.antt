@@ -1,6 +1,6 @@
 -- What happens to a machine that nobody halts: what steps are answered, and which events begin a plan.
 use Rattle.std.proofs.Common.{◌≡◌, ◌≢◌, ◌<◌, ◌+◌, ◌∙◌, inl, inr, ◌∷◌, [], ℕ, Bool, true, false, Option, Some, None, length, Result, Ok, Err, refl, ap, sym, subst, arith, length-append}
-use Rattle.std.specs.Prelude.{◌==◌, ◌&&◌, if◌then◌else◌}
+use Rattle.std.specs.Prelude.{◌==◌, ◌&&◌, nat_lt, if◌then◌else◌}
 use Rattle.std.proofs.lemmas.Bool.{cases_Bool}
 use Rattle.sm_server.specs.declared.call.Cell.{Cell}
 use Rattle.sm_server.specs.declared.call.Cell.TheVariants.{Absent, Prepared, Secondary, Primary, Forwarding}
@@ -15,15 +15,24 @@ use Rattle.sm_protocol.specs.declared.event.Passage.{Passage}
 use Rattle.sm_protocol.specs.declared.event.Passage.TheVariants.{Through, LostBefore, LostAfter}
 use Rattle.sm_protocol.specs.declared.event.Played.{Played}
 use Rattle.sm_protocol.specs.declared.event.Played.TheVariants as played
-use Rattle.sm_protocol.specs.State.{State, progress_of, is_begun, allowance, next_instruction}
+use Rattle.sm_protocol.specs.State.{State, progress_of, is_begun, allowance, next_instruction, free_places, recorded, logged, pool, places_of}
 use Rattle.sm_protocol.specs.Steps.{Outcome, Answered, unchanged, call_number, call_to_make, tried, call_tried, made, step}
-use Rattle.sm_protocol.specs.Ticket.{Ticket}
-use Rattle.sm_protocol.specs.Happens.{Happening, Step, Lose, Refill, Arrive, PassOn, Approve, Done, Begin, answer_by, reply_of, happens}
+use Rattle.sm_protocol.specs.Ticket.{Ticket, is_open_ticket}
+use Rattle.sm_protocol.specs.declared.event.Event.{Event}
+use Rattle.sm_protocol.specs.declared.event.Event.TheVariants as event
+use Rattle.sm_protocol.specs.declared.event.RefillFault.{RefillFault}
+use Rattle.sm_protocol.specs.declared.event.BeginFault.TheVariants as fault
+use Rattle.sm_task_controller.specs.declared.decision.Denied.{Denied}
+use Rattle.sm_task_controller.specs.Decision.{denial}
+use Rattle.sm_verifier.specs.declared.admission.Holding.{Holding}
+use Rattle.sm_verifier.specs.FirstHolding.{first_holding}
+use Rattle.sm_placement.specs.Place.{set_down}
+use Rattle.sm_protocol.specs.Happens.{Happening, Step, Lose, Refill, Arrive, PassOn, Approve, Done, Begin, answer_by, reply_of, happens, requested, refill_fault, refilled, approved, engaged, begun, started, has_all_plans}
 use Rattle.sm_protocol.proofs.Cases.{OfSteps, IsQuiet, parcel_taken, of_any, of_happens}
 use Rattle.sm_protocol.proofs.Reached.{same_machine}
 use Rattle.sm_machine.specs.Machine.{MachineModel}
 use Rattle.sm_machine.specs.State.{state_of}
-use Rattle.sm_machine.specs.Director.{IsDirected}
+use Rattle.sm_machine.specs.Director.{HasHappenedIf, IsDirectedIf}
 
 -- ---- what steps are answered
 
@@ -86,24 +95,91 @@ step_goes w id passage runs =
 
 -- ---- events
 
--- the event has happened, and was not answered that the machine is halted
-pub directed : (m n : MachineModel) (e : Happening) (a : Played) → (happens (state_of m) e).0 ≡ Answered a → state_of n ≡ (happens (state_of m) e).1 → n.placement.setup ≡ m.placement.setup →
-    a ≢ played.Halted → IsDirected m e a n
-directed m n e a answer state setup runs = record {
-  event = ap (λ o. (o, (happens (state_of m) e).1)) answer ∙ ap (λ s. (Answered a, s)) (sym state);
-  running = runs;
-  setup = setup;
-}
+-- it is not answered that the machine is halted
+abbrev IsNotHalted : Played → Type 0
+IsNotHalted played.Halted = ⊥
+IsNotHalted _ = Unit {0}
 
--- the same of steps, whose answer is the protocol's
-pub stepped : (m n : MachineModel) (id : StreamId) (passage : Passage) (e : Happening) (a : Played) → (state_of m).halted ≡ false → happens (state_of m) e ≡ step (state_of m) id passage →
-    (happens (state_of m) e).0 ≡ Answered a → state_of n ≡ (happens (state_of m) e).1 → n.placement.setup ≡ m.placement.setup → IsDirected m e a n
-stepped m n id passage e a runs is answer state setup =
-    directed m n e a answer state setup (λ halted. subst IsOfStep (sym (ap (λ o. o.0) is) ∙ answer ∙ ap Answered halted) (step_goes (state_of m) id passage runs))
+cell_runs : (cell : Cell) (server : ℕ) (sent : Option Ticket) (place : ℕ) → IsNotHalted (answer_by cell server sent place)
+cell_runs Absent server sent place = tt
+cell_runs Secondary server sent place = tt
+cell_runs Primary server sent place = tt
+cell_runs (Forwarding to n) server sent place = tt
+cell_runs (Prepared from n) server None place = tt
+cell_runs (Prepared from n) server (Some t) place = by_same ((from == t.sender) && (n == t.number))
+  where
+    by_same : (same : Bool) → IsNotHalted (if same then played.Executed server else played.NotOwner)
+    by_same true = tt
+    by_same false = tt
+
+reply_runs : (w : State) (s v : ℕ) (sent : Option Ticket) → IsNotHalted (reply_of w s v sent)
+reply_runs w s v sent = by_down (w.place.down v)
+  where
+    by_down : (down : Bool) → IsNotHalted (if down then played.Unavailable else answer_by (w.place.cells s v) v sent (length w.log))
+    by_down true = tt
+    by_down false = cell_runs (w.place.cells s v) v sent (length w.log)
+
+requested_runs : (w : State) (s v : ℕ) (sent : Option Ticket) (e : Event) (a : Played) → (requested w s v sent e).0 ≡ Answered a → a ≢ played.Halted
+requested_runs w s v sent e a is = by_room (free_places w == 0) is
+  where
+    by_room : (full : Bool) → (if full then unchanged w played.LogFull else (let answer = reply_of w s v sent in (Answered answer, recorded w e answer))).0 ≡ Answered a → a ≢ played.Halted
+    by_room true is h = cc
+    by_room false is h = subst IsNotHalted (let same : reply_of w s v sent ≡ a = cc in same ∙ h) (reply_runs w s v sent)
+
+-- a machine that is not halted answers no event so
+pub goes : (w : State) (e : Happening) (a : Played) → w.halted ≡ false → (happens w e).0 ≡ Answered a → a ≢ played.Halted
+goes w (Step id) a runs is h = subst IsOfStep (is ∙ ap Answered h) (step_goes w id Through runs)
+goes w (Lose id after) a runs is h = subst IsOfStep (is ∙ ap Answered h) (step_goes w id (if after then LostAfter else LostBefore) runs)
+goes w (Refill id more) a runs is h = by_fault (refill_fault w id more) is
+  where
+    by_fault : (o : Option RefillFault) → (refilled w id more o).0 ≡ Answered a → ⊥
+    by_fault None is = cc
+    by_fault (Some why) is = cc
+goes w (Arrive s v) a runs is h = requested_runs w s v None (event.Arrive s v) a is h
+goes w (PassOn t) a runs is h = by_ticket (is_open_ticket w.log t) is h
+  where
+    by_ticket : (is_open : Bool) → (if is_open then requested w t.shard t.target (Some t) (event.PassOn t.place) else unchanged w played.Unknown).0 ≡ Answered a → a ≢ played.Halted
+    by_ticket true is h = requested_runs w t.shard t.target (Some t) (event.PassOn t.place) a is h
+    by_ticket false is h = cc
+goes w (Approve v) a runs is h = by_denial (denial w.sizes w.place (pool w) (engaged w v) (free_places w) v) is
+  where
+    by_denial : (o : Option Denied) → (approved w v o).0 ≡ Answered a → ⊥
+    by_denial None is = cc
+    by_denial (Some why) is = cc
+goes w (Done v) a runs is h = by_down (w.place.down v) is
+  where
+    by_down : (down : Bool) → (if down then (Answered played.Up, record w { place = set_down w.place v false; log = logged w (event.Done v) played.Up }) else unchanged w played.Unknown).0 ≡ Answered a → ⊥
+    by_down true is = cc
+    by_down false is = cc
+goes w (Begin plan) a runs is h = by_holding (first_holding w.sizes w.place (pool w) plan) is
+  where
+    by_plans : (all : Bool) → (if all then unchanged w (played.NotBegun fault.TooManyPlans) else (Answered (played.Begun (length w.plans)), started w plan)).0 ≡ Answered a → ⊥
+    by_plans true is = cc
+    by_plans false is = cc
+
+    by_log : (full : Bool) → (if full then unchanged w (played.NotBegun fault.LogFull)
+        else if has_all_plans w then unchanged w (played.NotBegun fault.TooManyPlans)
+        else (Answered (played.Begun (length w.plans)), started w plan)).0 ≡ Answered a → ⊥
+    by_log true is = cc
+    by_log false is = by_plans (has_all_plans w) is
+
+    by_holding : (o : Option Holding) → (begun w plan o).0 ≡ Answered a → ⊥
+    by_holding (Some why) is = cc
+    by_holding None is = by_log (nat_lt (free_places w) (places_of plan)) is
 
 -- nobody halts the machine by an event
 pub still_runs : (m n : MachineModel) (e : Happening) → (state_of m).halted ≡ false → state_of n ≡ (happens (state_of m) e).1 → (state_of n).halted ≡ false
 still_runs m n e runs state = ap (λ s. s.halted) state ∙ (same_machine (state_of m) e).halted ∙ runs
+
+-- what has happened to a machine that is not halted was not answered that it is
+pub directed_if : (m n : MachineModel) (e : Option Happening) (a : Played) → (state_of m).halted ≡ false → HasHappenedIf m e a n → IsDirectedIf m e a n
+directed_if m n None a runs h = h
+directed_if m n (Some e) a runs h = record { event = h.event; running = goes (state_of m) e a runs (ap (λ o. o.0) h.event); setup = h.setup }
+
+-- and it is not halted then
+pub runs_on : (m n : MachineModel) (e : Option Happening) (a : Played) → (state_of m).halted ≡ false → HasHappenedIf m e a n → (state_of n).halted ≡ false
+runs_on m n None a runs h = ap (λ (x : MachineModel). (state_of x).halted) h.1 ∙ runs
+runs_on m n (Some e) a runs h = still_runs m n e runs (sym (ap (λ o. o.1) h.event))
 
 -- ---- starts
 

@@ -26,4 +26,6 @@ pub mod Engaged
 pub mod Losses
 pub mod Told
 pub mod Unfinished
+pub mod Since
+pub mod StandsBefore
 pub mod Directed

@@ -88,7 +88,7 @@ module _ (x : Whole) (g : IsWorking x) (s v : ℕ) (sent : Option Ticket) (e : E
 
 -- what comes directly to a known server, for a known shard, is a request
 pub arrives : (w : State) (s v : ℕ) → s < w.sizes.shards → v < w.sizes.servers → IsRequest w s v None (event.Arrive s v)
-arrives w s v a b = record { shard = a; server = b; made = Arrive s v; fits = (a, b); is = refl }
+arrives w s v a b = record { shard = a; server = b; made = Arrive s v; fits = (a, b); is = refl; no_step = λ id. refl }
 
 module _ (x : Whole) (g : IsWorking x) (t : Ticket) where
   abbrev by_ticket : Bool → Outcome × State
@@ -98,4 +98,4 @@ module _ (x : Whole) (g : IsWorking x) (t : Ticket) where
   pub passes_on : is_open_ticket x.state.log t ≡ true → IsRequest x.state t.shard t.target (Some t) (event.PassOn t.place)
   passes_on o =
       let known = passes_known x.setup x.state g.reached t.place t (open_ticket x.state.log t o).pass in
-      record { shard = known.0; server = known.1; made = PassOn t; fits = tt; is = ap by_ticket o }
+      record { shard = known.0; server = known.1; made = PassOn t; fits = tt; is = ap by_ticket o; no_step = λ id. refl }

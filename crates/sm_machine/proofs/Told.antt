@@ -40,10 +40,12 @@ one false = refl
 made_push : (id : StreamId) (log : List Logged) (x : Logged) → made_in id (log ++ x ∷ []) ≡ made_in id log + bit (is_made_by id x.event)
 made_push id log x = sum_by-append (λ (y : Logged). cond (is_made_by id y.event) 1 0) log (x ∷ []) ∙ ap (λ n. made_in id log + n) (one (is_made_by id x.event))
 
-own_token : (id : StreamId) → is_token id id ≡ true
+-- a stream's token is its own
+pub own_token : (id : StreamId) → is_token id id ≡ true
 own_token id = rw (eq-eqb id.plan id.plan refl, eq-eqb id.stream id.stream refl) refl
 
-other_token : (id other : StreamId) → other ≢ id → is_token other id ≡ false
+-- and that of another stream is not
+pub other_token : (id other : StreamId) → other ≢ id → is_token other id ≡ false
 other_token id other n = elim (cases_eq id.plan other.plan) [
   | inr e ↦ rw (ne_eqb id.plan other.plan e) refl
   | inl e ↦ elim (cases_eq id.stream other.stream) [

@@ -9,7 +9,8 @@ use Rattle.sm_reservation.specs.Pool.{true_rights}
 use Rattle.sm_machine.specs.Opening.{OpeningRows, place_of_rows}
 use Rattle.sm_machine.specs.Journal.{JournalModel}
 use Rattle.sm_machine.specs.State.{opened_whole}
-use Rattle.std.proofs.Common.{◌∷◌, zero, suc, subst, ◌≡◌, ℕ, ◌<◌, [], Bool, true, false, List, length, set, get_or, map, refl, sym, ap, ◌∙◌, arith, Option, Some, None, ◌-◌}
+use Rattle.sm_protocol.specs.declared.event.Logged.{Logged}
+use Rattle.std.proofs.Common.{◌∷◌, ◌++◌, zero, suc, subst, ◌≡◌, ℕ, ◌<◌, [], Bool, true, false, List, length, set, get_or, map, refl, sym, ap, ◌∙◌, arith, Option, Some, None, ◌-◌}
 use Rattle.std.specs.Prelude.{◌==◌, if◌then◌else◌}
 use Rattle.std.proofs.lemmas.Bool.{and_parts, ltb-true}
 use Rattle.std.proofs.lemmas.List.{get_or_read, length-map, set-set}
@@ -98,6 +99,11 @@ with_pool : (b : MachineModel) (p : PoolModel) → whole_of (record b { pool = p
 unfolding whole_of
 with_pool b p = refl
 
+with_line : (b : MachineModel) (line : Logged) (j : JournalModel) → j ≡ record b.journal { log = b.journal.log ++ line ∷ [] } →
+    whole_of (record b { journal = j }) ≡ with_state (whole_of b) (record (state_of b) { log = (state_of b).log ++ line ∷ [] })
+unfolding whole_of
+with_line b line j e = ap (λ (i : JournalModel). whole_of (record b { journal = i })) e
+
 with_running : (b : MachineModel) (running : ℕ) → whole_of (record b { running = running }) ≡ record (whole_of b) { running = running }
 unfolding whole_of
 with_running b running = refl
@@ -159,6 +165,15 @@ known_parts b id h =
 pub plan_known : (b w : MachineModel) (id : StreamId) → b ≡ w → is_begun (state_of w) id ≡ true → id.plan < length b.plans
 plan_known b w id z h = (known_parts b id (subst (λ x. is_begun (state_of x) id ≡ true) (sym z) h)).0
 
+-- a stream of a plan has its place there
+pub courses_there : (n : BegunModel) (id : StreamId) → id.stream < length n.plan.streams → IsBegunParts n → id.stream < length n.courses
+courses_there n id l parts = omega (arith, l, parts.courses)
+
+-- the log has a place left
+pub place_left : (b w : MachineModel) → b ≡ w → length (state_of w).log < (state_of w).room → length b.journal.log < b.journal.room
+unfolding whole_of
+place_left b w z l = subst (λ (y : MachineModel). length y.journal.log < y.journal.room) (sym z) l
+
 -- the list of unfinished plans is the whole's
 pub unfinished_is : (b w : MachineModel) (numbers : List ℕ) → b ≡ w → AreUnfinished b.plans numbers → numbers ≡ unfinished_below (whole_of w).unfinished (length (state_of w).plans)
 unfolding whole_of
@@ -210,6 +225,21 @@ module _ (b w : MachineModel) (id : StreamId) (z : b ≡ w) (h : is_begun (state
   progress-written p e =
       course-written (record (course_at n id.stream) { progress = p }) e
       ∙ cc (grant_read, put2-same (whole_of w).grants id.plan id.stream _ refl)
+
+  -- when a stream made its last step is seen by nothing but itself
+  since-written : (s : Option ℕ) → n' ≡ with_course n id.stream (record (course_at n id.stream) { since = s }) → whole_of (record b { plans = set b.plans id.plan n' }) ≡ whole_of w
+  since-written s e =
+      course-written (record (course_at n id.stream) { since = s }) e
+      ∙ ap (λ f. record (whole_of w) { state = record (state_of w) { progress = f }; grants = put2 (whole_of w).grants id.plan id.stream (course_at n id.stream).grant })
+      (ap (λ y. put2 (state_of w).progress id.plan id.stream y) progress_read ∙ put2-same (state_of w).progress id.plan id.stream _ refl)
+      ∙ ap (λ f. record (whole_of w) { grants = f }) (ap (λ y. put2 (whole_of w).grants id.plan id.stream y) grant_read ∙ put2-same (whole_of w).grants id.plan id.stream _ refl)
+
+  -- a step is recorded, and the stream keeps when
+  pub step-recorded : (s : Option ℕ) (line : Logged) (j : JournalModel) → n' ≡ with_course n id.stream (record (course_at n id.stream) { since = s }) → j ≡ record b.journal { log = b.journal.log ++ line ∷ [] } →
+      whole_of (record b { plans = set b.plans id.plan n'; journal = j }) ≡ with_state (whole_of w) (record (state_of w) { log = (state_of w).log ++ line ∷ [] })
+  step-recorded s line j e f =
+      with_line (record b { plans = set b.plans id.plan n' }) line j f
+      ∙ ap (λ (y : Whole). with_state y (record y.state { log = y.state.log ++ line ∷ [] })) (since-written s e)
 
   -- a stream holds otherwise
   pub grant-written : (g : Option HoldModel) → n' ≡ with_course n id.stream (record (course_at n id.stream) { grant = g }) →
@@ -292,13 +322,13 @@ module _ (b w : MachineModel) (id : StreamId) (z : b ≡ w) (h : is_begun (state
 
   -- a stream makes its end, and gives what it holds back
   pub given-back : (p : PoolModel) (g : HoldModel) → (course_at n id.stream).grant ≡ Some g →
-      n' ≡ with_course n id.stream (record { progress = record (course_at n id.stream).progress { done = true }; grant = None }) →
+      n' ≡ with_course n id.stream (record (course_at n id.stream) { progress = record (course_at n id.stream).progress { done = true }; grant = None }) →
       pool_hold p ≡ plus (pool_hold b.pool) g.rights →
       whole_of (record b { plans = set b.plans id.plan n'; pool = p })
       ≡ record (with_stream (whole_of w) id (record (progress_of (state_of w) id) { done = true }) None) { pool = plus (whole_of w).pool (rights_in ((whole_of w).grants id.plan id.stream)) }
   given-back p g a e k =
       with_pool (record b { plans = set b.plans id.plan n' }) p
-      ∙ ap (λ (y : Whole). record y { pool = pool_hold p }) (course-written (record { progress = record (course_at n id.stream).progress { done = true }; grant = None }) e)
+      ∙ ap (λ (y : Whole). record y { pool = pool_hold p }) (course-written (record (course_at n id.stream) { progress = record (course_at n id.stream).progress { done = true }; grant = None }) e)
       ∙ ap (λ (y : Progress). record (with_stream (whole_of w) id (record y { done = true }) None) { pool = pool_hold p }) progress_read
       ∙ ap (λ y. record (with_stream (whole_of w) id (record (progress_of (state_of w) id) { done = true }) None) { pool = y })
       (k ∙ ap (λ y. plus (pool_hold b.pool) (rights_in y)) (sym a ∙ grant_read) ∙ ap (λ y. plus y (rights_in ((whole_of w).grants id.plan id.stream))) (pool_read b w z))

@@ -12,12 +12,14 @@ use Rattle.sm_protocol.specs.State.{Progress, fresh}
 -- A stream that was begun: how far it has come, and what it holds.
 pub record CourseModel : Type 0 where
   pub progress : Progress
+  -- the log's length behind its last step; none before its first
+  pub since : Option ℕ
   -- what it holds; none once it has made its end
   pub grant : Option HoldModel
 
 -- what stands where the plan has no such stream
 abbrev pub no_course : CourseModel
-no_course = record { progress = fresh; grant = None }
+no_course = record { progress = fresh; since = None; grant = None }
 
 -- the rights of a grant, and none where there is no grant
 abbrev pub hold_in : Option HoldModel → Hold

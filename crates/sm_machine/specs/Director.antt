@@ -1,4 +1,6 @@
 -- What happens to a machine under one who has all rights that it gives away.
+-- `HasHappenedAs` and `HasHappenedIf` are steps of the code's own way, which private functions' contracts cite: whoever reads the public ones need not
+-- read them.
 use Rattle.std.specs.Prelude.{◌≡◌, ◌≢◌, Option, Some, None}
 use Rattle.sm_protocol.specs.declared.event.Played.{Played}
 use Rattle.sm_protocol.specs.declared.event.Played.TheVariants as played
@@ -6,6 +8,16 @@ use Rattle.sm_protocol.specs.Steps.{Answered}
 use Rattle.sm_protocol.specs.Happens.{Happening, happens}
 use Rattle.sm_machine.specs.Machine.{MachineModel}
 use Rattle.sm_machine.specs.State.{state_of}
+
+-- The event has happened, with this answer. The configuration is as it was.
+pub record HasHappenedAs (m : MachineModel) (e : Happening) (answer : Played) (n : MachineModel) : Type 0 where
+  pub event : happens (state_of m) e ≡ (Answered answer, state_of n)
+  pub setup : n.placement.setup ≡ m.placement.setup
+
+-- the same of an event, if there is one; where there is none, it is unknown, and nothing has changed
+abbrev pub HasHappenedIf : MachineModel → Option Happening → Played → MachineModel → Type 0
+HasHappenedIf m None answer n = (answer ≡ played.Unknown) × (n ≡ m)
+HasHappenedIf m (Some e) answer n = HasHappenedAs m e answer n
 
 -- The event has happened, with this answer, which is not that the machine is halted. The configuration is as it was.
 pub record IsDirected (m : MachineModel) (e : Happening) (answer : Played) (n : MachineModel) : Type 0 where

@@ -1,5 +1,6 @@
 pub mod Course
 pub mod Begun
+pub mod Since
 pub mod Unfinished
 pub mod Plans
 pub mod PlansFall

@@ -1,7 +1,7 @@
 -- Requests as a machine answers them.
 -- Public functions' contracts cite `played_by` and `tickets_in` alone. The others are steps of the code's own way, which private functions'
 -- contracts cite: whoever reads the public ones need not read them.
-use Rattle.std.specs.Prelude.{◌≡◌, ◌<◌, ℕ, Option, List, [], ◌∷◌}
+use Rattle.std.specs.Prelude.{◌≡◌, ◌<◌, ℕ, Option, List, [], ◌∷◌, false}
 use Rattle.std.specs.Option.{option_to_list}
 use Rattle.sm_protocol.specs.declared.event.Event.{Event}
 use Rattle.sm_protocol.specs.declared.event.Played.{Played}
@@ -11,6 +11,8 @@ use Rattle.sm_protocol.specs.State.{State}
 use Rattle.sm_protocol.specs.Steps.{Answered}
 use Rattle.sm_protocol.specs.Happens.{Happening, requested, happens}
 use Rattle.sm_protocol.specs.Laws.{FitsConfig}
+use Rattle.sm_protocol.specs.Log.{is_step_of}
+use Rattle.sm_reservation.specs.declared.stream_id.StreamId.{StreamId}
 use Rattle.sm_machine.specs.State.{Whole}
 use Rattle.sm_machine.specs.Working.{IsWorking}
 use Rattle.sm_machine.specs.declared.answer.Answer.{Answer}
@@ -23,6 +25,7 @@ pub record IsRequest (w : State) (s v : ℕ) (sent : Option Ticket) (event : Eve
   pub made : Happening
   pub fits : FitsConfig w.sizes made
   pub is : happens w made ≡ requested w s v sent event
+  pub no_step : (id : StreamId) → is_step_of id event ≡ false
 
 -- the answers that a request may have
 abbrev pub IsReply : Played → Type 0

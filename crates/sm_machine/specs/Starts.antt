@@ -32,7 +32,7 @@ empty_kept n = record { rights = no_rights; capacity = n }
 
 -- a stream that has made nothing and holds nothing, with so much capacity
 abbrev pub ready_course : ℕ → CourseModel
-ready_course n = record { progress = fresh; grant = Some (empty_kept n) }
+ready_course n = record { progress = fresh; since = None; grant = Some (empty_kept n) }
 
 -- a signal that was not posted, with capacity for its parcel
 abbrev pub ready_signal : Rights → CarriedModel
@@ -79,6 +79,7 @@ CanFillAll n h = (i : ℕ) → i < length n.plan.streams → CanFillAt (pool_lef
 -- the stream has taken them
 pub record IsFilledBy (p : Rights) (old new : CourseModel) : Type 0 where
   pub progress : new.progress ≡ old.progress
+  pub since : new.since ≡ old.since
   pub hold : hold_in new.grant ≡ plus (hold_in old.grant) p
   pub capacity : capacity_in new.grant ≡ capacity_in old.grant
 

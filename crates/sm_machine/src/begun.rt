@@ -19,6 +19,7 @@ ghost use Rattle.sm_reservation.specs.Pool.{pool_hold, SameSize};
 ghost use Rattle.sm_machine.specs.Tied.{pool_left};
 ghost use Rattle.sm_machine.specs.Starts.{CanFillAll, AreFilled};
 ghost use Rattle.sm_machine.specs.Course.{hold_in, rights_in, capacity_in, HasCapacityIn, IsCourse, IsGrantInOrder};
+ghost use Rattle.sm_machine.specs.Since.{since_by};
 ghost use Rattle.sm_machine.specs.Begun.{course_at, carried_at, with_course, with_carried, IsBegunParts};
 
 use crate::places::count_no_calls;
@@ -304,6 +305,26 @@ impl Begun {
         self.courses[stream].set_progress(progress);
     }
 
+    /// The log's length when a stream came to its position: behind its last step, or at the start.
+    pub fn since(&self, stream: usize) -> u32
+        requires { stream < length self.now.plan.streams }
+        ensures { result ≡ since_by self.now.since (course_at self.now stream).since }
+    {
+        match self.courses[stream].since() {
+            Some(since) => since,
+            None => self.since,
+        }
+    }
+
+    /// Sets the log's length behind the last step of a stream.
+    pub fn set_since(&mut self, stream: usize, since: u32)
+        requires { stream < length self.old.plan.streams }
+        ensures value { self.new ≡ with_course self.old stream (record (course_at self.old stream) { since = Some since }) }
+        ensures parts { IsBegunParts self.old }
+    {
+        self.courses[stream].set_since(since);
+    }
+
     /// A stream gives up what an instruction needs for what it gives.
     pub fn trade(&mut self, stream: usize, config: &Config, instr: &Instr) -> Change
         requires stream { stream < length self.old.plan.streams }
@@ -398,7 +419,7 @@ impl Begun {
         requires known { stream < length self.old.plan.streams }
         requires running { (course_at self.old stream).progress.done ≡ false }
         ensures grant { (course_at self.old stream).grant ≡ Some result }
-        ensures after { self.new ≡ with_course self.old stream (record { progress = record (course_at self.old stream).progress { done = true }; grant = None }) }
+        ensures after { self.new ≡ with_course self.old stream (record (course_at self.old stream) { progress = record (course_at self.old stream).progress { done = true }; grant = None }) }
         ensures parts { IsBegunParts self.old }
     {
         self.courses[stream].end()

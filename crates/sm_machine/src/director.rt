@@ -1,5 +1,5 @@
 //! A machine under one who has all rights that it gives away.
-ghost use Rattle.std.specs.Prelude.{◌≡◌, ◌≢◌, ◌≤◌, ◌<◌, ◌↔◌, ◌⊎◌, None, IfOk, OnOk, IfErr, OnErr, length, option_map, slice_index_or};
+ghost use Rattle.std.specs.Prelude.{◌≡◌, ◌≢◌, ◌≤◌, ◌<◌, ◌↔◌, ◌⊎◌, IfOk, OnOk, IfErr, OnErr, length};
 ghost use Rattle.sm_placement.specs.Setup.{sizes_of};
 ghost use Rattle.sm_placement.specs.Place.{down_count};
 ghost use Rattle.sm_placement.specs.Layout.{place_of};
@@ -8,23 +8,20 @@ ghost use Rattle.sm_protocol.specs.declared.event.BeginFault.TheVariants as faul
 ghost use Rattle.sm_protocol.specs.declared.event.Played.TheVariants as played;
 ghost use Rattle.sm_protocol.specs.Happens as happening;
 ghost use Rattle.sm_protocol.specs.State.{opened};
-ghost use Rattle.sm_protocol.specs.Ticket.{passes};
+ghost use Rattle.sm_protocol.specs.Laws.{NamesKnown};
+ghost use Rattle.sm_protocol.specs.Log.{named};
 ghost use Rattle.sm_machine.specs.State.{state_of};
 ghost use Rattle.sm_machine.specs.Director.{IsDirected, IsDirectedIf};
 ghost use Rattle.sm_machine.specs.declared.open_fault.OpenFault.TheVariants.{LogFull};
-ghost use Rattle.sm_plan_code.specs.declared.limits.TheConstants.{MOST_CALLS, MOST_PLACES};
+ghost use Rattle.sm_plan_code.specs.declared.limits.TheConstants.{MOST_PLACES};
 
-use crate::answer::split;
 use crate::machine::Machine;
 use crate::open_fault::OpenFault;
-use crate::permit::{Permit, close_permits};
+use crate::permit::close_permits;
 use crate::ready_plan::ReadyPlan;
-use crate::ticket::Ticket;
 use crate::token::close_tokens;
 use sm_placement::Placement;
-use sm_protocol::{BeginFault, Passage, Played};
-use sm_reservation::StreamId;
-use sm_server::{ServerId, ShardId};
+use sm_protocol::{BeginFault, Event, Played};
 use std::alloc::Global;
 use std::marker::Model;
 
@@ -44,14 +41,6 @@ impl Model for Director {
     ghost view = { λ d. d.machine };
 
     ghost invariant = { λ d. (state_of d.machine).halted ≡ false };
-}
-
-/// A ticket that came with an answer is spent.
-fn abandon(ticket: Option<Ticket>) {
-    match ticket {
-        Some(ticket) => ticket.abandon(),
-        None => {}
-    }
 }
 
 impl Director {
@@ -80,79 +69,14 @@ impl Director {
         &self.machine
     }
 
-    /// A stream makes its next step.
-    pub fn step(&mut self, id: StreamId) -> Played
-        ensures { IsDirected self.old (happening.Step id) result self.new }
+    /// Plays an event, for which all rights are there. What names nothing is Unknown, and so is a start: `start` makes one.
+    ///
+    /// Takes no memory.
+    pub fn play(&mut self, event: Event) -> Played
+        requires { NamesKnown (state_of self.old).sizes event }
+        ensures { IsDirectedIf self.old (named (state_of self.old) event) result self.new }
     {
-        Played::from(self.machine.step_by(id, Passage::Through))
-    }
-
-    /// A stream makes its next step, and its call, where it tries one, is lost: before its effect, or its answer after it.
-    pub fn lose(&mut self, id: StreamId, after: bool) -> Played
-        ensures { IsDirected self.old (happening.Lose id after) result self.new }
-    {
-        Played::from(self.machine.lose_by(id, after))
-    }
-
-    /// A stream's allowance of tries is raised, by 262,144 at most at once.
-    pub fn refill(&mut self, id: StreamId, more: u32) -> Played
-        requires { more ≤ MOST_CALLS }
-        ensures { IsDirected self.old (happening.Refill id more) result self.new }
-    {
-        match self.machine.refill_by(id, more) {
-            Ok(()) => Played::Refilled,
-            Err(why) => Played::RefillRefused(why),
-        }
-    }
-
-    /// A request for a shard comes to a server.
-    pub fn arrive(&mut self, shard: ShardId, server: ServerId) -> Played
-        requires shard { shard < (state_of self.old).sizes.shards }
-        requires server { server < (state_of self.old).sizes.servers }
-        ensures { IsDirected self.old (happening.Arrive shard server) result self.new }
-    {
-        let (answer, ticket) = split(self.machine.arrive(shard, server));
-        abandon(ticket);
-        answer
-    }
-
-    /// The request whose pass is recorded at a place of the log comes to the server that it was passed to.
-    pub fn pass_on(&mut self, place: u32) -> Played
-        ensures { IsDirectedIf self.old (option_map happening.PassOn (slice_index_or (passes (state_of self.old).log) place None)) result self.new }
-    {
-        let Some(ticket) = self.machine.ticket_at(place) else {
-            return Played::Unknown;
-        };
-        let (answer, left) = split(self.machine.pass_on(ticket));
-        abandon(left);
-        answer
-    }
-
-    /// The cluster manager asks whether a server may be restarted.
-    pub fn approve(&mut self, server: ServerId) -> Played
-        requires { server < (state_of self.old).sizes.servers }
-        ensures { IsDirected self.old (happening.Approve server) result self.new }
-    {
-        match self.machine.approve(server) {
-            Ok(permit) => {
-                let _ = permit.into_server();
-                Played::Approved
-            }
-            Err(why) => Played::Denied(why),
-        }
-    }
-
-    /// A restart has ended.
-    pub fn done(&mut self, server: ServerId) -> Played
-        ensures { IsDirected self.old (happening.Done server) result self.new }
-    {
-        match self.machine.done(Permit::new(server)) {
-            Ok(()) => Played::Up,
-            Err(permit) => {
-                let _ = permit.into_server();
-                Played::Unknown
-            }
-        }
+        self.machine.play_named(event)
     }
 
     /// A plan starts that is ready and was checked for the machine's configuration, and gets the next number. Where it does not

@@ -24,7 +24,11 @@ ghost use Rattle.sm_verifier.specs.FirstHolding.{first_holding};
 ghost use Rattle.sm_machine.specs.Ready.{IsReadyToTrade};
 ghost use Rattle.sm_machine.specs.Starts.{CanFillAll, IsBegunIn, begun_of};
 ghost use Rattle.sm_machine.specs.Trade.{IsTradedBy};
+ghost use Rattle.sm_protocol.specs.declared.event.Event.TheVariants as event;
 ghost use Rattle.sm_protocol.specs.Happens.{reply_of};
+ghost use Rattle.sm_protocol.specs.Log.{is_step_of};
+ghost use Rattle.sm_protocol.specs.Next.{since_of};
+ghost use Rattle.sm_reservation.specs.declared.stream_id.StreamId.{StreamId};
 ghost use Rattle.sm_protocol.specs.Ticket.{passes, is_open_ticket};
 ghost use Rattle.sm_machine.specs.Retired.{steps_at_end};
 ghost use Rattle.sm_machine.specs.Unfinished.{unfinished_below};
@@ -85,13 +89,14 @@ impl Model for Engine {
     ghost use Rattle.std.specs.Prelude.{◌≡◌, ◌≤◌, length, vec_capacity};
     ghost use Rattle.sm_machine.specs.Machine.{MachineModel};
     ghost use Rattle.sm_plan_code.specs.declared.limits.TheConstants.{MOST_PLANS};
+    ghost use Rattle.sm_machine.specs.Since.{KeepsSince};
     ghost use Rattle.sm_machine.specs.Unfinished.{AreUnfinished};
 
     ghost Value = { MachineModel };
 
     ghost view = { λ m. record { opening = m.opening; placement = m.placement; pool = m.pool; entries = m.entries.items; numbers = m.numbers.items; next_number = m.next_number; plans = m.plans; journal = m.journal; free = m.free; running = m.running; halted = m.halted } };
 
-    ghost invariant = { λ m. (length m.entries.items ≤ length m.journal.log) × (length m.journal.log ≤ m.journal.room) × (m.journal.room ≤ vec_capacity m.entries) × (length m.numbers.items ≡ length m.placement.setup.shards) × (m.pool.shards ≡ length m.placement.setup.shards) × (m.pool.servers ≡ length m.placement.setup.servers) × AreUnfinished m.plans m.unfinished.items × (MOST_PLANS ≤ vec_capacity m.unfinished) };
+    ghost invariant = { λ m. (length m.entries.items ≤ length m.journal.log) × (length m.journal.log ≤ m.journal.room) × (m.journal.room ≤ vec_capacity m.entries) × (length m.numbers.items ≡ length m.placement.setup.shards) × (m.pool.shards ≡ length m.placement.setup.shards) × (m.pool.servers ≡ length m.placement.setup.servers) × AreUnfinished m.plans m.unfinished.items × (MOST_PLANS ≤ vec_capacity m.unfinished) × KeepsSince m.plans m.journal.log };
 }
 
 impl Engine {
@@ -244,6 +249,14 @@ impl Engine {
         self.plans.swap(plan, &mut self.desk);
     }
 
+    /// The log's length when a stream came to its position.
+    pub fn since(&self, id: StreamId) -> u32
+        requires { is_begun (state_of self.now) id ≡ true }
+        ensures { result ≡ since_of (state_of self.now) id }
+    {
+        self.plans.at(id.plan as usize).since(id.stream as usize)
+    }
+
     /// A law: no more entries were added than events are recorded.
     pub fn entries_fit(&self)
         ensures { length (state_of self.now).entries ≤ length (state_of self.now).log }
@@ -258,9 +271,25 @@ impl Engine {
         self.free
     }
 
-    /// An event is recorded, with its answer.
+    /// Records a stream's step, with its answer.
+    pub fn record_step(&mut self, id: StreamId, answer: Played)
+        requires known { is_begun (state_of self.old) id ≡ true }
+        requires room { length (state_of self.old).log < (state_of self.old).room }
+        ensures { whole_of self.new ≡ with_state (whole_of self.old) (recorded (state_of self.old) (event.Step id) answer) }
+    {
+        let _room = self.journal.room();
+        let plan = id.plan as usize;
+        let since = self.journal.next_place() + 1;
+        self.plans.swap(plan, &mut self.desk);
+        self.desk.set_since(id.stream as usize, since);
+        self.plans.swap(plan, &mut self.desk);
+        self.journal.record(Event::Step { stream: id }, answer);
+    }
+
+    /// Records an event that is no step, with its answer.
     pub fn record(&mut self, event: Event, answer: Played)
-        requires { length (state_of self.old).log < (state_of self.old).room }
+        requires other { (id : StreamId) → is_step_of id event ≡ false }
+        requires room { length (state_of self.old).log < (state_of self.old).room }
         ensures { whole_of self.new ≡ with_state (whole_of self.old) (recorded (state_of self.old) event answer) }
     {
         self.journal.record(event, answer);

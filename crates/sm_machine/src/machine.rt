@@ -3,6 +3,7 @@ ghost use Rattle.std.specs.Prelude.{◌≡◌, ◌≢◌, ◌≤◌, ◌<◌, �
 ghost use Rattle.sm_placement.specs.Place.{down_count, entry_at};
 ghost use Rattle.sm_placement.specs.Lead.{IsSettled};
 ghost use Rattle.sm_protocol.specs.State.{opened, is_begun, progress_of, allowance, free_places, stream_count, plan_at, pool};
+ghost use Rattle.sm_protocol.specs.Next.{blocked_on, next_call_of, next_entry_of, since_of, unfinished_plans};
 ghost use Rattle.sm_protocol.specs.Ticket.{passes};
 ghost use Rattle.sm_machine.specs.declared.open_fault.OpenFault.TheVariants.{LogFull};
 ghost use Rattle.sm_placement.specs.Sums.{bit};
@@ -39,7 +40,7 @@ use crate::step::Step;
 use crate::ticket::{Ticket, close_tickets};
 use crate::token::{StreamToken, close_tokens};
 use sm_placement::{Config, Entry, Placement};
-use sm_plan_code::{MOST_PLACES, Plan};
+use sm_plan_code::{MOST_PLACES, Plan, ServerCall};
 use sm_protocol::{BeginFault, Event, Logged, Passage, RefillFault};
 use sm_reservation::{Pool, StreamId};
 use sm_server::{ServerId, ShardId};
@@ -432,6 +433,44 @@ impl Machine {
         ensures { result ≡ (progress_of (state_of self.now) id).at }
     {
         self.engine.progress(id).at
+    }
+
+    /// The log's length when a stream came to its position: behind its last step, or at its plan's start where it has made none.
+    pub fn since(&self, id: StreamId) -> u32
+        requires { is_begun (state_of self.now) id ≡ true }
+        ensures { result ≡ since_of (state_of self.now) id }
+    {
+        self.engine.since(id)
+    }
+
+    /// The call that a running stream stands before, with the handover number that it carries. None where its next instruction is no
+    /// call, at its end, and of any other stream.
+    pub fn next_call(&self, id: StreamId) -> Option<ServerCall>
+        ensures { result ≡ next_call_of (state_of self.now) id }
+    {
+        self.engine.next_call(id)
+    }
+
+    /// The entry of the published map that a running stream stands before, with its shard and under its next version. None where its
+    /// next instruction changes no entry, at its end, and of any other stream.
+    pub fn next_entry(&self, id: StreamId) -> Option<(ShardId, Entry)>
+        ensures { result ≡ next_entry_of (state_of self.now) id }
+    {
+        self.engine.next_entry(id)
+    }
+
+    /// The signal that a running stream waits for, where it is not posted.
+    pub fn blocked_on(&self, id: StreamId) -> Option<u32>
+        ensures { result ≡ blocked_on (state_of self.now) id }
+    {
+        self.engine.blocked_on(id)
+    }
+
+    /// The numbers of the plans of which some stream has not made its end, in the order of their starts.
+    pub fn unfinished(&self) -> &[u32]
+        ensures { result.now ≡ unfinished_plans (state_of self.now) }
+    {
+        self.engine.unfinished()
     }
 
     /// How many tries of calls a stream has made.

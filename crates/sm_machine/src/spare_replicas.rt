@@ -20,7 +20,7 @@ pub(crate) fn pay_live(pool: &mut Pool, placement: &Placement, server: ServerId)
     for number in 0..placement.config().shard_count() {
         let shard = ShardId::new(number);
         if placement.is_live(shard, server) {
-            pool.take_one_spare(shard);
+            pool.less(shard);
         }
     }
 }
@@ -36,7 +36,7 @@ pub(crate) fn get_live(pool: &mut Pool, placement: &Placement, server: ServerId)
     for number in 0..placement.config().shard_count() {
         let shard = ShardId::new(number);
         if placement.is_live(shard, server) {
-            pool.put_one_spare(shard);
+            pool.more(shard);
         }
     }
 }

@@ -11,7 +11,7 @@ ghost use Rattle.sm_machine.specs.Ready.{IsReadyToGo, IsReadyToPublish, IsReadyT
 ghost use Rattle.sm_machine.specs.Steps.{went_on, taken, ended_whole};
 
 use crate::engine::Engine;
-use sm_protocol::{Event, Played};
+use sm_protocol::Played;
 use sm_reservation::StreamId;
 use sm_server::{ServerId, ShardId};
 
@@ -23,7 +23,7 @@ impl Engine {
     {
         let progress = self.progress(id);
         self.set_progress(id, progress.behind());
-        self.record(Event::Step { stream: id }, Played::Moved);
+        self.record_step(id, Played::Moved);
     }
 
     /// The published map has another entry of a shard, which a stream publishes with its instruction.
@@ -67,6 +67,6 @@ impl Engine {
         self.give_back(id);
         self.finish_one(id);
         self.set_free(free);
-        self.record(Event::Step { stream: id }, Played::Done);
+        self.record_step(id, Played::Done);
     }
 }

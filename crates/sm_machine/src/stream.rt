@@ -25,6 +25,8 @@ use std::marker::Model;
 /// A stream that was begun.
 pub(crate) struct Course {
     progress: Progress,
+    /// The log's length behind its last step; None before its first.
+    since: Option<u32>,
     /// What it holds; None once it has made its end.
     grant: Option<Grant>,
 }
@@ -34,18 +36,19 @@ impl Model for Course {
 
     ghost Value = { CourseModel };
 
-    ghost view = { λ c. record { progress = c.progress; grant = c.grant } };
+    ghost view = { λ c. record { progress = c.progress; since = c.since; grant = c.grant } };
 
-    ghost invariant = { λ c. IsCourse (record { progress = c.progress; grant = c.grant }) };
+    ghost invariant = { λ c. IsCourse (record { progress = c.progress; since = c.since; grant = c.grant }) };
 }
 
 impl Course {
     /// A stream that has made nothing, with what it holds.
     pub fn new(grant: Grant) -> Course
-        ensures { result ≡ record { progress = fresh; grant = Some grant } }
+        ensures { result ≡ record { progress = fresh; since = None; grant = Some grant } }
     {
         Course {
             progress: Progress::fresh(),
+            since: None,
             grant: Some(grant),
         }
     }
@@ -56,6 +59,20 @@ impl Course {
         ensures course { IsCourse self.now }
     {
         self.progress
+    }
+
+    /// The log's length behind its last step, None before its first.
+    pub fn since(&self) -> Option<u32>
+        ensures { result ≡ self.now.since }
+    {
+        self.since
+    }
+
+    /// Sets the log's length behind its last step.
+    pub fn set_since(&mut self, since: u32)
+        ensures { self.new ≡ record self.old { since = Some since } }
+    {
+        self.since = Some(since);
     }
 
     /// A law: what it holds is in order.
@@ -165,7 +182,7 @@ impl Course {
     pub fn end(&mut self) -> Grant
         requires { self.old.progress.done ≡ false }
         ensures grant { self.old.grant ≡ Some result }
-        ensures after { self.new ≡ record { progress = record self.old.progress { done = true }; grant = None } }
+        ensures after { self.new ≡ record self.old { progress = record self.old.progress { done = true }; grant = None } }
     {
         self.progress = self.progress.ended();
         match self.grant.take() {
@@ -178,7 +195,11 @@ impl Course {
     pub fn discard(self)
         requires { rights_in self.grant ≡ no_rights }
     {
-        let Course { progress: _, grant } = self;
+        let Course {
+            progress: _,
+            since: _,
+            grant,
+        } = self;
         match grant {
             Some(grant) => grant.discard(),
             None => {}
@@ -203,7 +224,11 @@ impl Course {
 
     /// It ends with the pool, with what it holds. Takes no memory.
     pub fn close(self, pool: &ClosedPool) {
-        let Course { progress: _, grant } = self;
+        let Course {
+            progress: _,
+            since: _,
+            grant,
+        } = self;
         match grant {
             Some(grant) => pool.end(grant),
             None => {}

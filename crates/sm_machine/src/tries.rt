@@ -14,13 +14,13 @@ ghost use Rattle.sm_machine.specs.Trade.{CanTradeUnless, IsTradedUnless, CanServ
 
 use crate::engine::Engine;
 use crate::progress::Progress;
-use sm_plan_code::{Instr, ServerCall, call_of, number_after};
+use sm_plan_code::{Instr, ServerCall, call_of};
 use sm_protocol::{Event, Played};
 use sm_reservation::StreamId;
 use sm_server::ShardId;
 
 /// The shard that an instruction is of.
-const fn shard_of(instr: &Instr) -> Option<ShardId>
+pub(crate) const fn shard_of(instr: &Instr) -> Option<ShardId>
     ensures { result ≡ shard_of instr.now }
 {
     match *instr {
@@ -42,16 +42,12 @@ impl Engine {
         requires numbers { (s : ℕ) → (state_of self.now).numbers s < numbers_end }
         ensures { result ≡ call_to_make (state_of self.now) progress instr.now }
     {
+        if !progress.ahead {
+            return self.call_at_numbers(instr);
+        }
         match shard_of(instr) {
             None => None,
-            Some(shard) => {
-                let highest = self.number(shard);
-                if progress.ahead {
-                    call_of(instr, highest)
-                } else {
-                    call_of(instr, number_after(instr, highest))
-                }
-            }
+            Some(shard) => call_of(instr, self.number(shard)),
         }
     }
 
@@ -144,7 +140,7 @@ impl Engine {
         let progress = self.progress(id);
         let fresh = self.serve_try(id, progress, instr, call);
         self.set_progress(id, progress.behind_call(fresh));
-        self.record(Event::Step { stream: id }, Played::Moved);
+        self.record_step(id, Played::Moved);
         fresh
     }
 

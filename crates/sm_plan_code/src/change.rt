@@ -345,7 +345,7 @@ fn to_secondary(hold: &Hold, shard: ShardId, server: ServerId) -> Result<Change,
 }
 
 /// The server that a publication lists under a lead.
-fn to_list(lead: Lead) -> Option<ServerId>
+pub fn listed_under(lead: Lead) -> Option<ServerId>
     ensures { result ≡ to_list lead }
 {
     match lead {
@@ -360,7 +360,7 @@ fn publish(hold: &Hold, shard: ShardId) -> Result<Change, Why>
     ensures { result ≡ exchanged (publish_line shard (hold_of hold.now.rights) (lead_held ((hold_of hold.now.rights).crowns shard))) (publish_exchange shard (listed_of ((hold_of hold.now.rights).crowns shard)) (lead_held ((hold_of hold.now.rights).crowns shard))) }
 {
     let crown = crown_of(hold, shard).ok_or(Why::NoCrown)?;
-    let listed = to_list(crown.lead);
+    let listed = listed_under(crown.lead);
     Ok(Change {
         out: portion(None, Some(crown), None, None),
         got: portion(None, listing(&crown, listed), None, None),

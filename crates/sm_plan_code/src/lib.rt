@@ -11,7 +11,7 @@ mod moves;
 mod plan;
 
 pub use call::{ServerCall, call_of, number_after};
-pub use change::change_of;
+pub use change::{change_of, listed_under};
 pub use fits::is_known_instr;
 pub use instruction::{Instr, NamedServers, Why, is_call, names};
 pub use law::{

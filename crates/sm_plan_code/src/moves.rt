@@ -1,4 +1,8 @@
 //! Moves, for which plans are made.
+ghost use Rattle.std.specs.Prelude.{◌↔◌, IsTrue, length};
+ghost use Rattle.sm_plan_code.specs.Move.{IsKnownMove};
+
+use sm_placement::Config;
 use sm_server::{ServerId, ShardId};
 
 /// A replica of a shard that is to go from one server to another.
@@ -10,4 +14,15 @@ pub struct Move {
     pub from: ServerId,
     /// The server that is to have it.
     pub to: ServerId,
+}
+
+impl Move {
+    /// Whether the shard and both servers are in the configuration: what has to be so of each move that a plan is made for.
+    pub fn fits(&self, config: &Config) -> bool
+        ensures { IsTrue result ↔ IsKnownMove (length config.now.shards) (length config.now.servers) self.now }
+    {
+        self.shard.number() < config.shard_count()
+            && self.from.number() < config.server_count()
+            && self.to.number() < config.server_count()
+    }
 }

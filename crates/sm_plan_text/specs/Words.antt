@@ -37,4 +37,4 @@ pub use Rattle.sm_plan_text.specs.Outlines.{IsKept, IsEarly, IsPartialOutline, I
 pub use Rattle.sm_plan_text.specs.Work.{AreKept, IsWork, work_noted}
 pub use Rattle.sm_plan_text.specs.Documents.{document_table, document_faults, rows_in, IsDocument}
 pub use Rattle.sm_plan_text.specs.Opened.{opening_of}
-pub use Rattle.sm_plan_text.specs.Reading.{data_of, read_data, read, read_plan, rows_of, rows_of_parts}
+pub use Rattle.sm_plan_text.specs.Reading.{data_of, read_data, read, read_plan, read_plan_data, rows_of, rows_of_parts}

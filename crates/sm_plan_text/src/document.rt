@@ -237,16 +237,16 @@ fn configuration(alloc: Global, servers: &[Server], shards: &[Shard]) -> Result<
     }
 }
 
-/// The document whose outline this is.
-fn from_outline(alloc: Global, outline: Outline<'_>) -> Result<Document, TextFault>
-    requires { (d : Data) × IsOutline outline d }
-    ensures ok { (d : Data) → IsOutline outline.entry d → IfOk result (λ document. read_data (Some d) ≡ Ok (rows_of document)) }
-    ensures refused { (d : Data) → IsOutline outline.entry d → IfErr result (λ why. why ≢ TextFault.NoMemory → read_data (Some d) ≡ Err why) }
+/// The document of an outline: of a tree, and of the lists that were read early.
+fn from_outline(alloc: Global, tree: &Tree<'_>, early: Option<Early>) -> Result<Document, TextFault>
+    requires { (d : Data) × IsOutlined early (view tree.now) d }
+    ensures ok { (d : Data) → IsOutlined early (view tree.now) d → IfOk result (λ document. read_data (Some d) ≡ Ok (rows_of document)) }
+    ensures refused { (d : Data) → IsOutlined early (view tree.now) d
+        → IfErr result (λ why. why ≢ TextFault.NoMemory → read_data (Some d) ≡ Err why) }
     ensures known { IfOk result (λ document. IsDocument (rows_of document)) }
 {
-    let Outline { tree, early } = outline;
     let mut faults = Faults { lowest: None };
-    let (servers, shards, work) = read_parts(alloc, &tree, early, &mut faults)?;
+    let (servers, shards, work) = read_parts(alloc, tree, early, &mut faults)?;
     if let Some(fault) = faults.lowest {
         return Err(fault);
     }
@@ -277,5 +277,15 @@ pub fn read_document(alloc: Global, bytes: &[u8]) -> Result<Document, TextFault>
     let mut scratch = Scratch::new(alloc);
     let mut spare = Scratch::new(alloc);
     let outline = outline_of(alloc, bytes, &mut scratch, &mut spare)?;
-    from_outline(alloc, outline)
+    let Outline { tree, early } = outline;
+    from_outline(alloc, &tree, early)
+}
+
+/// Reads a document that is a value of a text, as one that stands inside another object.
+pub fn read_document_value(alloc: Global, value: &Tree<'_>) -> Result<Document, TextFault>
+    ensures ok { IfOk result (λ document. read_data (Some (view value.now)) ≡ Ok (rows_of document)) }
+    ensures refused { IfErr result (λ why. why ≢ TextFault.NoMemory → read_data (Some (view value.now)) ≡ Err why) }
+    ensures known { IfOk result (λ document. IsDocument (rows_of document)) }
+{
+    from_outline(alloc, value, None)
 }

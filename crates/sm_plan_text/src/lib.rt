@@ -21,13 +21,13 @@ mod rule;
 mod writing;
 
 use cursor::Cursor;
-pub use document::{Document, read_document};
+pub use document::{Document, read_document, read_document_value};
 use entry::Entry;
 pub use event::EventText;
 use fault::Faults;
 pub use fault::{TextFault, first_is_answered};
 pub use member::Member;
 use names::Names;
-pub use plan_text::read_plan;
+pub use plan_text::{read_plan, read_plan_value};
 use rule::{Form, Rule};
 pub use writing::{plan_text_is_read, write_plan, written_plan_is_read};

@@ -1,10 +1,10 @@
 //! A plan, from a text of its own.
-ghost use Rattle.std.specs.Prelude.{◌≡◌, ◌≢◌, Ok, Err, IfOk, IfErr, length};
-ghost use Rattle.sm_plan_text.specs.Words.{IsSetup, names_of_servers, names_of_shards, IsKnownPlan, read_plan};
+ghost use Rattle.std.specs.Prelude.{◌≡◌, ◌≢◌, Ok, Err, Some, IfOk, IfErr, length};
+ghost use Rattle.sm_plan_text.specs.Words.{IsSetup, names_of_servers, names_of_shards, IsKnownPlan, read_plan, read_plan_data, view};
 
 use crate::document::parse;
 use crate::{Cursor, Entry, Faults, Member, Names, TextFault};
-use json_tree::Scratch;
+use json_tree::{Scratch, Tree};
 use sm_placement::Config;
 use sm_plan_code::Plan;
 use sm_server::{ServerId, ShardId};
@@ -34,6 +34,25 @@ fn shard_names(alloc: Global, config: &Config) -> Result<Names, AllocError>
     Ok(names)
 }
 
+/// Reads a plan for a configuration that is a value of a text, as one that stands inside another object.
+pub fn read_plan_value(alloc: Global, config: &Config, value: &Tree<'_>) -> Result<Plan, TextFault>
+    ensures ok { IfOk result (λ plan.
+        read_plan_data (names_of_shards config.now) (names_of_servers config.now) (Some (view value.now)) ≡ Ok plan) }
+    ensures refused { IfErr result (λ why. why ≢ TextFault.NoMemory
+        → read_plan_data (names_of_shards config.now) (names_of_servers config.now) (Some (view value.now)) ≡ Err why) }
+    ensures fits { IfOk result (λ plan. IsKnownPlan (length config.now.shards) (length config.now.servers) plan) }
+{
+    let shards = shard_names(alloc, config)?;
+    let servers = server_names(alloc, config)?;
+    let cursor = Cursor::new(alloc, &*value, Member::Document, &shards, &servers);
+    let mut faults = Faults { lowest: None };
+    let plan = Plan::read(&cursor, &mut faults)?;
+    match faults.lowest {
+        Some(fault) => Err(fault),
+        None => Ok(plan),
+    }
+}
+
 /// Reads a plan for a configuration from the bytes of its text.
 pub fn read_plan(alloc: Global, config: &Config, bytes: &[u8]) -> Result<Plan, TextFault>
     ensures ok { IfOk result (λ plan. read_plan (names_of_shards config.now) (names_of_servers config.now) bytes.now ≡ Ok plan) }
@@ -43,13 +62,5 @@ pub fn read_plan(alloc: Global, config: &Config, bytes: &[u8]) -> Result<Plan, T
 {
     let mut scratch = Scratch::new(alloc);
     let value = parse(alloc, bytes, &mut scratch)?;
-    let shards = shard_names(alloc, config)?;
-    let servers = server_names(alloc, config)?;
-    let cursor = Cursor::new(alloc, &value, Member::Document, &shards, &servers);
-    let mut faults = Faults { lowest: None };
-    let plan = Plan::read(&cursor, &mut faults)?;
-    match faults.lowest {
-        Some(fault) => Err(fault),
-        None => Ok(plan),
-    }
+    read_plan_value(alloc, config, &value)
 }

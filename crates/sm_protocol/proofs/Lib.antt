@@ -36,3 +36,6 @@ pub mod Entries
 pub mod LogEnds
 pub mod EndStates
 pub mod EndsReached
+pub mod Since
+pub mod Allowed
+pub mod Unspent

@@ -1,11 +1,11 @@
 -- No call is refused, the state is safe, and of each plan that isn't done some stream can step.
 use Rattle.sm_protocol.proofs.Below.{◌≡◌, ℕ, ◌+◌, ◌<◌, ◌≤◌, false, refl, length, inl, inr, subst, sym, arith, bit, StreamId, is_call, stream_at, calls_before}
-use Rattle.sm_protocol.proofs.Words.{State, plan_at, stream_id, stream_count, stream_parts, run, SomeCanStep, AllFit, Headline, WithLosses}
+use Rattle.sm_protocol.proofs.Words.{State, plan_at, stream_id, stream_count, stream_parts, run, SomeCanStep, AllFit, Headline, WithLosses, unhalted}
 use Rattle.sm_protocol.proofs.Reached.{reached_run}
 use Rattle.sm_protocol.proofs.Invariant.{IsKept}
 use Rattle.sm_protocol.proofs.Courses.{good, next_turn}
 use Rattle.sm_protocol.proofs.LogRoom.{has_room}
-use Rattle.sm_protocol.proofs.Whole.{happens_keeps, reached_keeps, run_served}
+use Rattle.sm_protocol.proofs.Whole.{happens_keeps, reached_keeps, run_served, unhalted_keeps}
 use Rattle.sm_protocol.proofs.Safety.{is_safe}
 use Rattle.sm_protocol.proofs.Progress.{IsSpentAt, some_onward, some_can_step_or_spent}
 use Rattle.sm_protocol.proofs.Losses.{IsUnlost, all_unlost, run_unlost}
@@ -14,7 +14,7 @@ use Rattle.sm_protocol.proofs.Losses.{IsUnlost, all_unlost, run_unlost}
 pub with_losses : WithLosses
 with_losses setup w reached =
     let v = (reached_keeps setup w reached).0 in
-    ((λ e fits. (happens_keeps w v e fits).0), is_safe w v (has_room setup w reached), some_can_step_or_spent w v)
+    ((λ e fits. (happens_keeps (unhalted w) (unhalted_keeps w v) e fits).0), is_safe w v (has_room setup w reached), some_can_step_or_spent w v)
 
 -- ---- where no call is lost
 

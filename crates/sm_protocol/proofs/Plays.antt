@@ -1,11 +1,13 @@
 -- Lists of events that are played with a hand.
 use Rattle.sm_protocol.proofs.Below.{◌≡◌, ℕ, zero, suc, Bool, true, false, refl, sym, ap, subst, Option, Some, None, List, [], ◌∷◌, ◌++◌, ◌==◌, find, option_map, slice_index_or, slice_set, if◌then◌else◌, AllByRecursion, list_any, filter_map, Sizes, sizes_of, PlanModel}
-use Rattle.sm_protocol.proofs.Words.{Event, Played, Ticket, Outcome, Refused, Answered, Happening, Step, Lose, Refill, PassOn, Approve, Done, Begin, happens, run, outcomes, Hand, Game, is_token, given, spends, without_first, tickets_of, hand_after, hand_by, turn_by, turn, play, plays, all_given, played_events, or_unknown, SomeCanStep, HasEffectOnce, IsReached, FitsConfig, AllFit, LosesNothing, NamesKnown, AsksNoLoss, AreChecked, AreServed, PlaysAreRuns, PlaysAreSafe}
+use Rattle.sm_protocol.proofs.Words.{Event, Played, Ticket, Outcome, Refused, Answered, Happening, Step, Lose, Refill, PassOn, Approve, Done, Begin, happens, run, outcomes, Hand, Game, is_token, given, spends, without_first, IsSafe, NextIsServed, ExecutedServes, SomeCanStepOrSpent, tickets_of, hand_after, hand_by, turn_by, turn, play, plays, all_given, played_events, or_unknown, SomeCanStep, HasEffectOnce, IsReached, FitsConfig, AllFit, LosesNothing, NamesKnown, AsksNoLoss, AreChecked, AreServed, PlaysAreRuns, PlaysAreSafe}
 use Rattle.sm_protocol.specs.declared.event.Event.TheVariants as event
 use Rattle.sm_protocol.specs.declared.event.Played.TheVariants as played
 use Rattle.sm_protocol.proofs.Reached.{reached_run}
 use Rattle.sm_protocol.proofs.Whole.{reached_keeps, run_served}
 use Rattle.sm_protocol.proofs.Onward.{headline, with_losses}
+use Rattle.sm_protocol.specs.Laws.{RunsAreSafe}
+use Rattle.sm_protocol.proofs.Passable.{executed_serves}
 use Rattle.sm_protocol.proofs.EffectNumbers.{effect_once}
 use Rattle.sm_protocol.proofs.Passes.{tickets_once}
 
@@ -129,24 +131,43 @@ unknown_served (None ∷ xs) os all = ((λ q. cc), unknown_served xs os all)
 unknown_served (Some x ∷ xs) [] all = tt
 unknown_served (Some x ∷ xs) (o ∷ os) all = (all.0, unknown_served xs os all.1)
 
+-- the laws hold of every list of events that fit
+pub runs_are_safe : RunsAreSafe
+runs_are_safe setup w es reached fit =
+    let kept = reached_keeps setup w reached in
+    let fits : AllFit w.sizes es = subst (λ c. AllFit c es) (sym kept.1) fit in
+    let after = reached_run setup es w reached fits in
+    let onward = with_losses setup (run es w) after in
+    record {
+      reached = after;
+      served = run_served es w kept.0 fits;
+      next = onward.0;
+      executed = executed_serves setup (run es w) after;
+      effects = λ n. effect_once w kept.0 es n fits;
+      tickets = tickets_once w es;
+      safe = onward.1;
+      onward = onward.2;
+      unlost = λ none losses. (headline setup w es reached none fit losses).3;
+    }
+
 -- the laws of runs hold of every list of events that is played with a hand of checked plans
 pub plays_are_safe : PlaysAreSafe
 plays_are_safe setup es g reached all known =
-    let kept = reached_keeps setup g.state reached in
     let there = played_events es g in
     let runs = plays_are_runs es g in
     let played = played_fit (sizes_of setup) es g all known in
-    let fit : AllFit g.state.sizes there = subst (λ c. AllFit c there) (sym kept.1) played.0 in
-    let after = subst (IsReached setup) (sym runs.0) (reached_run setup there g.state reached fit) in
-    let onward = with_losses setup (play es g).state after in
+    let safe = runs_are_safe setup g.state there reached played.0 in
+    let back = sym runs.0 in
     record {
       fit = played.0;
-      reached = after;
+      reached = subst (IsReached setup) back safe.reached;
       checked = played.1;
-      served = subst AreServed (sym runs.1) (unknown_served (all_given es g) (outcomes there g.state) (run_served there g.state kept.0 fit));
-      effects = λ n. subst (λ x. HasEffectOnce g.state there x n) (sym runs.0) (effect_once g.state kept.0 there n fit);
-      tickets = tickets_once g.state there;
-      safe = onward.1;
-      onward = onward.2;
-      unlost = λ none asked. subst SomeCanStep (sym runs.0) (headline setup g.state there reached none played.0 (played_lose es g asked)).3;
+      served = subst AreServed (sym runs.1) (unknown_served (all_given es g) (outcomes there g.state) safe.served);
+      next = subst NextIsServed back safe.next;
+      executed = subst ExecutedServes back safe.executed;
+      effects = λ n. subst (λ x. HasEffectOnce g.state there x n) back (safe.effects n);
+      tickets = safe.tickets;
+      safe = subst IsSafe back safe.safe;
+      onward = subst SomeCanStepOrSpent back safe.onward;
+      unlost = λ none asked. subst SomeCanStep back (safe.unlost none (played_lose es g asked));
     }

@@ -88,7 +88,7 @@ again_made numbers (Wait q) e = cc
 again_made numbers _ e = (_, refl)
 
 -- a call has its try
-call_is_made : (w : State) (x : Progress) (i : Instr) → is_call i ≡ true → (call : ServerCall) × (call_to_make w x i ≡ Some call)
+pub call_is_made : (w : State) (x : Progress) (i : Instr) → is_call i ≡ true → (call : ServerCall) × (call_to_make w x i ≡ Some call)
 call_is_made w x i e = elim (cases_Bool x.ahead) [
   | inl a ↦ let g = again_made w.numbers i e in (g.0, rw a g.1)
   | inr a ↦ let c = call_at w.numbers i e in (c.call, rw a c.next)

@@ -43,11 +43,11 @@ same_machine w e = of_happens w (λ e o. IsOfOneMachine w o.1) (record {
   starts = λ plan h f g. record { sizes = refl; opening = refl; room = refl; halted = refl };
 }) e
 
-run_push : (es : List Happening) (e : Happening) (w : State) → run (es ++ e ∷ []) w ≡ (happens (run es w) e).1
+pub run_push : (es : List Happening) (e : Happening) (w : State) → run (es ++ e ∷ []) w ≡ (happens (run es w) e).1
 run_push [] e w = refl
 run_push (x ∷ es) e w = run_push es e (happens w x).1
 
-fit_push : (c : Sizes) (es : List Happening) (e : Happening) → AllFit c es → FitsConfig c e → AllFit c (es ++ e ∷ [])
+pub fit_push : (c : Sizes) (es : List Happening) (e : Happening) → AllFit c es → FitsConfig c e → AllFit c (es ++ e ∷ [])
 fit_push c [] e all f = (f, tt)
 fit_push c (x ∷ es) e all f = (all.0, fit_push c es e all.1 f)
 
@@ -116,7 +116,7 @@ alike_by_events w e = of_happens w (λ e o. IsOfStream e ⊎ IsAlike w e o.1) (r
         else if many then unchanged (unhalted w) (played.NotBegun fault.TooManyPlans)
         else (Answered (played.Begun (length w.plans)), started (unhalted w) plan)).1
 
-alike : (w : State) (e : Happening) → IsAlike w e (happens w e).1
+pub alike : (w : State) (e : Happening) → IsAlike w e (happens w e).1
 alike w e = elim (cases_Bool w.halted) [
   | inr h ↦ inr (ap (λ x. (happens x e).1) (unhalted_is w h) ∙ sym (unhalted_is (happens w e).1 ((same_machine w e).halted ∙ h)))
   | inl h ↦ elim (alike_by_events w e) [ inl s ↦ inl (under_flag e s h) | inr a ↦ a ]

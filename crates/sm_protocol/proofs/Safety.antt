@@ -20,6 +20,7 @@ listed_serves (Handing x y) n row d u l = inr (y, n, ap row l ∙ d.1, (leader_s
 listed_serves (Handed x y) n row d u (inl l) = inr (y, n, ap row l ∙ d.1, (leader_serves (Handed x y) n row d y refl).0)
 listed_serves (Handed x y) n row d u (inr l) = inl (leader_serves (Handed x y) n row d u (ap Some (sym l))).0
 
+-- the placement of a state that keeps the invariant is safe
 pub place_safe : (w : State) → IsKept w → IsSafePlace w.sizes w.place
 place_safe w v = record {
   serving = λ s a b p q. one_serves (v.leads s) (w.numbers s) (w.place.cells s) (v.stage.described s) a b p q;
@@ -29,7 +30,7 @@ place_safe w v = record {
 }
 
 -- no more calls stand before a position than the budget has
-calls_within : (s : Course) (p : ℕ) → IsGood s → calls_before s p ≤ s.budget
+pub calls_within : (s : Course) (p : ℕ) → IsGood s → calls_before s p ≤ s.budget
 calls_within s p good =
     let most : calls_before s p ≤ count_by is_call s.code = sum_by-take-le _ s.code p in
     let budget = good.within in

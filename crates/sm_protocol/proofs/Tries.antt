@@ -21,13 +21,15 @@ call_is_own (Wait k) e = cc
 call_is_own _ e = tt
 
 -- the call goes to the cell that the instruction touches
-abbrev IsCallTo : Instr → ServerCall → Type 0
+abbrev pub IsCallTo : Instr → ServerCall → Type 0
 IsCallTo x call = (touched x ≡ Some (call.shard, call.server)) × ((names_of x).first ≡ Some call.server)
 
-next_goes_to : (numbers : ℕ → ℕ) (x : Instr) (call : ServerCall) → is_call x ≡ true → next_call numbers x ≡ Some call → IsCallTo x call
+-- the next call does
+pub next_goes_to : (numbers : ℕ → ℕ) (x : Instr) (call : ServerCall) → is_call x ≡ true → next_call numbers x ≡ Some call → IsCallTo x call
 next_goes_to numbers x call is next = let c = call_at numbers x is in subst (IsCallTo x) (some_same c.call call (sym c.next ∙ next)) (c.touches, c.mentions)
 
-again_goes_to : (numbers : ℕ → ℕ) (x : Instr) (call : ServerCall) → call_again numbers x (shard_of x) ≡ Some call → IsCallTo x call
+-- and so does the call that is made again
+pub again_goes_to : (numbers : ℕ → ℕ) (x : Instr) (call : ServerCall) → call_again numbers x (shard_of x) ≡ Some call → IsCallTo x call
 again_goes_to numbers (Publish s) call e = cc
 again_goes_to numbers (Unlist s) call e = cc
 again_goes_to numbers (Signal k) call e = cc
@@ -79,7 +81,7 @@ module _ (w : State) (v : IsKept w) (id : StreamId) (x : Instr) (before : IsBefo
   number = is_try_number w.place.last w.next_number (code_of w) (progress_of w) v.numbered id
 
   -- a call that has had no effect has it now
-  has_effect : (a : now.ahead ≡ false) (call : ServerCall) → next_call w.numbers x ≡ Some call → NumberedEffect w.sizes w.place v.leads w.numbers (hold_at now.at) (hold_at (now.at + 1)) x call (call_number w now)
+  pub has_effect : (a : now.ahead ≡ false) (call : ServerCall) → next_call w.numbers x ≡ Some call → NumberedEffect w.sizes w.place v.leads w.numbers (hold_at now.at) (hold_at (now.at + 1)) x call (call_number w now)
   has_effect a call next = numbered_effect w.sizes w.place v.leads w.numbers (parcels_of (plan_at w id.plan).signals) (hold_at now.at) (hold_at (now.at + 1)) x call (call_number w now)
       (scene_now a) can_reach turn.leaves next (λ e. number.unused a call.shard call.server (sym e))
 

@@ -1,11 +1,11 @@
 -- The laws of the protocol, behind their premises: what holds of every state that events lead to.
-use Rattle.std.specs.Prelude.{◌≡◌, ◌≢◌, ◌≤◌, ◌<◌, ◌↔◌, ℕ, suc, ◌+◌, ◌==◌, ◌&&◌, ◌++◌, Bool, true, false, Option, Some, None, List, [], ◌∷◌, length, count_by, Contains, nat_lt, slice_index_or, take, if◌then◌else◌}
-pub use Rattle.sm_protocol.specs.Words.{AllByRecursion, Entry, Event, IsCheckedPlan, IsPlacement, IsServing, IsSettled, IsSetup, MOST_CALLS, MOST_PLACES, OfRoom, OfSpare, Place, PlanModel, Played, Setup, Sizes, StreamId, VERSIONS_END, bit, down_count, entry_at, is_call, live_at, load_at, places_of, sizes_of}
-use Rattle.sm_protocol.specs.State.{State, opened, stream_parts, progress_of, is_begun, is_unfinished, reach, held, pool, free_places, numbers_end}
-use Rattle.sm_protocol.specs.Steps.{Outcome, Refused, Answered, call_number}
+use Rattle.std.specs.Prelude.{◌≡◌, ◌≢◌, ◌≤◌, ◌<◌, ◌↔◌, ◌⊎◌, ℕ, suc, ◌+◌, ◌==◌, ◌&&◌, ◌++◌, Bool, true, false, Option, Some, None, List, [], ◌∷◌, length, count_by, Contains, nat_lt, slice_index_or, take, if◌then◌else◌}
+pub use Rattle.sm_protocol.specs.Words.{AllByRecursion, Cell, Entry, Event, Instr, IsAllowed, IsCheckedPlan, IsPlacement, IsServing, IsSettled, IsSetup, MOST_CALLS, MOST_PLACES, OfRoom, OfSpare, Passage, Place, PlanModel, Played, ServerCall, Setup, Sizes, StreamId, VERSIONS_END, bit, down_count, entry_at, is_call, live_at, load_at, places_of, sizes_of}
+use Rattle.sm_protocol.specs.State.{State, opened, stream_parts, progress_of, is_begun, is_running, is_unfinished, next_instruction, reach, held, pool, free_places, numbers_end}
+use Rattle.sm_protocol.specs.Steps.{Outcome, Refused, Answered, call_number, call_to_make, step}
 use Rattle.sm_protocol.specs.Happens.{Happening, Step, Lose, Refill, Arrive, PassOn, Approve, Done, Begin, has_all_plans, happens, run, outcomes}
 use Rattle.sm_protocol.specs.Hand.{Hand, Game, spends, play, plays, all_given, played_events, or_unknown}
-use Rattle.sm_protocol.specs.Safe.{IsAccepted, IsApproved, IsSafe, SomeCanStep, SomeCanStepOrSpent, unhalted}
+use Rattle.sm_protocol.specs.Safe.{HasSpent, IsAccepted, IsApproved, IsSafe, SomeCanStep, SomeCanStepOrSpent, unhalted}
 use Rattle.sm_protocol.specs.Log.{IsAtEnds, IsInLog}
 
 -- A machine opens on a settled placement of a configuration, with a log of at most 1,048,576 places, one at least for each
@@ -34,10 +34,10 @@ AllFit c es = AllByRecursion (FitsConfig c) es
 abbrev pub AreServed : List Outcome → Type 0
 AreServed os = AllByRecursion (λ o. o ≢ Refused) os
 
--- no event that comes next has its call refused. So a call that is lost before it comes to its server is one that this would have
--- served: as a step, the same try goes through.
+-- No event that comes next has its call refused, the halt flag aside: so none of a halted machine has it either, once it is resumed. A call
+-- that is lost before it comes to its server is one that this would have served: as a step, the same try goes through.
 abbrev pub NextIsServed : State → Type 0
-NextIsServed w = (e : Happening) → FitsConfig w.sizes e → (happens w e).0 ≢ Refused
+NextIsServed w = (e : Happening) → FitsConfig w.sizes e → (happens (unhalted w) e).0 ≢ Refused
 
 -- A state that events have led to from an opening, the halt flag aside: it may have been set and cleared among them, since a
 -- step under it changes nothing.
@@ -89,6 +89,29 @@ Headline = (setup : Setup) (w : State) (es : List Happening) → IsReached setup
 -- safe, and of each plan that isn't done some stream can step, or one that hasn't made its end has spent its allowance.
 abbrev pub WithLosses : Type 0
 WithLosses = (setup : Setup) (w : State) → IsReached setup w → NextIsServed w × IsSafe w × SomeCanStepOrSpent w
+
+-- What a server has of a call's shard and its number let it serve the call: it is up, and the call repeats the one that had its
+-- effect on the cell last, or it is allowed.
+pub record IsServable (w : State) (x : ServerCall) (number : ℕ) : Type 0 where
+  pub up : w.place.down x.server ≡ false
+  pub serves : (number ≡ w.place.last x.shard x.server) ⊎ ((to : Cell) × IsAllowed w.sizes w.place x.shard x.server x.call to)
+
+-- The call of each try that a running stream may make next, be it lost or not, is one that its server has to serve. This is told by what the
+-- server has, and not by what it answers.
+abbrev pub TriesAreAllowed : State → Type 0
+TriesAreAllowed w = (id : StreamId) (i : Instr) (x : ServerCall) → is_running w id ≡ true → next_instruction w id ≡ Some i →
+    call_to_make w (progress_of w id) i ≡ Some x → IsServable w x (call_number w (progress_of w id))
+
+-- From a state in whose log no unfinished stream has a lost call, along whatever events that lose none: no stream has spent its allowance,
+-- and each that has not made its end has made no more tries than its budget.
+abbrev pub UnlostIsUnspent : Type 0
+UnlostIsUnspent = (setup : Setup) (w : State) (es : List Happening) → IsReached setup w → HasNoLost w → AllFit (sizes_of setup) es → AllByRecursion LosesNothing es →
+    ((id : StreamId) → ¬ HasSpent (run es w) id)
+    × ((id : StreamId) → is_running (run es w) id ≡ true → (progress_of (run es w) id).tries ≤ (stream_parts (run es w) id).budget)
+
+-- no step of a stream that was begun is Unknown
+abbrev pub BegunIsKnown : Type 0
+BegunIsKnown = (w : State) (id : StreamId) (passage : Passage) → is_begun w id ≡ true → (step w id passage).0 ≢ Answered Played.Unknown
 
 -- where an event of the stream leads from one state to the other: the number of its try, if the call had its effect just then
 abbrev pub effect_of_stream : State → StreamId → State → List ℕ
@@ -189,6 +212,31 @@ abbrev pub PlaysAreRuns : Type 0
 PlaysAreRuns = (es : List Event) (g : Game) →
     ((play es g).state ≡ run (played_events es g) g.state) × (plays es g ≡ or_unknown (all_given es g) (outcomes (played_events es g) g.state))
 
+-- What holds of a list of events that happen from a state.
+pub record IsSafeRun (setup : Setup) (es : List Happening) (w : State) : Type 0 where
+  -- events lead to the state after the list
+  pub reached : IsReached setup (run es w)
+  -- no call is refused, and no event that comes next has its call refused
+  pub served : AreServed (outcomes es w)
+  pub next : NextIsServed (run es w)
+  -- who executes a request that comes next is the one server that serves its shard
+  pub executed : ExecutedServes (run es w)
+  -- each number of a call has its effect once at most, along this list or along lists one after the other
+  pub effects : (n : ℕ) → HasEffectOnce w es (run es w) n
+  -- all tickets of one place of the log together are spent by one answer at most
+  pub tickets : (place : ℕ) → times_spent place es w ≤ 1
+  -- the state after the list is safe
+  pub safe : IsSafe (run es w)
+  -- there, of each plan that isn't done some stream can step, or one that isn't done has spent its allowance
+  pub onward : SomeCanStepOrSpent (run es w)
+  -- and some stream can step where no unfinished stream had a lost call in the log, and the list loses none
+  pub unlost : HasNoLost w → AllByRecursion LosesNothing es → SomeCanStep (run es w)
+
+-- The headline, and the laws on lost calls, on the effects of calls, on requests and on tickets, of every list of events that fit, from a
+-- state that events have led to. Each front of the list is such a list too.
+abbrev pub RunsAreSafe : Type 0
+RunsAreSafe = (setup : Setup) (w : State) (es : List Happening) → IsReached setup w → AllFit (sizes_of setup) es → IsSafeRun setup es w
+
 -- the event names known shards and servers, and a refill is within its limit
 abbrev pub NamesKnown : Sizes → Event → Type 0
 NamesKnown c (Event.Arrive s v) = (s < c.shards) × (v < c.servers)
@@ -214,8 +262,11 @@ pub record IsPlayed (setup : Setup) (es : List Event) (g : Game) : Type 0 where
   pub reached : IsReached setup (play es g).state
   -- each plan that is left in the hand was checked
   pub checked : AreChecked (sizes_of setup) (play es g).hand
-  -- no call is refused
+  -- no call is refused, and no event that comes next has its call refused
   pub served : AreServed (plays es g)
+  pub next : NextIsServed (play es g).state
+  -- who executes a request that comes next is the one server that serves its shard
+  pub executed : ExecutedServes (play es g).state
   -- each number of a call has its effect once at most, along this list or along lists one after the other
   pub effects : (n : ℕ) → HasEffectOnce g.state (played_events es g) (play es g).state n
   -- all tickets of one place of the log together are spent by one answer at most

@@ -6,4 +6,6 @@ pub mod Happens
 pub mod Hand
 pub mod Safe
 pub mod Log
+pub mod Next
 pub mod Laws
+pub mod Unchecked

@@ -52,6 +52,11 @@ happening_of tickets (Event.Approve v) = Some (Approve v)
 happening_of tickets (Event.Done v) = Some (Done v)
 happening_of tickets (Event.Begin place) = None
 
+-- What an event asks for under one who has all rights that are given away: the request of a pass is that at its place of the log. An event
+-- does not tell which plan is to start.
+abbrev pub named : State → Event → Option Happening
+named w e = happening_of (passes w.log) e
+
 -- of these plans, the first of which has this number, the starts that came when the log had this length, with their answers
 abbrev pub starts_at : ℕ → List Start → ℕ → List (Happening × Played)
 starts_at number [] n = []

@@ -10,7 +10,7 @@ pub use Rattle.sm_placement.specs.Setup.{IsSetup, Setup, Sizes, sizes_of}
 pub use Rattle.sm_placement.specs.Layout.{IsPlacement}
 pub use Rattle.sm_placement.specs.Lead.{IsSettled}
 pub use Rattle.sm_placement.specs.SafePlace.{IsSafePlace, IsServing}
-pub use Rattle.sm_placement.specs.Place.{CallEffect, Place, called_numbered, down_count, entry_at, forget_numbers, is_live_at, live_at, load_at, publish, set_down}
+pub use Rattle.sm_placement.specs.Place.{CallEffect, IsAllowed, Place, called_numbered, down_count, entry_at, forget_numbers, is_live_at, live_at, load_at, publish, set_down}
 pub use Rattle.sm_reservation.specs.declared.stream_id.StreamId.{StreamId}
 pub use Rattle.sm_reservation.specs.Rights.{Rights}
 pub use Rattle.sm_reservation.specs.Hold.{Hold}

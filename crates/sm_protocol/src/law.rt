@@ -1,6 +1,9 @@
 //! The laws of the protocol: what holds of every state that events lead to.
-ghost use Rattle.sm_protocol.specs.Laws.{ApprovedWhereReserved, BegunWhereAccepted, CountsEffects, EachReached, EffectsOnce, EndsAreReached, ExecutedServes, FollowsEntries, Headline, IsConserved, IsSmall, PlaysAreRuns, PlaysAreSafe, TicketsOnce, UnrecordedChangesNothing, WithLosses};
+ghost use Rattle.sm_protocol.specs.Laws.{ApprovedWhereReserved, BegunIsKnown, BegunWhereAccepted, CountsEffects, EachReached, EffectsOnce, EndsAreReached, ExecutedServes, FollowsEntries, Headline, IsConserved, IsSmall, PlaysAreRuns, PlaysAreSafe, RunsAreSafe, TicketsOnce, TriesAreAllowed, UnlostIsUnspent, UnrecordedChangesNothing, WithLosses};
 ghost use Rattle.sm_protocol.specs.Log.{IsLegal};
+ghost use Rattle.sm_protocol.specs.Unchecked.{RefusalsCome};
+
+use sm_placement::answered_where_allowed;
 
 /// A checked plan is begun exactly where it is accepted, the log has its places and another plan may run.
 pub fn begun_where_accepted()
@@ -24,6 +27,29 @@ pub fn headline()
 /// stream can step, or one that hasn't made its end has spent its allowance.
 pub fn with_losses()
     ensures { WithLosses }
+{}
+
+/// The call of each try that a running stream may make next, be it lost or not, is one that its server has to serve: the server is up, and
+/// the call is allowed, or it repeats the number of the last call that had an effect on its cell.
+pub fn tries_are_allowed()
+    ensures { EachReached TriesAreAllowed }
+{
+    answered_where_allowed();
+}
+
+/// A plan that was not checked has its call refused, in a worked play: so that no call of a checked one is refused says something.
+pub fn refusals_come()
+    ensures { RefusalsCome }
+{}
+
+/// Where no call is lost, no stream has spent its allowance, and its tries are within its budget.
+pub fn unlost_is_unspent()
+    ensures { UnlostIsUnspent }
+{}
+
+/// No step of a stream that was begun is Unknown.
+pub fn begun_is_known()
+    ensures { BegunIsKnown }
 {}
 
 /// No number of a call has its effect twice, neither along one list of events nor along lists one after the other.
@@ -76,8 +102,13 @@ pub fn plays_are_runs()
     ensures { PlaysAreRuns }
 {}
 
-/// The headline, and the laws on lost calls, on the effects of calls and on tickets, of every list of events that is played with a
-/// hand of checked plans.
+/// The headline, and the laws on lost calls, on the effects of calls, on requests and on tickets, of every list of events that fit.
+pub fn runs_are_safe()
+    ensures { RunsAreSafe }
+{}
+
+/// The headline, and the laws on lost calls, on the effects of calls, on requests and on tickets, of every list of events that is played with
+/// a hand of checked plans.
 pub fn plays_are_safe()
     ensures { PlaysAreSafe }
 {}

@@ -1,8 +1,9 @@
 -- Turns of events, as a player makes them.
 use Rattle.std.proofs.Common.{◌≡◌, ◌<◌, ◌≤◌, ◌+◌, ◌^◌, ◌++◌, ◌∷◌, [], ℕ, Bool, List, Result, Ok, Err, Option, Some, None, length, map, refl, sym, ap, ◌∙◌, subst, arith, append_assoc}
-use Rattle.std.specs.Prelude.{slice_index_or, slice_set, option_map, OnOk}
+use Rattle.std.specs.Prelude.{slice_index_or, slice_set, option_and_then, option_map, OnOk}
 use Rattle.std.proofs.lemmas.List.{map-set, length-append}
 use Rattle.sm_placement.specs.Setup.{Setup, Sizes, sizes_of}
+use Rattle.sm_reservation.specs.declared.stream_id.StreamId.{StreamId}
 use Rattle.sm_verifier.specs.Checked.{CheckedModel}
 use Rattle.sm_plan_text.specs.declared.event.EventText.{EventText}
 use Rattle.sm_plan_text.specs.declared.event.EventText.TheVariants as text
@@ -12,8 +13,12 @@ use Rattle.sm_protocol.specs.declared.event.Played.{Played}
 use Rattle.sm_protocol.specs.declared.event.Played.TheVariants as played
 use Rattle.sm_protocol.specs.State.{State, stream_id, stream_parts, progress_of}
 use Rattle.sm_protocol.specs.Steps.{Outcome, Answered}
-use Rattle.sm_protocol.specs.Ticket.{Ticket}
-use Rattle.sm_protocol.specs.Happens.{Happening, PassOn, Begin, happens}
+use Rattle.sm_protocol.specs.declared.event.Event.{Event}
+use Rattle.sm_protocol.specs.declared.event.Event.TheVariants as event
+use Rattle.sm_protocol.specs.Laws.{NamesKnown}
+use Rattle.sm_protocol.specs.Log.{named}
+use Rattle.sm_protocol.specs.Ticket.{Ticket, passes}
+use Rattle.sm_protocol.specs.Happens.{Happening, Step, Lose, Refill, Arrive, PassOn, Approve, Done, Begin, happens}
 use Rattle.sm_machine.specs.Machine.{MachineModel}
 use Rattle.sm_machine.specs.State.{state_of}
 use Rattle.sm_machine.specs.Hand.{hand_plan, AreFor}
@@ -24,8 +29,8 @@ use Rattle.sm_machine.proofs.HandPlays.{sizes_are}
 use Rattle.sm_machine.proofs.HandStarts.{plan_there, number_fits}
 use Rattle.sm_report.specs.declared.player.Player.{Player}
 use Rattle.sm_report.specs.PlayLines.{stream_text, progress_line_of, progress_line, event_front, played_line, outcome_line}
-use Rattle.sm_report.specs.Playing.{Scene, pass_at, asked_by, after_event, event_turn, event_turn_by}
-use Rattle.sm_report.specs.Player.{scene_of, IsSetUp, IsEventPlayed}
+use Rattle.sm_report.specs.Playing.{Scene, asked_by, event_named, named_stream, after_event, event_turn, event_turn_by}
+use Rattle.sm_report.specs.Player.{scene_of, IsSetUp, IsEventPlayed, IsNoBegin}
 
 -- there is nothing that the event speaks of
 pub nothing_asked : (p : Player) (e : EventText) → IsSetUp p → asked_by (scene_of p) e ≡ None → IsEventPlayed p e played.Unknown p
@@ -72,15 +77,78 @@ asked_so p q e h a r is starts_none after d waiting places = record {
     plans : (state_of q.director).plans ≡ (state_of p.director).plans
     plans = ap (λ o. o.1.plans) (sym d.event) ∙ same_plans (state_of p.director) h starts_none
 
--- the request of a pass that is recorded, where there is one
-pub passed_so : (p : Player) (d : MachineModel) (place : ℕ) (t : Option Ticket) (a : Played) → IsSetUp p → pass_at (state_of p.director) place ≡ t → IsDirectedIf p.director (option_map PassOn t) a d →
-    IsEventPlayed p (text.PassOn place) a (record { director = d; waiting = p.waiting; places = p.places })
-passed_so p d place None a r is h =
-    subst (λ b. IsEventPlayed p (text.PassOn place) b (record { director = d; waiting = p.waiting; places = p.places })) (sym h.0)
-    (subst (λ (m : MachineModel). IsEventPlayed p (text.PassOn place) played.Unknown (record { director = m; waiting = p.waiting; places = p.places })) (sym h.1)
-    (nothing_asked p (text.PassOn place) r (ap (option_map PassOn) is)))
-passed_so p d place (Some t) a r is h =
-    asked_so p (record { director = d; waiting = p.waiting; places = p.places }) (text.PassOn place) (PassOn t) a r (ap (option_map PassOn) is) tt (λ x o. refl) h refl refl
+-- ---- events by their names
+
+-- an event that is no start asks for what its name says
+pub asked_is : (x : Scene) (e : EventText) → IsNoBegin e → asked_by x e ≡ option_and_then (named x.state) (event_named x e)
+asked_is x (text.Begin place) n = absurd n
+asked_is x (text.Step place i) n = refl
+asked_is x (text.Lose place i after) n = refl
+asked_is x (text.Refill place i more) n = refl
+asked_is x (text.Request s v) n = refl
+asked_is x (text.PassOn place) n = refl
+asked_is x (text.Approve v) n = refl
+asked_is x (text.Done v) n = refl
+
+-- and changes a scene by its state alone
+same_scene : (e : EventText) → IsNoBegin e → (x : Scene) (o : Outcome) → after_event x e o ≡ x
+same_scene (text.Begin place) n x o = absurd n
+same_scene (text.Step place i) n x o = refl
+same_scene (text.Lose place i after) n x o = refl
+same_scene (text.Refill place i more) n x o = refl
+same_scene (text.Request s v) n x o = refl
+same_scene (text.PassOn place) n x o = refl
+same_scene (text.Approve v) n x o = refl
+same_scene (text.Done v) n x o = refl
+
+-- what a name says is no start
+no_start : (w : State) (e : Event) (h : Happening) → named w e ≡ Some h → IsNoStart h
+no_start w (event.Step id) h is = subst IsNoStart (let same : Step id ≡ h = cc in same) tt
+no_start w (event.Lose id after) h is = subst IsNoStart (let same : Lose id after ≡ h = cc in same) tt
+no_start w (event.Refill id more) h is = subst IsNoStart (let same : Refill id more ≡ h = cc in same) tt
+no_start w (event.Arrive s v) h is = subst IsNoStart (let same : Arrive s v ≡ h = cc in same) tt
+no_start w (event.Approve v) h is = subst IsNoStart (let same : Approve v ≡ h = cc in same) tt
+no_start w (event.Done v) h is = subst IsNoStart (let same : Done v ≡ h = cc in same) tt
+no_start w (event.Begin place) h is = absurd (cc)
+no_start w (event.PassOn place) h is = by_pass (slice_index_or (passes w.log) place None) is
+  where
+    by_pass : (o : Option Ticket) → option_map PassOn o ≡ Some h → IsNoStart h
+    by_pass None is = absurd (cc)
+    by_pass (Some t) is = subst IsNoStart (let same : PassOn t ≡ h = cc in same) tt
+
+-- an event that names no stream that has begun is Unknown
+pub unnamed_so : (p : Player) (e : EventText) → IsSetUp p → IsNoBegin e → event_named (scene_of p) e ≡ None → IsEventPlayed p e played.Unknown p
+unnamed_so p e r n is = nothing_asked p e r (asked_is (scene_of p) e n ∙ ap (option_and_then (named (state_of p.director))) is)
+
+-- any other that is no start is played by its name
+pub named_so : (p : Player) (d : MachineModel) (e : EventText) (ev : Event) (a : Played) → IsSetUp p → IsNoBegin e → event_named (scene_of p) e ≡ Some ev →
+    IsDirectedIf p.director (named (state_of p.director) ev) a d → IsEventPlayed p e a (record { director = d; waiting = p.waiting; places = p.places })
+named_so p d e ev a r n is = by_name (named (state_of p.director) ev) refl
+  where
+    by_name : (o : Option Happening) → named (state_of p.director) ev ≡ o → IsDirectedIf p.director o a d → IsEventPlayed p e a (record { director = d; waiting = p.waiting; places = p.places })
+    by_name None f h =
+        subst (λ b. IsEventPlayed p e b (record { director = d; waiting = p.waiting; places = p.places })) (sym h.0)
+        (subst (λ (m : MachineModel). IsEventPlayed p e played.Unknown (record { director = m; waiting = p.waiting; places = p.places })) (sym h.1)
+        (nothing_asked p e r (asked_is (scene_of p) e n ∙ ap (option_and_then (named (state_of p.director))) is ∙ f)))
+    by_name (Some h) f given =
+        asked_so p (record { director = d; waiting = p.waiting; places = p.places }) e h a r (asked_is (scene_of p) e n ∙ ap (option_and_then (named (state_of p.director))) is ∙ f)
+        (no_start (state_of p.director) ev h f) (same_scene e n) given refl refl
+
+-- what is found of a stream by its name
+of_stream : (P : Event → Type 0) (f : StreamId → Event) (o : Option StreamId) (ev : Event) → ((id : StreamId) → P (f id)) → option_map f o ≡ Some ev → P ev
+of_stream P f None ev all is = absurd (cc)
+of_stream P f (Some id) ev all is = subst P (let same : f id ≡ ev = cc in same) (all id)
+
+-- the event names what the document's event names
+pub named_known : (x : Scene) (c : Sizes) (e : EventText) (ev : Event) → IsKnownEvent c.shards c.servers e → event_named x e ≡ Some ev → NamesKnown c ev
+named_known x c (text.Begin place) ev k is = absurd (cc)
+named_known x c (text.Step place i) ev k is = of_stream (NamesKnown c) event.Step (named_stream x place i) ev (λ id. tt) is
+named_known x c (text.Lose place i after) ev k is = of_stream (NamesKnown c) (λ id. event.Lose id after) (named_stream x place i) ev (λ id. tt) is
+named_known x c (text.Refill place i more) ev k is = of_stream (NamesKnown c) (λ id. event.Refill id more) (named_stream x place i) ev (λ id. k) is
+named_known x c (text.Request s v) ev k is = subst (NamesKnown c) (let same : event.Arrive s v ≡ ev = cc in same) k
+named_known x c (text.PassOn place) ev k is = subst (NamesKnown c) (let same : event.PassOn place ≡ ev = cc in same) tt
+named_known x c (text.Approve v) ev k is = subst (NamesKnown c) (let same : event.Approve v ≡ ev = cc in same) k
+named_known x c (text.Done v) ev k is = subst (NamesKnown c) (let same : event.Done v ≡ ev = cc in same) k
 
 module _ (p : Player) (place : ℕ) (c : CheckedModel) (r : IsSetUp p) (there : slice_index_or p.waiting.items place None ≡ Some c) where
   plan_asked : asked_by (scene_of p) (text.Begin place) ≡ Some (Begin c.plan)

@@ -5,6 +5,7 @@ pub mod PlanAnswers
 pub mod OneReport
 pub mod SomeReport
 pub mod EventTurns
+pub mod SafeScenes
 pub mod PlayStages
 pub mod RunLines
 pub mod RunStages

@@ -8,6 +8,7 @@ pub mod Checking
 pub mod Report
 pub mod Early
 pub mod Playing
+pub mod SafeScenes
 pub mod PlayLines
 pub mod Player
 pub mod Stages

@@ -2,6 +2,7 @@
 -- Steps of the code's own way, which private functions' contracts cite: whoever reads the public ones need not read them.
 use Rattle.std.specs.Prelude.{◌≡◌, ◌≢◌, ◌<◌, ◌≤◌, ◌^◌, ℕ, length, map}
 use Rattle.sm_plan_text.specs.declared.event.EventText.{EventText}
+use Rattle.sm_plan_text.specs.declared.event.EventText.TheVariants as text
 use Rattle.sm_protocol.specs.declared.event.Played.{Played}
 use Rattle.sm_protocol.specs.declared.event.Played.TheVariants as played
 use Rattle.sm_protocol.specs.Steps.{Answered}
@@ -19,6 +20,11 @@ pub record IsSetUp (p : Player) : Type 0 where
   pub places : length p.places.items ≡ length (state_of p.director).plans
   pub few : length p.places.items ≤ 2 ^ 32
   pub checked : AreFor p.director.placement.setup p.waiting.items
+
+-- the event starts no plan
+abbrev pub IsNoBegin : EventText → Type 0
+IsNoBegin (text.Begin place) = ⊥
+IsNoBegin _ = Unit {0}
 
 -- a plan whose start is answered is there
 abbrev pub IsBegunThere : Scene → Played → Type 0

@@ -12,10 +12,12 @@ use Rattle.sm_plan_text.specs.declared.event.EventText.{EventText}
 use Rattle.sm_plan_text.specs.declared.event.EventText.TheVariants as text
 use Rattle.sm_protocol.specs.declared.event.Played.{Played}
 use Rattle.sm_protocol.specs.declared.event.Played.TheVariants as played
-use Rattle.sm_protocol.specs.Ticket.{Ticket, passes}
+use Rattle.sm_protocol.specs.declared.event.Event.{Event}
+use Rattle.sm_protocol.specs.declared.event.Event.TheVariants as event
+use Rattle.sm_protocol.specs.Log.{named}
 use Rattle.sm_protocol.specs.State.{State, opened, stream_id, is_begun}
 use Rattle.sm_protocol.specs.Steps.{Outcome, Answered}
-use Rattle.sm_protocol.specs.Happens.{Happening, Step, Lose, Refill, Arrive, PassOn, Approve, Done, Begin, happens}
+use Rattle.sm_protocol.specs.Happens.{Happening, Begin, happens}
 
 -- What events are played at: the state of the protocol, and which plans of the document have begun.
 pub record Scene : Type 0 where
@@ -43,20 +45,22 @@ if_begun w id = if is_begun w id then Some id else None
 abbrev pub named_stream : Scene → ℕ → ℕ → Option StreamId
 named_stream x place i = option_and_then (λ number. if_begun x.state (stream_id number i)) (start_number x.places place)
 
--- the pass that is recorded at this place of the log
-abbrev pub pass_at : State → ℕ → Option Ticket
-pass_at w place = slice_index_or (passes w.log) place None
+-- The event of the protocol that an event of a document is; None where its stream has not begun. A start is none, since it names its plan by
+-- a place in the document.
+abbrev pub event_named : Scene → EventText → Option Event
+event_named x (text.Step place i) = option_map event.Step (named_stream x place i)
+event_named x (text.Lose place i after) = option_map (λ id. event.Lose id after) (named_stream x place i)
+event_named x (text.Refill place i more) = option_map (λ id. event.Refill id more) (named_stream x place i)
+event_named x (text.Request s v) = Some (event.Arrive s v)
+event_named x (text.PassOn place) = Some (event.PassOn place)
+event_named x (text.Approve v) = Some (event.Approve v)
+event_named x (text.Done v) = Some (event.Done v)
+event_named x (text.Begin place) = None
 
 -- what an event asks for; None where there is nothing that it speaks of
 abbrev pub asked_by : Scene → EventText → Option Happening
-asked_by x (text.Step place i) = option_map Step (named_stream x place i)
-asked_by x (text.Lose place i after) = option_map (λ id. Lose id after) (named_stream x place i)
-asked_by x (text.Refill place i more) = option_map (λ id. Refill id more) (named_stream x place i)
-asked_by x (text.Request s v) = Some (Arrive s v)
-asked_by x (text.PassOn place) = option_map PassOn (pass_at x.state place)
-asked_by x (text.Approve v) = Some (Approve v)
-asked_by x (text.Done v) = Some (Done v)
 asked_by x (text.Begin place) = option_map Begin (slice_index_or x.waiting place None)
+asked_by x e = option_and_then (named x.state) (event_named x e)
 
 -- ---- what becomes of it
 

@@ -33,6 +33,6 @@ mod verdict;
 
 pub use command::Command;
 pub use input::{InputFault, take_input};
-pub use reporting::{one_report, report, some_report};
+pub use reporting::{one_report, report, scenes_are_safe, some_report};
 pub use running::{one_run_report, report_run};
 pub use status::Status;

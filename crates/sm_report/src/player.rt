@@ -9,17 +9,16 @@ ghost use Rattle.sm_plan_text.specs.Events.{IsKnownEvent};
 ghost use Rattle.sm_protocol.specs.State.{opened};
 ghost use Rattle.sm_machine.specs.Hand.{AreFor, hand_plan};
 ghost use Rattle.sm_machine.specs.State.{state_of};
-ghost use Rattle.sm_report.specs.Playing.{start_number, named_stream};
-ghost use Rattle.sm_report.specs.Player.{scene_of, IsSetUp, IsEventPlayed};
-ghost use Rattle.sm_plan_code.specs.declared.limits.TheConstants.{MOST_CALLS, MOST_PLACES};
+ghost use Rattle.sm_report.specs.Playing.{event_named, start_number, named_stream};
+ghost use Rattle.sm_report.specs.Player.{scene_of, IsSetUp, IsEventPlayed, IsNoBegin};
+ghost use Rattle.sm_plan_code.specs.declared.limits.TheConstants.{MOST_PLACES};
 
 use crate::stages::director;
 use sm_machine::{Director, Machine, make_ready};
 use sm_placement::Placement;
 use sm_plan_text::EventText;
-use sm_protocol::Played;
+use sm_protocol::{Event, Played};
 use sm_reservation::StreamId;
-use sm_server::{ServerId, ShardId};
 use sm_verifier::Checked;
 use std::alloc::{AllocError, Global};
 
@@ -122,66 +121,47 @@ impl Player {
         }
     }
 
-    fn step(&mut self, place: u32, stream: u32) -> Played
-        requires { IsSetUp self.old }
-        ensures { IsEventPlayed self.old (text.Step place stream) result self.new }
+    /// The event of the protocol that an event of a document is, None where its stream has not begun, and for a start.
+    fn event_named(&self, event: EventText) -> Option<Event>
+        requires { IsSetUp self.now }
+        ensures { result ≡ event_named (scene_of self.now) event }
     {
-        match self.named_stream(place, stream) {
-            Some(id) => self.director.step(id),
-            None => Played::Unknown,
+        match event {
+            EventText::Step { plan, stream } => match self.named_stream(plan, stream) {
+                Some(stream) => Some(Event::Step { stream }),
+                None => None,
+            },
+            EventText::Lose {
+                plan,
+                stream,
+                after,
+            } => match self.named_stream(plan, stream) {
+                Some(stream) => Some(Event::Lose { stream, after }),
+                None => None,
+            },
+            EventText::Refill { plan, stream, more } => match self.named_stream(plan, stream) {
+                Some(stream) => Some(Event::Refill { stream, more }),
+                None => None,
+            },
+            EventText::Request { shard, server } => Some(Event::Arrive { shard, server }),
+            EventText::PassOn { ticket } => Some(Event::PassOn { place: ticket }),
+            EventText::Approve { server } => Some(Event::Approve { server }),
+            EventText::Done { server } => Some(Event::Done { server }),
+            EventText::Begin { .. } => None,
         }
     }
 
-    fn lose(&mut self, place: u32, stream: u32, after: bool) -> Played
-        requires { IsSetUp self.old }
-        ensures { IsEventPlayed self.old (text.Lose place stream after) result self.new }
+    /// Plays an event that is no start.
+    fn play_named(&mut self, event: EventText) -> Played
+        requires ready { IsSetUp self.old }
+        requires known { IsKnownEvent (state_of self.old.director).sizes.shards (state_of self.old.director).sizes.servers event }
+        requires other { IsNoBegin event }
+        ensures { IsEventPlayed self.old event result self.new }
     {
-        match self.named_stream(place, stream) {
-            Some(id) => self.director.lose(id, after),
+        match self.event_named(event) {
+            Some(event) => self.director.play(event),
             None => Played::Unknown,
         }
-    }
-
-    fn refill(&mut self, place: u32, stream: u32, more: u32) -> Played
-        requires ready { IsSetUp self.old }
-        requires more { more ≤ MOST_CALLS }
-        ensures { IsEventPlayed self.old (text.Refill place stream more) result self.new }
-    {
-        match self.named_stream(place, stream) {
-            Some(id) => self.director.refill(id, more),
-            None => Played::Unknown,
-        }
-    }
-
-    fn request(&mut self, shard: ShardId, server: ServerId) -> Played
-        requires ready { IsSetUp self.old }
-        requires shard { shard < (state_of self.old.director).sizes.shards }
-        requires server { server < (state_of self.old.director).sizes.servers }
-        ensures { IsEventPlayed self.old (text.Request shard server) result self.new }
-    {
-        self.director.arrive(shard, server)
-    }
-
-    fn pass_on(&mut self, place: u32) -> Played
-        requires { IsSetUp self.old }
-        ensures { IsEventPlayed self.old (text.PassOn place) result self.new }
-    {
-        self.director.pass_on(place)
-    }
-
-    fn approve(&mut self, server: ServerId) -> Played
-        requires ready { IsSetUp self.old }
-        requires server { server < (state_of self.old.director).sizes.servers }
-        ensures { IsEventPlayed self.old (text.Approve server) result self.new }
-    {
-        self.director.approve(server)
-    }
-
-    fn done(&mut self, server: ServerId) -> Played
-        requires { IsSetUp self.old }
-        ensures { IsEventPlayed self.old (text.Done server) result self.new }
-    {
-        self.director.done(server)
     }
 
     fn begin(&mut self, alloc: Global, place: u32) -> Result<Played, AllocError>
@@ -219,18 +199,8 @@ impl Player {
         ensures { IfOk result (λ answer. IsEventPlayed self.old event answer self.new) }
     {
         match event {
-            EventText::Step { plan, stream } => Ok(self.step(plan, stream)),
-            EventText::Lose {
-                plan,
-                stream,
-                after,
-            } => Ok(self.lose(plan, stream, after)),
-            EventText::Refill { plan, stream, more } => Ok(self.refill(plan, stream, more)),
-            EventText::Request { shard, server } => Ok(self.request(shard, server)),
-            EventText::PassOn { ticket } => Ok(self.pass_on(ticket)),
-            EventText::Approve { server } => Ok(self.approve(server)),
-            EventText::Done { server } => Ok(self.done(server)),
             EventText::Begin { plan } => self.begin(alloc, plan),
+            _ => Ok(self.play_named(event)),
         }
     }
 

@@ -8,6 +8,7 @@ ghost use Rattle.sm_report.specs.declared.limits.TheConstants.{MOST_BYTES};
 ghost use Rattle.sm_report.specs.Status.{code_of};
 ghost use Rattle.sm_report.specs.Early.{IfEnded, IfMade, IfReadEnded, IfReadMade};
 ghost use Rattle.sm_report.specs.Report.{Output};
+ghost use Rattle.sm_report.specs.SafeScenes.{ScenesAreSafe};
 ghost use Rattle.sm_report.specs.Stages.{read_stage};
 ghost use Rattle.sm_report.specs.Output.{IsReadAs, IsDocumentReport, IsReport, IsReportOf};
 
@@ -23,6 +24,7 @@ use crate::plays::report_play;
 use crate::status::Status;
 use sm_plan_text::{Document, TextFault, read_document};
 use sm_planner::rule_answers_once;
+use sm_protocol::runs_are_safe;
 use sm_verifier::{finds_fault, finds_holding, one_fault, one_holding};
 use std::alloc::Global;
 use std::io::{Read, Write};
@@ -106,6 +108,14 @@ pub fn report<R: Read, W: Write>(
             Early::ReadFailed => Status::ReadFailed,
         },
     }
+}
+
+/// What `play` prints is told of the run of what happens by a document's events, and that run is safe: after each event the headline holds, and
+/// the laws on lost calls, on the effects of calls, on requests and on tickets.
+pub fn scenes_are_safe()
+    ensures { ScenesAreSafe }
+{
+    runs_are_safe();
 }
 
 /// What a command reports of an input is one report, since the verdict on a plan is one and the planner answers once.

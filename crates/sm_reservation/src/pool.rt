@@ -192,7 +192,7 @@ impl Pool {
     }
 
     /// Takes one spare replica of a shard out, since it goes down.
-    pub fn take_one_spare(&mut self, shard: ShardId)
+    pub fn less(&mut self, shard: ShardId)
         requires { 1 ≤ (pool_hold self.old).spare shard }
         ensures hold { pool_hold self.new ≡ pay_spare (pool_hold self.old) shard 1 }
         ensures sums { (r : Right) → count (pool_hold self.new) r + one_spare shard r ≡ count (pool_hold self.old) r }
@@ -202,7 +202,7 @@ impl Pool {
     }
 
     /// Puts one spare replica of a shard in, since it is up again.
-    pub fn put_one_spare(&mut self, shard: ShardId)
+    pub fn more(&mut self, shard: ShardId)
         requires shard { shard < self.old.shards }
         requires fits { (pool_hold self.old).spare shard + 1 < 2 ^ 64 }
         ensures hold { pool_hold self.new ≡ get_spare (pool_hold self.old) shard 1 }

@@ -260,14 +260,14 @@ fn a_grant_is_filled_from_a_pool(rt: HostRuntime) -> Result<(), Fail> {
 fn less(rt: &impl Abort, pool: &mut Pool, shard: u32) {
     let shard = ShardId::new(shard);
     assert!(rt; pool.spare(shard) >= 1);
-    pool.take_one_spare(shard);
+    pool.less(shard);
 }
 
 pub(crate) fn more(rt: &impl Abort, pool: &mut Pool, shard: u32) {
     assert!(rt; (shard as usize) < pool.shard_count());
     let shard = ShardId::new(shard);
     assert!(rt; pool.spare(shard) < 100);
-    pool.put_one_spare(shard);
+    pool.more(shard);
 }
 
 /// Takes the spare replica of shard 0 out of the worked pool, puts it in again, and then one of shard 1.

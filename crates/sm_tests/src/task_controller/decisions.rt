@@ -78,7 +78,7 @@ fn decided_at(
     let mut pool = Pool::open(alloc, placement)?;
     let shard = ShardId::new(0);
     if case.reserved && pool.spare(shard) > 0 {
-        pool.take_one_spare(shard);
+        pool.less(shard);
     }
     if case.server >= placement.config().server_count() {
         return Err(AllocError);

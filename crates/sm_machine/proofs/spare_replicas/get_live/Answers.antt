@@ -2,8 +2,8 @@
 use Rattle.std.proofs.Common.{rules}
 use Rattle.sm_machine.proofs.spare_replicas.get_live.Goals as goal
 
-pub put_one_spare-requires-clause-fits : goal.put_one_spare-requires-clause-fits
-put_one_spare-requires-clause-fits c = search rules
+pub more-requires-clause-fits : goal.more-requires-clause-fits
+more-requires-clause-fits c = search rules
 
 pub loop-number-preserved : goal.loop-number-preserved
 loop-number-preserved c = search rules

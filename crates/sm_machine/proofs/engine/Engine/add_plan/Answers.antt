@@ -1,6 +1,7 @@
 -- A plan is begun.
 use Rattle.sm_machine.specs.contracts.engine.Engine.{the_view}
-use Rattle.sm_machine.proofs.Added.{begun_from}
+use Rattle.sm_machine.proofs.Added.{begun_from, filled_unstepped}
+use Rattle.sm_machine.proofs.Since.{since_more}
 use Rattle.sm_machine.proofs.Writes.{unfinished_is}
 use Rattle.sm_machine.proofs.Unfinished.{one_more}
 use Rattle.std.proofs.Common.{ap, length, arith, sym, refl, ◌∙◌}
@@ -30,4 +31,6 @@ invariant_of-self c =
     c.len-number.ensures refl c.add_number.ensures.items c.self.invariant.6 in
     let places = c.self.invariant.7 in
     let more = c.add_number.ensures.capacity in
-    (c.self.invariant.0, c.self.invariant.1, c.self.invariant.2, c.self.invariant.3, c.fill.ensures.size.shards ∙ c.self.invariant.4, c.fill.ensures.size.servers ∙ c.self.invariant.5, plans, omega arith)
+    let since = since_more c.self.inside.plans c.push.new.self c.fill.new.self (the_view c.self.inside).journal.log c.push.ensures
+    (filled_unstepped c.args.ready c.into_begun-begun.result.0 c.fill.new.self c.len-since.result c.into_begun-begun.ensures.begun c.fill.ensures.filled) c.self.invariant.8 in
+    (c.self.invariant.0, c.self.invariant.1, c.self.invariant.2, c.self.invariant.3, c.fill.ensures.size.shards ∙ c.self.invariant.4, c.fill.ensures.size.servers ∙ c.self.invariant.5, plans, omega arith, since)

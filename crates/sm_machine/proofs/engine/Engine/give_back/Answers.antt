@@ -1,11 +1,12 @@
 -- A stream makes its end.
-use Rattle.std.proofs.Common.{ap, ◌∙◌}
+use Rattle.std.proofs.Common.{ap, ◌∙◌, refl}
 use Rattle.sm_machine.specs.Begun.{BegunModel, no_begun}
 use Rattle.sm_machine.specs.contracts.engine.Engine.{the_view}
 use Rattle.sm_machine.proofs.Writes.{read_here, laid_back, given-back, plan_known}
 use Rattle.sm_protocol.specs.State.{Progress}
 use Rattle.sm_machine.proofs.Desk.{still_there, progress_here, stream_here}
 use Rattle.sm_machine.proofs.Unfinished.{swapped}
+use Rattle.sm_machine.proofs.Since.{same_since, since_swapped}
 use Rattle.std.specs.Prelude.{◌==◌}
 use Rattle.sm_machine.proofs.engine.Engine.give_back.Goals as goal
 
@@ -19,7 +20,10 @@ invariant_of-self c =
     let plans = swapped c.self.inside.plans c.swap.new.self c.swap-2.new.self c.args.id.plan _ c.swap.new.other c.end-grant.new.self c.self.inside.unfinished.items
     (plan_known (the_view c.self.inside) c.args.self.now c.args.id c.self.view_is c.requires.begun) c.swap-2.ensures.others c.swap.ensures.others c.swap.ensures.here
     (ap (λ (x : BegunModel). x.unfinished == 0) c.end-grant.ensures.after) c.self.invariant.6 in
-    (c.self.invariant.0, c.self.invariant.1, c.self.invariant.2, c.self.invariant.3, c.give_back.ensures.size.shards ∙ c.self.invariant.4, c.give_back.ensures.size.servers ∙ c.self.invariant.5, plans, c.self.invariant.7)
+    let since = since_swapped c.self.inside.plans c.swap.new.self c.swap-2.new.self c.args.id.plan _ c.swap.new.other c.end-grant.new.self (the_view c.self.inside).journal.log
+    (plan_known (the_view c.self.inside) c.args.self.now c.args.id c.self.view_is c.requires.begun) c.swap-2.ensures.others c.swap.ensures.others c.swap.ensures.here
+    (same_since c.swap.new.other c.end-grant.new.self c.args.id.stream _ (ap (λ (x : BegunModel). x.courses) c.end-grant.ensures.after) refl) c.self.invariant.8 in
+    (c.self.invariant.0, c.self.invariant.1, c.self.invariant.2, c.self.invariant.3, c.give_back.ensures.size.shards ∙ c.self.invariant.4, c.give_back.ensures.size.servers ∙ c.self.invariant.5, plans, c.self.invariant.7, since)
 
 pub swap-requires : goal.swap-requires
 swap-requires c = plan_known (the_view c.self.inside) c.args.self.now c.args.id c.self.view_is c.requires.begun

@@ -5,8 +5,8 @@ use Rattle.sm_machine.specs.SpareReplicas.{live_there, CanPayLive}
 use Rattle.sm_machine.proofs.Restarted.{can_pay_live, room_to_approve}
 use Rattle.sm_machine.proofs.engine.Engine.start_restart.Goals as goal
 
-pub record-requires : goal.record-requires
-record-requires c = room_to_approve (whole_of c.args.self.now) c.requires.working c.args.server c.requires.server c.requires.granted
+pub record-requires-clause-room : goal.record-requires-clause-room
+record-requires-clause-room c = room_to_approve (whole_of c.args.self.now) c.requires.working c.args.server c.requires.server c.requires.granted
 
 pub take_down-requires-clause-spare : goal.take_down-requires-clause-spare
 take_down-requires-clause-spare c =

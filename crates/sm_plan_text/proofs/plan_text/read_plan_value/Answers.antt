@@ -10,7 +10,7 @@ use Rattle.sm_plan_text.specs.Parcels.{HaveIds}
 use Rattle.sm_plan_text.specs.Plans.{plan_faults, plan_in}
 use Rattle.sm_plan_text.proofs.Faultless.{none_noted}
 use Rattle.sm_plan_text.proofs.FaultlessPlan.{plan_good}
-use Rattle.sm_plan_text.proofs.plan_text.read_plan.Goals as goal
+use Rattle.sm_plan_text.proofs.plan_text.read_plan_value.Goals as goal
 
 pub returns-clause-fits : goal.returns-clause-fits
 returns-clause-fits c =
