@@ -1,0 +1,218 @@
+//! Drawn values, as numbers, and what the functions make of them.
+mod drawn;
+mod shown;
+
+use crate::dice::Dice;
+use crate::line::Line;
+use drawn::{base, journal, order, request, slot};
+use shown::{
+    base_numbers, order_numbers, reception_numbers, request_numbers, routing_numbers, slot_numbers,
+    verdict_number,
+};
+use sm_agent::{
+    Reopening, Restoration, Settlement, Stamp, abandon, begin, commit, fence, has_reached_cut,
+    heed, judge, may_delete, place, publish, restore, route, seal, settle,
+};
+use std::alloc::AllocError;
+
+/// Draws a line. Orders and requests are most of them.
+pub fn draw_line(dice: &mut Dice, line: &mut Line, number: u32) -> Result<(), AllocError> {
+    match number % 16 {
+        0..5 => draw_judge(dice, line),
+        5..8 => draw_commit(dice, line),
+        8..11 => draw_route(dice, line),
+        11 => draw_fence(dice, line),
+        12 => draw_settle(dice, line),
+        13 => draw_restore(dice, line),
+        14 => draw_publish(dice, line),
+        _ => draw_small(dice, line),
+    }
+}
+
+fn draw_judge(dice: &mut Dice, line: &mut Line) -> Result<(), AllocError> {
+    let base = base(dice);
+    let order = order(dice);
+    let slot = slot(dice, order.stamp.number);
+    let used = dice.below(8);
+    line.push_name("judge")?;
+    line.push(&base_numbers(&base))?;
+    line.push(&slot_numbers(&slot))?;
+    line.push(&[used])?;
+    line.push(&order_numbers(&order))?;
+    line.push_equals()?;
+    line.push(&[verdict_number(judge(&base, &slot, used, &order))])
+}
+
+fn draw_commit(dice: &mut Dice, line: &mut Line) -> Result<(), AllocError> {
+    let base = base(dice);
+    let order = order(dice);
+    let slot = slot(dice, order.stamp.number);
+    let at = dice.below(6);
+    line.push_name("commit")?;
+    line.push(&base_numbers(&base))?;
+    line.push(&slot_numbers(&slot))?;
+    line.push(&order_numbers(&order))?;
+    line.push(&[at])?;
+    line.push_equals()?;
+    match commit(&base, &slot, &order, at) {
+        None => line.push(&[19]),
+        Some(next) => {
+            line.push(&[18])?;
+            line.push(&slot_numbers(&next))
+        }
+    }
+}
+
+fn draw_route(dice: &mut Dice, line: &mut Line) -> Result<(), AllocError> {
+    let base = base(dice);
+    let slot = slot(dice, 7);
+    let applied = dice.below(6);
+    let request = request(dice);
+    line.push_name("route")?;
+    line.push(&base_numbers(&base))?;
+    line.push(&slot_numbers(&slot))?;
+    line.push(&[applied])?;
+    line.push(&request_numbers(&request))?;
+    line.push_equals()?;
+    line.push(&routing_numbers(route(&base, &slot, applied, &request)))
+}
+
+fn draw_fence(dice: &mut Dice, line: &mut Line) -> Result<(), AllocError> {
+    let base = base(dice);
+    let reopening = Reopening {
+        journal: journal(dice),
+        number: dice.below(5),
+    };
+    let nonce = dice.below(3);
+    let is_heed = dice.once_in(2);
+    line.push_name(if is_heed { "heed" } else { "fence" })?;
+    line.push(&base_numbers(&base))?;
+    line.push(&[reopening.journal, reopening.number, nonce])?;
+    line.push_equals()?;
+    if is_heed {
+        return line.push(&base_numbers(&heed(&base, &reopening, nonce)));
+    }
+    line.push(&reception_numbers(fence(&base, &reopening, nonce), &base))
+}
+
+fn draw_settle(dice: &mut Dice, line: &mut Line) -> Result<(), AllocError> {
+    let base = base(dice);
+    let number = if dice.once_in(3) {
+        dice.below(5)
+    } else {
+        base.number
+    };
+    let nonce = if dice.once_in(2) {
+        base.nonce
+    } else {
+        Some(dice.below(3))
+    };
+    let settlement = Settlement {
+        reopening: Reopening {
+            journal: journal(dice),
+            number,
+        },
+        nonce,
+    };
+    line.push_name("settle")?;
+    line.push(&base_numbers(&base))?;
+    line.push(&[settlement.reopening.journal, number])?;
+    line.push(&[u64::from(nonce.is_some()), nonce.unwrap_or(0)])?;
+    line.push_equals()?;
+    line.push(&reception_numbers(settle(&base, &settlement), &base))
+}
+
+fn draw_restore(dice: &mut Dice, line: &mut Line) -> Result<(), AllocError> {
+    let base = base(dice);
+    let restoration = Restoration {
+        journal: journal(dice),
+        fence: dice.below(5),
+        number: dice.below(9),
+        nonce: base.nonce.unwrap_or(dice.below(3)),
+    };
+    line.push_name("restore")?;
+    line.push(&base_numbers(&base))?;
+    line.push(&[restoration.journal, restoration.fence, restoration.number])?;
+    line.push(&[restoration.nonce])?;
+    line.push_equals()?;
+    line.push(&reception_numbers(restore(&base, &restoration), &base))
+}
+
+fn draw_publish(dice: &mut Dice, line: &mut Line) -> Result<(), AllocError> {
+    let base = base(dice);
+    let shown = dice.below(8);
+    let stamp = Stamp {
+        journal: journal(dice),
+        fence: if dice.once_in(8) { 4 } else { 0 },
+        number: dice.below(9),
+    };
+    line.push_name("publish")?;
+    line.push(&base_numbers(&base))?;
+    line.push(&[shown, stamp.journal, stamp.fence, stamp.number])?;
+    line.push_equals()?;
+    line.push(&[verdict_number(publish(&base, shown, &stamp))])
+}
+
+/// Draws a line of one of the small functions on a slot.
+fn draw_small(dice: &mut Dice, line: &mut Line) -> Result<(), AllocError> {
+    let order = order(dice);
+    let slot = slot(dice, order.stamp.number);
+    match dice.below(6) {
+        0 => {
+            line.push_name("begin")?;
+            line.push(&slot_numbers(&slot))?;
+            line.push(&order_numbers(&order))?;
+            line.push_equals()?;
+            line.push(&slot_numbers(&begin(&slot, &order)))
+        }
+        1 => {
+            line.push_name("abandon")?;
+            line.push(&slot_numbers(&slot))?;
+            line.push_equals()?;
+            line.push(&slot_numbers(&abandon(&slot)))
+        }
+        2 => draw_seal(dice, line),
+        3 => draw_place(dice, line),
+        4 => {
+            let base = base(dice);
+            line.push_name("may_delete")?;
+            line.push(&base_numbers(&base))?;
+            line.push(&slot_numbers(&slot))?;
+            line.push_equals()?;
+            line.push(&[if may_delete(&base, &slot) { 18 } else { 19 }])
+        }
+        _ => {
+            let applied = dice.below(6);
+            line.push_name("has_reached_cut")?;
+            line.push(&slot_numbers(&slot))?;
+            line.push(&[applied])?;
+            line.push_equals()?;
+            line.push(&[if has_reached_cut(&slot, applied) {
+                18
+            } else {
+                19
+            }])
+        }
+    }
+}
+
+fn draw_seal(dice: &mut Dice, line: &mut Line) -> Result<(), AllocError> {
+    let slot = slot(dice, 7);
+    let handover = dice.below(2);
+    let cut = dice.below(6);
+    line.push_name("seal")?;
+    line.push(&slot_numbers(&slot))?;
+    line.push(&[handover, cut])?;
+    line.push_equals()?;
+    line.push(&slot_numbers(&seal(&slot, handover, cut)))
+}
+
+fn draw_place(dice: &mut Dice, line: &mut Line) -> Result<(), AllocError> {
+    let before = slot(dice, 7);
+    let brought = slot(dice, 7);
+    line.push_name("place")?;
+    line.push(&slot_numbers(&before))?;
+    line.push(&slot_numbers(&brought))?;
+    line.push_equals()?;
+    line.push(&slot_numbers(&place(&before, brought.cell, brought.load)))
+}

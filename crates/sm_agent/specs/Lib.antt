@@ -1,0 +1,4 @@
+pub mod Base
+pub mod Laws
+pub mod Order
+pub mod Request

@@ -1,0 +1,5 @@
+pub mod Base
+pub mod Code
+pub mod Order
+pub mod Request
+pub mod Slot

@@ -1,0 +1,257 @@
+//! A server's side of moving shards, in plain Rust: a port of the library of include/sm_agent.h, which says what each function answers.
+//! The proved functions write vectors (`make vectors`, docs/AGENT-VECTORS.md), which this port passes.
+
+#[derive(Clone, Copy, Debug, PartialEq, Eq)]
+pub enum Cell {
+    Absent,
+    Prepared { from: u32, number: u64 },
+    Secondary,
+    Primary,
+    Forwarding { to: u32, number: u64 },
+}
+
+#[derive(Clone, Copy, Debug, PartialEq, Eq)]
+pub enum Role {
+    Primary,
+    Secondary,
+}
+
+#[derive(Clone, Copy, Debug, PartialEq, Eq)]
+pub enum Call {
+    Add(Role),
+    Drop,
+    Change { from: Role, to: Role },
+    PrepareAdd { owner: u32, number: u64 },
+    PrepareDrop { new_owner: u32, number: u64 },
+}
+
+/// A server's base. The default is that of an Unknown server.
+#[derive(Clone, Copy, Debug, PartialEq, Eq)]
+pub struct Base {
+    pub journal: u64,
+    pub number: u64,
+    pub fenced: bool,
+    /// While Unknown: the nonce under which the server asks for its slots, 0 before it has made one. None once it has them.
+    pub nonce: Option<u64>,
+}
+
+impl Default for Base {
+    fn default() -> Self {
+        forget(0)
+    }
+}
+
+#[derive(Clone, Copy, Debug, PartialEq, Eq)]
+pub struct Slot {
+    pub cell: Cell,
+    pub last: u64,
+    pub at_work: Option<u64>,
+    pub load: u64,
+    pub cut: Option<u64>,
+}
+
+/// The slot of a shard of which the server has never had anything.
+pub const VACANT: Slot = Slot { cell: Cell::Absent, last: 0, at_work: None, load: 0, cut: None };
+
+#[derive(Clone, Copy, Debug)]
+pub struct Stamp {
+    pub journal: u64,
+    pub fence: u64,
+    pub number: u64,
+}
+
+#[derive(Clone, Copy, Debug)]
+pub struct Order {
+    pub stamp: Stamp,
+    pub call: Call,
+    pub load: u64,
+    pub room: u64,
+}
+
+#[derive(Clone, Copy, Debug, PartialEq, Eq)]
+pub enum Verdict {
+    Begin,
+    Working,
+    Again,
+    Old,
+    Foreign,
+    NotReady,
+    AlreadyHeld,
+    NotHeld,
+    WrongRole,
+    NoRoom,
+}
+
+#[derive(Clone, Copy, Debug)]
+pub struct Pass {
+    pub party: u32,
+    pub handover: u64,
+    pub cut: u64,
+}
+
+#[derive(Clone, Copy, Debug)]
+pub enum Routing {
+    Execute,
+    PassOn(Pass),
+    NotHere,
+    NotYet,
+}
+
+#[derive(Clone, Copy, Debug)]
+pub enum Reception {
+    Taken(Base),
+    Again,
+    Ignored,
+}
+
+/// The cell that a call leads to; what is not in this table is refused.
+fn next_cell(call: Call, cell: Cell) -> Option<Cell> {
+    match (call, cell) {
+        // the table
+        (Call::Add(Role::Primary), Cell::Absent) => Some(Cell::Primary),
+        (Call::Add(Role::Secondary), Cell::Absent) => Some(Cell::Secondary),
+        (Call::Add(Role::Primary), Cell::Prepared { .. }) => Some(Cell::Primary),
+        (Call::Drop, Cell::Prepared { .. }) => Some(Cell::Absent),
+        (Call::Drop, Cell::Secondary) => Some(Cell::Absent),
+        (Call::Drop, Cell::Primary) => Some(Cell::Absent),
+        (Call::Drop, Cell::Forwarding { .. }) => Some(Cell::Absent),
+        (Call::Change { from: Role::Primary, to: Role::Secondary }, Cell::Primary) => Some(Cell::Secondary),
+        (Call::Change { from: Role::Secondary, to: Role::Primary }, Cell::Secondary) => Some(Cell::Primary),
+        (Call::PrepareAdd { owner, number }, Cell::Absent) => Some(Cell::Prepared { from: owner, number }),
+        (Call::PrepareDrop { new_owner, number }, Cell::Primary) => Some(Cell::Forwarding { to: new_owner, number }),
+        // the end of the table
+        _ => None,
+    }
+}
+
+fn turned_away(base: &Base, stamp: &Stamp) -> Option<Verdict> {
+    if base.nonce.is_some() {
+        Some(Verdict::NotReady)
+    } else if stamp.journal != base.journal {
+        Some(Verdict::Foreign)
+    } else if base.fenced || base.number < stamp.fence {
+        Some(Verdict::NotReady)
+    } else {
+        (stamp.number <= base.number).then_some(Verdict::Old)
+    }
+}
+
+pub fn judge(base: &Base, slot: &Slot, used: u64, order: &Order) -> Verdict {
+    let number = order.stamp.number;
+    if let Some(away) = turned_away(base, &order.stamp) {
+        return away;
+    }
+    if number <= slot.last {
+        return if number == slot.last { Verdict::Again } else { Verdict::Old };
+    }
+    if next_cell(order.call, slot.cell).is_none() {
+        return match (order.call, slot.cell) {
+            (Call::Add(_) | Call::PrepareAdd { .. }, _) => Verdict::AlreadyHeld,
+            (_, Cell::Absent) => Verdict::NotHeld,
+            _ => Verdict::WrongRole,
+        };
+    }
+    if slot.cell == Cell::Absent && order.load > order.room.saturating_sub(used) {
+        return Verdict::NoRoom;
+    }
+    if slot.at_work == Some(number) { Verdict::Working } else { Verdict::Begin }
+}
+
+pub fn begin(slot: &Slot, order: &Order) -> Slot {
+    Slot { at_work: Some(order.stamp.number), ..*slot }
+}
+
+pub fn abandon(slot: &Slot) -> Slot {
+    Slot { at_work: None, ..*slot }
+}
+
+pub fn has_reached_cut(slot: &Slot, applied: u64) -> bool {
+    slot.cut.is_some_and(|cut| cut <= applied)
+}
+
+pub fn commit(base: &Base, slot: &Slot, order: &Order, at: u64) -> Option<Slot> {
+    let number = order.stamp.number;
+    let cell = next_cell(order.call, slot.cell)?;
+    let takes_over = matches!(slot.cell, Cell::Prepared { .. }) && cell == Cell::Primary;
+    if turned_away(base, &order.stamp).is_some() || number <= slot.last || slot.at_work != Some(number) {
+        return None;
+    }
+    if takes_over && !has_reached_cut(slot, at) {
+        return None;
+    }
+    let cut = matches!(cell, Cell::Forwarding { .. }).then_some(at);
+    Some(Slot { cell, last: number, at_work: None, load: if cell == Cell::Absent { 0 } else { order.load }, cut })
+}
+
+pub fn seal(slot: &Slot, handover: u64, cut: u64) -> Slot {
+    match slot.cell {
+        Cell::Prepared { number, .. } if number == handover => Slot { cut: Some(cut), ..*slot },
+        _ => *slot,
+    }
+}
+
+pub fn place(slot: &Slot, cell: Cell, load: u64) -> Slot {
+    Slot { cell, last: slot.last, at_work: None, load: if cell == Cell::Absent { 0 } else { load }, cut: None }
+}
+
+pub fn may_delete(base: &Base, slot: &Slot) -> bool {
+    slot.cell == Cell::Absent && slot.at_work.is_none() && slot.last <= base.number
+}
+
+pub fn route(base: &Base, slot: &Slot, applied: u64, passed: Option<Pass>) -> Routing {
+    if base.nonce.is_some() {
+        return Routing::NotHere;
+    }
+    match (slot.cell, passed) {
+        (Cell::Primary, _) if slot.at_work.is_some() => Routing::NotYet,
+        (Cell::Primary, _) => Routing::Execute,
+        (Cell::Forwarding { to, number }, _) => match slot.cut {
+            Some(cut) if !base.fenced => Routing::PassOn(Pass { party: to, handover: number, cut }),
+            _ => Routing::NotYet,
+        },
+        (Cell::Prepared { from, number }, Some(pass)) if (pass.party, pass.handover) == (from, number) => {
+            if base.fenced || applied < pass.cut { Routing::NotYet } else { Routing::Execute }
+        }
+        _ => Routing::NotHere,
+    }
+}
+
+pub fn forget(nonce: u64) -> Base {
+    Base { journal: 0, number: 0, fenced: false, nonce: Some(nonce) }
+}
+
+pub fn fence(base: &Base, journal: u64, number: u64, nonce: u64) -> Reception {
+    if base.number < number {
+        Reception::Taken(Base { journal, number, fenced: true, nonce: base.nonce.map(|_| nonce) })
+    } else if base.fenced && (base.journal, base.number) == (journal, number) {
+        Reception::Again
+    } else {
+        Reception::Ignored
+    }
+}
+
+pub fn settle(base: &Base, journal: u64, number: u64, nonce: Option<u64>) -> Reception {
+    if (base.journal, base.number) != (journal, number) {
+        return Reception::Ignored;
+    }
+    if base.fenced && nonce == base.nonce && nonce != Some(0) {
+        return Reception::Taken(Base { fenced: false, nonce: None, ..*base });
+    }
+    if base.fenced || base.nonce.is_some() { Reception::Ignored } else { Reception::Again }
+}
+
+pub fn restore(base: &Base, journal: u64, last_fence: u64, number: u64, nonce: u64) -> Reception {
+    if base.nonce != Some(nonce) || nonce == 0 || (base.fenced && last_fence < base.number) {
+        return Reception::Ignored;
+    }
+    Reception::Taken(Base { journal, number, fenced: false, nonce: None })
+}
+
+pub fn heed(base: &Base, journal: u64, number: u64, nonce: u64) -> Base {
+    let overtaken = base.number < number || (base.fenced && base.number == number);
+    if base.nonce.is_none() && base.journal == journal && overtaken { forget(nonce) } else { *base }
+}
+
+pub fn publish(base: &Base, shown: u64, publication: &Stamp) -> Verdict {
+    turned_away(base, publication).unwrap_or(if shown < publication.number { Verdict::Begin } else { Verdict::Again })
+}
