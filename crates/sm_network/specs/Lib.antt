@@ -1,0 +1,14 @@
+pub mod Words
+pub mod Orders
+pub mod Net
+pub mod Laws
+pub mod World
+pub mod WorldLaws
+pub mod Controller
+pub mod Fleet
+pub mod FleetLaws
+pub mod FleetPlays
+pub mod Reopening
+pub mod ReopeningLaws
+pub mod ReopeningPlays
+pub mod FleetReopening

@@ -1,0 +1,16 @@
+//! What the map's owner makes of a publication.
+ghost use Rattle.std.specs.Prelude.{◌≡◌};
+ghost use Rattle.sm_network.specs.Orders.{newer};
+
+use sm_placement::Entry;
+
+/// Returns what the map shows of a shard once an entry for it has come: that entry, if its version is above the one that is shown,
+/// otherwise what was shown. The publication is answered in either case.
+pub fn entry_after(shown: Entry, sent: Entry) -> Entry
+    ensures { result ≡ newer shown sent }
+{
+    if shown.version < sent.version {
+        return sent;
+    }
+    shown
+}
