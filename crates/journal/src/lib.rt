@@ -1,0 +1,6 @@
+//! A journal of commands in a store: what was appended is on the disk once it is told, and a crash leaves all of it.
+#![tactic(auto)]
+
+mod journal;
+
+pub use journal::Journal;

@@ -1,0 +1,4 @@
+pub mod Objects
+pub mod Lines
+pub mod Journal
+pub mod Reading

@@ -1,0 +1,3 @@
+pub mod Store
+pub mod Shot
+pub mod MemoryStore

@@ -1,0 +1,93 @@
+//! What a store in memory has at a moment.
+ghost use Rattle.std.specs.Prelude.{◌≡◌, ◌≤◌, ℕ, List, [], ◌++◌, length, take, IfOk, IfSome};
+
+use crate::store::StoreFault;
+use std::alloc::{AllocError, Global};
+
+/// What is on the disk, and what was written.
+#[derive(Drop)]
+pub struct Shot {
+    /// What the last sync brought to the disk.
+    pub synced: Vec<u8>,
+    /// How short cuts since then may have made it.
+    pub floor: usize,
+    /// How many bytes were appended since then.
+    pub loose: usize,
+    pub written: Vec<u8>,
+}
+
+impl Shot {
+    ghost use Rattle.journal_store.specs.Store.{IsTorn, IsCut, StepsTo};
+    ghost use Rattle.journal_store.specs.Shot.{IsLeft};
+
+    /// Makes what is there where all of these bytes are on the disk.
+    pub fn settled(alloc: Global, bytes: &[u8]) -> Result<Shot, AllocError>
+        ensures written { IfOk result (λ shot. shot.written.items ≡ bytes.now) }
+        ensures only { IfOk result (λ shot. (content : List ℕ) → IsLeft shot content → content ≡ bytes.now) }
+    {
+        let synced = bytes.to_vec(alloc)?;
+        let written = bytes.to_vec(alloc)?;
+        Ok(Shot {
+            synced,
+            floor: bytes.len(),
+            loose: 0,
+            written,
+        })
+    }
+
+    /// Makes what is there once these bytes were appended.
+    pub fn appended(&self, alloc: Global, bytes: &[u8]) -> Result<Shot, StoreFault>
+        ensures written { IfOk result (λ shot. shot.written.items ≡ self.now.written.items ++ bytes.now) }
+        ensures left { IfOk result (λ shot. (content : List ℕ) → IsLeft shot content → StepsTo (IsLeft self.now) (IsTorn bytes.now) content) }
+    {
+        if bytes.len() > usize::MAX - self.loose {
+            return Err(StoreFault::Failed);
+        }
+        let mut written = self.written.to_vec(alloc)?;
+        written.extend_from_slice(bytes)?;
+        let synced = self.synced.to_vec(alloc)?;
+        Ok(Shot {
+            synced,
+            floor: self.floor,
+            loose: self.loose + bytes.len(),
+            written,
+        })
+    }
+
+    /// Makes what is there once it was cut, where nothing was appended since the last sync.
+    pub fn cut(&self, alloc: Global, least: usize) -> Result<Shot, StoreFault>
+        ensures written { IfOk result (λ shot. shot.written.items ≡ take least self.now.written.items) }
+        ensures left { IfOk result (λ shot. (content : List ℕ) → IsLeft shot content → StepsTo (IsLeft self.now) (IsCut least) content) }
+    {
+        if self.loose > 0 {
+            return Err(StoreFault::Failed);
+        }
+        let mut written = self.written.to_vec(alloc)?;
+        written.truncate(least);
+        let synced = self.synced.to_vec(alloc)?;
+        Ok(Shot {
+            synced,
+            floor: self.floor.min(least),
+            loose: 0,
+            written,
+        })
+    }
+
+    /// Makes what a crash leaves that keeps so many bytes of what is on the disk, and these bytes in the range that was appended. None if no crash leaves that.
+    pub fn crash(
+        &self,
+        alloc: Global,
+        front: usize,
+        torn: &[u8],
+    ) -> Result<Option<Vec<u8>>, AllocError>
+        ensures { IfOk result (λ found. IfSome found (λ content. IsLeft self.now content.items)) }
+    {
+        if front < self.floor || torn.len() > self.loose {
+            return Ok(None);
+        }
+        let mut content = self.synced.to_vec(alloc)?;
+        content.truncate(front);
+        content.extend_from_slice(torn)?;
+        Ok(Some(content))
+    }
+}
