@@ -1,0 +1,3 @@
+mod FreeSteps
+mod Searches
+mod SmallCalls

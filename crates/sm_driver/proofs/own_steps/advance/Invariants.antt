@@ -1,0 +1,14 @@
+use Rattle.std.proofs.Common.{◌≡◌, ◌-◌, length}
+use Rattle.sm_protocol.specs.State.{State}
+use Rattle.sm_machine.specs.State.{state_of}
+use Rattle.sm_driver.specs.Advance.{IsAdvanced}
+use Rattle.sm_driver.proofs.own_steps.advance.Given as goal
+
+-- what advances this state further advances the first one
+abbrev pub invariant-loop-id : goal.invariant-loop-id
+invariant-loop-id l =
+    ((new : State) → IsAdvanced (state_of l.director) new → IsAdvanced (state_of l.initial.director) new)
+    × (l.director.placement.setup ≡ l.initial.director.placement.setup)
+
+abbrev pub decreases-loop-id : goal.decreases-loop-id
+decreases-loop-id l = (state_of l.director).room - length (state_of l.director).log

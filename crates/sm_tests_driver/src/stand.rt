@@ -1,0 +1,102 @@
+//! Drivers over the worked placements, and what they are asked.
+use sm_driver::{AnswerEffect, Driver, StreamOrder, StreamPublication};
+use sm_fixtures::{S_TO_B, World, handover_plan, is_for, signalled_plan};
+use sm_machine::make_ready;
+use sm_reservation::StreamId;
+use sm_server::ServerId;
+use sm_verifier::Checked;
+use std::alloc::Global;
+use std::process::Abort;
+
+/// The stream of this number of the first plan.
+pub(crate) const fn stream(number: u32) -> StreamId {
+    StreamId {
+        plan: 0,
+        stream: number,
+    }
+}
+
+/// Opens a driver over a worked placement, with room for 100 events, in an epoch of journal 7.
+pub(crate) fn must_open(rt: &impl Abort, alloc: Global, world: World, epoch: u32) -> Driver {
+    match world.placement(alloc, &[]) {
+        Err(_) => panic!(rt; "there is no memory for a placement"),
+        Ok(placement) => {
+            assert!(rt; placement.settled());
+            match Driver::open(alloc, placement, 100, 7, epoch) {
+                Ok(driver) => driver,
+                Err(_) => panic!(rt; "there is no memory for a driver"),
+            }
+        }
+    }
+}
+
+/// Begins a checked plan, which is the first.
+fn must_begin(rt: &impl Abort, alloc: Global, driver: &mut Driver, checked: Checked) {
+    match make_ready(alloc, checked) {
+        Err(_) => panic!(rt; "there is no memory for a plan's room"),
+        Ok(ready) => {
+            assert!(rt; is_for(driver.machine().config(), ready.checked()));
+            match driver.begin(ready) {
+                Ok(number) => assert!(rt; number == 0),
+                Err((ready, why)) => {
+                    let _checked = ready.back();
+                    panic!(rt; "a plan does not begin: {why}")
+                }
+            }
+        }
+    }
+}
+
+/// Begins the handover of shard s from a to b.
+pub(crate) fn must_hand_over(rt: &impl Abort, alloc: Global, driver: &mut Driver) {
+    match handover_plan(alloc, World::Base, S_TO_B) {
+        Ok(checked) => must_begin(rt, alloc, driver, checked),
+        Err(_) => panic!(rt; "there is no memory for a plan"),
+    }
+}
+
+/// Begins the plan of two streams with a signal between them.
+pub(crate) fn must_signal(rt: &impl Abort, alloc: Global, driver: &mut Driver) {
+    match signalled_plan(alloc, 0) {
+        Ok(checked) => must_begin(rt, alloc, driver, checked),
+        Err(_) => panic!(rt; "there is no memory for a plan"),
+    }
+}
+
+/// The number that the next order or publication of a stream has, by the log's length when the stream came there.
+pub(crate) fn assert_order(rt: &impl Abort, order: Option<StreamOrder>, at: u64, number: u64) {
+    match order {
+        Some(order) => assert!(rt; order.at == at && order.number == number),
+        None => panic!(rt; "there is no order at {at}"),
+    }
+}
+
+/// The map is to list a server under a version.
+pub(crate) fn assert_publication(
+    rt: &impl Abort,
+    publication: Option<StreamPublication>,
+    server: ServerId,
+    version: u64,
+) {
+    match publication {
+        Some(it) => assert!(rt; it.entry.server == Some(server) && it.entry.version == version),
+        None => panic!(rt; "there is no publication"),
+    }
+}
+
+/// An answer to a stream comes to this.
+pub(crate) fn assert_answered(
+    rt: &impl Abort,
+    driver: &mut Driver,
+    number: u32,
+    answer: u64,
+    want: AnswerEffect,
+) {
+    assert!(rt; driver.answered(stream(number), answer) == want);
+}
+
+/// Returns whether a stream of the first plan has made its end.
+pub(crate) fn has_ended(driver: &Driver, number: u32) -> bool {
+    let id = stream(number);
+    driver.machine().is_begun(id) && driver.machine().is_done(id)
+}
