@@ -1,69 +1,104 @@
-# make run: runs the program on a bundled example, before any proof.    make build: proves and builds build/smplan.
-# make try: builds build/smplan-unproved without any proof, in minutes.
-# make test: the gate, and what must run beside it.    make bench: seconds and memory of a large run.
-# make edits: tries all crates' wrong versions of tests/must-fail and tests/edits, over what the gate has built.
-# make storm: 1,000 runs of a plan of 64 streams beside askers and restarts.
+# `make help` lists the targets; each stands behind its text.
+SHELL := bash
+.SHELLFLAGS := -e -o pipefail -c
+.DEFAULT_GOAL := help
+.PHONY: help run try build agent vectors test edits page-test storm bench install uninstall dist check-caught check-program check-tests
 
-.PHONY: build run try test edits check-caught check-program check-tests storm bench
+PREFIX ?= /usr/local
 
-build:
-	mkdir -p build
+help: ## lists the targets
+	@echo "make TARGET, one of:"
+	@awk -F ':.*## ' '/^[a-z-]+:.*## / { printf "  %-10s %s\n", $$1, $$2 }' Makefile
+	@echo "README.md tells where to begin: make run."
+
+run: ## shows how a server is emptied: a plan, and what the check says of it (the first time in two minutes, without any proof)
+	@scripts/show-example
+
+try: ## builds build/smplan-unproved without any proof, in two minutes: slow, and for small documents
+	@scripts/build-unproved
+
+build: ## proves and builds build/smplan, which takes up to an hour
+	@mkdir -p build
 	p=$$(scripts/build-smplan) && cp "$$p" build/smplan
+	@scripts/keep-verdict build/rt.log
 
-run:
-	@scripts/try-smplan calls < examples/placement.json
+agent: ## proves and builds a server's side for programs in C: build/libsm_agent.a and .so, which include/sm_agent.h declares
+	@mkdir -p build
+	cd crates/sm_agent_c && rt lib
+	cp crates/sm_agent_c/out/libsm_agent_c.a build/libsm_agent.a
+	gcc -shared -Wl,--whole-archive build/libsm_agent.a -Wl,--no-whole-archive -o build/libsm_agent.so
 
-try:
-	scripts/build-unproved
+vectors: ## writes build/agent-vectors.txt, by which ports of a server's side are tested (docs/AGENT-VECTORS.md)
+	@mkdir -p build
+	cd crates/agent_vectors && rt run -- 20000 > ../../build/agent-vectors.txt
 
-# (first what takes seconds; the gate leaves the program that it has proved and run beside its crate; the wrong versions of tests/must-fail
-# are tried always, the others while there is time, so that CI ends within its limit)
-BEGUN := $(shell date +%s)
-test:
+# (first what takes seconds; the gate leaves the program that it has proved and run beside its crate; of the wrong versions those of
+# tests/must-fail are tried, which undo a promise, and those that only tests catch)
+test: ## the gate: all proofs from nothing, all tests, and wrong versions that must be refused; it ends with what it left out
+	@mkdir -p build && rm -f build/left-out
 	scripts/check-layout
 	scripts/check-words
 	scripts/check-lemmas
 	scripts/check-vocabulary
-	rt ci
-	mkdir -p build
+	scripts/make-audit --check
+	rt ci 2>&1 | tee build/rt.log
 	cp crates/smplan/out/smplan build/smplan
-	$(MAKE) --jobs=2 --output-sync=line BEGUN=$(BEGUN) check-caught check-program check-tests
+	scripts/keep-verdict build/rt.log
+	$(MAKE) --jobs=2 --output-sync=line check-caught check-program check-tests
 	scripts/check-try-edits
-	scripts/try-edits --always tests/must-fail --until $$(( $(BEGUN) + 130 * 60 ))
+	scripts/try-edits --always tests/must-fail --until 0
+	@if [ -s build/left-out ]; then echo "This machine lacks something, so that tests were left out:"; sort -u build/left-out; else echo "No test was left out."; fi
 
 # (wrong versions that only tests catch, which take longest; the scripts over the program that stands in build; and those over tests)
 check-caught:
-	scripts/check-caught-by-tests --until $$(( $(BEGUN) + 140 * 60 ))
+	scripts/check-caught-by-tests
 
 check-program:
 	scripts/check-examples
 	scripts/check-plans
 	scripts/check-readme
+	scripts/check-driving-model
 	scripts/check-documents
 	scripts/check-reports
 	scripts/check-faults
 	scripts/check-early
 	scripts/check-command-line
+	scripts/check-python
+	scripts/check-dist
+	scripts/page-test --or-leave-out
 	scripts/check-memory
 	scripts/check-threads
 	scripts/storm 20
 	crates/board_trials/out/board_trials looks check
 
 check-tests:
+	$(MAKE) agent vectors
+	scripts/check-agent
 	scripts/check-memory-tests sm_tests_json sm_tests_placement sm_tests_rights sm_tests_text sm_tests sm_tests_machine sm_tests_plans sm_tests_play sm_tests_board sm_tests_planner sm_map
 	scripts/refused-programs
 
-# (all crates' edits, over what the gate has built)
-edits:
+edits: ## tries all wrong versions of tests/must-fail and tests/edits, over what the gate has built; it takes hours of a processor
 	scripts/try-edits --always tests/must-fail
 
+page-test: ## loads the tools' pages in Debian's chromium, and writes pictures of them to build/pages
+	scripts/page-test
+
 # (over the program as it is now, and not as the gate may have built it before)
-storm:
+storm: ## 1,000 runs of a plan of 64 streams, beside clients and restarts
 	rm -f crates/board_trials/out/board_trials
 	scripts/storm
 
-bench: build
+bench: build ## seconds and memory of large runs of the proved program
 	scripts/bench
 	scripts/bench-map
 	scripts/bench-machine
 	scripts/bench-board
+
+install: ## installs build/smplan and the tools below PREFIX (/usr/local); DESTDIR may stand before it
+	scripts/install-tree "$(DESTDIR)" "$(PREFIX)"
+
+uninstall: ## removes what install has put there
+	scripts/install-tree --remove "$(DESTDIR)" "$(PREFIX)"
+
+dist: ## packs build/smplan with its checksum, its verdict, the tools and the docs into build/smplan-VERSION-PLATFORM.tar.gz
+	scripts/make-dist

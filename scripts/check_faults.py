@@ -10,6 +10,7 @@ import sys
 from concurrent.futures import ThreadPoolExecutor
 
 from fault_cases import DOCUMENTS, FILES, cases_of
+from member_faults import of_each_member
 
 program = sys.argv[2]
 # What each command answers to a document that is read, but has nothing for the command, or too much.
@@ -285,17 +286,18 @@ def told_by_all(case):
 
 
 written = [case for path in FILES for case in cases_of(path)]
+single = [*of_each_member()]
 made = [*cut_and_nested(), *behind_many(), *doubled()]
 turned = [other for case in [*written, *behind_many()] for other in in_other_orders(case)] + [*ordered()]
-if not written or not made or not turned or not SIZES:
+if not written or not single or not made or not turned or not SIZES:
     sys.exit("faults: a table is empty")
 with ThreadPoolExecutor(os.cpu_count()) as workers:
-    answers = [*workers.map(told_by_all, written), *workers.map(told, made + turned)]
+    answers = [*workers.map(told_by_all, written), *workers.map(told, single + made + turned)]
 # A large document takes over a gigabyte of memory.
 with ThreadPoolExecutor(2) as workers:
     answers += workers.map(told, SIZES)
 failed = [answer for answer in answers if answer is not None] + [*unequal()]
 for line in failed[:20]:
     print(line)
-print(f"faults: {len(written)} of {len(FILES)} files, {len(made)} cut, nested or doubled, {len(turned)} in another order, {len(SIZES)} large, {len(failed)} failed")
+print(f"faults: {len(written)} of {len(FILES)} files, {len(single)} of one member each, {len(made)} cut, nested or doubled, {len(turned)} in another order, {len(SIZES)} large, {len(failed)} failed")
 sys.exit(1 if failed else 0)
