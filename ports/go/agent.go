@@ -1,0 +1,341 @@
+// Package main: a server's side of moving shards, in plain Go: a port of the library of include/sm_agent.h, which says what each function
+// answers. The proved functions write vectors (`make vectors`, docs/AGENT-VECTORS.md), which this port passes. Copy the file into a package
+// of your own.
+package main
+
+// CellKind says what a server has of a shard.
+type CellKind int
+
+// The kinds of cells. A server that is Unknown has no slots at all: see Base.
+const (
+	Absent CellKind = iota
+	Prepared
+	Secondary
+	Primary
+	Forwarding
+)
+
+// Cell is what a server has of a shard. Party and Number name the other server and the handover of a Prepared or Forwarding cell.
+type Cell struct {
+	Kind   CellKind
+	Party  uint32
+	Number uint64
+}
+
+// Role is one that a replica is added in, or changes to.
+type Role int
+
+// The roles.
+const (
+	NoRole Role = iota
+	PrimaryRole
+	SecondaryRole
+)
+
+// CallKind is what a controller asks for.
+type CallKind int
+
+// The kinds of calls.
+const (
+	Add CallKind = iota
+	Drop
+	Change
+	PrepareAdd
+	PrepareDrop
+)
+
+// Call is what a controller asks for: Add has a role, Change two, PrepareAdd and PrepareDrop another server and a handover's number.
+type Call struct {
+	Kind     CallKind
+	From, To Role
+	Party    uint32
+	Number   uint64
+}
+
+// Base is what a server keeps beside its slots. Of one that is Unknown, HasNonce is true, and Nonce is what it asks for its slots by, 0
+// before it has made one.
+type Base struct {
+	Journal, Number uint64
+	Fenced          bool
+	HasNonce        bool
+	Nonce           uint64
+}
+
+// Slot is what a server keeps of a shard. AtWork is the number of the order that it works at, or 0.
+type Slot struct {
+	Cell         Cell
+	Last, AtWork uint64
+	Load         uint64
+	HasCut       bool
+	Cut          uint64
+}
+
+// Stamp names the journal of a message, the reopening that it knows of, and its number.
+type Stamp struct{ Journal, Fence, Number uint64 }
+
+// Order is a call as it comes over the network.
+type Order struct {
+	Stamp
+	Call       Call
+	Load, Room uint64
+}
+
+// Verdict is what a server says of an order.
+type Verdict int
+
+// The verdicts; from AlreadyHeld on they are refusals.
+const (
+	Begin Verdict = iota
+	Working
+	Again
+	Old
+	Foreign
+	NotReady
+	AlreadyHeld
+	NotHeld
+	WrongRole
+	NoRoom
+)
+
+// Pass is what a request carries that was passed on: who passed it, in which handover, and the cut.
+type Pass struct {
+	Party    uint32
+	Handover uint64
+	Cut      uint64
+}
+
+// Route is what a server does with a request.
+type Route int
+
+// The routes.
+const (
+	Execute Route = iota
+	PassOn
+	NotHere
+	NotYet
+)
+
+// Reception is what a server does with a fence, a settle or a restore.
+type Reception int
+
+// The receptions.
+const (
+	Taken Reception = iota
+	SaidAgain
+	Ignored
+)
+
+// row is a call with its roles, and the cell that it meets.
+type row struct {
+	call     CallKind
+	from, to Role
+	cell     CellKind
+}
+
+// leadsTo has the cell that a call leads to; what is not in this table is refused.
+var leadsTo = map[row]CellKind{
+	// the table
+	{Add, NoRole, PrimaryRole, Absent}:              Primary,
+	{Add, NoRole, SecondaryRole, Absent}:            Secondary,
+	{Add, NoRole, PrimaryRole, Prepared}:            Primary,
+	{Drop, NoRole, NoRole, Prepared}:                Absent,
+	{Drop, NoRole, NoRole, Secondary}:               Absent,
+	{Drop, NoRole, NoRole, Primary}:                 Absent,
+	{Drop, NoRole, NoRole, Forwarding}:              Absent,
+	{Change, PrimaryRole, SecondaryRole, Primary}:   Secondary,
+	{Change, SecondaryRole, PrimaryRole, Secondary}: Primary,
+	{PrepareAdd, NoRole, NoRole, Absent}:            Prepared,
+	{PrepareDrop, NoRole, NoRole, Primary}:          Forwarding,
+	// the end of the table
+}
+
+// next returns the cell that a call leads to, if it is not refused.
+func next(call Call, cell Cell) (Cell, bool) {
+	kind, ok := leadsTo[row{call.Kind, call.From, call.To, cell.Kind}]
+	if kind == Prepared || kind == Forwarding {
+		return Cell{kind, call.Party, call.Number}, ok
+	}
+	return Cell{Kind: kind}, ok
+}
+
+// turnedAway returns whether a message is turned away, and how.
+func turnedAway(base Base, it Stamp) (Verdict, bool) {
+	switch {
+	case base.HasNonce:
+		return NotReady, true
+	case it.Journal != base.Journal:
+		return Foreign, true
+	case base.Fenced || base.Number < it.Fence:
+		return NotReady, true
+	}
+	return Old, it.Number <= base.Number
+}
+
+// Judge says what to do with an order; used is the sum of the loads of the server's slots.
+func Judge(base Base, slot Slot, used uint64, it Order) Verdict {
+	if verdict, away := turnedAway(base, it.Stamp); away {
+		return verdict
+	}
+	if it.Number == slot.Last {
+		return Again
+	}
+	if it.Number < slot.Last {
+		return Old
+	}
+	if _, ok := next(it.Call, slot.Cell); !ok {
+		switch {
+		case it.Call.Kind == Add || it.Call.Kind == PrepareAdd:
+			return AlreadyHeld
+		case slot.Cell.Kind == Absent:
+			return NotHeld
+		}
+		return WrongRole
+	}
+	if slot.Cell.Kind == Absent && (used > it.Room || it.Load > it.Room-used) && it.Load > 0 {
+		return NoRoom
+	}
+	if slot.AtWork == it.Number {
+		return Working
+	}
+	return Begin
+}
+
+// StartWork returns the slot once an order's work has begun.
+func StartWork(slot Slot, it Order) Slot {
+	slot.AtWork = it.Number
+	return slot
+}
+
+// Abandon returns the slot once its work is given up.
+func Abandon(slot Slot) Slot {
+	slot.AtWork = 0
+	return slot
+}
+
+// HasReachedCut returns whether the writes up to the slot's cut are applied.
+func HasReachedCut(slot Slot, applied uint64) bool { return slot.HasCut && slot.Cut <= applied }
+
+// Commit returns the slot once an order's work is done at this position of the shard's writes, or false if the work is thrown away.
+func Commit(base Base, slot Slot, it Order, at uint64) (Slot, bool) {
+	cell, ok := next(it.Call, slot.Cell)
+	if _, away := turnedAway(base, it.Stamp); !ok || away || it.Number <= slot.Last || slot.AtWork != it.Number {
+		return slot, false
+	}
+	if slot.Cell.Kind == Prepared && cell.Kind == Primary && !HasReachedCut(slot, at) {
+		return slot, false
+	}
+	done := Slot{Cell: cell, Last: it.Number, Load: it.Load}
+	if cell.Kind == Absent {
+		done.Load = 0
+	}
+	if cell.Kind == Forwarding {
+		done.HasCut, done.Cut = true, at
+	}
+	return done, true
+}
+
+// Seal returns the slot once the old owner has told the cut of a handover.
+func Seal(slot Slot, handover, cut uint64) Slot {
+	if slot.Cell.Kind == Prepared && slot.Cell.Number == handover {
+		slot.HasCut, slot.Cut = true, cut
+	}
+	return slot
+}
+
+// Place returns the slot that a restore or a settle brings.
+func Place(slot Slot, cell Cell, load uint64) Slot {
+	if cell.Kind == Absent {
+		load = 0
+	}
+	return Slot{Cell: cell, Last: slot.Last, Load: load}
+}
+
+// MayDelete returns whether the slot may be deleted.
+func MayDelete(base Base, slot Slot) bool {
+	return slot.Cell.Kind == Absent && slot.AtWork == 0 && slot.Last <= base.Number
+}
+
+// RouteRequest says where a request is executed; passed is nil unless another server has passed it on.
+func RouteRequest(base Base, slot Slot, applied uint64, passed *Pass) (Route, Pass) {
+	if base.HasNonce {
+		return NotHere, Pass{}
+	}
+	cell := slot.Cell
+	switch {
+	case cell.Kind == Primary && slot.AtWork != 0:
+		return NotYet, Pass{}
+	case cell.Kind == Primary:
+		return Execute, Pass{}
+	case cell.Kind == Forwarding && slot.HasCut && !base.Fenced:
+		return PassOn, Pass{cell.Party, cell.Number, slot.Cut}
+	case cell.Kind == Forwarding:
+		return NotYet, Pass{}
+	case cell.Kind == Prepared && passed != nil && passed.Party == cell.Party && passed.Handover == cell.Number:
+		if base.Fenced || applied < passed.Cut {
+			return NotYet, Pass{}
+		}
+		return Execute, Pass{}
+	}
+	return NotHere, Pass{}
+}
+
+// Forget returns the base of a server that has lost its slots, and asks for them under a nonce.
+func Forget(nonce uint64) Base { return Base{HasNonce: true, Nonce: nonce} }
+
+// Fence takes a fence; a server that is Unknown makes the nonce for it.
+func Fence(base Base, journal, number, nonce uint64) (Reception, Base) {
+	switch {
+	case base.Number < number:
+		after := Base{Journal: journal, Number: number, Fenced: true}
+		if base.HasNonce {
+			after.HasNonce, after.Nonce = true, nonce
+		}
+		return Taken, after
+	case base.Fenced && base.Journal == journal && base.Number == number:
+		return SaidAgain, base
+	}
+	return Ignored, base
+}
+
+// Settle takes a settle; nonce is nil if it names none.
+func Settle(base Base, journal, number uint64, nonce *uint64) (Reception, Base) {
+	if base.Journal != journal || base.Number != number {
+		return Ignored, base
+	}
+	isMeant := base.HasNonce == (nonce != nil) && (nonce == nil || *nonce == base.Nonce && *nonce != 0)
+	switch {
+	case base.Fenced && isMeant:
+		return Taken, Base{Journal: journal, Number: number}
+	case base.Fenced || base.HasNonce:
+		return Ignored, base
+	}
+	return SaidAgain, base
+}
+
+// Restore takes a restore, which an Unknown server has asked for.
+func Restore(base Base, journal, lastFence, number, nonce uint64) (Reception, Base) {
+	if !base.HasNonce || base.Nonce != nonce || nonce == 0 || base.Fenced && lastFence < base.Number {
+		return Ignored, base
+	}
+	return Taken, Base{Journal: journal, Number: number}
+}
+
+// Heed returns the base once a message has told of a reopening: a server that was left behind it is Unknown.
+func Heed(base Base, journal, number, nonce uint64) Base {
+	isOvertaken := base.Number < number || base.Fenced && base.Number == number
+	if !base.HasNonce && base.Journal == journal && isOvertaken {
+		return Forget(nonce)
+	}
+	return base
+}
+
+// Publish says what the owner of the published map does with an entry, whose version is the stamp's number; shown is the version it has.
+func Publish(base Base, shown uint64, it Stamp) Verdict {
+	if verdict, away := turnedAway(base, it); away {
+		return verdict
+	}
+	if shown < it.Number {
+		return Begin
+	}
+	return Again
+}

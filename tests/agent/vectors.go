@@ -1,0 +1,163 @@
+// Runs the port ports/go/agent.go on the conformance vectors of standard input, whose format docs/AGENT-VECTORS.md has.
+package main
+
+import (
+	"bufio"
+	"fmt"
+	"os"
+	"reflect"
+	"strconv"
+	"strings"
+)
+
+// numbers are those of a line that are left.
+type numbers []uint64
+
+func (n *numbers) next() uint64 {
+	first := (*n)[0]
+	*n = (*n)[1:]
+	return first
+}
+
+func (n *numbers) flag() bool { return n.next() == 1 }
+
+func (n *numbers) base() (it Base) {
+	it.Journal, it.Number, it.Nonce, it.HasNonce, it.Fenced = n.next(), n.next(), n.next(), !n.flag(), n.flag()
+	return it
+}
+
+func (n *numbers) slot() (it Slot) {
+	it.Cell = Cell{CellKind(n.next() - 1), uint32(n.next()), n.next()}
+	it.Last, it.AtWork, it.Load, it.Cut, it.HasCut = n.next(), n.next(), n.next(), n.next(), n.flag()
+	return it
+}
+
+func (n *numbers) stamp() Stamp { return Stamp{n.next(), n.next(), n.next()} }
+
+func (n *numbers) order() Order {
+	it := Order{Stamp: n.stamp(), Load: n.next(), Room: n.next()}
+	number, kind, first, second, party := n.next(), CallKind(n.next()-1), Role(n.next()), Role(n.next()), uint32(n.next())
+	it.Call = Call{Kind: kind}
+	switch kind {
+	case Add:
+		it.Call.To = first
+	case Change:
+		it.Call.From, it.Call.To = first, second
+	case PrepareAdd, PrepareDrop:
+		it.Call.Party, it.Call.Number = party, number
+	}
+	return it
+}
+
+func (n *numbers) pass() *Pass {
+	handover, cut, party := n.next(), n.next(), uint32(n.next())
+	if !n.flag() {
+		return nil
+	}
+	return &Pass{party, handover, cut}
+}
+
+func bit(fact bool) uint64 {
+	if fact {
+		return 1
+	}
+	return 0
+}
+
+func ofBase(it Base) numbers {
+	return numbers{it.Journal, it.Number, it.Nonce, bit(!it.HasNonce), bit(it.Fenced)}
+}
+
+func ofSlot(it Slot) numbers {
+	return numbers{uint64(it.Cell.Kind) + 1, uint64(it.Cell.Party), it.Cell.Number, it.Last, it.AtWork, it.Load, it.Cut, bit(it.HasCut)}
+}
+
+func ofVerdict(it Verdict) numbers {
+	if it < AlreadyHeld {
+		return numbers{uint64(it) + 1}
+	}
+	return numbers{uint64(it-AlreadyHeld) + 8}
+}
+
+func ofReception(it Reception, base Base) numbers {
+	return append(numbers{[]uint64{16, 3, 17}[it]}, ofBase(base)...)
+}
+
+func ofRoute(it Route, pass Pass) numbers {
+	return numbers{uint64(it) + 12, pass.Handover, pass.Cut, uint64(pass.Party), bit(it == PassOn)}
+}
+
+func doneIf(fact bool) numbers { return numbers{19 - bit(fact)} }
+
+func ofCall(name string, n *numbers) numbers {
+	switch name {
+	case "begin":
+		return ofSlot(StartWork(n.slot(), n.order()))
+	case "abandon":
+		return ofSlot(Abandon(n.slot()))
+	case "seal":
+		return ofSlot(Seal(n.slot(), n.next(), n.next()))
+	case "has_reached_cut":
+		return doneIf(HasReachedCut(n.slot(), n.next()))
+	case "place":
+		slot, brought := n.slot(), n.slot()
+		return ofSlot(Place(slot, brought.Cell, brought.Load))
+	}
+	base := n.base()
+	switch name {
+	case "judge":
+		return ofVerdict(Judge(base, n.slot(), n.next(), n.order()))
+	case "commit":
+		if slot, ok := Commit(base, n.slot(), n.order(), n.next()); ok {
+			return append(numbers{18}, ofSlot(slot)...)
+		}
+		return numbers{19}
+	case "route":
+		return ofRoute(RouteRequest(base, n.slot(), n.next(), n.pass()))
+	case "may_delete":
+		return doneIf(MayDelete(base, n.slot()))
+	case "fence":
+		return ofReception(Fence(base, n.next(), n.next(), n.next()))
+	case "heed":
+		return ofBase(Heed(base, n.next(), n.next(), n.next()))
+	case "settle":
+		journal, number, names, nonce := n.next(), n.next(), n.flag(), n.next()
+		if !names {
+			return ofReception(Settle(base, journal, number, nil))
+		}
+		return ofReception(Settle(base, journal, number, &nonce))
+	case "restore":
+		return ofReception(Restore(base, n.next(), n.next(), n.next(), n.next()))
+	case "publish":
+		return ofVerdict(Publish(base, n.next(), n.stamp()))
+	}
+	panic("no function " + name)
+}
+
+func read(text string) (found numbers) {
+	for _, word := range strings.Fields(text) {
+		number, err := strconv.ParseUint(word, 10, 64)
+		if err != nil {
+			panic(err)
+		}
+		found = append(found, number)
+	}
+	return found
+}
+
+func main() {
+	count, lines := 0, bufio.NewScanner(os.Stdin)
+	for ; lines.Scan(); count++ {
+		given, wanted, _ := strings.Cut(lines.Text(), " =")
+		name, rest, _ := strings.Cut(given, " ")
+		left := read(rest)
+		if !reflect.DeepEqual(ofCall(name, &left), read(wanted)) || len(left) != 0 {
+			fmt.Fprintln(os.Stderr, "another answer:", lines.Text())
+			os.Exit(1)
+		}
+	}
+	if lines.Err() != nil || count == 0 {
+		panic("no vectors")
+	}
+	fmt.Println(count, "vectors")
+}
