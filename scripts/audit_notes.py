@@ -1,4 +1,4 @@
-"""For docs/AUDIT.md (scripts/make-audit): what each contract that README names does not say, and a wrong version of what it rests on, if that is another
+"""For docs/AUDIT.md (scripts/make-audit): what each contract that PROVED names does not say, and a wrong version of what it rests on, if that is another
 function."""
 
 MEMORY = "whether memory really was short"
