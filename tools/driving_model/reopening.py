@@ -129,7 +129,7 @@ class Reopening:
         if self.rules.carried_copy and cell != ABSENT:
             survey.sure.add(server)
             if cell.kind is Kind.SECONDARY:
-                survey.standing[server] = (COPY, 0)
+                survey.standing[server] = (COPY, NOBODY)
 
     def heir(self, survey: Survey, choice: int) -> int | None:
         """The server that is to be the shard's primary."""
@@ -143,7 +143,7 @@ class Reopening:
             best = max(survey.standing[it] for it in parties + secondaries)
             return next(it for it in parties + secondaries if survey.standing[it] == best)
         documented = primary_of(survey.row)
-        if documented is not None and secondaries and self.rules.survivor_position:
+        if secondaries and (documented is None or self.rules.survivor_position):
             return max(secondaries, key=lambda it: survey.standing[it])
         return documented
 
