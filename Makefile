@@ -1,4 +1,4 @@
-# `make help` lists the targets; each stands behind its text.
+# `make help` lists the targets, each with the text behind its ##, below the lines that begin with ##.
 SHELL := bash
 .SHELLFLAGS := -e -o pipefail -c
 .DEFAULT_GOAL := help
@@ -6,35 +6,49 @@ SHELL := bash
 
 PREFIX ?= /usr/local
 
-help: ## lists the targets
-	@echo "make TARGET, one of:"
-	@awk -F ':.*## ' '/^[a-z-]+:.*## / { printf "  %-10s %s\n", $$1, $$2 }' Makefile
-	@echo "README.md tells where to begin: make run."
+help:
+	@echo "Begin with make run; README.md says what this is. The targets:"
+	@awk -F ':.*## ' '/^## / { printf "\n%s\n", substr($$0, 4) } /^[a-z-]+:.*## / { printf "  %-10s %s\n", $$1, $$2 }' Makefile
 
-run: ## shows how a server is emptied: a plan, and what the check says of it (the first time in two minutes, without any proof)
+## To use it
+
+run: ## shows how a server is emptied: the plan, and what the check says (the first time it builds for two minutes, without proof)
 	@scripts/show-example
 
-try: ## builds build/smplan-unproved without any proof, in two minutes: slow, and for small documents
+try: ## builds build/smplan-unproved without any proof, in two minutes: a slow program, for small documents
 	@scripts/build-unproved
 
-build: ## proves and builds build/smplan, which takes up to an hour
+build: ## proves and builds build/smplan, in up to an hour
 	@mkdir -p build
 	p=$$(scripts/build-smplan) && cp "$$p" build/smplan
 	@scripts/keep-verdict build/rt.log
 
-agent: ## proves and builds a server's side for programs in C: build/libsm_agent.a and .so, which include/sm_agent.h declares
+install: ## installs build/smplan, the tools and the docs below PREFIX (/usr/local), in the folder DESTDIR if it is given
+	scripts/install-tree "$(DESTDIR)" "$(PREFIX)"
+
+uninstall: ## removes what install has put there
+	scripts/install-tree --remove "$(DESTDIR)" "$(PREFIX)"
+
+dist: ## packs build/smplan with its checksum, its verdict, the tools and the docs into an archive in build/
+	scripts/make-dist
+
+## To connect your servers (docs/YOUR-SERVERS.md)
+
+agent: ## proves and builds a server's side as a library for C: build/libsm_agent.a and .so (include/sm_agent.h)
 	@mkdir -p build
 	cd crates/sm_agent_c && rt lib
 	cp crates/sm_agent_c/out/libsm_agent_c.a build/libsm_agent.a
 	gcc -shared -Wl,--whole-archive build/libsm_agent.a -Wl,--no-whole-archive -o build/libsm_agent.so
 
-vectors: ## writes build/agent-vectors.txt, by which ports of a server's side are tested (docs/AGENT-VECTORS.md)
+vectors: ## writes build/agent-vectors.txt, by which a port to another language is tested (docs/AGENT-VECTORS.md)
 	@mkdir -p build
 	cd crates/agent_vectors && rt run -- 20000 > ../../build/agent-vectors.txt
 
+## To change it (docs/CONTRIBUTING.md)
+
 # (first what takes seconds; the gate leaves the program that it has proved and run beside its crate; of the wrong versions those of
 # tests/must-fail are tried, which undo a promise, and those that only tests catch)
-test: ## the gate: all proofs from nothing, all tests, and wrong versions that must be refused; it ends with what it left out
+test: ## the gate, in more than an hour: all proofs from nothing, all tests, wrong versions that must be refused; at the end what was left out
 	@mkdir -p build && rm -f build/left-out
 	scripts/check-layout
 	scripts/check-words
@@ -77,28 +91,19 @@ check-tests:
 	scripts/check-memory-tests sm_tests_json sm_tests_placement sm_tests_rights sm_tests_text sm_tests sm_tests_machine sm_tests_plans sm_tests_play sm_tests_board sm_tests_planner sm_map
 	scripts/refused-programs
 
-edits: ## tries all wrong versions of tests/must-fail and tests/edits, over what the gate has built; it takes hours of a processor
+edits: ## tries all wrong versions, over what make test has built: hours of a processor
 	scripts/try-edits --always tests/must-fail
 
-page-test: ## loads the tools' pages in Debian's chromium, and writes pictures of them to build/pages
+page-test: ## loads the tools' pages in Debian's chromium, and writes pictures to build/pages
 	scripts/page-test
 
 # (over the program as it is now, and not as the gate may have built it before)
-storm: ## 1,000 runs of a plan of 64 streams, beside clients and restarts
+storm: ## makes 1,000 runs of a plan of 64 streams, beside clients and restarts
 	rm -f crates/board_trials/out/board_trials
 	scripts/storm
 
-bench: build ## seconds and memory of large runs of the proved program
+bench: build ## measures the proved program on large documents (docs/BENCH.md)
 	scripts/bench
 	scripts/bench-map
 	scripts/bench-machine
 	scripts/bench-board
-
-install: ## installs build/smplan and the tools below PREFIX (/usr/local); DESTDIR may stand before it
-	scripts/install-tree "$(DESTDIR)" "$(PREFIX)"
-
-uninstall: ## removes what install has put there
-	scripts/install-tree --remove "$(DESTDIR)" "$(PREFIX)"
-
-dist: ## packs build/smplan with its checksum, its verdict, the tools and the docs into build/smplan-VERSION-PLATFORM.tar.gz
-	scripts/make-dist
