@@ -1,0 +1,355 @@
+"""The controller of `driving_model` over documents with names, each of which may have other servers and shards.
+
+What the model leaves open is closed here as the proved crates have it: the words of a plan that does not begin, an
+answer that comes too soon, and cells that `confirm` may not make.
+"""
+from __future__ import annotations
+
+from dataclasses import dataclass, field, replace
+
+from driving_model import commands, replies
+from driving_model.cells import ABSENT, Cell, Kind, PRIMARY, SECONDARY
+from driving_model.commands import Cells
+from driving_model.controller import Answer, Controller, Named
+from driving_model.decisions import MOST_PLANS
+from driving_model.messages import Inventory, MAP, Unknown
+from driving_model.plans import CellRight, Hold, Key, Plan, RoomRight, SpareRight, is_amount
+from driving_model.record import Record
+from driving_model.replies import Ignored, Outcome
+from driving_model.reopening import Reopening
+from smpland_model import words
+from smpland_model.numbering import Numbering, moved
+from smplan import model as documents
+from smplan.placement import Placement, double_cells, bad_leads, opening_findings
+from smplan.verdict import log_findings, plan_findings
+
+
+class Refusal(Exception):
+    """A refusal in the words of `smpland`."""
+
+    def __init__(self, told: words.Json) -> None:
+        super().__init__(told["text"])
+        self.told = told
+
+
+def refuse(kind: str, **where: object) -> Refusal:
+    """Returns a refusal that no report has, to be raised."""
+    return Refusal(words.own(kind, **where))
+
+
+def refuse_first(findings: list) -> None:
+    """Refuses a command for the first of these findings."""
+    if findings:
+        raise Refusal(words.reported(findings[0].line))
+
+
+@dataclass
+class Beginning:
+    """A plan that is to begin: as it was read, and in numbers."""
+
+    name: str
+    plan: documents.Plan
+
+
+@dataclass
+class Reopened:
+    """A reopening that is to begin: its document, and who is lost."""
+
+    document: documents.Document
+    lost: list[str]
+    journal: int | None = None
+    epoch: int | None = None
+
+
+@dataclass
+class Told:
+    """What a server tells of its slots: those of shards of the document, and the others that it has."""
+
+    found: Inventory | Unknown
+    strays: list[str] = field(default_factory=list)
+
+
+class NamedController(Controller):
+    """The controller of one journal, over documents."""
+
+    def __init__(self) -> None:
+        super().__init__()
+        self.numbering = Numbering()
+        self.document: documents.Document | None = None
+        self.next_document: documents.Document | None = None
+        self.start: Placement | None = None
+        # What servers have of shards that the document of the reopening under way leaves out.
+        self.strays: dict[int, list[str]] = {}
+
+    # Names.
+
+    def server_name(self, number: int | None) -> str | None:
+        """Returns the name of a server; the map's owner has none."""
+        return self.numbering.server_name(number)
+
+    def shard_name(self, number: int) -> str:
+        """Returns the name of a shard."""
+        return self.numbering.shards[number]
+
+    # Opening.
+
+    def open_document(self, document: documents.Document, journal: int, epoch: int) -> Outcome:
+        """Opens a settled placement."""
+        if self.journal is not None:
+            raise refuse("AlreadyOpened")
+        refuse_first(opening_findings(document))
+        start = Placement(document)
+        refuse_first(log_findings(document, start))
+        self.numbering = Numbering().after(document)
+        outcome = self.open(commands.Open(self.numbering.document(document), journal, epoch))
+        self.document, self.start = document, start
+        self.record.listed = self.numbering.listed(document)
+        return outcome
+
+    # Plans.
+
+    def check(self, plan: documents.Plan) -> Plan:
+        """Returns a plan in numbers that would begin now."""
+        record = self.need_open()
+        refuse_first(plan_findings(plan, self.start))
+        numbered = self.numbering.plan(plan)
+        held = record.held()
+        self.check_rights(record, numbered, held)
+        self.check_amounts(record, numbered, held)
+        self.check_places(record, numbered)
+        return numbered
+
+    def right_words(self, key: Key) -> str:
+        """Returns the words of a right to a cell or a crown."""
+        shard = self.shard_name(key.shard)
+        return f"cell {shard} {self.server_name(key.server)}" if isinstance(key, CellRight) else f"crown {shard}"
+
+    def check_rights(self, record: Record, plan: Plan, held: Hold) -> None:
+        """Refuses a plan that declares a right which is untrue or taken."""
+        rights = [(key, it.declares[key]) for it in plan.streams for key in it.declares if not is_amount(key)]
+        for key, value in rights:
+            if not record.is_true(key, value):
+                raise Refusal(words.reported(f"held: 1 Untrue {self.right_words(key)}"))
+        seen = set(held)
+        for key, _ in rights:
+            if key in seen:
+                raise Refusal(words.reported(f"held: 2 Taken {self.right_words(key)}"))
+            seen.add(key)
+
+    def check_amounts(self, record: Record, plan: Plan, held: Hold) -> None:
+        """Refuses a plan that declares more room or spare replicas than are free."""
+        declared: dict[Key, int] = {}
+        for stream in plan.streams:
+            for key, value in stream.declares.items():
+                if is_amount(key):
+                    declared[key] = declared.get(key, 0) + value
+        for server in range(len(record.document.rooms)):
+            wanted, free = declared.get(RoomRight(server), 0), max(0, record.free_room(server, held))
+            if wanted > free:
+                name = self.server_name(server)
+                raise Refusal(words.reported(f"held: 3 ShortRoom server {name} free {free} declared {wanted}"))
+        for shard in record.shards:
+            wanted, free = declared.get(SpareRight(shard), 0), max(0, record.free_spare(shard, held))
+            if wanted > free:
+                name = self.shard_name(shard)
+                raise Refusal(words.reported(f"held: 4 ShortSpare shard {name} free {free} declared {wanted}"))
+
+    def check_places(self, record: Record, plan: Plan) -> None:
+        """Refuses a plan that names a server which is down, one for which the log has no room, and one too many."""
+        for server in sorted(frozenset().union(*(it.servers for it in plan.streams))):
+            if server in record.permits:
+                raise Refusal(words.reported(f"held: 5 ServerDown server {self.server_name(server)}"))
+        places = sum(it.tries + sum(at.server is None for at in it.code) + 1 for it in plan.streams)
+        if places > record.free_places():
+            raise Refusal(words.reported("not begun: 4 LogFull"))
+        if sum(not it.is_done for it in record.plans) >= MOST_PLANS:
+            raise Refusal(words.reported("not begun: 5 TooManyPlans"))
+
+    def begin(self, command: Beginning) -> Outcome:
+        """Begins a plan. The same name again begins nothing, and is told what came of it."""
+        known = self.begun.get(command.name)
+        if known:
+            again = replace(known.reply, is_again=True)
+            if known.epoch != self.epoch or not self.is_open:
+                return Outcome(again, has_changed=False)
+            streams = range(len(self.record.plans[again.plan].streams))
+            return replace(self.outcome(again, again.plan, streams), has_changed=False)
+        plan = self.check(command.plan)
+        self.record.begin(plan)
+        number = len(self.record.plans) - 1
+        reply = replies.Begun(self.epoch, number, command.plan.calls, len(plan.streams))
+        self.begun[command.name] = Named(self.epoch, reply)
+        self.advance(number)
+        return self.outcome(reply, number, range(len(plan.streams)))
+
+    def answered(self, command: commands.Answered) -> Outcome:
+        """Records that a present order was answered. What the stream does not wait for is old or unknown."""
+        if self.reopening:
+            return Outcome(Ignored("old"), has_changed=False)
+        plans = self.need_open().plans
+        if command.plan < len(plans) and command.stream < len(plans[command.plan].streams):
+            state = plans[command.plan].streams[command.stream]
+            number = self.base + state.since + 1
+            order = None if state.is_done else self.order(command.plan, command.stream)
+            if not state.is_done and command.number >= number and (command.number > number or order is None):
+                return Outcome(Ignored("unknown"), has_changed=False)
+        return super().answered(command)
+
+    # Restarts.
+
+    def approve(self, command: commands.Approve) -> Outcome:
+        """Gives leave to restart a server, once for each `by`."""
+        try:
+            return super().approve(command)
+        except Answer as answer:
+            refused = answer.reply
+        if not isinstance(refused, replies.Refused) or refused.kind in ("NotOpened", "Reopening"):
+            raise Answer(refused)
+        if refused.kind == "OtherServer":
+            raise refuse("OtherServer", server=self.server_name(refused.server))
+        raise Refusal(words.reported(self.denied(refused)))
+
+    def denied(self, why: replies.Refused) -> str:
+        """Returns the words of a report for a restart that is denied."""
+        number = ("AlreadyDown", "Engaged", "GlobalCap", "ShardCap", "LogFull").index(why.kind) + 1
+        rest = f" plan {why.plan} stream {why.stream}" if why.kind == "Engaged" else ""
+        rest += f" shard {self.shard_name(why.shard)}" if why.kind == "ShardCap" else ""
+        return f"denied {number} {why.kind}{rest}"
+
+    # Reopening.
+
+    def begin_reopening(self, command: Reopened) -> Outcome:
+        """Begins a reopening, or replaces the one under way."""
+        refuse_first([*double_cells(command.document), *bad_leads(command.document)])
+        numbering = self.numbering.after(command.document)
+        lost = frozenset(numbering.server_numbers[it] for it in command.lost)
+        document = numbering.document(command.document)
+        model = commands.Reopen(document, lost, command.journal, command.epoch)
+        self.epoch_of(model)
+        self.renumber(numbering)
+        self.next_document, self.strays = command.document, {}
+        return self.reopen(model)
+
+    def renumber(self, numbering: Numbering) -> None:
+        """Gives servers and shards the numbers of a new document."""
+        old, self.numbering = self.numbering, numbering
+        numbers = {it: numbering.server_numbers[name] for it, name in enumerate(old.servers)}
+        shards = {name: it for it, name in enumerate(old.shards)}
+        self.carried = {numbers[it] for it in self.carried}
+        self.settle_sent = {MAP if it == MAP else numbers[it] for it in self.settle_sent}
+        self.named = {numbers[it] for it in self.named}
+        self.approved = {
+            by: Named(it.epoch, replace(it.reply, server=numbers[it.reply.server])) for by, it in self.approved.items()
+        }
+        self.restores = {numbers[it]: restore for it, restore in self.restores.items()}
+        if self.record:
+            self.renumber_record(self.record, numbers, [shards.get(name) for name in numbering.shards])
+
+    def renumber_record(self, record: Record, numbers: dict[int, int], old: list[int | None]) -> None:
+        """Gives the servers and shards of a record their new numbers. Its plans are broken off."""
+        width = len(self.numbering.servers)
+        has = len(record.cells)
+        before = [it if it is not None and it < has else None for it in old]
+        cells = []
+        for shard in before:
+            row = [ABSENT] * width
+            for server, cell in enumerate(record.cells[shard] if shard is not None else []):
+                row[numbers[server]] = moved(cell, numbers)
+            cells.append(row)
+        record.listed = [
+            None if it is None or record.listed[it] is None else numbers[record.listed[it]] for it in before
+        ]
+        record.versions = [0 if it is None else record.versions[it] for it in before]
+        record.handovers = [0 if it is None else record.handovers[it] for it in before]
+        record.floors = [0 if it is None else record.floors[it] for it in before]
+        record.permits = {numbers[it]: permit for it, permit in record.permits.items()}
+        record.cells = cells
+        for plan in record.plans:
+            plan.is_broken_off = True
+        self.renumber_document(record, numbers, before)
+
+    def renumber_document(self, record: Record, numbers: dict[int, int], before: list[int | None]) -> None:
+        """Gives the servers and shards of a record's document their new numbers."""
+        document = record.document
+        rooms = [0] * len(self.numbering.servers)
+        for server, room in enumerate(document.rooms):
+            rooms[numbers[server]] = room
+
+        def of_shards(values: tuple[int, ...]) -> tuple[int, ...]:
+            return tuple(0 if it is None or it >= len(values) else values[it] for it in before)
+
+        record.document = replace(
+            document,
+            servers=frozenset(numbers[it] for it in document.servers),
+            rooms=tuple(rooms),
+            loads=of_shards(document.loads),
+            wants=of_shards(document.wants),
+            caps=of_shards(document.caps),
+            down=frozenset(numbers[it] for it in document.down),
+        )
+
+    def take_inventory(self, server: int, base: int, told: Told) -> Outcome:
+        """Takes the first answer of a server to the fence."""
+        outcome = self.fenced(commands.Fenced(server, base, told.found))
+        if outcome.has_changed:
+            self.strays[server] = told.strays
+        return outcome
+
+    def confirm_cells(self, base: int, chosen: dict[int, tuple[Cell, ...]]) -> Outcome:
+        """Accepts the proposal, with these cells of some shards in place of the proposed ones."""
+        reopening = self.reopening
+        if reopening is None or reopening.settles or base != reopening.base:
+            return Outcome(Ignored("old"), has_changed=False)
+        waits_for = reopening.waits_for()
+        if waits_for:
+            raise refuse("Missing", server=self.server_name(waits_for[0]))
+        proposed = reopening.propose().cells
+        cells = tuple(chosen.get(shard, row) for shard, row in enumerate(proposed))
+        self.check_settlement(reopening, cells)
+        return self.confirm(commands.Confirm(base, cells))
+
+    def check_settlement(self, reopening: Reopening, cells: Cells) -> None:
+        """Refuses cells that may not be settled."""
+        fault = reopening.fault_of(cells)
+        if fault is None or fault.kind in ("OverRoom", "LogFull"):
+            self.check_kept(reopening, cells)
+            self.check_strays(reopening)
+        if fault:
+            where = {} if fault.shard is None else {"shard": self.shard_name(fault.shard)}
+            where |= {} if fault.server is None else {"server": self.server_name(fault.server)}
+            raise refuse(fault.kind, **where)
+
+    def check_kept(self, reopening: Reopening, cells: Cells) -> None:
+        """Refuses cells that a server which told its slots cannot have: a secondary stays one or becomes the primary,
+        a party of a handover becomes the primary or loses the shard, and who has nothing gets nothing."""
+        for shard, row in enumerate(cells):
+            is_handed = False
+            for server, told in sorted(reopening.inventories.items()):
+                if server == MAP or isinstance(told, Unknown):
+                    continue
+                had, has = told.slots[shard].cell, row[server]
+                is_handed = is_handed or had.is_in_handover
+                kept = {Kind.SECONDARY: SECONDARY, Kind.PRIMARY: PRIMARY}.get(had.kind, ABSENT)
+                may_lead = had != ABSENT
+                if has != kept and not (may_lead and has == PRIMARY):
+                    raise refuse("OtherCell", shard=self.shard_name(shard), server=self.server_name(server))
+            if is_handed and PRIMARY not in row:
+                raise refuse("NoPrimary", shard=self.shard_name(shard))
+
+    def check_strays(self, reopening: Reopening) -> None:
+        """Refuses to settle while a server has something of a shard that the document leaves out."""
+        found = [(self.numbering.shard_numbers.get(name, len(self.numbering.shards)), name, server)
+                 for server, names in self.strays.items() for name in names]
+        for server in reopening.missing:
+            for shard in range(len(reopening.document.loads), len(self.record.cells) if self.record else 0):
+                if self.record.cells[shard][server] != ABSENT:
+                    found.append((shard, self.shard_name(shard), server))
+        if found:
+            _, shard, server = min(found)
+            raise refuse("StillThere", shard=shard, server=self.server_name(server))
+
+    def put_in_force(self, reopening: Reopening) -> None:
+        """Opens the epoch of a reopening."""
+        super().put_in_force(reopening)
+        self.document, self.next_document = self.next_document, None
+        self.start, self.strays = Placement(self.document), {}

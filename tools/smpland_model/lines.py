@@ -1,0 +1,251 @@
+"""Reads a line, and finds its faults in the order in which a document's reader meets them (docs/FORMATS.md, "Faults")."""
+from __future__ import annotations
+
+import re
+from collections.abc import Iterator
+from dataclasses import dataclass
+from typing import Any
+
+from driving_model.messages import LAST_EPOCH
+from smplan import reading
+from smplan.faults import Fault, FaultKind, answered
+from smplan.limits import MOST_LOAD, MOST_MOVES, MOST_NUMBER, MOST_SERVERS
+from smplan.reading import Names, Reader, Row, entries, flag, keyed, kind_of, list_of, maybe, name, object_here, one
+from smplan.reading import own_faults, shape, up_to, word
+
+Json = dict[str, Any]
+
+# All numbers are below this one, so that a float of 64 bits holds each of them.
+MOST_EXACT = 2**53 - 1
+MOST_WHY = 4_096
+LABEL = re.compile(r"[A-Za-z0-9._-]{1,64}")
+HEX = re.compile(r"(?=.*[1-9a-f])[0-9a-f]{1,16}")
+CELLS = ("absent", "prepared", "secondary", "primary", "forwarding")
+ANSWERS = ("old", "refused", "foreign", "not_ready")
+
+# What the faults of `reading` say of a member that does not belong where it stands.
+UNKNOWN_MEMBER = ("no member is named", "a stream has 'retries'")
+
+
+class BadLine(Exception):
+    """A line that is no command, with its identity if that can be read."""
+
+    def __init__(self, fault: Fault, at: str, identity: Any) -> None:
+        super().__init__(fault.what)
+        self.fault, self.at, self.identity = fault, at, identity
+
+    @property
+    def told(self) -> Json:
+        """What the reply says of it."""
+        return {"kind": self.fault.kind.word, "at": self.at, "text": self.fault.line}
+
+
+@dataclass
+class Known:
+    """The names that a line may have: those of the document in force, those of the document of a reopening, and those of
+    servers that may be lost. As long as there is no such document any name may be one."""
+
+    names: Names
+    next_names: Names
+    lost: frozenset[str]
+
+
+# Tests of values.
+
+def label(value: Any, place: str, member: str) -> Iterator[Fault]:
+    """Tests for a name of up to 64 bytes, as plans and restarts have."""
+    if not isinstance(value, str) or not LABEL.fullmatch(value):
+        yield shape(member, place, f"a name of 1 to 64 letters, digits, '-', '.' and '_' belongs here, not {kind_of(value)}")
+
+
+def random_bits(value: Any, place: str, member: str) -> Iterator[Fault]:
+    """Tests for 64 random bits as hexadecimal digits."""
+    if not isinstance(value, str) or not HEX.fullmatch(value):
+        yield shape(member, place, f"1 to 16 of the digits 0-9 and a-f, not all 0, belong here, not {kind_of(value)}")
+
+
+def identity(value: Any, place: str, member: str) -> Iterator[Fault]:
+    """Tests for an identity: a whole number, or a name of up to 64 bytes."""
+    yield from (label if isinstance(value, str) else up_to(MOST_EXACT))(value, place, member)
+
+
+def reason(value: Any, place: str, member: str) -> Iterator[Fault]:
+    """Tests for a text that is not too long."""
+    if not isinstance(value, str):
+        yield shape(member, place, f"a text belongs here, not {kind_of(value)}")
+    elif len(value.encode()) > MOST_WHY:
+        yield Fault(FaultKind.TOO_MANY, member, place, f"the text has more than {MOST_WHY} bytes")
+
+
+def or_null(test: reading.Test) -> reading.Test:
+    """Tests for null, or what another test asks for."""
+
+    def either(value: Any, place: str, member: str) -> Iterator[Fault]:
+        if value is not None:
+            yield from test(value, place, member)
+
+    return either
+
+
+def names_among(known: frozenset[str]) -> reading.Test:
+    """Tests for a list of these names."""
+
+    def test(value: Any, place: str, member: str) -> Iterator[Fault]:
+        yield from list_of(MOST_SERVERS)(value, place, member)
+        for at, entry in enumerate(value if isinstance(value, list) else []):
+            if not isinstance(entry, str):
+                yield shape(member, f"{place}[{at}]", f"the name of a server belongs here, not {kind_of(entry)}")
+            elif entry not in known:
+                yield Fault(FaultKind.UNKNOWN_NAME, member, f"{place}[{at}]", f"no server is named '{entry}'")
+
+    return test
+
+
+# Objects.
+
+EXACT, SMALL = up_to(MOST_EXACT), up_to(MOST_NUMBER)
+SLOT = [
+    one("shard", name), one("cell", word(*CELLS)), maybe("party", or_null(name)), maybe("handover", EXACT),
+    maybe("last", EXACT), maybe("load", up_to(MOST_LOAD)), maybe("cut", or_null(EXACT)), maybe("position", EXACT),
+    maybe("reached", flag),
+]
+# What a slot has to tell beside its shard, by its cell; with what a fence asks, and without.
+HANDED = ("party", "handover")
+NEEDED = {"prepared": HANDED, "forwarding": HANDED}
+ASKED = {
+    "prepared": (*HANDED, "position", "reached"), "forwarding": (*HANDED, "position"), "secondary": ("position",),
+    "primary": ("position",),
+}
+
+
+def slot_faults(value: Json, place: str, needed: dict[str, tuple[str, ...]]) -> Iterator[Fault]:
+    """Yields the faults of the slots of a server."""
+    for entry, inner in entries(value, "slots", place):
+        cell = entry.get("cell") if isinstance(entry, dict) else None
+        rows = [Row(it.member, it.test, it.optional and it.member not in needed.get(str(cell), ())) for it in SLOT]
+        if cell in NEEDED:
+            rows[2] = one("party", name)
+        yield from own_faults("slots", rows, entry, inner)
+
+
+def chosen_faults(value: Json, place: str, known: Names) -> Iterator[Fault]:
+    """Yields the faults of the cells that are to be settled."""
+    rows = [one("shard", known.shard), one("cells", keyed("server"))]
+    for entry, inner in entries(value, "cells", place):
+        yield from own_faults("cells", rows, entry, inner)
+        for cell, at in entries(entry, "cells", inner):
+            yield from own_faults("cells", [one("server", known.server), one("state", word("primary", "secondary"))], cell, at)
+
+
+def inventory_faults(value: Json) -> Iterator[Fault]:
+    """Yields what is wrong with the members of a server's answer to a fence beside each other."""
+    is_map = "server" in value and value["server"] is None
+    has = [it for it in ("slots", "unknown") if it in value]
+    if is_map and has:
+        yield shape(has[0], f"$.{has[0]}", "the map's owner has no slots to tell")
+    elif not is_map and not has:
+        yield shape("slots", "$", "the member 'slots' is missing")
+    elif len(has) == 2:
+        yield shape("unknown", "$.unknown", "'unknown' stands beside 'slots'")
+
+
+def tables(known: Known) -> dict[str, list[Row]]:
+    """Returns the members of each command."""
+    names = known.names
+    party, server, base = one("server", or_null(name)), one("server", names.server), one("base", EXACT)
+    stream = [one("plan", SMALL), one("stream", SMALL), one("number", EXACT)]
+    slots = keyed("shard")
+    return {
+        "open": [one("document", object_here), one("journal", random_bits), one("epoch", up_to(LAST_EPOCH))],
+        "begin": [one("plan", object_here), one("name", label)],
+        "answered": stream,
+        "approve": [server, one("by", label)],
+        "restarted": [one("permit", EXACT)],
+        "restore": [server, one("nonce", random_bits)],
+        "new_epoch": [],
+        "reopen": [
+            one("document", object_here), maybe("lost", names_among(known.lost)), maybe("why", reason),
+            maybe("journal", random_bits), maybe("epoch", up_to(LAST_EPOCH)),
+        ],
+        "fenced": [party, base, maybe("slots", slots), maybe("unknown", random_bits)],
+        "confirm": [base, maybe("cells", keyed("shard"))],
+        "settled": [party, base],
+        "hello": [],
+        "orders": [],
+        "map": [],
+        "state": [maybe("shard", names.shard), maybe("plan", SMALL)],
+        "moves": [one("moves", list_of(MOST_MOVES))],
+        "drain": [server],
+        "check": [one("plan", object_here)],
+        "since": [one("place", EXACT)],
+        "audit": [server, one("place", EXACT), one("slots", slots)],
+        "failed": [*stream, one("answer", word(*ANSWERS))],
+    }
+
+
+def inner_faults(value: Json, do: str, known: Known) -> Iterator[Fault]:
+    """Yields the faults of the objects in a command, whose own members are as they should be."""
+    reader = Reader(known.names)
+    if do in ("open", "reopen") and isinstance(value.get("document"), dict):
+        for fault in reading.document_faults(value["document"]):
+            yield Fault(fault.kind, fault.member, "$.document" + fault.place[1:], fault.what)
+    elif do in ("begin", "check") and isinstance(value.get("plan"), dict):
+        yield from reader.plan("plan", value["plan"], "$.plan")
+    elif do == "moves":
+        for entry, inner in entries(value, "moves", "$"):
+            yield from own_faults("moves", reader.moves, entry, inner)
+    elif do == "fenced":
+        yield from inventory_faults(value)
+        yield from slot_faults(value, "$", ASKED)
+    elif do == "audit":
+        yield from slot_faults(value, "$", NEEDED)
+    elif do == "confirm":
+        yield from chosen_faults(value, "$", known.next_names)
+
+
+def line_faults(value: Any, known: Known) -> Iterator[Fault]:
+    """Yields all faults of the JSON value of a line."""
+    if not isinstance(value, dict):
+        yield shape("command", "$", f"an object belongs here, not {kind_of(value)}")
+        return
+    do = value.get("do")
+    known = Known(known.names, known.next_names, known.lost | frozenset(reading.names_in(value.get("document")).servers))
+    with_identity = {do: [maybe("id", identity), *table] for do, table in tables(known).items()}
+    yield from reading.worded_faults("command", "do", with_identity, value, "$")
+    if isinstance(do, str) and do in with_identity:
+        yield from inner_faults(value, do, known)
+
+
+def owner_of_member(value: Any, place: str) -> str:
+    """Returns the path of the object that has an unknown member, by the path of that member."""
+    at, rest = "$", place[1:]
+    while True:
+        if isinstance(value, dict) and rest[:1] == "." and rest[1:] in value:
+            return at
+        step = re.match(r"\.([a-z_]+)|\[(\d+)\]", rest)
+        if step is None:
+            return at
+        value = value[step[1]] if step[1] else value[int(step[2])]
+        at, rest = at + step[0], rest[step.end():]
+
+
+def path_of(fault: Fault, value: Any) -> str:
+    """Returns the path of what a fault is about: of a missing or an unknown member, the object that it is a member of."""
+    return owner_of_member(value, fault.place) if fault.what.startswith(UNKNOWN_MEMBER) else fault.place
+
+
+def identity_of(value: Any) -> Any:
+    """Returns the identity of a line, or None if it has none that is right."""
+    found = value.get("id") if isinstance(value, dict) else None
+    return None if found is None or any(identity(found, "$.id", "id")) else found
+
+
+def read(line: bytes, known: Known) -> Json:
+    """Returns the command of a line, or raises `BadLine`."""
+    text = reading.read_text(line)
+    if text.fault:
+        raise BadLine(text.fault, "$", None)
+    fault = answered(line_faults(text.value, known))
+    if fault:
+        raise BadLine(fault, path_of(fault, text.value), identity_of(text.value))
+    return text.value

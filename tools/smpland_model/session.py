@@ -1,0 +1,248 @@
+"""A session: each line has one reply. A line that changes something is an entry of the journal."""
+from __future__ import annotations
+
+from collections.abc import Callable
+from typing import Any
+
+from driving_model import commands, replies
+from driving_model.cells import Cell, Kind, PRIMARY, SECONDARY
+from driving_model.controller import Answer
+from driving_model.messages import Inventory, SlotFound, Unknown
+from driving_model.replies import Outcome
+from smpland_model import lines, words
+from smpland_model.asking import Asking
+from smpland_model.controller import Beginning, NamedController, Refusal, Reopened, Told
+from smpland_model.history import History
+from smpland_model.lines import BadLine, Known
+from smpland_model.messages import Writer, hexadecimal
+from smplan.faults import Fault, FaultKind
+from smplan.model import Document, document_of, plan_of
+from smplan.reading import Names
+
+Json = dict[str, Any]
+
+TOO_LONG = BadLine(Fault(FaultKind.TOO_LONG, None, "$", "the line is too long"), "$", None)
+
+
+class Session:
+    """A controller, the place of its last entry, and what happened where."""
+
+    def __init__(self, program: str | None = None) -> None:
+        self.controller = NamedController()
+        self.writer = Writer(self.controller)
+        self.history = History(self.controller)
+        self.asking = Asking(self.controller, self.writer, self.history, program)
+        # The restore of each server that was recorded last, as it was told.
+        self.restores: dict[str, Json] = {}
+
+    # Lines.
+
+    def reply(self, line: bytes) -> Json:
+        """Returns the reply to a line."""
+        try:
+            command = lines.read(line, self.known())
+        except BadLine as bad:
+            return identified(bad.identity, {"bad": bad.told})
+        return identified(command.get("id"), self.done(command))
+
+    @staticmethod
+    def reply_to_long() -> Json:
+        """Returns the reply to a line that is too long."""
+        return {"bad": TOO_LONG.told}
+
+    def known(self) -> Known:
+        """Returns the names that a line may have."""
+        controller = self.controller
+        return Known(
+            names_of(controller.document), names_of(controller.next_document), frozenset(controller.numbering.servers)
+        )
+
+    def done(self, command: Json) -> Json:
+        """Does a command, and returns the reply."""
+        do = command["do"]
+        try:
+            if do in self.asking.answers:
+                return self.asking.answers[do](command)
+            doers: dict[str, Callable[[Json], Outcome]] = {
+                "open": self.open, "begin": self.begin, "answered": self.answered, "approve": self.approve,
+                "restarted": self.restarted, "restore": self.restore, "new_epoch": self.new_epoch,
+                "reopen": self.reopen, "fenced": self.fenced, "confirm": self.confirm, "settled": self.settled,
+            }
+            outcome = doers[do](command)
+        except Refusal as refusal:
+            return {"refused": refusal.told}
+        except Answer as answer:
+            outcome = Outcome(answer.reply, has_changed=False)
+        told = self.told(outcome)
+        if outcome.has_changed:
+            self.history.add(outcome)
+        return told
+
+    # What came of a command.
+
+    def told(self, outcome: Outcome) -> Json:
+        """Returns the reply to a command that is no question."""
+        writers: dict[type, Callable[[Any], Json]] = {
+            replies.Opened: lambda it: {"opened": self.opened(it)},
+            replies.Begun: lambda it: self.begun(it, outcome),
+            replies.Moved: lambda it: {
+                "moved": {"plan": it.plan, "stream": it.stream, "at": it.at}, **self.following(outcome),
+            },
+            replies.Approved: lambda it: {"approved": {"server": self.writer.server(it.server), "permit": it.permit}},
+            replies.PermitEnded: lambda it: {"ended": {"server": self.writer.server(it.server), "permit": it.permit}},
+            replies.Up: lambda it: {"up": self.writer.server(it.server)},
+            replies.Restoring: lambda it: {"restore": self.restored(it, outcome.has_changed)},
+            replies.Fencing: lambda it: {"fence": [self.writer.fence(fence) for fence in it.fences]},
+            replies.Waiting: lambda it: {"waiting": self.writer.waiting(it.servers)},
+            replies.Proposal: lambda it: {"proposal": self.writer.proposal(it)},
+            replies.Settling: lambda it: {"settle": [self.writer.settle(settle) for settle in it.settles]},
+            replies.Ignored: lambda it: {"ignored": it.why},
+            replies.Refused: lambda it: {"refused": self.refused(it)},
+        }
+        return writers[type(outcome.reply)](outcome.reply)
+
+    def following(self, outcome: Outcome) -> Json:
+        """Returns the orders that came of a command, and the plans that ended."""
+        return {"orders": self.writer.orders(outcome.orders), "ended": list(outcome.ended)}
+
+    def opened(self, opened: replies.Opened) -> Json:
+        """Returns what is told of an opening."""
+        permits = [{"server": self.writer.server(server), "permit": permit} for server, permit in opened.permits]
+        return {"journal": hexadecimal(opened.journal), "epoch": opened.epoch, "permits": permits}
+
+    def begun(self, begun: replies.Begun, outcome: Outcome) -> Json:
+        """Returns what is told of a plan that has begun."""
+        told: Json = {"plan": begun.plan, "calls": begun.calls, "streams": begun.streams, "epoch": begun.epoch}
+        return {"begun": told, **({"again": True} if begun.is_again else {}), **self.following(outcome)}
+
+    def restored(self, restoring: replies.Restoring, is_new: bool) -> Json:
+        """Returns a restore as it was told first."""
+        name = self.writer.server(restoring.restore.server)
+        if is_new:
+            self.restores[name] = self.writer.restore(restoring.restore)
+        return self.restores[name]
+
+    def refused(self, refused: replies.Refused) -> Json:
+        """Returns a refusal of the model."""
+        where: Json = {}
+        if refused.shard is not None:
+            where["shard"] = self.writer.shard(refused.shard)
+        if refused.server is not None:
+            where["server"] = self.writer.server(refused.server)
+        where |= {name: it for name in ("plan", "stream") if (it := getattr(refused, name)) is not None}
+        return words.own(refused.kind, **where)
+
+    # Commands.
+
+    def open(self, command: Json) -> Outcome:
+        """Opens a settled placement."""
+        document = document_of(command["document"])
+        return self.controller.open_document(document, int(command["journal"], 16), command["epoch"])
+
+    def begin(self, command: Json) -> Outcome:
+        """Begins a plan."""
+        controller = self.controller
+        if command["name"] not in controller.begun:
+            controller.need_open()
+        return controller.begin(Beginning(command["name"], plan_of(command["plan"])))
+
+    def answered(self, command: Json) -> Outcome:
+        """Takes the answer to an order."""
+        return self.controller.answered(
+            commands.Answered(command["plan"], command["stream"], command["number"])
+        )
+
+    def approve(self, command: Json) -> Outcome:
+        """Gives leave to restart a server."""
+        server = self.controller.numbering.server_numbers.get(command["server"])
+        return self.controller.approve(commands.Approve(server, command["by"]))
+
+    def restarted(self, command: Json) -> Outcome:
+        """Takes the end of a restart."""
+        return self.controller.restarted(commands.Restarted(command["permit"]))
+
+    def restore(self, command: Json) -> Outcome:
+        """Restores a server."""
+        server = self.controller.numbering.server_numbers.get(command["server"])
+        if server is None:
+            self.controller.need_open()
+        return self.controller.restore(commands.RestoreServer(server, int(command["nonce"], 16)))
+
+    def new_epoch(self, _command: Json) -> Outcome:
+        """Opens the next epoch."""
+        return self.controller.new_epoch(commands.NewEpoch())
+
+    def reopen(self, command: Json) -> Outcome:
+        """Begins a reopening."""
+        journal = int(command["journal"], 16) if "journal" in command else None
+        document = document_of(command["document"])
+        return self.controller.begin_reopening(Reopened(document, command.get("lost", []), journal, command.get("epoch")))
+
+    def fenced(self, command: Json) -> Outcome:
+        """Takes what a server has."""
+        controller = self.controller
+        server = controller.numbering.server(command["server"])
+        if controller.reopening is None or server is None:
+            return Outcome(replies.Ignored("old"), has_changed=False)
+        return controller.take_inventory(server, command["base"], self.inventory(command))
+
+    def inventory(self, command: Json) -> Told:
+        """Returns what a server tells."""
+        if command["server"] is None:
+            return Told(Inventory())
+        if "unknown" in command:
+            return Told(Unknown(int(command["unknown"], 16)))
+        numbers = self.controller.numbering.shard_numbers
+        count = len(self.controller.reopening.document.loads)
+        found = [SlotFound(Cell(Kind.ABSENT), 0, False)] * count
+        strays = []
+        for slot in command["slots"]:
+            number = numbers.get(slot["shard"], count)
+            if number < count:
+                found[number] = slot_found(slot)
+            elif slot["cell"] != "absent":
+                strays.append(slot["shard"])
+        return Told(Inventory(tuple(found)), strays)
+
+    def confirm(self, command: Json) -> Outcome:
+        """Confirms what is settled."""
+        return self.controller.confirm_cells(command["base"], self.chosen(command.get("cells", [])))
+
+    def chosen(self, shards: list[Json]) -> dict[int, tuple[Cell, ...]]:
+        """Returns cells that are to be settled in place of the proposed ones."""
+        controller = self.controller
+        if controller.reopening is None:
+            return {}
+        numbering = controller.numbering
+        chosen = {}
+        for shard in shards:
+            row = [Cell(Kind.ABSENT)] * len(numbering.servers)
+            for cell in shard["cells"]:
+                row[numbering.server_numbers[cell["server"]]] = PRIMARY if cell["state"] == "primary" else SECONDARY
+            chosen[numbering.shard_numbers[shard["shard"]]] = tuple(row)
+        return chosen
+
+    def settled(self, command: Json) -> Outcome:
+        """Takes the answer to a settle."""
+        server = self.controller.numbering.server(command["server"])
+        return self.controller.settled(commands.Settled(server, command["base"]))
+
+
+def names_of(document: Document | None) -> Names:
+    """Returns the names of a document; without one any name is known."""
+    if document is None:
+        return Names(all_known=True)
+    return Names({name: "" for name in document.servers}, {name: "" for name in document.shards})
+
+
+def slot_found(slot: Json) -> SlotFound:
+    """Returns what a server tells of a shard."""
+    kind = Kind(slot["cell"])
+    in_handover = kind in (Kind.PREPARED, Kind.FORWARDING)
+    cell = Cell(kind, slot["party"], slot["handover"]) if in_handover else Cell(kind)
+    return SlotFound(cell, slot.get("position", 0), slot.get("reached", False))
+
+
+def identified(identity: Any, reply: Json) -> Json:
+    """Returns a reply with the identity of its line."""
+    return reply if identity is None else {"id": identity} | reply
