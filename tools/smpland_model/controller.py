@@ -8,8 +8,7 @@ from __future__ import annotations
 from dataclasses import dataclass, field, replace
 
 from driving_model import commands, replies
-from driving_model.cells import ABSENT, Cell, Kind, PRIMARY, SECONDARY
-from driving_model.commands import Cells
+from driving_model.cells import ABSENT, Cell
 from driving_model.controller import Answer, Controller, Named
 from driving_model.decisions import MOST_PLANS
 from driving_model.messages import Inventory, MAP, Unknown
@@ -19,6 +18,7 @@ from driving_model.replies import Ignored, Outcome
 from driving_model.reopening import Reopening
 from smpland_model import words
 from smpland_model.numbering import Numbering, moved
+from smpland_model.settling import Settlement
 from smplan import model as documents
 from smplan.placement import Placement, double_cells, bad_leads, opening_findings
 from smplan.verdict import log_findings, plan_findings
@@ -35,6 +35,13 @@ class Refusal(Exception):
 def refuse(kind: str, **where: object) -> Refusal:
     """Returns a refusal that no report has, to be raised."""
     return Refusal(words.own(kind, **where))
+
+
+def missing(server: str | None) -> words.Json:
+    """Returns the refusal to confirm before a server, or the map's owner, has answered."""
+    if server is None:
+        return {"kind": "Missing", "server": None, "text": "refused: Missing map"}
+    return words.own("Missing", server=server)
 
 
 def refuse_first(findings: list) -> None:
@@ -222,7 +229,7 @@ class NamedController(Controller):
         """Begins a reopening, or replaces the one under way."""
         refuse_first([*double_cells(command.document), *bad_leads(command.document)])
         numbering = self.numbering.after(command.document)
-        lost = frozenset(numbering.server_numbers[it] for it in command.lost)
+        lost = frozenset(numbering.server_numbers[it] for it in command.lost if it in numbering.server_numbers)
         document = numbering.document(command.document)
         model = commands.Reopen(document, lost, command.journal, command.epoch)
         self.epoch_of(model)
@@ -302,51 +309,13 @@ class NamedController(Controller):
             return Outcome(Ignored("old"), has_changed=False)
         waits_for = reopening.waits_for()
         if waits_for:
-            raise refuse("Missing", server=self.server_name(waits_for[0]))
+            raise Refusal(missing(self.server_name(waits_for[0])))
         proposed = reopening.propose().cells
         cells = tuple(chosen.get(shard, row) for shard, row in enumerate(proposed))
-        self.check_settlement(reopening, cells)
-        return self.confirm(commands.Confirm(base, cells))
-
-    def check_settlement(self, reopening: Reopening, cells: Cells) -> None:
-        """Refuses cells that may not be settled."""
-        fault = reopening.fault_of(cells)
-        if fault is None or fault.kind in ("OverRoom", "LogFull"):
-            self.check_kept(reopening, cells)
-            self.check_strays(reopening)
+        fault = Settlement(reopening, self.numbering, self.strays, cells).fault()
         if fault:
-            where = {} if fault.shard is None else {"shard": self.shard_name(fault.shard)}
-            where |= {} if fault.server is None else {"server": self.server_name(fault.server)}
-            raise refuse(fault.kind, **where)
-
-    def check_kept(self, reopening: Reopening, cells: Cells) -> None:
-        """Refuses cells that a server which told its slots cannot have: a secondary stays one or becomes the primary,
-        a party of a handover becomes the primary or loses the shard, and who has nothing gets nothing."""
-        for shard, row in enumerate(cells):
-            is_handed = False
-            for server, told in sorted(reopening.inventories.items()):
-                if server == MAP or isinstance(told, Unknown):
-                    continue
-                had, has = told.slots[shard].cell, row[server]
-                is_handed = is_handed or had.is_in_handover
-                kept = {Kind.SECONDARY: SECONDARY, Kind.PRIMARY: PRIMARY}.get(had.kind, ABSENT)
-                may_lead = had != ABSENT
-                if has != kept and not (may_lead and has == PRIMARY):
-                    raise refuse("OtherCell", shard=self.shard_name(shard), server=self.server_name(server))
-            if is_handed and PRIMARY not in row:
-                raise refuse("NoPrimary", shard=self.shard_name(shard))
-
-    def check_strays(self, reopening: Reopening) -> None:
-        """Refuses to settle while a server has something of a shard that the document leaves out."""
-        found = [(self.numbering.shard_numbers.get(name, len(self.numbering.shards)), name, server)
-                 for server, names in self.strays.items() for name in names]
-        for server in reopening.missing:
-            for shard in range(len(reopening.document.loads), len(self.record.cells) if self.record else 0):
-                if self.record.cells[shard][server] != ABSENT:
-                    found.append((shard, self.shard_name(shard), server))
-        if found:
-            _, shard, server = min(found)
-            raise refuse("StillThere", shard=shard, server=self.server_name(server))
+            raise Refusal(fault)
+        return self.confirm(commands.Confirm(base, cells))
 
     def put_in_force(self, reopening: Reopening) -> None:
         """Opens the epoch of a reopening."""

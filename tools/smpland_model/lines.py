@@ -3,7 +3,7 @@ from __future__ import annotations
 
 import re
 from collections.abc import Iterator
-from dataclasses import dataclass
+from dataclasses import dataclass, field
 from typing import Any
 
 from driving_model.messages import LAST_EPOCH
@@ -42,12 +42,17 @@ class BadLine(Exception):
 
 @dataclass
 class Known:
-    """The names that a line may have: those of the document in force, those of the document of a reopening, and those of
-    servers that may be lost. As long as there is no such document any name may be one."""
+    """The names that a line may have: those of the document in force, and those of the document of a reopening under way.
+    As long as there is no such document any name may be one."""
 
     names: Names
     next_names: Names
-    lost: frozenset[str]
+    reader: Reader = field(init=False)
+    tables: dict[str, list[Row]] = field(init=False)
+
+    def __post_init__(self) -> None:
+        self.reader = Reader(self.names)
+        self.tables = {do: [maybe("id", identity), *table] for do, table in tables(self.names).items()}
 
 
 # Tests of values.
@@ -87,18 +92,11 @@ def or_null(test: reading.Test) -> reading.Test:
     return either
 
 
-def names_among(known: frozenset[str]) -> reading.Test:
-    """Tests for a list of these names."""
-
-    def test(value: Any, place: str, member: str) -> Iterator[Fault]:
-        yield from list_of(MOST_SERVERS)(value, place, member)
-        for at, entry in enumerate(value if isinstance(value, list) else []):
-            if not isinstance(entry, str):
-                yield shape(member, f"{place}[{at}]", f"the name of a server belongs here, not {kind_of(entry)}")
-            elif entry not in known:
-                yield Fault(FaultKind.UNKNOWN_NAME, member, f"{place}[{at}]", f"no server is named '{entry}'")
-
-    return test
+def names_of_servers(value: Any, place: str, member: str) -> Iterator[Fault]:
+    """Tests for a list of names, known or not."""
+    yield from list_of(MOST_SERVERS)(value, place, member)
+    for at, entry in enumerate(value if isinstance(value, list) else []):
+        yield from name(entry, f"{place}[{at}]", member)
 
 
 # Objects.
@@ -149,9 +147,8 @@ def inventory_faults(value: Json) -> Iterator[Fault]:
         yield shape("unknown", "$.unknown", "'unknown' stands beside 'slots'")
 
 
-def tables(known: Known) -> dict[str, list[Row]]:
+def tables(names: Names) -> dict[str, list[Row]]:
     """Returns the members of each command."""
-    names = known.names
     party, server, base = one("server", or_null(name)), one("server", names.server), one("base", EXACT)
     stream = [one("plan", SMALL), one("stream", SMALL), one("number", EXACT)]
     slots = keyed("shard")
@@ -164,7 +161,7 @@ def tables(known: Known) -> dict[str, list[Row]]:
         "restore": [server, one("nonce", random_bits)],
         "new_epoch": [],
         "reopen": [
-            one("document", object_here), maybe("lost", names_among(known.lost)), maybe("why", reason),
+            one("document", object_here), maybe("lost", names_of_servers), maybe("why", reason),
             maybe("journal", random_bits), maybe("epoch", up_to(LAST_EPOCH)),
         ],
         "fenced": [party, base, maybe("slots", slots), maybe("unknown", random_bits)],
@@ -185,7 +182,7 @@ def tables(known: Known) -> dict[str, list[Row]]:
 
 def inner_faults(value: Json, do: str, known: Known) -> Iterator[Fault]:
     """Yields the faults of the objects in a command, whose own members are as they should be."""
-    reader = Reader(known.names)
+    reader = known.reader
     if do in ("open", "reopen") and isinstance(value.get("document"), dict):
         for fault in reading.document_faults(value["document"]):
             yield Fault(fault.kind, fault.member, "$.document" + fault.place[1:], fault.what)
@@ -209,10 +206,8 @@ def line_faults(value: Any, known: Known) -> Iterator[Fault]:
         yield shape("command", "$", f"an object belongs here, not {kind_of(value)}")
         return
     do = value.get("do")
-    known = Known(known.names, known.next_names, known.lost | frozenset(reading.names_in(value.get("document")).servers))
-    with_identity = {do: [maybe("id", identity), *table] for do, table in tables(known).items()}
-    yield from reading.worded_faults("command", "do", with_identity, value, "$")
-    if isinstance(do, str) and do in with_identity:
+    yield from reading.worded_faults("command", "do", known.tables, value, "$")
+    if isinstance(do, str) and do in known.tables:
         yield from inner_faults(value, do, known)
 
 

@@ -32,6 +32,7 @@ class Session:
         self.writer = Writer(self.controller)
         self.history = History(self.controller)
         self.asking = Asking(self.controller, self.writer, self.history, program)
+        self.known = known_of(self.controller)
         # The restore of each server that was recorded last, as it was told.
         self.restores: dict[str, Json] = {}
 
@@ -40,7 +41,7 @@ class Session:
     def reply(self, line: bytes) -> Json:
         """Returns the reply to a line."""
         try:
-            command = lines.read(line, self.known())
+            command = lines.read(line, self.known)
         except BadLine as bad:
             return identified(bad.identity, {"bad": bad.told})
         return identified(command.get("id"), self.done(command))
@@ -49,13 +50,6 @@ class Session:
     def reply_to_long() -> Json:
         """Returns the reply to a line that is too long."""
         return {"bad": TOO_LONG.told}
-
-    def known(self) -> Known:
-        """Returns the names that a line may have."""
-        controller = self.controller
-        return Known(
-            names_of(controller.document), names_of(controller.next_document), frozenset(controller.numbering.servers)
-        )
 
     def done(self, command: Json) -> Json:
         """Does a command, and returns the reply."""
@@ -76,6 +70,8 @@ class Session:
         told = self.told(outcome)
         if outcome.has_changed:
             self.history.add(outcome)
+            if isinstance(outcome.reply, (replies.Opened, replies.Fencing)):
+                self.known = known_of(self.controller)
         return told
 
     # What came of a command.
@@ -226,6 +222,11 @@ class Session:
         """Takes the answer to a settle."""
         server = self.controller.numbering.server(command["server"])
         return self.controller.settled(commands.Settled(server, command["base"]))
+
+
+def known_of(controller: NamedController) -> Known:
+    """Returns the names that a line may have."""
+    return Known(names_of(controller.document), names_of(controller.next_document))
 
 
 def names_of(document: Document | None) -> Names:

@@ -1,0 +1,100 @@
+"""The commands of random schedules of the model of the network, as lines: each reply is what the model says of the command."""
+from __future__ import annotations
+
+import json
+import unittest
+from collections import Counter
+from dataclasses import replace
+
+from driving_model import commands
+from driving_model.controller import Controller
+from driving_model.rules import SOUND
+from driving_model.schedule import PROFILES, Schedule
+from smpland_model.session import Session
+
+from plain_commands import command_json, has_two_primaries, line_form, present, reply_form, with_own_cells, without
+
+SEEDS = range(1, 41)
+# What only lines are refused for: a model that opens a document does not look whether its cells may be moved.
+STRICTER = ("Moved", "NoPrimary")
+
+
+class Divergence(Exception):
+    """The line was refused for a reason that the model does not have, so the two go apart from here."""
+
+
+class Pair:
+    """The model and a session that are given the same commands."""
+
+    def __init__(self, coverage: Counter[str]) -> None:
+        self.model, self.session, self.coverage = Controller(), Session(), coverage
+        self.permits: dict[int, int] = {}
+
+    def do(self, case: unittest.TestCase, command: commands.Command) -> None:
+        """Gives both a command, and compares what comes of it."""
+        if isinstance(command, (commands.Open, commands.Reopen)):
+            command = replace(command, document=with_own_cells(command.document))
+            if has_two_primaries(command.document):
+                return
+        outcome = self.model.apply(command)
+        line = command_json(command)
+        if isinstance(command, commands.Restarted):
+            line["permit"] = self.permits.get(command.permit, command.permit)
+        told = self.session.reply(json.dumps(line).encode())
+        expected, found = reply_form(outcome.reply), line_form(told)
+        self.coverage[" ".join(map(str, [next(iter(found)), found.get("refused", "")]))] += 1
+        if found.get("refused") in STRICTER and "settle" in expected:
+            raise Divergence
+        if isinstance(command, commands.Confirm) and "refused" in expected:
+            case.assertIn("refused", found)
+            expected = found
+        case.assertEqual(expected, self.same_permit(found), f"{command} -> {outcome.reply}; {json.dumps(line)} -> {told}")
+        case.assertEqual([it["number"] for it in told.get("orders", [])] if "again" not in told else [], [it.number for it in outcome.orders])
+        self.note_permits(outcome.reply, told)
+        orders = self.session.reply(b'{"do":"orders"}')["orders"]
+        case.assertEqual([without(it, "primary", "replicas") for it in orders], present(self.model))
+
+    def same_permit(self, found: dict) -> dict:
+        """Returns a reply with the model's number of a permit."""
+        back = {theirs: ours for ours, theirs in self.permits.items()}
+        for word in ("approved", "ended"):
+            if word in found:
+                return {word: found[word] | {"permit": back.get(found[word]["permit"], found[word]["permit"])}}
+        return found
+
+    def note_permits(self, reply: object, told: dict) -> None:
+        """Notes the permits of an opening, which depend on the numbers of servers."""
+        if "opened" in told:
+            self.permits |= {ours: it["permit"] for (_, ours), it in zip(reply.permits, told["opened"]["permits"])}
+
+
+class Schedules(unittest.TestCase):
+    """Random schedules."""
+
+    def test_the_session_says_what_the_model_says(self) -> None:
+        """Each profile has schedules; the two go apart in few of them, and each kind of reply comes."""
+        coverage: Counter[str] = Counter()
+        for seed in SEEDS:
+            with self.subTest(seed=seed):
+                self.play(seed, coverage)
+        for word in ("begun", "moved", "approved", "up", "restore", "fence", "waiting", "proposal", "settle", "opened", "ignored"):
+            self.assertGreater(coverage[f"{word} "], 20, coverage)
+        self.assertLess(coverage["apart"], len(SEEDS) / 10, coverage)
+
+    def play(self, seed: int, coverage: Counter[str]) -> None:
+        """Plays the commands of a schedule."""
+        schedule = Schedule(seed, SOUND, 400, ["", *PROFILES][seed % (len(PROFILES) + 1)])
+        schedule.run()
+        pair = Pair(coverage)
+        try:
+            for command, _ in schedule.world.session:
+                is_first = isinstance(command, commands.Open) or (isinstance(command, commands.Reopen) and command.journal is not None)
+                if is_first and pair.model.journal is not None:
+                    pair = Pair(coverage)
+                pair.do(self, command)
+        except Divergence:
+            coverage["apart"] += 1
+
+
+if __name__ == "__main__":
+    unittest.main()
