@@ -22,13 +22,16 @@ Json = dict[str, Any]
 class Asking:
     """Answers the lines that ask."""
 
-    def __init__(self, controller: NamedController, writer: Writer, history: History, program: str | None) -> None:
-        self.controller, self.writer, self.history = controller, writer, history
+    def __init__(
+        self, controller: NamedController, writer: Writer, history: History, read_inside: Callable[[Json], None],
+        program: str | None,
+    ) -> None:
+        self.controller, self.writer, self.history, self.read_inside = controller, writer, history, read_inside
         self.audits = Audit(controller, writer, history)
         self.planner = Planner(controller, program)
         self.answers: dict[str, Callable[[Json], Json]] = {
             "hello": self.hello, "orders": self.orders, "map": self.map, "state": self.state, "moves": self.moves,
-            "drain": self.drain, "check": self.check, "since": self.since, "audit": self.audits.audit,
+            "drain": self.drain, "check": self.check, "since": self.since, "audit": self.audit,
             "failed": self.failed,
         }
 
@@ -169,6 +172,7 @@ class Asking:
     def check(self, command: Json) -> Json:
         """Tells whether a plan would begin now."""
         self.controller.need_open()
+        self.read_inside(command)
         plan = plan_of(command["plan"])
         self.controller.check(plan)
         return {"accepted": {"calls": plan.calls, "streams": len(plan.streams)}}
@@ -176,6 +180,7 @@ class Asking:
     def moves(self, command: Json) -> Json:
         """Makes a plan of moves."""
         self.controller.need_open()
+        self.read_inside(command)
         return {"plan": self.planner.of_moves([Move(it["shard"], it["from"], it["to"]) for it in command["moves"]])}
 
     def drain(self, command: Json) -> Json:
@@ -184,6 +189,14 @@ class Asking:
         return {"plan": self.planner.of_drain(command["server"])}
 
     # What happened.
+
+    def audit(self, command: Json) -> Json:
+        """Tells whether a server has what is recorded."""
+        if command["place"] > self.history.place:
+            return self.audits.told(command, "later")
+        self.controller.need_open()
+        self.read_inside(command)
+        return self.audits.audit(command)
 
     def since(self, command: Json) -> Json:
         """Tells what was ordered, published and ended after a place."""

@@ -5,7 +5,7 @@ from typing import Any
 
 from driving_model.cells import ABSENT, Cell, Kind, led
 from driving_model.messages import Order
-from smpland_model.controller import NamedController, refuse
+from smpland_model.controller import NamedController
 from smpland_model.history import History
 from smpland_model.messages import Writer
 
@@ -21,9 +21,6 @@ class Audit:
     def audit(self, command: Json) -> Json:
         """Tells whether a server has what is recorded, or what its present orders make of it."""
         controller = self.controller
-        if command["place"] > self.history.place:
-            return self.told(command, "later")
-        controller.need_open()
         server = controller.numbering.server_numbers[command["server"]]
         orders = {it.shard: it for it in controller.orders() if isinstance(it, Order) and it.server == server}
         slots = {it["shard"]: it for it in command["slots"]}

@@ -102,8 +102,6 @@ class NamedController(Controller):
 
     def open_document(self, document: documents.Document, journal: int, epoch: int) -> Outcome:
         """Opens a settled placement."""
-        if self.journal is not None:
-            raise refuse("AlreadyOpened")
         refuse_first(opening_findings(document))
         start = Placement(document)
         refuse_first(log_findings(document, start))
@@ -112,6 +110,16 @@ class NamedController(Controller):
         self.document, self.start = document, start
         self.record.listed = self.numbering.listed(document)
         return outcome
+
+    def check_first(self) -> None:
+        """Refuses an opening in a journal that has one."""
+        if self.journal is not None:
+            raise refuse("AlreadyOpened")
+
+    def check_journal(self, journal: int | None, epoch: int | None) -> None:
+        """Refuses a reopening in a journal that does not fit."""
+        nothing = commands.Document(frozenset(), (), (), (), (), 0, ())
+        self.epoch_of(commands.Reopen(nothing, frozenset(), journal, epoch))
 
     # Plans.
 
@@ -172,15 +180,17 @@ class NamedController(Controller):
         if sum(not it.is_done for it in record.plans) >= MOST_PLANS:
             raise Refusal(words.reported("not begun: 5 TooManyPlans"))
 
+    def begun_before(self, name: str) -> Outcome:
+        """Tells what came of a plan of this name. It begins nothing."""
+        known = self.begun[name]
+        again = replace(known.reply, is_again=True)
+        if known.epoch != self.epoch or not self.is_open:
+            return Outcome(again, has_changed=False)
+        streams = range(len(self.record.plans[again.plan].streams))
+        return replace(self.outcome(again, again.plan, streams), has_changed=False)
+
     def begin(self, command: Beginning) -> Outcome:
-        """Begins a plan. The same name again begins nothing, and is told what came of it."""
-        known = self.begun.get(command.name)
-        if known:
-            again = replace(known.reply, is_again=True)
-            if known.epoch != self.epoch or not self.is_open:
-                return Outcome(again, has_changed=False)
-            streams = range(len(self.record.plans[again.plan].streams))
-            return replace(self.outcome(again, again.plan, streams), has_changed=False)
+        """Begins a plan under a new name."""
         plan = self.check(command.plan)
         self.record.begin(plan)
         number = len(self.record.plans) - 1
@@ -228,11 +238,13 @@ class NamedController(Controller):
     def begin_reopening(self, command: Reopened) -> Outcome:
         """Begins a reopening, or replaces the one under way."""
         refuse_first([*double_cells(command.document), *bad_leads(command.document)])
+        kept = [it for it in command.document.servers if it in command.lost]
+        if kept:
+            raise refuse("LostServer", server=kept[0])
         numbering = self.numbering.after(command.document)
         lost = frozenset(numbering.server_numbers[it] for it in command.lost if it in numbering.server_numbers)
         document = numbering.document(command.document)
         model = commands.Reopen(document, lost, command.journal, command.epoch)
-        self.epoch_of(model)
         self.renumber(numbering)
         self.next_document, self.strays = command.document, {}
         return self.reopen(model)
@@ -295,6 +307,12 @@ class NamedController(Controller):
             down=frozenset(numbers[it] for it in document.down),
         )
 
+    def awaits(self, server: int | None, base: int) -> bool:
+        """Returns whether this would be the first answer of a server to the fence."""
+        reopening = self.reopening
+        is_open = reopening is not None and base == reopening.base and not reopening.settles
+        return is_open and server in reopening.targets and server not in reopening.inventories
+
     def take_inventory(self, server: int, base: int, told: Told) -> Outcome:
         """Takes the first answer of a server to the fence."""
         outcome = self.fenced(commands.Fenced(server, base, told.found))
@@ -302,11 +320,13 @@ class NamedController(Controller):
             self.strays[server] = told.strays
         return outcome
 
+    def may_confirm(self, base: int) -> bool:
+        """Returns whether a reopening with this base waits to be confirmed, or will."""
+        return self.reopening is not None and not self.reopening.settles and base == self.reopening.base
+
     def confirm_cells(self, base: int, chosen: dict[int, tuple[Cell, ...]]) -> Outcome:
         """Accepts the proposal, with these cells of some shards in place of the proposed ones."""
         reopening = self.reopening
-        if reopening is None or reopening.settles or base != reopening.base:
-            return Outcome(Ignored("old"), has_changed=False)
         waits_for = reopening.waits_for()
         if waits_for:
             raise Refusal(missing(self.server_name(waits_for[0])))

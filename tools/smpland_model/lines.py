@@ -2,14 +2,14 @@
 from __future__ import annotations
 
 import re
-from collections.abc import Iterator
+from collections.abc import Iterable, Iterator
 from dataclasses import dataclass, field
 from typing import Any
 
 from driving_model.messages import LAST_EPOCH
 from smplan import reading
 from smplan.faults import Fault, FaultKind, answered
-from smplan.limits import MOST_LOAD, MOST_MOVES, MOST_NUMBER, MOST_SERVERS
+from smplan.limits import MOST_BYTES, MOST_LOAD, MOST_MOVES, MOST_NUMBER, MOST_SERVERS
 from smplan.reading import Names, Reader, Row, entries, flag, keyed, kind_of, list_of, maybe, name, object_here, one
 from smplan.reading import own_faults, shape, up_to, word
 
@@ -23,8 +23,8 @@ HEX = re.compile(r"(?=.*[1-9a-f])[0-9a-f]{1,16}")
 CELLS = ("absent", "prepared", "secondary", "primary", "forwarding")
 ANSWERS = ("old", "refused", "foreign", "not_ready")
 
-# What the faults of `reading` say of a member that does not belong where it stands.
-UNKNOWN_MEMBER = ("no member is named", "a stream has 'retries'")
+# The entry of a list inside a command, or of a list inside such an entry.
+ENTRY = re.compile(r"\$(\.[a-z]+\[\d+\])+")
 
 
 class BadLine(Exception):
@@ -180,53 +180,52 @@ def tables(names: Names) -> dict[str, list[Row]]:
     }
 
 
-def inner_faults(value: Json, do: str, known: Known) -> Iterator[Fault]:
+def document_faults(document: Json) -> Iterator[Fault]:
+    """Yields the faults of a document in a command. The place of one is that of a member somewhere below."""
+    return below("document", reading.document_faults(document))
+
+
+def below(owner: str, faults: Iterable[Fault]) -> Iterator[Fault]:
+    """Yields the faults in a document or a plan. The program tells the member, and no path to it."""
+    for fault in faults:
+        at = "" if fault.member == owner else f"..{fault.member}"
+        yield Fault(fault.kind, fault.member, f"$.{owner}{at}", f"in {owner}: {fault.what}")
+
+
+def inner_faults(value: Json, known: Known) -> Iterator[Fault]:
     """Yields the faults of the objects in a command, whose own members are as they should be."""
-    reader = known.reader
-    if do in ("open", "reopen") and isinstance(value.get("document"), dict):
-        for fault in reading.document_faults(value["document"]):
-            yield Fault(fault.kind, fault.member, "$.document" + fault.place[1:], fault.what)
-    elif do in ("begin", "check") and isinstance(value.get("plan"), dict):
-        yield from reader.plan("plan", value["plan"], "$.plan")
-    elif do == "moves":
-        for entry, inner in entries(value, "moves", "$"):
-            yield from own_faults("moves", reader.moves, entry, inner)
-    elif do == "fenced":
-        yield from inventory_faults(value)
-        yield from slot_faults(value, "$", ASKED)
-    elif do == "audit":
-        yield from slot_faults(value, "$", NEEDED)
-    elif do == "confirm":
-        yield from chosen_faults(value, "$", known.next_names)
+    match value["do"]:
+        case "open" | "reopen":
+            yield from document_faults(value["document"])
+        case "begin" | "check":
+            yield from below("plan", known.reader.plan("plan", value["plan"], "$.plan"))
+        case "moves":
+            for entry, inner in entries(value, "moves", "$"):
+                yield from own_faults("moves", known.reader.moves, entry, inner)
+        case "fenced":
+            yield from slot_faults(value, "$", ASKED)
+        case "audit":
+            yield from slot_faults(value, "$", NEEDED)
+        case "confirm":
+            yield from chosen_faults(value, "$", known.next_names)
 
 
 def line_faults(value: Any, known: Known) -> Iterator[Fault]:
-    """Yields all faults of the JSON value of a line."""
+    """Yields the faults of a command's own members."""
     if not isinstance(value, dict):
         yield shape("command", "$", f"an object belongs here, not {kind_of(value)}")
         return
-    do = value.get("do")
     yield from reading.worded_faults("command", "do", known.tables, value, "$")
-    if isinstance(do, str) and do in known.tables:
-        yield from inner_faults(value, do, known)
+    if value.get("do") == "fenced":
+        yield from inventory_faults(value)
 
 
-def owner_of_member(value: Any, place: str) -> str:
-    """Returns the path of the object that has an unknown member, by the path of that member."""
-    at, rest = "$", place[1:]
-    while True:
-        if isinstance(value, dict) and rest[:1] == "." and rest[1:] in value:
-            return at
-        step = re.match(r"\.([a-z_]+)|\[(\d+)\]", rest)
-        if step is None:
-            return at
-        value = value[step[1]] if step[1] else value[int(step[2])]
-        at, rest = at + step[0], rest[step.end():]
-
-
-def path_of(fault: Fault, value: Any) -> str:
+def path_of(fault: Fault) -> str:
     """Returns the path of what a fault is about: of a missing or an unknown member, the object that it is a member of."""
-    return owner_of_member(value, fault.place) if fault.what.startswith(UNKNOWN_MEMBER) else fault.place
+    if not fault.what.startswith("no member is named"):
+        return fault.place
+    entry = ENTRY.match(fault.place)
+    return entry[0] if entry else "$"
 
 
 def identity_of(value: Any) -> Any:
@@ -235,12 +234,28 @@ def identity_of(value: Any) -> Any:
     return None if found is None or any(identity(found, "$.id", "id")) else found
 
 
-def read(line: bytes, known: Known) -> Json:
-    """Returns the command of a line, or raises `BadLine`."""
-    text = reading.read_text(line)
-    if text.fault:
-        raise BadLine(text.fault, "$", None)
-    fault = answered(line_faults(text.value, known))
+def refuse_bad(faults: Iterable[Fault], identity: Any) -> None:
+    """Raises `BadLine` for the fault that counts, if there is one."""
+    fault = answered(faults)
     if fault:
-        raise BadLine(fault, path_of(fault, text.value), identity_of(text.value))
+        raise BadLine(fault, path_of(fault), identity)
+
+
+def is_bare(line: bytes) -> bool:
+    """Returns whether nothing stands round the text of a line."""
+    return line == line.strip(b" \t\r\n")
+
+
+def read(line: bytes, known: Known) -> Json:
+    """Returns the command of a line, whose inner objects were not looked at. Raises `BadLine` if it is none."""
+    text = reading.read_text(line)
+    if text.fault or (isinstance(text.value, dict) and not is_bare(line)):
+        kind = FaultKind.TOO_LONG if len(line) > MOST_BYTES else FaultKind.NOT_JSON
+        raise BadLine(Fault(kind, None, "$", "the line is no JSON object"), "$", None)
+    refuse_bad(line_faults(text.value, known), identity_of(text.value))
     return text.value
+
+
+def read_inside(command: Json, known: Known) -> None:
+    """Looks at the objects inside a command. Raises `BadLine` if one has a fault."""
+    refuse_bad(inner_faults(command, known), command.get("id"))

@@ -31,7 +31,7 @@ class Session:
         self.controller = NamedController()
         self.writer = Writer(self.controller)
         self.history = History(self.controller)
-        self.asking = Asking(self.controller, self.writer, self.history, program)
+        self.asking = Asking(self.controller, self.writer, self.history, self.read_inside, program)
         self.known = known_of(self.controller)
         # The restore of each server that was recorded last, as it was told.
         self.restores: dict[str, Json] = {}
@@ -42,9 +42,9 @@ class Session:
         """Returns the reply to a line."""
         try:
             command = lines.read(line, self.known)
+            return identified(command.get("id"), self.done(command))
         except BadLine as bad:
             return identified(bad.identity, {"bad": bad.told})
-        return identified(command.get("id"), self.done(command))
 
     @staticmethod
     def reply_to_long() -> Json:
@@ -130,16 +130,24 @@ class Session:
 
     # Commands.
 
+    def read_inside(self, command: Json) -> None:
+        """Looks at the objects inside a command, once it is known that they count."""
+        lines.read_inside(command, self.known)
+
     def open(self, command: Json) -> Outcome:
         """Opens a settled placement."""
+        self.controller.check_first()
+        self.read_inside(command)
         document = document_of(command["document"])
         return self.controller.open_document(document, int(command["journal"], 16), command["epoch"])
 
     def begin(self, command: Json) -> Outcome:
         """Begins a plan."""
         controller = self.controller
-        if command["name"] not in controller.begun:
-            controller.need_open()
+        if command["name"] in controller.begun:
+            return controller.begun_before(command["name"])
+        controller.need_open()
+        self.read_inside(command)
         return controller.begin(Beginning(command["name"], plan_of(command["plan"])))
 
     def answered(self, command: Json) -> Outcome:
@@ -171,6 +179,8 @@ class Session:
     def reopen(self, command: Json) -> Outcome:
         """Begins a reopening."""
         journal = int(command["journal"], 16) if "journal" in command else None
+        self.controller.check_journal(journal, command.get("epoch"))
+        self.read_inside(command)
         document = document_of(command["document"])
         return self.controller.begin_reopening(Reopened(document, command.get("lost", []), journal, command.get("epoch")))
 
@@ -178,8 +188,9 @@ class Session:
         """Takes what a server has."""
         controller = self.controller
         server = controller.numbering.server(command["server"])
-        if controller.reopening is None or server is None:
+        if not controller.awaits(server, command["base"]):
             return Outcome(replies.Ignored("old"), has_changed=False)
+        self.read_inside(command)
         return controller.take_inventory(server, command["base"], self.inventory(command))
 
     def inventory(self, command: Json) -> Told:
@@ -202,14 +213,14 @@ class Session:
 
     def confirm(self, command: Json) -> Outcome:
         """Confirms what is settled."""
+        if not self.controller.may_confirm(command["base"]):
+            return Outcome(replies.Ignored("old"), has_changed=False)
+        self.read_inside(command)
         return self.controller.confirm_cells(command["base"], self.chosen(command.get("cells", [])))
 
     def chosen(self, shards: list[Json]) -> dict[int, tuple[Cell, ...]]:
         """Returns cells that are to be settled in place of the proposed ones."""
-        controller = self.controller
-        if controller.reopening is None:
-            return {}
-        numbering = controller.numbering
+        numbering = self.controller.numbering
         chosen = {}
         for shard in shards:
             row = [Cell(Kind.ABSENT)] * len(numbering.servers)
