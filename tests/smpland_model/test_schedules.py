@@ -15,8 +15,9 @@ from smpland_model.session import Session
 from plain_commands import command_json, has_two_primaries, line_form, present, reply_form, with_own_cells, without
 
 SEEDS = range(1, 41)
-# What only lines are refused for: a model that opens a document does not look whether its cells may be moved.
-STRICTER = ("Moved", "NoPrimary")
+# What only lines are refused for: the model does not look whether replicas come or go, and leaves a shard whose primary is
+# lost to the operator, if the document names none.
+STRICTER = ("Moved", "NoPrimary", "Missing")
 
 
 class Divergence(Exception):
@@ -45,14 +46,29 @@ class Pair:
         self.coverage[" ".join(map(str, [next(iter(found)), found.get("refused", "")]))] += 1
         if found.get("refused") in STRICTER and "settle" in expected:
             raise Divergence
-        if isinstance(command, commands.Confirm) and "refused" in expected:
+        if "refused" in expected and (isinstance(command, commands.Confirm) or found.get("refused") == "UnknownServer"):
+            # (there the two look at faults in another order)
             case.assertIn("refused", found)
             expected = found
+        if self.has_other_heir(expected, found):
+            self.coverage["other heir"] += 1
+            return
         case.assertEqual(expected, self.same_permit(found), f"{command} -> {outcome.reply}; {json.dumps(line)} -> {told}")
         case.assertEqual([it["number"] for it in told.get("orders", [])] if "again" not in told else [], [it.number for it in outcome.orders])
         self.note_permits(outcome.reply, told)
         orders = self.session.reply(b'{"do":"orders"}')["orders"]
         case.assertEqual([without(it, "primary", "replicas") for it in orders], present(self.model))
+
+    @staticmethod
+    def has_other_heir(expected: dict, found: dict) -> bool:
+        """Returns whether the model proposes no primary for a shard, and the session one, or waits for it."""
+        if "proposal" not in expected or expected == found:
+            return False
+        without_primary = [all(it["state"] != "primary" for it in row) for row in expected["proposal"]["cells"]]
+        if "waiting" in found:
+            return any(without_primary)
+        pairs = zip(without_primary, expected["proposal"]["cells"], found["proposal"]["cells"])
+        return all(theirs == ours or is_without for is_without, theirs, ours in pairs)
 
     def same_permit(self, found: dict) -> dict:
         """Returns a reply with the model's number of a permit."""

@@ -18,7 +18,7 @@ from driving_model.replies import Ignored, Outcome
 from driving_model.reopening import Reopening
 from smpland_model import words
 from smpland_model.numbering import Numbering, moved
-from smpland_model.settling import Settlement
+from smpland_model.reopening import NamedReopening
 from smplan import model as documents
 from smplan.placement import Placement, double_cells, bad_leads, opening_findings
 from smplan.verdict import log_findings, plan_findings
@@ -85,8 +85,6 @@ class NamedController(Controller):
         self.document: documents.Document | None = None
         self.next_document: documents.Document | None = None
         self.start: Placement | None = None
-        # What servers have of shards that the document of the reopening under way leaves out.
-        self.strays: dict[int, list[str]] = {}
 
     # Names.
 
@@ -245,9 +243,18 @@ class NamedController(Controller):
         lost = frozenset(numbering.server_numbers[it] for it in command.lost if it in numbering.server_numbers)
         document = numbering.document(command.document)
         model = commands.Reopen(document, lost, command.journal, command.epoch)
+        self.note_settles()
         self.renumber(numbering)
-        self.next_document, self.strays = command.document, {}
-        return self.reopen(model)
+        self.next_document = command.document
+        outcome = self.reopen(model)
+        self.reopening = NamedReopening.of(self.reopening, numbering)
+        return outcome
+
+    def note_settles(self) -> None:
+        """Notes to whom the reopening that is replaced has sent a settle, as long as the numbers are those of its document."""
+        if self.reopening:
+            self.settle_sent |= {it.server for it in self.reopening.settles}
+            self.reopening.settles = ()
 
     def renumber(self, numbering: Numbering) -> None:
         """Gives servers and shards the numbers of a new document."""
@@ -315,10 +322,8 @@ class NamedController(Controller):
 
     def take_inventory(self, server: int, base: int, told: Told) -> Outcome:
         """Takes the first answer of a server to the fence."""
-        outcome = self.fenced(commands.Fenced(server, base, told.found))
-        if outcome.has_changed:
-            self.strays[server] = told.strays
-        return outcome
+        self.reopening.strays[server] = told.strays
+        return self.fenced(commands.Fenced(server, base, told.found))
 
     def may_confirm(self, base: int) -> bool:
         """Returns whether a reopening with this base waits to be confirmed, or will."""
@@ -332,7 +337,7 @@ class NamedController(Controller):
             raise Refusal(missing(self.server_name(waits_for[0])))
         proposed = reopening.propose().cells
         cells = tuple(chosen.get(shard, row) for shard, row in enumerate(proposed))
-        fault = Settlement(reopening, self.numbering, self.strays, cells).fault()
+        fault = reopening.fault(cells)
         if fault:
             raise Refusal(fault)
         return self.confirm(commands.Confirm(base, cells))
@@ -341,4 +346,4 @@ class NamedController(Controller):
         """Opens the epoch of a reopening."""
         super().put_in_force(reopening)
         self.document, self.next_document = self.next_document, None
-        self.start, self.strays = Placement(self.document), {}
+        self.start = Placement(self.document)

@@ -200,13 +200,11 @@ class Session:
         if "unknown" in command:
             return Told(Unknown(int(command["unknown"], 16)))
         numbers = self.controller.numbering.shard_numbers
-        count = len(self.controller.reopening.document.loads)
-        found = [SlotFound(Cell(Kind.ABSENT), 0, False)] * count
+        found = [SlotFound(Cell(Kind.ABSENT), 0, False)] * len(numbers)
         strays = []
         for slot in command["slots"]:
-            number = numbers.get(slot["shard"], count)
-            if number < count:
-                found[number] = slot_found(slot)
+            if slot["shard"] in numbers:
+                found[numbers[slot["shard"]]] = slot_found(slot)
             elif slot["cell"] != "absent":
                 strays.append(slot["shard"])
         return Told(Inventory(tuple(found)), strays)

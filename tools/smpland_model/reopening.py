@@ -1,0 +1,199 @@
+"""A reopening as the proved crate has it: who inherits a shard, what is proposed, and why cells may not be settled.
+
+Over the model's it has two things more. A shard whose primary is lost goes to a secondary even if the document names no
+primary for it. And no replica comes or goes by a reopening, but at servers that are Unknown.
+"""
+from __future__ import annotations
+
+from collections.abc import Iterator
+from dataclasses import dataclass, field, fields
+
+from driving_model.cells import ABSENT, Cell, Kind, PRIMARY, SECONDARY
+from driving_model.commands import Cells
+from driving_model.messages import Inventory, SlotFound, Unknown
+from driving_model.record import primary_of
+from driving_model.reopening import Reopening
+from driving_model.replies import Proposal, Refused
+from smpland_model import words
+from smpland_model.numbering import Numbering
+
+Json = words.Json
+HANDED = (Kind.PREPARED, Kind.FORWARDING)
+ABSENT_SLOT = SlotFound(ABSENT, 0, False)
+
+# A claim to a shard, and of equal claims the position of its writes.
+Standing = tuple[int, int]
+
+
+def claim(cell: Cell, has_reached_cut: bool) -> int:
+    """Returns how good a claim to a shard a cell gives."""
+    claims = {Kind.ABSENT: 0, Kind.SECONDARY: 2, Kind.FORWARDING: 3, Kind.PRIMARY: 4}
+    return claims.get(cell.kind, 3 if has_reached_cut else 1)
+
+
+def keeps(told: Cell, settled: Cell) -> bool:
+    """Returns whether a server that told a cell may be settled with another one: a primary stays, a secondary stays or
+    becomes the primary, a party of a handover becomes the primary or gives the shard up."""
+    kept = {Kind.PRIMARY: [PRIMARY], Kind.SECONDARY: [SECONDARY, PRIMARY], Kind.ABSENT: [ABSENT]}
+    return settled in kept.get(told.kind, [PRIMARY, ABSENT])
+
+
+@dataclass(slots=True)
+class NamedReopening(Reopening):
+    """A reopening whose servers and shards have names. `strays` has the shards that a server told of and that nobody knows."""
+
+    numbering: Numbering = field(default_factory=Numbering)
+    strays: dict[int, list[str]] = field(default_factory=dict)
+
+    @classmethod
+    def of(cls, reopening: Reopening, numbering: Numbering) -> NamedReopening:
+        """Returns a reopening of the model with names."""
+        return cls(*(getattr(reopening, it.name) for it in fields(Reopening)), numbering=numbering)
+
+    # Who inherits a shard.
+
+    @property
+    def servers(self) -> range:
+        """All servers, those that the document leaves out too."""
+        return range(len(self.document.rooms))
+
+    @property
+    def shards(self) -> range:
+        """The document's shards."""
+        return range(len(self.document.loads))
+
+    def recorded(self, shard: int, server: int) -> Cell:
+        """Returns what is recorded of a shard and a server."""
+        cells = self.record.cells if self.record else []
+        return cells[shard][server] if shard < len(cells) else ABSENT
+
+    def told(self, shard: int, server: int) -> SlotFound | None:
+        """Returns what a server has told of a shard, if it has its slots."""
+        found = self.inventories.get(server)
+        if not isinstance(found, Inventory):
+            return None
+        return found.slots[shard] if shard < len(found.slots) else ABSENT_SLOT
+
+    def is_silent(self, server: int) -> bool:
+        """Returns whether a server that is asked has not answered, and counts as it is recorded."""
+        is_down = self.record is not None and server in self.record.permits
+        is_asked = server in self.targets and server not in self.inventories
+        return is_asked and is_down and server not in self.already_settled
+
+    def standing(self, shard: int, server: int) -> Standing:
+        """Returns how well a server may inherit a shard."""
+        if self.is_silent(server):
+            return claim(self.recorded(shard, server), False), 0
+        slot = self.told(shard, server)
+        return (claim(slot.cell, slot.has_reached_cut), slot.position) if slot else (0, 0)
+
+    def documented(self, shard: int, server: int) -> Cell:
+        """Returns what the document has of a shard at a server that is Unknown."""
+        is_unknown = isinstance(self.inventories.get(server), Unknown)
+        return self.document.cells[shard][server] if is_unknown else ABSENT
+
+    def is_led(self, shard: int) -> bool:
+        """Returns whether the shard is one that has a primary, by the record, by what was told, or by the document."""
+        for server in self.servers:
+            slot = self.told(shard, server)
+            cells = [self.recorded(shard, server)] + ([slot.cell] if slot else [])
+            if any(it not in (ABSENT, SECONDARY) for it in cells) or self.document.cells[shard][server] == PRIMARY:
+                return True
+        return False
+
+    def heir_of(self, shard: int) -> int | None:
+        """Returns the server that is proposed as the shard's primary."""
+        if not self.is_led(shard):
+            return None
+        best = max(self.servers, key=lambda it: (self.standing(shard, it), -it))
+        if self.standing(shard, best)[0] > 0:
+            return best
+        return next((it for it in self.servers if self.documented(shard, it) == PRIMARY), None)
+
+    # What is proposed.
+
+    def waits_for(self) -> list[int]:
+        """Who has to answer the fence before anything can be confirmed: who is not carried over, or else who would be a
+        shard's primary and is not recorded so."""
+        awaited = [it for it in self.missing if not (self.is_silent(it) and it in self.document.servers)]
+        if awaited:
+            return awaited
+        heirs = {(it, self.heir_of(it)) for it in self.shards}
+        return sorted({heir for it, heir in heirs if heir in self.missing and self.recorded(it, heir) != PRIMARY})
+
+    def proposed(self, shard: int, server: int, heir: int | None) -> Cell:
+        """Returns the cell that is proposed for a server if the shard goes to this heir."""
+        if server not in self.document.servers:
+            return ABSENT
+        if server == heir:
+            return PRIMARY
+        slot = self.told(shard, server)
+        silent = self.recorded(shard, server) if self.is_silent(server) else ABSENT
+        replicas = [silent, self.documented(shard, server)] + ([slot.cell] if slot else [])
+        return SECONDARY if any(it in (PRIMARY, SECONDARY) for it in replicas) else ABSENT
+
+    def propose(self, choice: int = 0) -> Proposal:
+        """Returns what may be confirmed."""
+        heirs = [self.heir_of(it) for it in self.shards]
+        cells = [tuple(self.proposed(it, server, heirs[it]) for server in self.servers) for it in self.shards]
+        lost = tuple(it for it in self.shards if self.is_bare(None, it, None))
+        return Proposal(self.base, tuple(cells), lost, self.short_floors(cells), tuple(self.missing))
+
+    def is_bare(self, survey: object, shard: int, heir: int | None) -> bool:
+        """Returns whether no server is left that has all of a shard, of which there is or was to be one."""
+        standings = [self.standing(shard, it)[0] for it in self.servers]
+        has_been = any(self.recorded(shard, it) != ABSENT or self.document.cells[shard][it] != ABSENT for it in self.servers)
+        return max(standings, default=0) < 2 and (has_been or max(standings, default=0) > 0)
+
+    # What may be settled.
+
+    def fault_of(self, cells: Cells) -> Refused | None:
+        """The model's own test, which `fault` has in other words."""
+        return None
+
+    def fault(self, cells: Cells) -> Json | None:
+        """Returns why cells may not be settled: of the placement, of the log, or of the first shard and server."""
+        return next((it for part in (self.of_placement(cells), self.of_shards(cells)) for it in part), None)
+
+    def of_placement(self, cells: Cells) -> Iterator[Json]:
+        """Yields what is wrong with cells by themselves."""
+        for shard, row in enumerate(cells):
+            if sum(it == PRIMARY for it in row) > 1:
+                yield words.reported(f"placement refused: 5 BadLead shard {self.numbering.shards[shard]}")
+        for server in sorted(self.document.servers):
+            load = sum(load for load, row in zip(self.document.loads, cells) if row[server] != ABSENT)
+            if load > self.document.rooms[server]:
+                yield words.reported(f"placement refused: 7 OverRoom server {self.numbering.servers[server]}")
+        down = self.document.down | (self.document.servers & set(self.record.permits if self.record else ()))
+        if len(down) > self.document.log:
+            yield words.reported("log refused: 2 LogFull")
+
+    def of_shards(self, cells: Cells) -> Iterator[Json]:
+        """Yields what is wrong with each cell. A shard that the document leaves out is to be nowhere."""
+        nothing = (ABSENT,) * len(self.servers)
+        for shard, name in enumerate(self.numbering.shards):
+            row = cells[shard] if shard < len(cells) else nothing
+            for server in self.servers:
+                kind = self.of_cell(shard, server, row)
+                if kind == "NoPrimary":
+                    yield words.own(kind, shard=name)
+                elif kind:
+                    yield words.own(kind, shard=name, server=self.numbering.servers[server])
+        for server, names in sorted(self.strays.items()):
+            for name in names:
+                yield words.own("StillThere", shard=name, server=self.numbering.servers[server])
+
+    def of_cell(self, shard: int, server: int, row: tuple[Cell, ...]) -> str | None:
+        """Returns what is wrong with a cell, in one word."""
+        if self.is_silent(server) and row[server] != self.recorded(shard, server):
+            return "CarriedOver"
+        if row[server] == PRIMARY and any(self.standing(shard, it) > self.standing(shard, server) for it in self.servers):
+            return "LowerChoice"
+        slot = self.told(shard, server)
+        if slot is None:
+            return None
+        if server not in self.document.servers and slot.cell != ABSENT:
+            return "StillThere"
+        if not keeps(slot.cell, row[server]):
+            return "Primary" if slot.cell == PRIMARY else "Moved"
+        return "NoPrimary" if slot.cell.kind in HANDED and primary_of(row) is None else None
