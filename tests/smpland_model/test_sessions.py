@@ -1,0 +1,52 @@
+"""Sessions worked by hand, of the model, and of the program if $SMPLAND names one."""
+from __future__ import annotations
+
+import os
+import re
+import unittest
+from pathlib import Path
+
+from session_files import FOLDER, Program, exchanges, fault_of, subject, texts
+
+PROGRAM = os.environ.get("SMPLAND", "").split()
+FILES = sorted(FOLDER.glob("*.session"))
+# The refusals that need as many plans as may run, or the planner: test_refusals and test_planning have them.
+ELSEWHERE = {"TooManyPlans", "NotThere", "Held", "NoRoom", "NoPlace", "Spread", "TooMany", "NoProgram"}
+
+
+def documented() -> set[str]:
+    """Returns the refusals that docs/SMPLAND.md has, a row each."""
+    text = (Path(__file__).resolve().parents[2] / "docs" / "SMPLAND.md").read_text()
+    return {word for row in re.findall(r"^\| ((?:`[A-Za-z]+`(?:, )?)+) \|", text, re.M) for word in re.findall(r"`([A-Z][A-Za-z]+)`", row)}
+
+
+class Sessions(unittest.TestCase):
+    """The session files."""
+
+    def test_each_reply_is_what_is_due(self) -> None:
+        """Each line of each file has the reply that stands below it."""
+        self.assertGreater(len(FILES), 4)
+        for path in FILES:
+            replier = subject(PROGRAM or None)
+            for exchange in exchanges(path):
+                reply = replier.reply(exchange.line)
+                self.assertIsNone(fault_of(exchange.due, reply), f"{exchange.place}: {exchange.line[:300]!r} -> {reply}")
+            if isinstance(replier, Program):
+                self.assertEqual(replier.end(), 0)
+
+    def test_a_reply_that_is_not_due_is_told(self) -> None:
+        """The comparison can fail: another text, another path, another member."""
+        bad = {"bad": {"kind": "Shape", "at": "$.x", "text": "bad input: 3 Shape x"}}
+        self.assertIsNone(fault_of("! bad input: 3 Shape x at $.x", bad))
+        self.assertIsNotNone(fault_of("! bad input: 3 Shape x at $", bad))
+        self.assertIsNotNone(fault_of("! refused: Reopening", {"opened": {}}))
+        self.assertIsNotNone(fault_of('< {"up":"a"}', {"up": "b"}))
+
+    def test_each_refusal_comes(self) -> None:
+        """Each refusal that the document tells has a line in some file."""
+        words = {re.search(r"(?:: |denied )(?:\d+ )?([A-Za-z]+)", it)[1] for it in texts(FILES)}
+        self.assertEqual(documented() - ELSEWHERE - words, set())
+
+
+if __name__ == "__main__":
+    unittest.main()
