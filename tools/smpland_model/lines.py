@@ -82,6 +82,13 @@ def reason(value: Any, place: str, member: str) -> Iterator[Fault]:
         yield Fault(FaultKind.TOO_MANY, member, place, f"the text has more than {MOST_WHY} bytes")
 
 
+def epoch_of_fences(value: Any, place: str, member: str) -> Iterator[Fault]:
+    """Tests for an epoch above 0: a fence of number 0 is taken by nobody."""
+    yield from up_to(LAST_EPOCH)(value, place, member)
+    if value == 0 and isinstance(value, int) and not isinstance(value, bool):
+        yield Fault(FaultKind.NUMBER, member, place, "the first epoch of a reopening is 1")
+
+
 def or_null(test: reading.Test) -> reading.Test:
     """Tests for null, or what another test asks for."""
 
@@ -162,7 +169,7 @@ def tables(names: Names) -> dict[str, list[Row]]:
         "new_epoch": [],
         "reopen": [
             one("document", object_here), maybe("lost", names_of_servers), maybe("why", reason),
-            maybe("journal", random_bits), maybe("epoch", up_to(LAST_EPOCH)),
+            maybe("journal", random_bits), maybe("epoch", epoch_of_fences),
         ],
         "fenced": [party, base, maybe("slots", slots), maybe("unknown", random_bits)],
         "confirm": [base, maybe("cells", keyed("shard"))],
