@@ -1,0 +1,43 @@
+"""Runs the load generator until its time is over, or a line comes on standard input or its end (with `--seconds 0`)."""
+from __future__ import annotations
+
+import argparse
+import asyncio
+import json
+import sys
+
+from ..wire import Cluster
+from .load import Generator, Load
+
+
+def arguments() -> argparse.Namespace:
+    """Reads the command line."""
+    parser = argparse.ArgumentParser(prog="cluster.clients", description="Pushes and reads lists all the time.")
+    parser.add_argument("--cluster", required=True)
+    parser.add_argument("--shards", required=True, help="names, with commas between")
+    parser.add_argument("--history", required=True, help="where each request gets a line")
+    parser.add_argument("--seconds", type=float, default=20, help="0: until a line comes on standard input")
+    parser.add_argument("--clients", type=int, default=16)
+    parser.add_argument("--keys", type=int, default=2, help="lists in each shard")
+    parser.add_argument("--reads", type=float, default=0.3, help="how many requests are reads")
+    parser.add_argument("--stray", type=float, default=0.02, help="how many attempts go to any server")
+    parser.add_argument("--pause", type=float, default=0, help="seconds between a client's requests")
+    parser.add_argument("--seed", type=int, default=1)
+    return parser.parse_args()
+
+
+async def main() -> None:
+    """Runs the clients, and prints the figures."""
+    told = arguments()
+    load = Load(tuple(told.shards.split(",")), told.clients, told.keys, told.reads, told.stray, told.pause, told.seed)
+    with open(told.history, "w", encoding="utf-8") as history:
+        generator = Generator(Cluster.read(told.cluster), load, history)
+        stopping = asyncio.Event()
+        if not told.seconds:
+            asyncio.get_running_loop().add_reader(sys.stdin, stopping.set)
+        await generator.run_until(stopping, told.seconds)
+    print(json.dumps(generator.figures()), flush=True)
+
+
+if __name__ == "__main__":
+    asyncio.run(main())

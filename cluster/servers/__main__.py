@@ -1,0 +1,52 @@
+"""Runs a server: `python3 -m cluster.servers --name a --cluster FILE --dir DIR`."""
+from __future__ import annotations
+
+import argparse
+import asyncio
+from pathlib import Path
+
+from ..wire import LONGEST_LINE, Cluster, listen
+from .bugs import BUGS
+from .server import Server
+from .store import Store, open_redis, start_redis
+
+
+def arguments() -> argparse.Namespace:
+    """Reads the command line."""
+    parser = argparse.ArgumentParser(prog="cluster.servers", description="A server of the cluster.")
+    parser.add_argument("--name", required=True)
+    parser.add_argument("--cluster", required=True, help="where everybody is")
+    parser.add_argument("--dir", required=True, type=Path, help="where its redis-server keeps its data")
+    for port in ("control", "clients", "peers"):
+        parser.add_argument(f"--listen-{port}", type=int, help="a port instead of that of the cluster's file")
+    parser.add_argument("--lose-slots", action="store_true", help="begin as Unknown, with the data")
+    parser.add_argument("--think", type=float, default=0, help="seconds that a request runs at most before it changes anything")
+    parser.add_argument("--bug", choices=sorted(BUGS), help="plant a bug")
+    return parser.parse_args()
+
+
+async def main() -> None:
+    """Starts the server and serves until the process is ended."""
+    told = arguments()
+    told.dir.mkdir(parents=True, exist_ok=True)
+    child = start_redis(told.dir)
+    store = Store(await open_redis(told.dir))
+    await store.load()
+    cluster = Cluster.read(told.cluster)
+    server = Server(told.name, cluster, store, told.bug, told.think)
+    await server.start(told.lose_slots)
+    entry = cluster.servers[told.name]
+    ports = {it: getattr(told, f"listen_{it}") or getattr(entry, it).port for it in ("control", "clients", "peers")}
+    host = entry.control.host
+    await listen(type(entry.control)(host, ports["control"]), server.control)
+    await asyncio.start_server(server.requests.serve, host, ports["clients"], limit=1 << 26)
+    await asyncio.start_server(server.serve_peer, host, ports["peers"], limit=LONGEST_LINE)
+    print("ready", flush=True)
+    server.fail(ConnectionError(f"redis-server ended: {await asyncio.to_thread(child.wait)}"))
+
+
+if __name__ == "__main__":
+    try:
+        asyncio.run(main())
+    except KeyboardInterrupt:
+        pass

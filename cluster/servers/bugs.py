@@ -1,0 +1,18 @@
+"""Bugs that can be planted in a server (`--bug NAME`), so that the checkers can be seen to find them."""
+from __future__ import annotations
+
+BUGS = {
+    "no-numbers": "an order is judged by the cell alone, whatever was done before",
+    "execute-prepared": "a new owner executes requests before it has taken over",
+    "slot-deleted": "a drop deletes the slot, and with it the last number",
+    "commit-before-copy": "prepare_add commits at once, and copies afterwards",
+    "drop-while-writing": "prepare_drop commits while requests run, and executes on until then",
+    "tail-not-copied": "the writes that came after the copy are counted, and not applied",
+    "no-identities": "no identity of a request is remembered",
+    "restore-without-nonce": "a restore is taken whatever nonce it names",
+    "commit-after-fence": "work that began before a fence commits after it",
+    "settle-twice": "a settle is taken each time it comes",
+    "add-without-cut": "a new owner takes over before the writes up to the cut are there",
+    "fence-while-passed": "a fence is answered while a request that was passed on runs",
+    "change-while-writing": "change to secondary commits while requests run, and before the secondaries have all writes",
+}

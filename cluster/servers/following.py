@@ -1,0 +1,183 @@
+"""The side of a server that follows a shard's writes: a secondary, a new owner up to the cut, and an old owner behind it."""
+from __future__ import annotations
+
+import asyncio
+from typing import TYPE_CHECKING
+
+from smplan import agent
+from smplan.agent import Cell
+
+from ..wire import Message, line_of, open_lines, read_message
+from . import limits
+from .shard import Entry, Shard
+
+if TYPE_CHECKING:
+    from .server import Server
+
+
+class Elsewhere(Exception):
+    """The server asked is not the source; `hint` may be."""
+
+    def __init__(self, hint: str | None = None) -> None:
+        super().__init__(hint)
+        self.hint = hint
+
+
+class Following:
+    """Follows one shard until it is stopped. `joined` is set once the source waits for this server with each write."""
+
+    def __init__(self, server: "Server", shard: Shard, hint: str | None, is_fresh: bool) -> None:
+        self.server, self.store, self.shard = server, server.store, shard
+        self.hint, self.is_fresh = hint, is_fresh
+        self.joined = asyncio.Event()
+        self.writer: asyncio.StreamWriter | None = None
+        self.tries = 0
+        self.task = asyncio.create_task(self.run())
+
+    def stop(self, leaves: bool = False) -> None:
+        """Ends the following; `leaves` tells the source that nothing of the shard is left here."""
+        if self.shard.following is self:
+            self.shard.following = None
+        if self.writer is not None and not self.writer.is_closing():
+            if leaves:
+                self.writer.write(line_of({"leave": {}}))
+            self.writer.close()
+        self.task.cancel()
+
+    def source(self) -> str:
+        """Whom to ask next: the other party of a handover, the server that is said to be the primary, or the others in turn."""
+        cell = self.shard.slot.cell
+        if cell in (Cell.PREPARED, Cell.FORWARDING):
+            return self.server.party(self.shard)
+        if self.hint is not None and self.hint != self.server.name and self.tries % 2 == 0:
+            return self.hint
+        names = sorted(it for it in self.server.cluster.servers if it != self.server.name)
+        return names[self.tries // 2 % len(names)]
+
+    async def run(self) -> None:
+        """Follows one source after the other."""
+        pause = 0.02
+        while True:
+            source = self.source()
+            try:
+                await self.follow(source)
+            except Elsewhere as elsewhere:
+                self.hint = elsewhere.hint or self.hint
+            except (OSError, EOFError, TimeoutError):
+                pass
+            self.tries += 1
+            if self.joined.is_set():
+                pause, self.tries, self.hint = 0.02, 0, source
+            self.joined.clear()
+            await asyncio.sleep(pause)
+            pause = min(pause * 1.4, 0.15)
+
+    async def follow(self, source: str) -> None:
+        """Follows a source until the connection ends."""
+        reader, self.writer = await asyncio.wait_for(open_lines(self.server.cluster.servers[source].peers), limits.STEP)
+        try:
+            position, chain = (-1, "") if self.is_fresh else (self.shard.position, self.shard.chain)
+            ask = {"shard": self.shard.name, "from": self.server.name, "position": position, "chain": chain}
+            self.writer.write(line_of({"follow": ask}))
+            first = await asyncio.wait_for(read_message(reader), limits.COPYING)
+            await self.take_all([first or {"nothere": {}}], source)
+            queue: asyncio.Queue[Message | None] = asyncio.Queue()
+            reading = asyncio.create_task(self.read(reader, queue))
+            try:
+                await self.take_queue(queue, source)
+            finally:
+                reading.cancel()
+        finally:
+            self.writer.close()
+
+    async def read(self, reader: asyncio.StreamReader, queue: "asyncio.Queue[Message | None]") -> None:
+        """Reads ahead, so that writes that came together are stored together."""
+        while True:
+            message = await read_message(reader)
+            queue.put_nowait(message)
+            if message is None:
+                return
+
+    async def take_queue(self, queue: "asyncio.Queue[Message | None]", source: str) -> None:
+        """Takes what has come, again and again."""
+        while True:
+            batch = [await queue.get()]
+            while not queue.empty():
+                batch.append(queue.get_nowait())
+            await self.take_all([it for it in batch if it is not None], source)
+            if None in batch:
+                raise EOFError
+
+    async def take_all(self, batch: list[Message], source: str) -> None:
+        """Takes messages of the source in their order, and acknowledges the writes among them."""
+        async with self.shard.lock:
+            if self.shard.following is not self:
+                raise asyncio.CancelledError
+            writes: list[Entry] = []
+            for message in batch:
+                if "write" in message:
+                    writes.append(Entry.of(message["write"]))
+                elif "tail" in message:
+                    writes += map(Entry.of, message["tail"])
+                else:
+                    await self.apply(writes)
+                    writes = []
+                    await self.take(message, source)
+            await self.apply(writes)
+        self.writer.write(line_of({"ack": self.shard.position}))
+        self.shard.wake()
+
+    async def take(self, message: Message, source: str) -> None:
+        """Takes a message that is no write."""
+        shard = self.shard
+        if "copy" in message:
+            await self.take_copy(message["copy"], source)
+        elif "joined" in message or "members" in message:
+            members = message["joined"]["members"] if "joined" in message else message["members"]
+            if set(members) != shard.members:
+                await self.store.save(self.store.member_commands(shard.name, set(members)))
+                shard.members = set(members)
+            if "joined" in message:
+                self.joined.set()
+        elif "seal" in message:
+            await self.take_seal(message["seal"]["handover"], message["seal"]["cut"])
+        elif "moved" in message:
+            raise Elsewhere(message["moved"]["to"])
+        else:
+            raise Elsewhere(message.get("nothere", {}).get("hint"))
+
+    async def take_copy(self, copy: Message, source: str) -> None:
+        """Puts the source's copy in place of what is here."""
+        shard = self.shard
+        commands = await self.store.copy_commands(shard.name, copy)
+        await self.store.save(commands, "copy", shard=shard.name, source=source, position=copy["position"])
+        shard.position, shard.chain, shard.members = copy["position"], copy["chain"], set(copy["members"])
+        self.is_fresh = False
+
+    async def take_seal(self, handover: int, cut: int) -> None:
+        """The old owner has ended its writes at its cut. It is to have all that is executed here from now on."""
+        shard = self.shard
+        after = agent.seal(shard.slot, handover, cut)
+        if after == shard.slot:
+            return
+        members = (shard.members | {self.server.party(shard)}) - {self.server.name}
+        commands = self.store.slot_commands(shard.name, after) + self.store.member_commands(shard.name, members)
+        await self.store.save(commands, "seal", shard=shard.name, handover=handover, cut=cut, position=shard.position)
+        shard.slot, shard.members = after, members
+
+    async def apply(self, entries: list[Entry]) -> None:
+        """Executes writes of the source, all in one transaction."""
+        shard, store = self.shard, self.store
+        entries = [it for it in entries if it.position > shard.position]
+        if not entries:
+            return
+        if entries[0].position != shard.position + 1:
+            raise EOFError
+        commands = []
+        for entry in entries:
+            if self.server.bug != "tail-not-copied" or shard.slot.cell == Cell.SECONDARY:
+                commands += store.entry_commands(shard.name, entry)
+        last = entries[-1]
+        commands += store.mark_commands(shard.name, last.position, last.chain) + store.trim_commands(shard.name, last.position)
+        await store.save(commands)
+        shard.position, shard.chain = last.position, last.chain

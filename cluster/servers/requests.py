@@ -1,0 +1,192 @@
+"""Requests of clients: routed and executed in one act, under the shard's lock; acknowledged when all who are alive have them."""
+from __future__ import annotations
+
+import asyncio
+import time
+from typing import TYPE_CHECKING
+
+from smplan import agent
+from smplan.agent import Answer, Cell, Request
+
+from ..resp import ErrorReply, Part, Reply, encode_reply, read_reply
+from ..wire import Failed, Message
+from . import limits
+from .shard import Entry, Shard, chained
+from .store import data_key
+
+if TYPE_CHECKING:
+    from .server import Server
+
+# For each write the command that tells what its reply will be, and how many words it has at least.
+WRITES = {"SET": None, "INCR": "GET", "APPEND": "STRLEN", "RPUSH": "LLEN"}
+READS = ("GET", "LRANGE")
+LENGTHS = {"SET": (3, 3), "INCR": (2, 2), "APPEND": (3, 3), "RPUSH": (3, 1 << 20), "GET": (2, 2), "LRANGE": (4, 4)}
+
+
+class Requests:
+    """The clients' side of a server."""
+
+    def __init__(self, server: "Server") -> None:
+        self.server, self.store, self.redis = server, server.store, server.store.redis
+
+    # -- connections
+
+    async def serve(self, reader: asyncio.StreamReader, writer: asyncio.StreamWriter) -> None:
+        """Serves a client, one command behind the other."""
+        try:
+            while True:
+                parts = await read_reply(reader)
+                if not isinstance(parts, list) or not all(isinstance(it, bytes) for it in parts) or not parts:
+                    break
+                try:
+                    writer.write(await self.command([it.decode("latin-1") for it in parts]))
+                except ErrorReply as error:
+                    writer.write(encode_reply(error))
+                await writer.drain()
+        except (EOFError, OSError, asyncio.IncompleteReadError, ValueError):
+            pass
+        finally:
+            writer.close()
+
+    async def command(self, parts: list[str]) -> bytes:
+        """Answers one command."""
+        word, identity = parts[0].upper(), None
+        if word == "DO" and len(parts) > 2:
+            identity, parts = parts[1], parts[2:]
+            word = parts[0].upper()
+        if word in LENGTHS:
+            low, high = LENGTHS[word]
+            if not low <= len(parts) <= high:
+                raise ErrorReply(f"ERR wrong number of arguments for '{word}'")
+            shard, colon, key = parts[1].partition(":")
+            if not colon:
+                raise ErrorReply("ERR a key is SHARD:key")
+            return await self.request(shard, identity, (word, key, *parts[2:]))
+        return encode_reply(self.small_talk(word, parts))
+
+    def small_talk(self, word: str, parts: list[str]) -> Reply:
+        """What redis-cli and redis-benchmark ask beside."""
+        if word == "PING":
+            return "PONG"
+        if word in ("CONFIG", "COMMAND"):
+            return []
+        return ErrorReply(f"ERR unknown command '{parts[0]}'")
+
+    # -- requests
+
+    async def request(self, name: str, identity: str | None, command: tuple[str, ...], how: Request = Request()) -> bytes:
+        """Answers a client's request, or one that was passed on: its reply, or an error that says what to do."""
+        shard = self.store.shards.get(name)
+        if shard is None:
+            raise ErrorReply(f"NOTHERE {name}")
+        deadline = time.monotonic() + limits.WAITING
+        while True:
+            async with shard.lock:
+                answer, onward = self.route(shard, how)
+                if answer == Answer.EXECUTE:
+                    shard.running += 1
+            if answer == Answer.EXECUTE:
+                return await self.run(shard, identity, command, how)
+            if answer == Answer.PASS_ON:
+                return await self.pass_on(shard, identity, command, onward)
+            if answer == Answer.NOT_HERE:
+                raise ErrorReply(f"NOTHERE {name}")
+            if not await shard.look_again(deadline):
+                raise ErrorReply(f"TRYAGAIN {name}")
+
+    async def run(self, shard: Shard, identity: str | None, command: tuple[str, ...], how: Request) -> bytes:
+        """Executes a request that counts as running, and returns its reply once all who are alive have the shard's writes."""
+        term = shard.term
+        try:
+            await asyncio.sleep(self.server.think(shard, how))
+            async with shard.lock:
+                if shard.term != term:
+                    raise ErrorReply(f"TRYAGAIN {shard.name}")
+                reply = await self.execute(shard, identity, command, how)
+            await self.server.sources.replicated(shard, shard.position)
+            if shard.term != term:
+                raise ErrorReply(f"LOST {shard.name}")
+            return reply
+        except ConnectionError as error:
+            self.server.fail(error)
+            raise ErrorReply(f"LOST {shard.name}") from error
+        finally:
+            shard.running -= 1
+            shard.wake()
+
+    def route(self, shard: Shard, how: Request) -> tuple[Answer, Request]:
+        """Where a request is executed."""
+        slot, bug = shard.slot, self.server.bug
+        if shard.is_held and shard.is_in_handover:
+            return Answer.NOT_YET, Request()
+        if bug == "execute-prepared" and slot.cell == Cell.PREPARED and slot.handover:
+            return Answer.EXECUTE, Request()
+        return agent.route(self.store.base, slot, shard.position, how)
+
+    # -- execution
+
+    async def execute(self, shard: Shard, identity: str | None, command: tuple[str, ...], how: Request) -> bytes:
+        """Executes a request once. The shard's lock is held."""
+        if command[0] in READS:
+            return await self.read(shard, command, how)
+        done, reply = await asyncio.gather(self.done(shard, identity), self.foreseen(shard, command))
+        if done is not None:
+            return done
+        position, text = shard.position + 1, encode_reply(reply).decode("latin-1")
+        kept = None if self.server.bug == "no-identities" else identity
+        entry = Entry(position, kept, command, text, chained(shard.chain, identity, command))
+        commands = self.store.entry_commands(shard.name, entry) + self.store.trim_commands(shard.name, position)
+        commands += self.store.mark_commands(shard.name, position, entry.chain)
+        await self.store.save(
+            commands, "execute", shard=shard.name, position=position, identity=identity, command=command,
+            passed=self.server.cluster.name_of(how.party) if how.is_passed else None)
+        shard.position, shard.chain = position, entry.chain
+        self.server.sources.send(shard, entry)
+        return text.encode("latin-1")
+
+    async def read(self, shard: Shard, command: tuple[str, ...], how: Request) -> bytes:
+        """Executes a read; history has it with the next change."""
+        word, key, *rest = command
+        reply = await self.redis.call(word, data_key(shard.name, key), *rest)
+        self.store.note("read", shard=shard.name, position=shard.position, command=command, passed=bool(how.is_passed))
+        return encode_reply(reply)
+
+    async def done(self, shard: Shard, identity: str | None) -> bytes | None:
+        """The reply of a request that was executed before."""
+        return await self.redis.call("HGET", f"done:{shard.name}", identity) if identity is not None else None
+
+    async def foreseen(self, shard: Shard, command: tuple[str, ...]) -> Reply:
+        """What a write will reply. Raises if it will fail, so that nothing of it is stored."""
+        word, key, *rest = command
+        if word == "SET":
+            return "OK"
+        before = await self.redis.call(WRITES[word], data_key(shard.name, key))
+        if word == "INCR":
+            try:
+                return int(before or 0) + 1
+            except ValueError as error:
+                raise ErrorReply("ERR value is not an integer or out of range") from error
+        return before + (len(rest[0]) if word == "APPEND" else len(rest))
+
+    # -- passing on
+
+    async def pass_on(self, shard: Shard, identity: str | None, command: tuple[str, ...], onward: Request) -> bytes:
+        """Sends a request to the new owner, and gives its reply back."""
+        to = self.server.cluster.name_of(onward.party)
+        passed = {"shard": shard.name, "identity": identity, "command": command, "handover": onward.handover, "cut": onward.cut,
+                  "from": self.server.name}
+        try:
+            reply = await self.server.peer(to).ask(limits.PASSING, **{"pass": passed})
+        except Failed as failed:
+            raise ErrorReply(f"{'LOST' if failed.kind in ('Lost', 'Late') else failed.kind} {shard.name}") from failed
+        return reply["reply"].encode("latin-1")
+
+    async def take_passed(self, passed: Message) -> Message:
+        """Answers a request that the old owner passes on."""
+        party = self.server.cluster.servers[passed["from"]].number
+        how = Request(passed["handover"], passed["cut"], party, 1)
+        try:
+            reply = await self.request(passed["shard"], passed["identity"], tuple(passed["command"]), how)
+        except ErrorReply as error:
+            raise Failed(error.kind, str(error)) from error
+        return {"reply": reply.decode("latin-1")}

@@ -1,0 +1,410 @@
+"""The server as a whole: its messages, its peers, and how it begins and ends."""
+from __future__ import annotations
+
+import asyncio
+import os
+import random
+import secrets
+import sys
+import time
+from dataclasses import replace
+from typing import Any
+
+from smplan import agent
+from smplan.agent import Answer, Base, Cell, Request, Slot
+
+from ..wire import Channel, Cluster, Failed, Message, read_message, line_of
+from . import limits
+from .following import Following
+from .requests import Requests
+from .shard import CELLS, STATES, Shard
+from .sources import Sources
+from .store import Store
+from .work import Orders
+
+
+def nonce() -> int:
+    """A fresh random number, never 0."""
+    return secrets.randbits(63) | 1
+
+
+def hexadecimal(number: int) -> str:
+    """A journal or a nonce as text."""
+    return f"{number:016x}"
+
+
+class Server:
+    """One server of the cluster."""
+
+    def __init__(self, name: str, cluster: Cluster, store: Store, bug: str | None = None, think: float = 0) -> None:
+        self.name, self.cluster, self.store, self.bug = name, cluster, store, bug
+        self.longest_think = think
+        self.changing = asyncio.Lock()
+        self.peers: dict[str, Channel] = {}
+        self.sources, self.orders, self.requests = Sources(self), Orders(self), Requests(self)
+        self.tasks: set[asyncio.Task[Any]] = set()
+        self.asking: asyncio.Task[None] | None = None
+        self.ended = asyncio.Event()
+
+    # -- beginning and ending
+
+    async def start(self, loses_slots: bool) -> None:
+        """Begins without work, and as Unknown if it has lost its slots or never had any."""
+        commands = []
+        if loses_slots:
+            commands += [("DEL", "base", "slots")]
+            self.store.base = Base()
+            for shard in self.store.shards.values():
+                shard.slot = Slot()
+        if not self.store.base.known and not self.store.base.nonce:
+            self.store.base = agent.forget(nonce())
+            commands += self.store.base_commands(self.store.base)
+        for shard in self.store.shards.values():
+            if shard.slot.at_work:
+                shard.slot = agent.abandon(shard.slot)
+                commands += self.store.slot_commands(shard.name, shard.slot)
+        await self.store.save(commands, "start", server=self.name, loses_slots=loses_slots, known=bool(self.store.base.known))
+        self.begin(self.sources.probe())
+        self.begin(self.keep_notes())
+        self.resume()
+
+    def begin(self, coroutine) -> None:
+        """Begins a task of the server's own; if it fails, so does the server."""
+        task = asyncio.create_task(coroutine)
+        self.tasks.add(task)
+        task.add_done_callback(self.end)
+
+    def end(self, task: "asyncio.Task[Any]") -> None:
+        """Looks at how a task ended."""
+        self.tasks.discard(task)
+        if not task.cancelled() and task.exception() is not None:
+            self.fail(task.exception())
+
+    def fail(self, error: BaseException) -> None:
+        """Ends the process: the store is gone."""
+        print(f"{self.name}: {error!r}", file=sys.stderr, flush=True)
+        os._exit(1)
+
+    async def keep_notes(self) -> None:
+        """Stores what was noted, every now and then."""
+        while True:
+            await asyncio.sleep(0.5)
+            await self.store.save_notes()
+
+    def resume(self) -> None:
+        """Follows whom it has to follow, or asks for its slots."""
+        for shard in self.store.shards.values():
+            if shard.slot.cell in (Cell.PREPARED, Cell.SECONDARY, Cell.FORWARDING):
+                self.start_following(shard)
+        if not self.store.base.known and (self.asking is None or self.asking.done()):
+            self.asking = asyncio.create_task(self.ask_for_slots())
+
+    # -- peers
+
+    def party(self, shard: Shard) -> str:
+        """The other server of the shard's handover."""
+        return self.cluster.name_of(shard.slot.party)
+
+    def peer(self, name: str) -> Channel:
+        """The connection for requests to another server."""
+        if name not in self.peers:
+            self.peers[name] = Channel(self.cluster.servers[name].peers)
+        return self.peers[name]
+
+    async def ask_peer(self, name: str, seconds: float, **request: Any) -> Message | None:
+        """Asks another server; None if it does not answer."""
+        try:
+            return await self.peer(name).ask(seconds, **request)
+        except Failed:
+            return None
+
+    def start_following(self, shard: Shard) -> None:
+        """Follows the shard's writes."""
+        if shard.following is None:
+            shard.following = Following(self, shard, None, is_fresh=False)
+
+    def stop_following(self, shard: Shard, leaves: bool = False) -> None:
+        """Follows the shard's writes no longer."""
+        if shard.following is not None:
+            shard.following.stop(leaves)
+
+    async def serve_peer(self, reader: asyncio.StreamReader, writer: asyncio.StreamWriter) -> None:
+        """Serves another server: a connection for one stream of writes, or for requests."""
+        try:
+            while (message := await read_message(reader)) is not None:
+                if "follow" in message:
+                    await self.sources.serve(reader, writer, message["follow"])
+                    return
+                self.begin(self.answer_peer(message, writer))
+        except asyncio.CancelledError:
+            pass
+        finally:
+            writer.close()
+
+    async def answer_peer(self, message: Message, writer: asyncio.StreamWriter) -> None:
+        """Answers a request of another server."""
+        try:
+            if "pass" in message:
+                reply = await self.requests.take_passed(message["pass"])
+            else:
+                reply = {"has": self.has(message["probe"]["shard"])}
+        except Failed as failed:
+            reply = failed.message()
+        if not writer.is_closing():
+            writer.write(line_of({"id": message["id"], **reply}))
+
+    def has(self, name: str) -> bool | None:
+        """Whether it has anything of a shard, None if it does not know."""
+        shard = self.store.shards.get(name)
+        if not self.store.base.known:
+            return None
+        return shard is not None and (shard.slot.cell != Cell.ABSENT or shard.slot.at_work != 0)
+
+    def think(self, shard: Shard, how: Request) -> float:
+        """How long a request runs before it changes anything."""
+        return random.random() * self.longest_think if self.longest_think else 0
+
+    # -- messages of the controller
+
+    async def control(self, message: Message) -> Message:
+        """Answers a message of the controller."""
+        handlers = {"order": self.orders.take, "fence": self.fence, "settle": self.settle, "restore": self.restore,
+                    "notice": self.notice, "audit": self.audit, "status": self.status}
+        for kind, handler in handlers.items():
+            if kind in message:
+                return await handler(message[kind])
+        raise Failed("Unknown", "no such message")
+
+    async def heed(self, journal: int, number: int) -> None:
+        """Looks at the last reopening that a message names: a server that was not settled at it turns Unknown."""
+        async with self.changing:
+            if self.store.base.known and not agent.heed(self.store.base, journal, number, 1).known:
+                await self.forget()
+
+    async def notice(self, told: Message) -> Message:
+        """Is told of the last reopening."""
+        await self.heed(int(told["journal"], 16), told["fence"])
+        return {"noticed": {"known": bool(self.store.base.known)}}
+
+    async def forget(self) -> None:
+        """Turns Unknown: slots are deleted, data is kept."""
+        async with AllLocks(self.store.shards.values()):
+            base = agent.forget(nonce())
+            await self.store.save([("DEL", "slots"), *self.store.base_commands(base)], "forget", before=self.store.base.number)
+            self.store.base = base
+            for shard in self.store.shards.values():
+                self.end_term(shard, "it has turned Unknown")
+                shard.slot = Slot()
+                self.stop_following(shard)
+                self.sources.close(shard)
+        self.resume()
+
+    def end_term(self, shard: Shard, why: str) -> None:
+        """Work and running requests of the shard come to nothing."""
+        self.orders.drop_work(shard, why)
+        shard.term += 1
+        shard.wake()
+
+    async def fence(self, told: Message) -> Message:
+        """Takes a fence once no request of a handover runs, and answers with all slots or with a nonce."""
+        journal, number = int(told["journal"], 16), told["base"]
+        async with self.changing:
+            if self.store.base.number < number:
+                await self.end_handovers()
+            try:
+                async with AllLocks(self.store.shards.values()):
+                    answer, base = agent.fence(self.store.base, journal, number, nonce())
+                    if answer == Answer.TAKEN:
+                        await self.take_fence(base)
+                    if answer == Answer.IGNORED:
+                        raise Failed("Ignored", "it is not above the base")
+                    return {"fenced": {"server": self.name, "base": number, **self.inventory()}}
+            finally:
+                self.hold(False)
+
+    async def end_handovers(self) -> None:
+        """Lets running requests of handovers end, and none begin."""
+        if self.bug == "fence-while-passed":
+            return
+        self.hold(True)
+        deadline = time.monotonic() + limits.FENCING
+        for shard in self.store.shards.values():
+            while shard.is_in_handover and shard.running:
+                if not await shard.look_again(deadline):
+                    self.hold(False)
+                    raise Failed("GivenUp", f"requests of {shard.name} run")
+
+    def hold(self, is_held: bool) -> None:
+        """Holds requests of handovers back, or no longer."""
+        for shard in self.store.shards.values():
+            if shard.is_held != is_held:
+                shard.is_held = is_held
+                shard.wake()
+
+    async def take_fence(self, base: Base) -> None:
+        """Stores a fence, and ends all work. All locks are held."""
+        commands, slots = self.store.base_commands(base), {}
+        keeps_work = self.bug == "commit-after-fence"
+        for shard in self.store.shards.values():
+            if shard.slot.at_work and not keeps_work:
+                slots[shard.name] = agent.abandon(shard.slot)
+                commands += self.store.slot_commands(shard.name, slots[shard.name])
+        await self.store.save(commands, "fence", base=base.number, slots=self.short_slots())
+        self.store.base = base
+        for shard in self.store.shards.values():
+            if shard.name in slots:
+                shard.slot = slots[shard.name]
+            if not keeps_work:
+                self.orders.drop_work(shard, "a fence has come")
+            shard.wake()
+
+    def short_slots(self) -> dict[str, list]:
+        """Cells and positions, for history."""
+        return {it.name: [STATES[Cell(it.slot.cell)], it.position] for it in self.store.shards.values()
+                if it.slot.cell not in (Cell.ABSENT, Cell.UNKNOWN)}
+
+    def inventory(self) -> Message:
+        """What it tells of its slots, or its nonce if it has none."""
+        if not self.store.base.known:
+            return {"unknown": hexadecimal(self.store.base.nonce)}
+        return {"slots": [self.slot_told(it) for it in self.store.shards.values() if it.slot.cell != Cell.ABSENT]}
+
+    def slot_told(self, shard: Shard) -> Message:
+        """A slot as it is told."""
+        slot = shard.slot
+        told: Message = {"shard": shard.name, "state": STATES[Cell(slot.cell)], "load": slot.load, "position": shard.position}
+        if shard.is_in_handover:
+            told |= {"other": self.party(shard), "handover": slot.handover}
+        return told | ({"reached": shard.has_reached_cut} if slot.cell == Cell.PREPARED else {})
+
+    async def settle(self, told: Message) -> Message:
+        """Takes the slots that end a reopening."""
+        name = told.get("nonce")
+        async with self.changing, AllLocks(self.shards_with(told)):
+            before = self.store.base
+            if self.bug == "settle-twice" and before.number == told["base"] and before.known:
+                before = replace(before, fenced=1)
+            answer, base = agent.settle(before, int(told["journal"], 16), told["base"], name is not None, int(name or "0", 16))
+            if answer == Answer.TAKEN:
+                await self.take(base, told["slots"], "settle")
+        if answer not in (Answer.TAKEN, Answer.AGAIN):
+            raise Failed("Ignored", "it is not for this server now")
+        return {"settled": {"server": self.name, "base": told["base"]}}
+
+    async def restore(self, told: Message) -> Message:
+        """Takes the slots that it asked for under a nonce."""
+        async with self.changing, AllLocks(self.shards_with(told)):
+            named = self.store.base.nonce if self.bug == "restore-without-nonce" else int(told["nonce"], 16)
+            before = self.store.base
+            if self.bug == "restore-without-nonce":
+                before = agent.forget(named or 1)
+            answer, base = agent.restore(before, int(told["journal"], 16), told["fence"], told["base"], named or 1)
+            if answer == Answer.TAKEN:
+                await self.take(base, told["slots"], "restore")
+        if answer != Answer.TAKEN:
+            raise Failed("Ignored", "it did not ask for this now")
+        return {"restored": {"server": self.name, "nonce": told["nonce"]}}
+
+    def shards_with(self, told: Message) -> list[Shard]:
+        """All shards of this server, those that it is to have included."""
+        for slot in told["slots"]:
+            self.store.shard(slot["shard"])
+        return list(self.store.shards.values())
+
+    async def take(self, base: Base, slots: list[Message], kind: str) -> None:
+        """Makes each slot what is brought, in one transaction with the base; what is not brought is absent. All locks are held."""
+        brought = {it["shard"]: it for it in slots}
+        commands, after = self.store.base_commands(base), {}
+        for shard in self.store.shards.values():
+            slot = after[shard.name] = agent.place(shard.slot, self.slot_of(brought.get(shard.name)))
+            commands += self.store.slot_commands(shard.name, slot)
+            if slot.cell == Cell.ABSENT:
+                commands += await self.store.delete_commands(shard.name)
+        positions = {it.name: it.position for it in self.store.shards.values()}
+        told = {name: [STATES[Cell(it.cell)], positions[name]] for name, it in after.items() if it.cell != Cell.ABSENT}
+        await self.store.save(commands, kind, base=base.number, slots=told)
+        self.store.base = base
+        for shard in self.store.shards.values():
+            self.put(shard, after[shard.name])
+        self.resume()
+
+    def put(self, shard: Shard, slot: Slot) -> None:
+        """Makes a slot what was brought, in memory. Its lock is held."""
+        before, shard.slot = shard.slot, slot
+        if slot.cell == before.cell == Cell.PRIMARY:
+            shard.wake()
+            return
+        self.end_term(shard, "the slots were set")
+        self.stop_following(shard, leaves=slot.cell == Cell.ABSENT)
+        if slot.cell != Cell.PRIMARY:
+            self.sources.close(shard)
+        else:
+            shard.seen = {it: time.monotonic() for it in shard.members}
+        if slot.cell == Cell.ABSENT:
+            shard.position, shard.chain, shard.members = 0, "", set()
+
+    def slot_of(self, told: Message | None) -> Slot:
+        """A slot as a settle or a restore brings it."""
+        if told is None:
+            return agent.VACANT
+        party = self.cluster.servers[told["other"]].number if told.get("other") else 0
+        return Slot(cell=CELLS[told["state"]], party=party, handover=told.get("handover") or 0, load=told["load"])
+
+    async def audit(self, _: Message) -> Message:
+        """Tells its base and slots."""
+        base, slots = self.store.base, []
+        for shard in self.store.shards.values():
+            if base.known and (shard.slot.cell != Cell.ABSENT or shard.slot.last > base.number):
+                slots.append(self.slot_told(shard) | {"last": shard.slot.last, "chain": shard.chain})
+        return {"audit": {"server": self.name, "journal": hexadecimal(base.journal), "base": base.number, "known": bool(base.known),
+                          "fenced": bool(base.fenced), "slots": slots}}
+
+    async def status(self, _: Message) -> Message:
+        """Tells what is going on."""
+        shards = self.store.shards.values()
+        return {"status": {"server": self.name, "load": self.store.used(), "running": sum(it.running for it in shards),
+                           "writes": sum(it.position for it in shards if it.slot.cell == Cell.PRIMARY),
+                           "work": sum(it.work is not None for it in shards)}}
+
+    # -- asking for slots
+
+    async def ask_for_slots(self) -> None:
+        """While it is Unknown it asks one controller after the other."""
+        turn = random.randrange(1 << 16)
+        controllers = {name: Channel(address) for name, address in self.cluster.controllers.items()}
+        names = sorted(controllers)
+        while not self.store.base.known and names:
+            name = names[turn % len(names)]
+            turn += 1
+            asked = {"server": self.name, "nonce": hexadecimal(self.store.base.nonce)}
+            try:
+                if not self.store.base.fenced:
+                    reply = await controllers[name].ask(limits.STEP, restore=asked)
+                    if isinstance(reply.get("restore"), dict) and "slots" in reply["restore"]:
+                        await self.restore(reply["restore"])
+            except Failed:
+                pass
+            await asyncio.sleep(limits.ASKING)
+        for channel in controllers.values():
+            channel.close()
+
+
+class AllLocks:
+    """The locks of several shards, taken in the order of their names."""
+
+    def __init__(self, shards) -> None:
+        self.locks = [it.lock for it in sorted(shards, key=lambda it: it.name)]
+        self.held: list[asyncio.Lock] = []
+
+    async def __aenter__(self) -> None:
+        try:
+            for lock in self.locks:
+                await lock.acquire()
+                self.held.append(lock)
+        except BaseException:
+            await self.__aexit__()
+            raise
+
+    async def __aexit__(self, *_: object) -> None:
+        while self.held:
+            self.held.pop().release()

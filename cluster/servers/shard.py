@@ -1,0 +1,106 @@
+"""What a server holds of a shard in memory: the slot and the mark as they are stored, and who runs, follows and works."""
+from __future__ import annotations
+
+import asyncio
+import hashlib
+import json
+import time
+from dataclasses import dataclass, field
+from typing import TYPE_CHECKING, Any
+
+from smplan.agent import Cell, Slot
+
+if TYPE_CHECKING:
+    from .following import Following
+    from .sources import Stream
+    from .work import Work
+
+
+@dataclass(frozen=True)
+class Entry:
+    """A write as it is stored and sent on: its place, who asked for it, the command, the reply, and a sum over all writes up to it."""
+
+    position: int
+    identity: str | None
+    command: tuple[str, ...]
+    reply: str
+    chain: str
+
+    def text(self) -> str:
+        """As it is stored."""
+        return json.dumps([self.position, self.identity, self.command, self.reply, self.chain], separators=(",", ":"))
+
+    @staticmethod
+    def of(text: str) -> "Entry":
+        """Reads one."""
+        position, identity, command, reply, chain = json.loads(text)
+        return Entry(position, identity, tuple(command), reply, chain)
+
+
+def chained(chain: str, identity: str | None, command: tuple[str, ...]) -> str:
+    """The sum over all writes once one more was executed."""
+    return hashlib.blake2b(json.dumps([chain, identity, command]).encode(), digest_size=8).hexdigest()
+
+
+@dataclass
+class Shard:
+    """One shard at one server. Who changes anything of it holds its lock."""
+
+    name: str
+    slot: Slot
+    position: int = 0
+    chain: str = ""
+    # (who has to have a write before it is acknowledged, as the last source of writes has told it or as this source has it)
+    members: set[str] = field(default_factory=set)
+    lock: asyncio.Lock = field(default_factory=asyncio.Lock)
+    changed: asyncio.Event = field(default_factory=asyncio.Event)
+    running: int = 0
+    is_held: bool = False
+    streams: dict[str, "Stream"] = field(default_factory=dict)
+    seen: dict[str, float] = field(default_factory=dict)
+    following: "Following | None" = None
+    work: "Work | None" = None
+    source: str | None = None
+    term: int = 0
+
+    def wake(self) -> None:
+        """Lets all who wait look again."""
+        self.changed.set()
+        self.changed = asyncio.Event()
+
+    async def look_again(self, deadline: float) -> bool:
+        """Waits until something changes, at most a moment. False once the deadline is over."""
+        left = deadline - time.monotonic()
+        if left <= 0:
+            return False
+        try:
+            await asyncio.wait_for(self.changed.wait(), min(left, 0.2))
+        except TimeoutError:
+            pass
+        return True
+
+    @property
+    def is_source(self) -> bool:
+        """Others may follow its writes: it executes, or has executed up to its cut, or takes over."""
+        cell = self.slot.cell
+        return cell in (Cell.PRIMARY, Cell.FORWARDING) or (cell == Cell.PREPARED and self.has_reached_cut)
+
+    @property
+    def has_reached_cut(self) -> bool:
+        """A new owner has all writes up to the old one's cut."""
+        return bool(self.slot.has_cut) and self.slot.cut <= self.position
+
+    @property
+    def is_in_handover(self) -> bool:
+        """It is the old or the new owner of a handover."""
+        return self.slot.cell in (Cell.PREPARED, Cell.FORWARDING)
+
+
+# The documents' words for cells.
+STATES = {
+    Cell.UNKNOWN: "unknown", Cell.ABSENT: "absent", Cell.PREPARED: "prepared", Cell.SECONDARY: "secondary",
+    Cell.PRIMARY: "primary", Cell.FORWARDING: "forwarding",
+}
+CELLS = {word: cell for cell, word in STATES.items()}
+
+Event = dict[str, Any]

@@ -1,0 +1,194 @@
+"""The side of a server whose writes others follow: it sends them a shard's copy or its last writes, then each write, and waits until all who
+are alive have a write before it is acknowledged."""
+from __future__ import annotations
+
+import asyncio
+import time
+from typing import TYPE_CHECKING
+
+from smplan.agent import Cell
+
+from ..wire import Message, line_of, read_message
+from . import limits
+from .shard import Entry, Shard
+
+if TYPE_CHECKING:
+    from .server import Server
+
+
+class Stream:
+    """A follower's connection for one shard. Once it has joined, writes wait for it."""
+
+    def __init__(self, name: str, writer: asyncio.StreamWriter, start: int) -> None:
+        self.name, self.writer, self.start = name, writer, start
+        self.acked = -1
+        self.has_joined = False
+
+    def send(self, message: Message) -> None:
+        """Sends a message, unless the connection is gone."""
+        if not self.writer.is_closing():
+            self.writer.write(line_of(message))
+
+    def close(self) -> None:
+        """Ends the connection."""
+        self.writer.close()
+
+
+class Sources:
+    """All streams of a server."""
+
+    def __init__(self, server: "Server") -> None:
+        self.server, self.store = server, server.store
+        self.start = time.monotonic()
+
+    # -- followers
+
+    async def serve(self, reader: asyncio.StreamReader, writer: asyncio.StreamWriter, ask: Message) -> None:
+        """Serves a follower until it leaves or its connection ends."""
+        shard = self.store.shards.get(ask["shard"])
+        stream = await self.begin(shard, writer, ask) if shard is not None else None
+        if stream is None:
+            following = shard.following if shard is not None else None
+            writer.write(line_of({"nothere": {"hint": following.hint if following is not None else None}}))
+            return
+        try:
+            while (message := await read_message(reader)) is not None:
+                if "leave" in message:
+                    await self.leave(shard, stream.name)
+                elif "ack" in message:
+                    stream.acked = max(stream.acked, message["ack"])
+                    if not stream.has_joined and stream.acked >= stream.start:
+                        await self.join(shard, stream)
+                    shard.wake()
+        finally:
+            if shard.streams.get(stream.name) is stream:
+                del shard.streams[stream.name]
+                shard.seen[stream.name] = time.monotonic()
+            shard.wake()
+
+    async def begin(self, shard: Shard, writer: asyncio.StreamWriter, ask: Message) -> Stream | None:
+        """Sends a follower what it lacks, and from now on each write; None if it is to look elsewhere."""
+        async with shard.lock:
+            if not self.store.base.known or not shard.is_source:
+                return None
+            name, party = ask["from"], self.server.party(shard)
+            if shard.slot.cell == Cell.FORWARDING and name != party:
+                writer.write(line_of({"moved": {"to": party}}))
+                return None
+            tail = await self.store.tail_after(shard, ask["position"], ask["chain"])
+            if tail is None:
+                writer.write(line_of({"copy": await self.store.copy_of(shard)}))
+            else:
+                writer.write(line_of({"tail": [it.text() for it in tail]}))
+            stream = Stream(name, writer, shard.position)
+            before = shard.streams.get(name)
+            if before is not None:
+                before.close()
+            shard.streams[name] = stream
+            if shard.slot.cell == Cell.FORWARDING:
+                stream.send(self.seal(shard))
+        return stream
+
+    async def join(self, shard: Shard, stream: Stream) -> None:
+        """The follower has what there was when it came: from now on each write waits for it, and it is told so."""
+        async with shard.lock:
+            if shard.streams.get(stream.name) is not stream or not shard.is_source:
+                return
+            stream.has_joined = True
+            if stream.name not in shard.members and shard.slot.cell != Cell.FORWARDING:
+                await self.set_members(shard, shard.members | {stream.name})
+            stream.send({"joined": {"members": sorted(shard.members)}})
+
+    async def leave(self, shard: Shard, name: str) -> None:
+        """The follower has nothing of the shard any more."""
+        async with shard.lock:
+            if name in shard.members:
+                await self.set_members(shard, shard.members - {name})
+        shard.wake()
+
+    async def set_members(self, shard: Shard, members: set[str]) -> None:
+        """Stores who has to have the shard's writes, and tells the followers. The shard's lock is held."""
+        await self.store.save(self.store.member_commands(shard.name, members))
+        shard.members = members
+        for stream in shard.streams.values():
+            stream.send({"members": sorted(members)})
+
+    # -- writes
+
+    def send(self, shard: Shard, entry: Entry) -> None:
+        """Sends a write that was executed to all who follow. The shard's lock is held."""
+        message = {"write": entry.text()}
+        for stream in shard.streams.values():
+            stream.send(message)
+
+    def seal(self, shard: Shard) -> Message:
+        """The end of the stream to the new owner."""
+        return {"seal": {"handover": shard.slot.handover, "cut": shard.slot.cut}}
+
+    def end(self, shard: Shard) -> None:
+        """The shard is handed over: the new owner gets the cut, and the others are told where to go."""
+        party = self.server.party(shard)
+        for stream in list(shard.streams.values()):
+            if stream.name == party:
+                stream.send(self.seal(shard))
+            else:
+                stream.send({"moved": {"to": party}})
+
+    def close(self, shard: Shard) -> None:
+        """It is the source of the shard no longer."""
+        for stream in list(shard.streams.values()):
+            stream.close()
+        shard.streams.clear()
+
+    def lacking(self, shard: Shard, position: int) -> list[str]:
+        """Who is alive, as far as it is known, and has not acknowledged the writes up to a position."""
+        now, lacking = time.monotonic(), []
+        for name in shard.members - {self.server.name}:
+            stream = shard.streams.get(name)
+            if stream is not None and stream.acked >= position:
+                continue
+            is_joined = stream is not None and stream.has_joined
+            if is_joined or now - shard.seen.get(name, self.start) < limits.DEAD_AFTER:
+                lacking.append(name)
+        return lacking
+
+    def without(self, shard: Shard, position: int) -> list[str]:
+        """Who ought to have the writes up to a position, and has not acknowledged them, alive or not."""
+        streams = shard.streams
+        return sorted(it for it in shard.members - {self.server.name} if it not in streams or streams[it].acked < position)
+
+    async def replicated(self, shard: Shard, position: int) -> None:
+        """Waits until all who are alive have the writes up to a position."""
+        silent_at = time.monotonic() + limits.SILENT_AFTER
+        while lacking := self.lacking(shard, position):
+            if time.monotonic() > silent_at:
+                self.give_up(shard, lacking)
+            await shard.look_again(time.monotonic() + 1)
+        missing = self.without(shard, position)
+        if missing:
+            self.store.note("alone", shard=shard.name, position=position, without=missing)
+
+    def give_up(self, shard: Shard, names: list[str]) -> None:
+        """These are silent for too long: they have to come again."""
+        for name in names:
+            stream = shard.streams.pop(name, None)
+            if stream is not None:
+                stream.close()
+            shard.seen[name] = time.monotonic() - limits.DEAD_AFTER
+
+    # -- followers that are gone
+
+    async def probe(self) -> None:
+        """Asks members that are gone for long whether they still have the shard; who has nothing of it is no member."""
+        while True:
+            await asyncio.sleep(limits.PROBING)
+            for shard in list(self.store.shards.values()):
+                if shard.is_source and shard.slot.cell != Cell.FORWARDING:
+                    gone = [it for it in shard.members - {self.server.name} if it not in shard.streams]
+                    await asyncio.gather(*(self.probe_member(shard, it) for it in gone))
+
+    async def probe_member(self, shard: Shard, name: str) -> None:
+        """Asks one."""
+        reply = await self.server.ask_peer(name, 1.0, probe={"shard": shard.name})
+        if reply is not None and reply["has"] is False and name not in shard.streams:
+            await self.leave(shard, name)

@@ -1,0 +1,262 @@
+"""Orders: judged, begun, worked on and committed by the agent."""
+from __future__ import annotations
+
+import asyncio
+import time
+from dataclasses import dataclass, replace
+from typing import TYPE_CHECKING
+
+from smplan import agent
+from smplan.agent import Answer, Call, Cell, Order, Role
+
+from ..wire import Failed, Message
+from . import limits
+from .following import Following
+from .shard import STATES, Shard
+
+if TYPE_CHECKING:
+    from .server import Server
+
+CALLS = {"add": Call.ADD, "drop": Call.DROP, "change": Call.CHANGE, "prepare_add": Call.PREPARE_ADD, "prepare_drop": Call.PREPARE_DROP}
+ROLES = {None: Role.NONE, "primary": Role.PRIMARY, "secondary": Role.SECONDARY}
+REFUSALS = {Answer.DOWN: "Down", Answer.ALREADY_HELD: "AlreadyHeld", Answer.NOT_HELD: "NotHeld", Answer.WRONG_ROLE: "WrongRole",
+            Answer.NO_ROOM: "NoRoom"}
+TURNED_AWAY = {Answer.OLD: "Old", Answer.FOREIGN: "Foreign", Answer.NOT_READY: "NotReady"}
+
+
+@dataclass(eq=False)
+class Work:
+    """An order at work."""
+
+    order: Order
+    told: Message
+    done: "asyncio.Future[None]"
+    task: "asyncio.Task[None] | None" = None
+
+
+def party_of(told: Message) -> str | None:
+    """The other server of a handover."""
+    if told["call"] == "prepare_add":
+        return told["from"]
+    return told["to"] if told["call"] == "prepare_drop" else None
+
+
+class Orders:
+    """The orders' side of a server."""
+
+    def __init__(self, server: "Server") -> None:
+        self.server, self.store = server, server.store
+
+    def read(self, told: Message) -> Order:
+        """An order as the agent has it."""
+        call, party = CALLS[told["call"]], party_of(told)
+        role = told.get("role") if call == Call.ADD else told.get("from") if call == Call.CHANGE else None
+        new_role = told.get("to") if call == Call.CHANGE else None
+        number = self.server.cluster.servers[party].number if party is not None else 0
+        return Order(int(told["journal"], 16), told["fence"], told["number"], told["load"], told["room"], told.get("handover") or 0,
+                     call, ROLES[role], ROLES[new_role], number)
+
+    async def take(self, told: Message) -> Message:
+        """Answers an order when it is done, now or before."""
+        order = self.read(told)
+        await self.server.heed(order.journal, order.fence)
+        shard = self.store.shard(told["shard"])
+        async with shard.lock:
+            verdict = self.judge(shard, order)
+            if verdict == Answer.BEGIN:
+                await self.begin(shard, order, told)
+            work = shard.work
+        if verdict in (Answer.BEGIN, Answer.WORKING):
+            if work is None:
+                raise Failed("GivenUp", "nobody works")
+            await asyncio.shield(work.done)
+        elif verdict != Answer.AGAIN:
+            self.store.note("turned-away", shard=shard.name, number=order.number, verdict=verdict.name, slot_last=shard.slot.last)
+            raise Failed(TURNED_AWAY.get(verdict, "Refused"), REFUSALS.get(verdict, ""))
+        else:
+            self.store.note("again", shard=shard.name, number=order.number)
+        return {"answered": {"plan": told["plan"], "stream": told["stream"], "number": told["number"]}}
+
+    def judge(self, shard: Shard, order: Order) -> Answer:
+        """What the server makes of an order."""
+        slot, bug = shard.slot, self.server.bug
+        if bug == "no-numbers" and self.store.base.known and slot.at_work != order.number:
+            verdict = agent.judge(replace(self.store.base, number=0), replace(slot, last=0), self.store.used(), order)
+            return Answer.AGAIN if verdict in REFUSALS else verdict
+        return agent.judge(self.store.base, slot, self.store.used(), order)
+
+    async def begin(self, shard: Shard, order: Order, told: Message) -> None:
+        """Begins an order's work. The shard's lock is held."""
+        if shard.work is not None:
+            self.drop_work(shard, "another order has come")
+        slot = agent.begin(shard.slot, order)
+        await self.store.save(
+            self.store.slot_commands(shard.name, slot), "begin", shard=shard.name, number=order.number, call=told["call"],
+            plan=told["plan"], stream=told["stream"], epoch=told.get("epoch"), position=shard.position)
+        shard.slot = slot
+        work = Work(order, told, asyncio.get_running_loop().create_future())
+        work.done.add_done_callback(lambda done: done.cancelled() or done.exception())
+        shard.work = work
+        work.task = asyncio.create_task(self.work(shard, work))
+
+    def drop_work(self, shard: Shard, why: str) -> None:
+        """Ends the task that works; the slot is the caller's affair."""
+        work, shard.work = shard.work, None
+        if work is not None:
+            if work.task is not None:
+                work.task.cancel()
+            if not work.done.done():
+                work.done.set_exception(Failed("GivenUp", why))
+            if shard.following is not None and shard.slot.cell == Cell.ABSENT:
+                shard.following.stop(leaves=True)
+
+    async def work(self, shard: Shard, work: Work) -> None:
+        """Does the work, and commits it; if it takes too long it is given up, and the order comes again."""
+        try:
+            await self.prepare(shard, work)
+            committed = await self.commit(shard, work)
+        except Failed as failed:
+            committed, why = False, failed.why
+        except Exception as error:  # (the store is gone, and the server with it)
+            self.server.fail(error)
+            return
+        else:
+            why = "thrown away"
+        if not committed:
+            await self.give_up(shard, work, why)
+
+    async def give_up(self, shard: Shard, work: Work, why: str) -> None:
+        """Abandons work that is still at work."""
+        async with shard.lock:
+            if shard.work is work:
+                shard.work = None
+                slot = agent.abandon(shard.slot)
+                await self.store.save(self.store.slot_commands(shard.name, slot), "abandon", shard=shard.name, number=work.order.number, why=why)
+                shard.slot = slot
+                if shard.following is not None and slot.cell == Cell.ABSENT:
+                    shard.following.stop(leaves=True)
+        if not work.done.done():
+            work.done.set_exception(Failed("GivenUp", why))
+        shard.wake()
+
+    # -- what has to be done before the commit
+
+    async def prepare(self, shard: Shard, work: Work) -> None:
+        """Returns when the order may be committed."""
+        order, cell, bug = work.order, shard.slot.cell, self.server.bug
+        if order.call == Call.PREPARE_ADD or (order.call == Call.ADD and order.role == Role.SECONDARY):
+            if bug != "commit-before-copy" or order.call == Call.ADD:
+                await self.copy(shard, work)
+        elif order.call == Call.ADD and cell == Cell.PREPARED:
+            if bug not in ("add-without-cut", "tail-not-copied"):
+                await self.wait(shard, work, limits.COPYING, lambda: shard.has_reached_cut)
+        elif order.call == Call.PREPARE_DROP and bug != "drop-while-writing":
+            await self.wait(shard, work, limits.HOLDING, lambda: shard.running == 0)
+        elif order.call == Call.DROP and cell == Cell.PRIMARY:
+            await self.wait(shard, work, limits.HOLDING, lambda: shard.running == 0)
+        elif order.call == Call.CHANGE and order.new_role == Role.SECONDARY and bug != "change-while-writing":
+            wanted = set(work.told.get("replicas") or shard.members) - {self.server.name}
+            await self.wait(shard, work, limits.HOLDING, lambda: shard.running == 0 and self.have_all(shard, wanted))
+
+    def have_all(self, shard: Shard, names: set[str]) -> bool:
+        """These have all writes of the shard."""
+        streams = shard.streams
+        return all(it in streams and streams[it].acked >= shard.position for it in names)
+
+    async def wait(self, shard: Shard, work: Work, seconds: float, condition) -> None:
+        """Waits for something at this server."""
+        deadline = time.monotonic() + seconds
+        while shard.work is work and not condition():
+            if not await shard.look_again(deadline):
+                raise Failed("GivenUp", "it took too long")
+
+    async def copy(self, shard: Shard, work: Work) -> None:
+        """Copies the shard, and follows its writes from then on."""
+        async with shard.lock:
+            if shard.work is not work:
+                raise Failed("GivenUp", "thrown away")
+            if shard.following is not None:
+                shard.following.stop()
+            hint = party_of(work.told) or work.told.get("primary")
+            following = shard.following = Following(self.server, shard, hint, is_fresh=True)
+        try:
+            await asyncio.wait_for(following.joined.wait(), limits.COPYING)
+        except TimeoutError as error:
+            raise Failed("GivenUp", "nobody gives a copy") from error
+
+    # -- the commit
+
+    async def commit(self, shard: Shard, work: Work) -> bool:
+        """Commits the work with its data in one transaction. Only if this is true the order is answered."""
+        async with shard.lock:
+            if shard.work is not work or (self.holds(work.order) and not self.is_quiet(shard)):
+                return False
+            slot, before = self.slot_after(shard, work), shard.slot
+            if slot is None:
+                return False
+            empty = slot.cell == Cell.ABSENT or (slot.cell == Cell.PRIMARY and before.cell == Cell.ABSENT)
+            commands = await self.store.delete_commands(shard.name) if empty else []
+            told, order = work.told, work.order
+            await self.store.save(
+                self.slot_commands(shard, slot) + commands, "commit", shard=shard.name, number=order.number, call=told["call"],
+                plan=told["plan"], stream=told["stream"], epoch=told.get("epoch"), journal=told["journal"], before=STATES[Cell(before.cell)],
+                state=STATES[Cell(slot.cell)], position=shard.position, load=slot.load, room=order.room,
+                used=self.store.used() - before.load + slot.load)
+            shard.slot, shard.work = slot, None
+            if empty:
+                shard.position, shard.chain, shard.members = 0, "", set()
+            self.follow_up(shard, before.cell)
+        if not work.done.done():
+            work.done.set_result(None)
+        shard.wake()
+        return True
+
+    def holds(self, order: Order) -> bool:
+        """Requests have to end before the order is committed."""
+        bug = self.server.bug
+        return (order.call == Call.PREPARE_DROP and bug != "drop-while-writing") or (
+            order.call == Call.CHANGE and order.new_role == Role.SECONDARY and bug != "change-while-writing")
+
+    def is_quiet(self, shard: Shard) -> bool:
+        """No request of the shard runs."""
+        return shard.running == 0
+
+    def slot_commands(self, shard: Shard, slot) -> list:
+        """Stores the slot; with the bug a dropped one is deleted."""
+        if self.server.bug == "slot-deleted" and slot.cell == Cell.ABSENT:
+            return [("HDEL", "slots", shard.name)]
+        return self.store.slot_commands(shard.name, slot)
+
+    def slot_after(self, shard: Shard, work: Work):
+        """The slot with the order's effect, None if the work is thrown away."""
+        base, slot, order, bug = self.store.base, shard.slot, work.order, self.server.bug
+        if bug == "commit-after-fence":
+            base, slot = replace(base, number=0, fenced=0, known=1, journal=order.journal), replace(slot, at_work=order.number)
+        if bug == "no-numbers":
+            base, slot = replace(base, number=0), replace(slot, last=0)
+        applied = max(shard.position, slot.cut) if bug in ("add-without-cut", "tail-not-copied") else shard.position
+        if bug in ("add-without-cut", "tail-not-copied") and slot.cell == Cell.PREPARED and not slot.has_cut:
+            slot = replace(slot, has_cut=1)
+        after = agent.commit(base, slot, order, applied)
+        if after is not None and bug == "slot-deleted" and after.cell == Cell.ABSENT:
+            return agent.VACANT
+        return after
+
+    def follow_up(self, shard: Shard, before: Cell) -> None:
+        """Follows, is followed or ends both, as the new slot asks for. The shard's lock is held."""
+        cell, told = shard.slot.cell, self.server
+        if cell == Cell.PRIMARY:
+            self.server.stop_following(shard)
+            if before == Cell.SECONDARY:
+                shard.seen = {it: time.monotonic() for it in shard.members}
+        elif cell == Cell.FORWARDING:
+            told.sources.end(shard)
+            self.server.start_following(shard)
+        elif cell == Cell.ABSENT:
+            self.server.stop_following(shard, leaves=True)
+            told.sources.close(shard)
+        elif before == Cell.PRIMARY:
+            told.sources.close(shard)
+            self.server.start_following(shard)
+        elif shard.following is None:
+            self.server.start_following(shard)

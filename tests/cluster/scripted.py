@@ -1,0 +1,164 @@
+"""Servers in processes of their own, driven by a script that stands in for a controller: it settles them, sends orders of its own and keeps the
+published map in a file."""
+from __future__ import annotations
+
+import asyncio
+import json
+import os
+import shutil
+import signal
+import socket
+import subprocess
+import sys
+import tempfile
+from pathlib import Path
+
+ROOT = Path(__file__).resolve().parents[2]
+sys.path[:0] = [str(ROOT), str(ROOT / "python")]
+from cluster.wire import Channel, Cluster, Failed  # noqa: E402  (the paths come first)
+
+JOURNAL = "00000000000000a7"
+LOADS, ROOM = 1, 1000
+
+
+def free_ports(count: int) -> list[int]:
+    """Ports that nobody has."""
+    sockets = [socket.socket() for _ in range(count)]
+    for it in sockets:
+        it.bind(("127.0.0.1", 0))
+    ports = [it.getsockname()[1] for it in sockets]
+    for it in sockets:
+        it.close()
+    return ports
+
+
+class Scripted:
+    """Some servers, and who tells them what to do."""
+
+    def __init__(self, names: str, bug: str | None = None, think: float = 0.0) -> None:
+        self.names, self.bug, self.think = list(names), bug, think
+        self.dir = Path(tempfile.mkdtemp(prefix="cluster-"))
+        ports = iter(free_ports(3 * len(self.names)))
+        servers = {
+            name: {"number": number, **{it: f"127.0.0.1:{next(ports)}" for it in ("control", "clients", "peers")}}
+            for number, name in enumerate(self.names)
+        }
+        self.map_file, self.file = self.dir / "map.json", self.dir / "cluster.json"
+        self.file.write_text(json.dumps({"servers": servers, "map_file": str(self.map_file)}))
+        self.map: dict[str, str | None] = {}
+        self.publish({})
+        self.cluster = Cluster.read(self.file)
+        self.processes: dict[str, subprocess.Popen] = {}
+        self.channels = {name: Channel(it.control) for name, it in self.cluster.servers.items()}
+        self.number, self.base, self.handovers = 0, 0, 0
+        self.answered: list[dict] = []
+
+    def publish(self, entries: dict[str, str | None]) -> None:
+        """Changes the published map."""
+        self.map |= entries
+        part = self.map_file.with_suffix(".part")
+        part.write_text(json.dumps(self.map))
+        os.replace(part, self.map_file)
+
+    # -- processes
+
+    async def start(self, *names: str, loses_slots: bool = False) -> None:
+        """Starts servers, all if none is named."""
+        for name in names or self.names:
+            command = [sys.executable, "-m", "cluster.servers", "--name", name, "--cluster", str(self.file), "--dir", str(self.dir / name)]
+            command += ["--bug", self.bug] if self.bug else []
+            command += ["--think", str(self.think)] if self.think else []
+            command += ["--lose-slots"] if loses_slots else []
+            environment = os.environ | {"PYTHONPATH": f"{ROOT / 'python'}:{ROOT}"}
+            self.processes[name] = subprocess.Popen(command, cwd=ROOT, env=environment, stdout=subprocess.PIPE)
+        for name in names or self.names:
+            line = await asyncio.wait_for(asyncio.to_thread(self.processes[name].stdout.readline), 30)
+            if line != b"ready\n":
+                raise AssertionError(f"{name} did not start")
+
+    def kill(self, name: str) -> None:
+        """Ends a server at once."""
+        process = self.processes.pop(name)
+        process.send_signal(signal.SIGKILL)
+        process.wait()
+        process.stdout.close()
+
+    def close(self, keeps: bool = False) -> None:
+        """Ends all, and deletes their data."""
+        for name in list(self.processes):
+            self.kill(name)
+        for channel in self.channels.values():
+            channel.close()
+        if not keeps:
+            shutil.rmtree(self.dir, ignore_errors=True)
+
+    # -- messages
+
+    async def fence(self, *names: str) -> dict[str, dict]:
+        """Fences servers for a next epoch, and returns what they answer."""
+        self.base += 1 << 21
+        self.number = self.base
+        asks = [self.channels[it].ask(10, fence={"server": it, "base": self.base, "journal": JOURNAL}) for it in names or self.names]
+        return {it["fenced"]["server"]: it["fenced"] for it in await asyncio.gather(*asks)}
+
+    async def settle(self, fenced: dict[str, dict], cells: dict[str, dict[str, str]]) -> None:
+        """Settles servers that were fenced: for each shard, server and state."""
+        for name, answer in fenced.items():
+            slots = [{"shard": shard, "state": row[name], "load": LOADS} for shard, row in cells.items() if name in row]
+            settle = {"server": name, "base": self.base, "journal": JOURNAL, "nonce": answer.get("unknown"), "slots": slots}
+            await self.channels[name].ask(10, settle=settle)
+        self.publish({shard: next((it for it, state in row.items() if state == "primary"), None) for shard, row in cells.items()})
+
+    async def open(self, cells: dict[str, dict[str, str]]) -> None:
+        """Fences and settles all servers."""
+        await self.settle(await self.fence(), cells)
+
+    def order(self, server: str, call: str, shard: str, **more) -> dict:
+        """A next order."""
+        self.number += 1
+        return {"journal": JOURNAL, "epoch": self.base >> 21, "fence": self.base, "plan": 0, "stream": 0, "number": self.number, "server": server,
+                "call": call, "shard": shard, "load": LOADS, "room": ROOM, **more}
+
+    async def send(self, order: dict, seconds: float = 30) -> None:
+        """Sends an order again and again until it is answered."""
+        loop = asyncio.get_running_loop()
+        deadline = loop.time() + seconds
+        while True:
+            try:
+                reply = await self.channels[order["server"]].ask(5, order=order)
+                self.answered.append(reply["answered"])
+                return
+            except Failed as failed:
+                if failed.kind not in ("Lost", "Late", "GivenUp", "NotReady") or loop.time() > deadline:
+                    raise
+            await asyncio.sleep(0.05)
+
+    def handover(self, shard: str, old: str, new: str, replicas: list[str]) -> list[dict]:
+        """The calls that hand a primary over; between the third and the fourth the map is changed."""
+        self.handovers += 1
+        number = self.base + self.handovers
+        more = {"primary": old, "replicas": replicas}
+        return [
+            self.order(new, "prepare_add", shard, **{"from": old}, handover=number, **more),
+            self.order(old, "prepare_drop", shard, to=new, handover=number, **more),
+            self.order(new, "add", shard, role="primary", **more),
+            self.order(old, "drop", shard, **more),
+        ]
+
+    async def move(self, shard: str, old: str, new: str, replicas: list[str], repeats: int = 0) -> None:
+        """Moves a shard's primary by the five orders."""
+        orders = self.handover(shard, old, new, replicas)
+        for place, order in enumerate(orders):
+            await self.send(order)
+            for earlier in orders[:place + 1][-repeats:] if repeats else ():
+                await self.repeat(earlier)
+            if place == 2:
+                self.publish({shard: new})
+
+    async def repeat(self, order: dict) -> str:
+        """Sends an order once more, whatever comes of it."""
+        try:
+            await self.channels[order["server"]].ask(5, order=order)
+            return "answered"
+        except Failed as failed:
+            return failed.kind
