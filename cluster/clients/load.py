@@ -29,6 +29,8 @@ class Load:
     reads: float = 0.3
     stray: float = 0.02
     pause: float = 0.0
+    # (how long a client waits for one server's reply before it asks again)
+    attempt: float = 4.0
     seed: int = 1
     # (so that values and identities of several generators, or of several runs, differ)
     name: str = "c"
@@ -91,7 +93,7 @@ class Generator:
         line = {"client": name, **line, "start": start}
         self.requests += 1
         try:
-            reply = await router.request(shard, identity, *command, seconds=seconds)
+            reply = await router.request(shard, identity, *command, seconds=seconds, attempt=self.load.attempt)
             line["reply"] = [it.decode() for it in reply] if isinstance(reply, list) else reply
         except TimeoutError:
             self.failures += 1

@@ -21,6 +21,7 @@ def arguments() -> argparse.Namespace:
         parser.add_argument(f"--listen-{port}", type=int, help="a port instead of that of the cluster's file")
     parser.add_argument("--lose-slots", action="store_true", help="begin as Unknown, with the data")
     parser.add_argument("--think", type=float, default=0, help="seconds that a request runs at most before it changes anything")
+    parser.add_argument("--lag", type=float, default=0, help="seconds by which it is late, at most, with the writes that it follows")
     parser.add_argument("--bug", choices=sorted(BUGS), help="plant a bug")
     return parser.parse_args()
 
@@ -33,7 +34,7 @@ async def main() -> None:
     store = Store(await open_redis(told.dir))
     await store.load()
     cluster = Cluster.read(told.cluster)
-    server = Server(told.name, cluster, store, told.bug, told.think)
+    server = Server(told.name, cluster, store, told.bug, told.think, told.lag)
     await server.start(told.lose_slots)
     entry = cluster.servers[told.name]
     ports = {it: getattr(told, f"listen_{it}") or getattr(entry, it).port for it in ("control", "clients", "peers")}

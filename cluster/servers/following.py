@@ -2,6 +2,7 @@
 from __future__ import annotations
 
 import asyncio
+import random
 from typing import TYPE_CHECKING
 
 from smplan import agent
@@ -102,6 +103,8 @@ class Following:
         """Takes what has come, again and again."""
         while True:
             batch = [await queue.get()]
+            if self.server.longest_lag:
+                await asyncio.sleep(random.random() * self.server.longest_lag)
             while not queue.empty():
                 batch.append(queue.get_nowait())
             await self.take_all([it for it in batch if it is not None], source)

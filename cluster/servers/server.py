@@ -36,9 +36,9 @@ def hexadecimal(number: int) -> str:
 class Server:
     """One server of the cluster."""
 
-    def __init__(self, name: str, cluster: Cluster, store: Store, bug: str | None = None, think: float = 0) -> None:
+    def __init__(self, name: str, cluster: Cluster, store: Store, bug: str | None = None, think: float = 0, lag: float = 0) -> None:
         self.name, self.cluster, self.store, self.bug = name, cluster, store, bug
-        self.longest_think = think
+        self.longest_think, self.longest_lag = think, lag
         self.changing = asyncio.Lock()
         self.peers: dict[str, Channel] = {}
         self.sources, self.orders, self.requests = Sources(self), Orders(self), Requests(self)
@@ -63,7 +63,8 @@ class Server:
             if shard.slot.at_work:
                 shard.slot = agent.abandon(shard.slot)
                 commands += self.store.slot_commands(shard.name, shard.slot)
-        await self.store.save(commands, "start", server=self.name, loses_slots=loses_slots, known=bool(self.store.base.known))
+        await self.store.save(commands, "start", server=self.name, loses_slots=loses_slots, known=bool(self.store.base.known),
+                              nonce=hexadecimal(self.store.base.nonce))
         self.begin(self.sources.probe())
         self.begin(self.keep_notes())
         self.resume()
@@ -190,7 +191,7 @@ class Server:
         """Turns Unknown: slots are deleted, data is kept."""
         async with AllLocks(self.store.shards.values()):
             base = agent.forget(nonce())
-            await self.store.save([("DEL", "slots"), *self.store.base_commands(base)], "forget", before=self.store.base.number)
+            await self.store.save([("DEL", "slots"), *self.store.base_commands(base)], "forget", before=self.store.base.number, nonce=hexadecimal(base.nonce))
             self.store.base = base
             for shard in self.store.shards.values():
                 self.end_term(shard, "it has turned Unknown")
@@ -249,7 +250,7 @@ class Server:
             if shard.slot.at_work and not keeps_work:
                 slots[shard.name] = agent.abandon(shard.slot)
                 commands += self.store.slot_commands(shard.name, slots[shard.name])
-        await self.store.save(commands, "fence", base=base.number, slots=self.short_slots())
+        await self.store.save(commands, "fence", base=base.number, slots=self.short_slots(), nonce=hexadecimal(base.nonce))
         self.store.base = base
         for shard in self.store.shards.values():
             if shard.name in slots:
@@ -286,7 +287,7 @@ class Server:
                 before = replace(before, fenced=1)
             answer, base = agent.settle(before, int(told["journal"], 16), told["base"], name is not None, int(name or "0", 16))
             if answer == Answer.TAKEN:
-                await self.take(base, told["slots"], "settle")
+                await self.take(base, told["slots"], "settle", told.get("nonce"))
         if answer not in (Answer.TAKEN, Answer.AGAIN):
             raise Failed("Ignored", "it is not for this server now")
         return {"settled": {"server": self.name, "base": told["base"]}}
@@ -300,7 +301,7 @@ class Server:
                 before = agent.forget(named or 1)
             answer, base = agent.restore(before, int(told["journal"], 16), told["fence"], told["base"], named or 1)
             if answer == Answer.TAKEN:
-                await self.take(base, told["slots"], "restore")
+                await self.take(base, told["slots"], "restore", told["nonce"])
         if answer != Answer.TAKEN:
             raise Failed("Ignored", "it did not ask for this now")
         return {"restored": {"server": self.name, "nonce": told["nonce"]}}
@@ -311,7 +312,7 @@ class Server:
             self.store.shard(slot["shard"])
         return list(self.store.shards.values())
 
-    async def take(self, base: Base, slots: list[Message], kind: str) -> None:
+    async def take(self, base: Base, slots: list[Message], kind: str, named: str | None) -> None:
         """Makes each slot what is brought, in one transaction with the base; what is not brought is absent. All locks are held."""
         brought = {it["shard"]: it for it in slots}
         commands, after = self.store.base_commands(base), {}
@@ -322,7 +323,7 @@ class Server:
                 commands += await self.store.delete_commands(shard.name)
         positions = {it.name: it.position for it in self.store.shards.values()}
         told = {name: [STATES[Cell(it.cell)], positions[name]] for name, it in after.items() if it.cell != Cell.ABSENT}
-        await self.store.save(commands, kind, base=base.number, slots=told)
+        await self.store.save(commands, kind, base=base.number, slots=told, nonce=hexadecimal(int(named, 16)) if named else None)
         self.store.base = base
         for shard in self.store.shards.values():
             self.put(shard, after[shard.name])

@@ -42,8 +42,10 @@ def start_redis(folder: Path) -> "subprocess.Popen[bytes]":
     (folder / "redis.sock").unlink(missing_ok=True)
     command = ["redis-server", "--port", "0", "--unixsocket", "redis.sock", "--appendonly", "yes", "--appendfsync", "always",
                "--save", "", "--auto-aof-rewrite-percentage", "0", "--logfile", "redis.log"]
-    # (the child has the lock as well, so who starts next waits until both have ended)
-    return subprocess.Popen(command, cwd=folder, preexec_fn=die_with_parent, stdout=subprocess.DEVNULL, pass_fds=(lock,))
+    # (the child keeps the lock: who starts next waits until it has ended)
+    child = subprocess.Popen(command, cwd=folder, preexec_fn=die_with_parent, stdout=subprocess.DEVNULL, pass_fds=(lock,))
+    os.close(lock)
+    return child
 
 
 async def open_redis(folder: Path, seconds: float = 20) -> Redis:

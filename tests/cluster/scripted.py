@@ -15,7 +15,7 @@ from pathlib import Path
 
 ROOT = Path(__file__).resolve().parents[2]
 sys.path[:0] = [str(ROOT), str(ROOT / "python")]
-from cluster.wire import Channel, Cluster, Failed  # noqa: E402  (the paths come first)
+from cluster.wire import Address, Channel, Cluster, Failed, listen  # noqa: E402  (the paths come first)
 
 JOURNAL = "00000000000000a7"
 LOADS, ROOM = 1, 1000
@@ -35,16 +35,18 @@ def free_ports(count: int) -> list[int]:
 class Scripted:
     """Some servers, and who tells them what to do."""
 
-    def __init__(self, names: str, bug: str | None = None, think: float = 0.0) -> None:
-        self.names, self.bug, self.think = list(names), bug, think
+    def __init__(self, names: str, bug: str | None = None, think: float = 0.0, lag: float = 0.0) -> None:
+        self.names, self.bug, self.think, self.lag = list(names), bug, think, lag
         self.dir = Path(tempfile.mkdtemp(prefix="cluster-"))
-        ports = iter(free_ports(3 * len(self.names)))
+        ports = iter(free_ports(3 * len(self.names) + 1))
         servers = {
             name: {"number": number, **{it: f"127.0.0.1:{next(ports)}" for it in ("control", "clients", "peers")}}
             for number, name in enumerate(self.names)
         }
+        self.desk = Address("127.0.0.1", next(ports))
         self.map_file, self.file = self.dir / "map.json", self.dir / "cluster.json"
-        self.file.write_text(json.dumps({"servers": servers, "map_file": str(self.map_file)}))
+        self.file.write_text(json.dumps(
+            {"servers": servers, "controllers": {"k": f"{self.desk.host}:{self.desk.port}"}, "map_file": str(self.map_file)}))
         self.map: dict[str, str | None] = {}
         self.publish({})
         self.cluster = Cluster.read(self.file)
@@ -52,6 +54,8 @@ class Scripted:
         self.channels = {name: Channel(it.control) for name, it in self.cluster.servers.items()}
         self.number, self.base, self.handovers = 0, 0, 0
         self.answered: list[dict] = []
+        self.asked: dict[str, str] = {}
+        self.listener: asyncio.Server | None = None
 
     def publish(self, entries: dict[str, str | None]) -> None:
         """Changes the published map."""
@@ -64,10 +68,13 @@ class Scripted:
 
     async def start(self, *names: str, loses_slots: bool = False) -> None:
         """Starts servers, all if none is named."""
+        if self.listener is None:
+            self.listener = await listen(self.desk, self.hear)
         for name in names or self.names:
             command = [sys.executable, "-m", "cluster.servers", "--name", name, "--cluster", str(self.file), "--dir", str(self.dir / name)]
             command += ["--bug", self.bug] if self.bug else []
             command += ["--think", str(self.think)] if self.think else []
+            command += ["--lag", str(self.lag)] if self.lag else []
             command += ["--lose-slots"] if loses_slots else []
             environment = os.environ | {"PYTHONPATH": f"{ROOT / 'python'}:{ROOT}"}
             self.processes[name] = subprocess.Popen(command, cwd=ROOT, env=environment, stdout=subprocess.PIPE)
@@ -75,6 +82,11 @@ class Scripted:
             line = await asyncio.wait_for(asyncio.to_thread(self.processes[name].stdout.readline), 30)
             if line != b"ready\n":
                 raise AssertionError(f"{name} did not start")
+
+    async def hear(self, message: dict) -> dict:
+        """A server asks for its slots."""
+        self.asked[message["restore"]["server"]] = message["restore"]["nonce"]
+        raise Failed("Refused", "not now")
 
     def kill(self, name: str) -> None:
         """Ends a server at once."""
@@ -101,12 +113,19 @@ class Scripted:
         asks = [self.channels[it].ask(10, fence={"server": it, "base": self.base, "journal": JOURNAL}) for it in names or self.names]
         return {it["fenced"]["server"]: it["fenced"] for it in await asyncio.gather(*asks)}
 
+    def settles(self, fenced: dict[str, dict], cells: dict[str, dict[str, str]]) -> list[dict]:
+        """The settles of servers that were fenced: for each shard, server and state."""
+        return [{"server": name, "base": self.base, "journal": JOURNAL, "nonce": answer.get("unknown"), "slots": self.slots(name, cells)}
+                for name, answer in fenced.items()]
+
+    def slots(self, name: str, cells: dict[str, dict[str, str]]) -> list[dict]:
+        """What a server is to have."""
+        return [{"shard": shard, "state": row[name], "load": LOADS} for shard, row in cells.items() if name in row]
+
     async def settle(self, fenced: dict[str, dict], cells: dict[str, dict[str, str]]) -> None:
-        """Settles servers that were fenced: for each shard, server and state."""
-        for name, answer in fenced.items():
-            slots = [{"shard": shard, "state": row[name], "load": LOADS} for shard, row in cells.items() if name in row]
-            settle = {"server": name, "base": self.base, "journal": JOURNAL, "nonce": answer.get("unknown"), "slots": slots}
-            await self.channels[name].ask(10, settle=settle)
+        """Settles servers that were fenced."""
+        for settle in self.settles(fenced, cells):
+            await self.channels[settle["server"]].ask(10, settle=settle)
         self.publish({shard: next((it for it, state in row.items() if state == "primary"), None) for shard, row in cells.items()})
 
     async def open(self, cells: dict[str, dict[str, str]]) -> None:

@@ -1,0 +1,125 @@
+"""What the clients saw, and nothing else: each key is a list of values that were pushed, in one order that fits what every client saw and when.
+
+`python3 -m cluster.checkers.clients HISTORY..` reads the load generator's lines. Exit status 1 if anything is wrong.
+"""
+from __future__ import annotations
+
+import argparse
+import json
+import sys
+from collections import defaultdict
+from dataclasses import dataclass
+from typing import Iterable
+
+NEVER = 1 << 63
+
+
+@dataclass(frozen=True)
+class Asked:
+    """A request of a client. `end` is NEVER if there was no reply: a push may then have been done at any time since, or not at all."""
+
+    client: str
+    is_push: bool
+    value: str | None
+    start: int
+    end: int
+    reply: int | tuple[str, ...] | None
+    is_final: bool
+
+    @staticmethod
+    def of(line: dict) -> "Asked":
+        """Reads a line of history."""
+        reply = line.get("reply")
+        return Asked(line["client"], line["op"] == "push", line.get("value"), line["start"], NEVER if reply is None else line["end"],
+                     tuple(reply) if isinstance(reply, list) else reply, line.get("final", False))
+
+
+def read(paths: Iterable[str]) -> dict[str, list[Asked]]:
+    """All requests, by key."""
+    by_key: dict[str, list[Asked]] = defaultdict(list)
+    for path in paths:
+        with open(path, encoding="utf-8") as lines:
+            for line in map(json.loads, lines):
+                by_key[line["key"]].append(Asked.of(line))
+    return by_key
+
+
+def faults_of(key: str, asked: list[Asked]) -> list[str]:
+    """What is wrong with a key's requests."""
+    finals = [it.reply for it in asked if it.is_final and it.reply is not None]
+    if not finals:
+        return [f"{key}: nobody could read it at the end"]
+    final = max(finals, key=len)
+    places = {value: place for place, value in enumerate(final)}
+    pushes = {it.value: it for it in asked if it.is_push}
+    reads = [it for it in asked if not it.is_push and it.reply is not None]
+    found = [f"{value} is there more than once" for value in sorted(it for it in places if final.count(it) > 1)] if len(places) < len(final) else []
+    found += [f"{value} was pushed by nobody" for value in final if value not in pushes]
+    found += lost(pushes.values(), final, places)
+    found += [f"{it.client} read what is no beginning of the final list" for it in reads if final[:len(it.reply)] != it.reply]
+    if not found:
+        found = out_of_time(final, pushes, reads)
+    return [f"{key}: {it}" for it in found]
+
+
+def lost(pushes: Iterable[Asked], final: tuple[str, ...], places: dict[str, int]) -> list[str]:
+    """Pushes that were acknowledged, and are not there, or not where the reply said."""
+    found = []
+    for push in pushes:
+        if push.reply is None:
+            continue
+        if push.value not in places:
+            found.append(f"{push.value} was acknowledged and is lost")
+        elif final[push.reply - 1:push.reply] != (push.value,):
+            found.append(f"{push.value} was acknowledged as number {push.reply} and is number {places[push.value] + 1}")
+    return found
+
+
+def out_of_time(final: tuple[str, ...], pushes: dict[str, Asked], reads: list[Asked]) -> list[str]:
+    """Requests of which one ended before the other began, and which saw it the other way round."""
+    found, earliest_end = [], NEVER
+    for value in reversed(final):
+        push = pushes[value]
+        if earliest_end < push.start:
+            found.append(f"{value} stands before a value whose push had ended when its own began")
+        earliest_end = min(earliest_end, push.end)
+    # (a list of n values has been there from the last start of its pushes, and one longer from the first end of the others)
+    ends = sorted([(push.end, places + 1) for places, push in enumerate(map(pushes.get, final))] + [(it.end, len(it.reply)) for it in reads])
+    longest, turn = 0, 0
+    for it in sorted(reads, key=lambda it: it.start):
+        while turn < len(ends) and ends[turn][0] < it.start:
+            longest = max(longest, ends[turn][1])
+            turn += 1
+        if len(it.reply) < longest:
+            found.append(f"{it.client} read {len(it.reply)} values, and {longest} had been acknowledged or read before")
+        if it.reply and max(pushes[value].start for value in it.reply) > it.end:
+            found.append(f"{it.client} read a value before its push began")
+    return found
+
+
+def check(paths: Iterable[str], excused: frozenset[str] = frozenset()) -> tuple[list[str], dict[str, int]]:
+    """All that is wrong, and how much was looked at. Shards that are excused had their last copy lost."""
+    by_key = read(paths)
+    kept = {key: asked for key, asked in by_key.items() if key.split(":")[0] not in excused}
+    found = [fault for key, asked in sorted(kept.items()) for fault in faults_of(key, asked)]
+    every = [it for asked in kept.values() for it in asked]
+    acknowledged = sum(it.is_push and it.reply is not None for it in every)
+    return found, {"keys": len(kept), "requests": len(every), "pushes acknowledged": acknowledged,
+                   "reads": sum(not it.is_push and it.reply is not None for it in every), "without reply": sum(it.reply is None for it in every)}
+
+
+def main() -> int:
+    """The command line."""
+    parser = argparse.ArgumentParser(prog="cluster.checkers.clients", description="Checks what clients saw.")
+    parser.add_argument("history", nargs="+")
+    parser.add_argument("--excused", default="", help="shards whose last copy was lost, with commas between")
+    told = parser.parse_args()
+    found, figures = check(told.history, frozenset(filter(None, told.excused.split(","))))
+    for fault in found[:50]:
+        print(fault)
+    print(json.dumps({"violations": len(found), **figures}))
+    return 1 if found else 0
+
+
+if __name__ == "__main__":
+    sys.exit(main())

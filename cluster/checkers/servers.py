@@ -1,0 +1,297 @@
+"""What the servers did, told by their own histories, and by the journal's orders if they are given. Nothing that a client saw is looked at.
+
+`python3 -m cluster.checkers.servers --history FILE.. [--orders FILE --answered FILE] [--expected FILE] [--wants FILE]`. Histories are those of
+`python3 -m cluster.servers.history`. Orders are lines of orders as they were sent, answered are lines of the journal with `"do":"answered"`, expected
+is `{"s":{"a":"primary",..},..}` at the end, wants is `{"s":FLOOR,..}`, the fewest replicas that a shard may have. Exit status 1 if anything is wrong.
+"""
+from __future__ import annotations
+
+import argparse
+import json
+import sys
+from collections import Counter, defaultdict
+from dataclasses import dataclass, field
+from typing import Iterable, Iterator
+
+from .data import Data
+
+STEP = 1 << 21
+HELD = ("secondary", "primary", "forwarding", "prepared")
+
+# What each call makes of which cell.
+LEADS = {
+    ("add", "absent"): {"primary", "secondary"}, ("add", "prepared"): {"primary"}, ("drop", "prepared"): {"absent"}, ("drop", "secondary"): {"absent"},
+    ("drop", "primary"): {"absent"}, ("drop", "forwarding"): {"absent"}, ("change", "primary"): {"secondary"}, ("change", "secondary"): {"primary"},
+    ("prepare_add", "absent"): {"prepared"}, ("prepare_drop", "primary"): {"forwarding"},
+}
+
+
+@dataclass
+class At:
+    """A shard at a server, as its history has told so far."""
+
+    state: str = "absent"
+    last: int = 0
+    tenure: int = 0
+    position: int = 0
+
+
+@dataclass
+class Host:
+    """A server, as its history has told so far."""
+
+    name: str
+    base: int = 0
+    is_known: bool = False
+    is_fenced: bool = False
+    nonce: str | None = None
+    settled: set[int] = field(default_factory=set)
+    shards: dict[str, At] = field(default_factory=lambda: defaultdict(At))
+
+
+@dataclass
+class Shard:
+    """A shard over all servers: the writes that stand, and who has executed last."""
+
+    data: Data = field(default_factory=Data)
+    executor: tuple[str, int] | None = None
+    tenures: set[tuple[str, int]] = field(default_factory=set)
+
+
+class Checker:
+    """Walks through all histories in the order of time."""
+
+    def __init__(self, wants: dict[str, int]) -> None:
+        self.wants = wants
+        self.hosts: dict[str, Host] = {}
+        self.shards: dict[str, Shard] = defaultdict(Shard)
+        self.faults: list[str] = []
+        self.commits: Counter[tuple[int, int, int, int]] = Counter()
+        self.committed: dict[tuple[int, int, int], dict] = {}
+        self.begun: dict[tuple[str, str, int], int] = {}
+        self.counts: Counter[str] = Counter()
+        self.epoch = 0
+
+    def fault(self, event: dict, text: str) -> None:
+        """Notes what is wrong."""
+        self.faults.append(f"{event['server']} {event.get('shard', '')} at {event['t']}: {text}")
+
+    def walk(self, events: Iterable[dict]) -> None:
+        """Looks at all events."""
+        for event in sorted((it for it in events if "t" in it), key=lambda it: it["t"]):
+            self.counts[event["kind"]] += 1
+            host = self.hosts.setdefault(event["server"], Host(event["server"]))
+            handler = getattr(self, "on_" + event["kind"].replace("-", "_"), None)
+            if handler is not None:
+                handler(host, event)
+
+    # -- a server's beginning, and its base
+
+    def on_start(self, host: Host, event: dict) -> None:
+        """It has started: with its slots, or Unknown."""
+        self.counts["start again"] += host.name in self.hosts and host.base > 0
+        if event["loses_slots"]:
+            self.clear(host)
+        host.nonce = event["nonce"]
+
+    def on_forget(self, host: Host, event: dict) -> None:
+        """It has turned Unknown."""
+        self.clear(host)
+        host.nonce = event["nonce"]
+
+    def clear(self, host: Host) -> None:
+        """It has no slots."""
+        host.base, host.is_known, host.is_fenced = 0, False, False
+        host.settled.clear()
+        for at in host.shards.values():
+            at.state, at.last, at.tenure = "absent", 0, at.tenure + 1
+
+    def on_fence(self, host: Host, event: dict) -> None:
+        """It is fenced: from now on it takes no order of before, and its handovers stand still."""
+        if event["base"] <= host.base:
+            self.fault(event, "a fence at or below its base")
+        host.base, host.is_fenced, host.nonce = event["base"], True, event["nonce"]
+        self.epoch = max(self.epoch, event["base"])
+
+    def on_settle(self, host: Host, event: dict) -> None:
+        """It is settled, once for each fence."""
+        if not host.is_fenced or event["base"] in host.settled:
+            self.fault(event, "a settle that was taken twice, or without a fence")
+        host.settled.add(event["base"])
+        self.set_slots(host, event)
+
+    def on_restore(self, host: Host, event: dict) -> None:
+        """It is restored, for the nonce with which it asked."""
+        if host.is_known or event["nonce"] != host.nonce:
+            self.fault(event, "a restore that it did not ask for")
+        self.set_slots(host, event)
+
+    def set_slots(self, host: Host, event: dict) -> None:
+        """It has the slots that were brought."""
+        host.base, host.is_known, host.is_fenced = event["base"], True, False
+        for other in self.hosts.values():  # (who was not fenced for this epoch was given up, or carried over)
+            if event["kind"] == "settle" and other.base < event["base"]:
+                self.clear(other)
+        for name in set(host.shards) | set(event["slots"]):
+            at, brought = host.shards[name], event["slots"].get(name)
+            state = brought[0] if brought else "absent"
+            if at.state != state or state != "primary":
+                at.tenure += 1
+            at.state = state
+            at.position = brought[1] if brought else 0
+            if state == "primary" and self.shards[name].executor not in (None, (host.name, at.tenure)):
+                self.shards[name].data.cut_back(at.position)
+        self.look_at_primaries(event, event["slots"])
+
+    # -- orders
+
+    def on_begin(self, host: Host, event: dict) -> None:
+        """Work begins: it has to end with all writes that were executed by now."""
+        self.begun[(host.name, event["shard"], event["number"])] = self.shards[event["shard"]].data.length
+
+    def on_commit(self, host: Host, event: dict) -> None:
+        """An order has its effect."""
+        shard, at, number = event["shard"], host.shards[event["shard"]], event["number"]
+        key = (number // STEP, event["plan"], event["stream"], number)
+        self.commits[key] += 1
+        if self.commits[key] > 1:
+            self.fault(event, f"order {number} has its effect again")
+        self.committed[key[1:]] = event
+        if number <= max(at.last, host.base):
+            self.fault(event, f"order {number} has its effect behind {max(at.last, host.base)}")
+        if not host.is_known or host.is_fenced:
+            self.fault(event, "an order has its effect at a server that is fenced or Unknown")
+        if event["state"] not in LEADS.get((event["call"], at.state), ()):
+            self.fault(event, f"{event['call']} makes {at.state} {event['state']}")
+        if event["used"] > event["room"]:
+            self.fault(event, f"{event['used']} is more than the room of {event['room']}")
+        self.look_at_copy(host, event, at.state)
+        if event["state"] in ("absent", "forwarding", "secondary") or at.state in ("absent", "secondary"):
+            at.tenure += 1
+        at.state, at.last, at.position = event["state"], number, event["position"]
+        self.look_at_primaries(event, [shard])
+        self.look_at_floor(event)
+
+    def look_at_copy(self, host: Host, event: dict, before: str) -> None:
+        """Who begins to have a shard, or to serve it, has all writes that were executed when the order's work began."""
+        needed = self.begun.pop((host.name, event["shard"], event["number"]), 0)
+        is_empty = event["call"] == "add" and before == "absent" and event["state"] == "primary"
+        if is_empty:
+            self.shards[event["shard"]].data.cut_back(0)
+        elif event["state"] in ("prepared", "secondary", "primary") and event["position"] < min(needed, self.shards[event["shard"]].data.length):
+            self.fault(event, f"{event['call']} has its effect with {event['position']} writes of {needed}")
+
+    def look_at_primaries(self, event: dict, shards: Iterable[str]) -> None:
+        """No shard has two primaries."""
+        for shard in shards:
+            primaries = [it.name for it in self.hosts.values() if it.shards[shard].state == "primary"]
+            if len(primaries) > 1:
+                self.fault(event, f"{shard} has the primaries {' and '.join(sorted(primaries))}")
+
+    def look_at_floor(self, event: dict) -> None:
+        """No shard has fewer replicas than it may have."""
+        shard = event["shard"]
+        count = sum(it.shards[shard].state in ("primary", "secondary", "forwarding") for it in self.hosts.values())
+        if event["state"] == "absent" and count < self.wants.get(shard, 0):
+            self.fault(event, f"{shard} has {count} replicas")
+
+    # -- requests
+
+    def on_execute(self, host: Host, event: dict) -> None:
+        """A write was executed: it is the next one of its shard, and its identity is new."""
+        self.look_at_term(host, event)
+        text = self.shards[event["shard"]].data.add(event["position"], event["identity"], tuple(event["command"]))
+        if text is not None:
+            self.fault(event, text)
+        host.shards[event["shard"]].position = event["position"]
+
+    def on_read(self, host: Host, event: dict) -> None:
+        """A read was executed."""
+        self.look_at_term(host, event)
+
+    def look_at_term(self, host: Host, event: dict) -> None:
+        """Who executes may do so, and nobody whose term has ended executes again."""
+        at, shard = host.shards[event["shard"]], self.shards[event["shard"]]
+        if at.state not in ("primary", "prepared") or (at.state == "prepared" and not event["passed"]):
+            self.fault(event, f"a request is executed by a server that is {at.state}")
+        if host.is_fenced and at.state == "prepared":
+            self.fault(event, "a request of a handover is executed at a fenced server")
+        term = (host.name, at.tenure)
+        if term != shard.executor and term in shard.tenures:
+            self.fault(event, f"its term overlaps with that of {shard.executor[0]}")
+        shard.executor = term
+        shard.tenures.add(term)
+
+    # -- the end
+
+    def look_at_data(self, lines: Iterable[dict]) -> None:
+        """Each replica has in the end what the writes make, up to its position."""
+        for line in lines:
+            host = self.hosts.get(line["server"])
+            if host is None or not line["known"] or line["base"] < self.epoch or line["state"] not in ("primary", "secondary"):
+                continue
+            self.counts["replicas compared"] += 1
+            wrong = self.shards[line["shard"]].data.difference(line["position"], line["values"])
+            if wrong:
+                self.faults.append(f"{line['server']} {line['shard']} in the end: {wrong}")
+
+    def look_at_orders(self, orders: Iterable[dict], answered: Iterable[dict]) -> None:
+        """Each order that the journal has as answered had its effect, at its server, and nothing else had."""
+        calls = {(it["plan"], it["stream"], it["number"]): it for it in orders if it["call"] != "publish"}
+        for line in answered:
+            key = (line["plan"], line["stream"], line["number"])
+            order, event = calls.get(key), self.committed.get(key)
+            if order is None:
+                continue
+            self.counts["answers compared"] += 1
+            if event is None or (event["server"], event["shard"], event["call"]) != (order["server"], order["shard"], order["call"]):
+                self.faults.append(f"order {key} was answered, and {order['server']} has not done it")
+        for key in self.committed:
+            if calls and key not in calls:
+                self.faults.append(f"order {key} was done, and nobody sent it")
+
+    def look_at_end(self, expected: dict[str, dict[str, str]], lines: list[dict]) -> None:
+        """The end placement."""
+        found: dict[str, dict[str, str]] = defaultdict(dict)
+        for line in lines:
+            if line["known"] and line["base"] >= self.epoch and line["state"] in HELD:
+                found[line["shard"]][line["server"]] = line["state"]
+        for shard in sorted(set(expected) | set(found)):
+            if expected.get(shard, {}) != found.get(shard, {}):
+                self.faults.append(f"{shard} is in the end at {found.get(shard, {})}, and is to be at {expected.get(shard, {})}")
+
+
+def lines_of(paths: Iterable[str]) -> Iterator[dict]:
+    """The JSON lines of files."""
+    for path in paths:
+        with open(path, encoding="utf-8") as lines:
+            yield from map(json.loads, lines)
+
+
+def main() -> int:
+    """The command line."""
+    parser = argparse.ArgumentParser(prog="cluster.checkers.servers", description="Checks what servers did.")
+    parser.add_argument("--history", nargs="+", required=True)
+    parser.add_argument("--orders")
+    parser.add_argument("--answered")
+    parser.add_argument("--expected")
+    parser.add_argument("--wants")
+    told = parser.parse_args()
+    checker = Checker(json.load(open(told.wants, encoding="utf-8")) if told.wants else {})
+    lines = list(lines_of(told.history))
+    data = [it for it in lines if it["kind"] == "data"]
+    checker.walk(lines)
+    checker.look_at_data(data)
+    if told.orders and told.answered:
+        answered = (it for it in lines_of([told.answered]) if it.get("do", "answered") == "answered")
+        checker.look_at_orders(lines_of([told.orders]), answered)
+    if told.expected:
+        checker.look_at_end(json.load(open(told.expected, encoding="utf-8")), data)
+    for fault in checker.faults[:50]:
+        print(fault)
+    print(json.dumps({"violations": len(checker.faults), **checker.counts}))
+    return 1 if checker.faults else 0
+
+
+if __name__ == "__main__":
+    sys.exit(main())

@@ -1,0 +1,56 @@
+"""Prints what a server did: `python3 -m cluster.servers.history DIR..`, once the server has ended (it starts the redis-server of the folder).
+
+Each line of history gets the `server`; the last lines, `data`, tell what the server has of each shard in the end.
+"""
+from __future__ import annotations
+
+import asyncio
+import json
+import sys
+from pathlib import Path
+from typing import Iterator
+
+from ..resp import Redis
+from .shard import STATES
+from .store import Store, data_key, open_redis, start_redis
+
+
+async def value_of(redis: Redis, key: bytes) -> object:
+    """A key's value, as a text or a list of texts."""
+    if await redis.call("TYPE", key) == b"list":
+        return [it.decode("latin-1") for it in await redis.call("LRANGE", key, 0, -1)]
+    return (await redis.call("GET", key)).decode("latin-1")
+
+
+async def data_of(store: Store, name: str) -> dict:
+    """What the server has of a shard."""
+    shard = store.shards[name]
+    keys = await store.data_keys(name)
+    values = {it: await value_of(store.redis, data_key(name, it)) for it in keys}
+    return {"kind": "data", "shard": name, "state": STATES[shard.slot.cell], "position": shard.position, "chain": shard.chain,
+            "known": bool(store.base.known), "base": store.base.number, "last": shard.slot.last, "load": shard.slot.load, "values": values}
+
+
+async def history_of(folder: Path) -> list[dict]:
+    """All that a server did, and what it has."""
+    child = start_redis(folder)
+    try:
+        store = Store(await open_redis(folder))
+        await store.load()
+        lines = [json.loads(it) for it in await store.redis.call("LRANGE", "history", 0, -1)]
+        lines += [await data_of(store, it) for it in sorted(store.shards)]
+        return [{"server": folder.name, **it} for it in lines]
+    finally:
+        child.kill()
+        child.wait()
+
+
+def histories(folders: list[Path]) -> Iterator[dict]:
+    """The histories of several servers."""
+    for folder in folders:
+        yield from asyncio.run(history_of(folder))
+
+
+if __name__ == "__main__":
+    for line in histories([Path(it) for it in sys.argv[1:]]):
+        print(json.dumps(line, separators=(",", ":")))

@@ -1,0 +1,215 @@
+"""Plays of real servers under load, each of which a planted bug makes go wrong: without the bug both checkers find nothing, with it at least one does.
+
+`python3 tests/cluster/plays.py [--sound] [--runs N] [NAME..]`; a name is that of a bug (cluster/servers/bugs.py).
+"""
+from __future__ import annotations
+
+import argparse
+import asyncio
+import json
+import subprocess
+import sys
+import time
+from dataclasses import dataclass
+from typing import Awaitable, Callable
+
+from scripted import JOURNAL, ROOT, Scripted
+
+from cluster.checkers.clients import check as check_clients
+from cluster.checkers.servers import Checker
+from cluster.clients.load import Generator, Load
+from cluster.servers.history import history_of
+from cluster.wire import Failed
+
+CELLS = {"s": {"a": "primary", "c": "secondary"}, "t": {"b": "primary", "a": "secondary"}}
+LOAD = Load(("s", "t"), clients=6)
+
+
+@dataclass(frozen=True)
+class Play:
+    """What happens, under which load, and with how slow servers."""
+
+    act: Callable[[Scripted], Awaitable[None]]
+    load: Load = LOAD
+    think: float = 0.0
+    lag: float = 0.0
+
+
+async def to_and_fro(it: Scripted, moves: int = 2, repeats: int = 0, pause: float = 0.2) -> None:
+    """The shard goes to b and back."""
+    for number in range(moves):
+        old, new = ("a", "b") if number % 2 == 0 else ("b", "a")
+        await it.move("s", old, new, [old, "c"], repeats)
+        await asyncio.sleep(pause)
+
+
+async def late_orders(it: Scripted) -> None:
+    """The orders of a handover come again when all is over."""
+    first = it.handover("s", "a", "b", ["a", "c"])
+    for place, order in enumerate(first):
+        await it.send(order)
+        if place == 2:
+            it.publish({"s": "b"})
+    await it.move("s", "b", "a", ["b", "c"])
+    for order in first:
+        await it.repeat(order)
+    await asyncio.sleep(0.3)
+
+
+async def slow_handover(it: Scripted) -> None:
+    """The new owner is prepared for a while, and clients come to it all the same."""
+    orders = it.handover("s", "a", "b", ["a", "c"])
+    await it.send(orders[0])
+    await asyncio.sleep(1.5)
+    for order in orders[1:3]:
+        await it.send(order)
+    it.publish({"s": "b"})
+    await it.send(orders[3])
+
+
+async def late_restore(it: Scripted) -> None:
+    """A server loses its slots twice, and the answer to its first question comes when it has asked again."""
+    slots = it.slots("c", CELLS)
+    nonces = []
+    for _ in range(2):
+        it.kill("c")
+        it.asked.clear()
+        await it.start("c", loses_slots=True)
+        while "c" not in it.asked:
+            await asyncio.sleep(0.05)
+        nonces.append(it.asked["c"])
+    for nonce in nonces:
+        restore = {"server": "c", "nonce": nonce, "journal": JOURNAL, "fence": it.base, "base": it.number, "slots": slots}
+        try:
+            await it.channels["c"].ask(5, restore=restore)
+        except Failed:
+            pass
+    await asyncio.sleep(0.3)
+
+
+async def reopened(it: Scripted, cells: dict[str, dict[str, str]]) -> list[dict]:
+    """All servers are fenced and settled; the settles."""
+    fenced = await it.fence()
+    settles = it.settles(fenced, cells)
+    await it.settle(fenced, cells)
+    return settles
+
+
+async def fence_at_work(it: Scripted) -> None:
+    """A fence comes while the old owner waits for requests that run."""
+    orders = it.handover("s", "a", "b", ["a", "c"])
+    await it.send(orders[0])
+    sending = asyncio.create_task(it.repeat(orders[1]))
+    await asyncio.sleep(0.1)
+    await it.fence()
+    await asyncio.sleep(1)
+    await sending
+    await reopened(it, CELLS)
+
+
+async def late_settle(it: Scripted) -> None:
+    """A settle comes again when the shard has moved on."""
+    settles = await reopened(it, CELLS)
+    await it.move("s", "a", "b", ["a", "c"])
+    for settle in settles:
+        await it.channels[settle["server"]].ask(5, settle=settle)
+    await asyncio.sleep(0.5)
+
+
+async def fence_amid_passing(it: Scripted) -> None:
+    """A fence comes while requests are passed on to the new owner; the old one gets the shard back."""
+    orders = it.handover("s", "a", "b", ["a", "c"])
+    await it.send(orders[0])
+    await it.send(orders[1])
+    await asyncio.sleep(0.5)
+    await it.settle(await it.fence(), CELLS)
+    await asyncio.sleep(0.5)
+
+
+async def change(it: Scripted) -> None:
+    """The primary becomes a secondary, and the secondary the primary, and back."""
+    for old, new in (("a", "c"), ("c", "a")):
+        roles = {"primary": old, "replicas": ["a", "c"]}
+        await it.send(it.order(old, "change", "s", **{"from": "primary"}, to="secondary", **roles))
+        await it.send(it.order(new, "change", "s", **{"from": "secondary"}, to="primary", **roles))
+        it.publish({"s": new})
+        await asyncio.sleep(0.5)
+
+
+PLAYS = {
+    "no-numbers": Play(late_orders),
+    "execute-prepared": Play(slow_handover, Load(("s", "t"), clients=6, stray=0.4)),
+    "slot-deleted": Play(late_orders),
+    "commit-before-copy": Play(to_and_fro),
+    "drop-while-writing": Play(to_and_fro, think=0.1),
+    "tail-not-copied": Play(to_and_fro, lag=0.2),
+    "no-identities": Play(to_and_fro, Load(("s", "t"), clients=6, attempt=0.03)),
+    "restore-without-nonce": Play(late_restore),
+    "commit-after-fence": Play(fence_at_work, think=0.6),
+    "settle-twice": Play(late_settle),
+    "add-without-cut": Play(to_and_fro, lag=0.4),
+    "fence-while-passed": Play(fence_amid_passing, think=0.4),
+    "change-while-writing": Play(change, think=0.1),
+}
+
+
+async def played(name: str, bug: str | None) -> tuple[list[str], list[str], dict]:
+    """Plays it; what the checkers of the servers and of the clients find, and the clients' figures."""
+    play = PLAYS[name]
+    scripted = Scripted("abc", bug, play.think, play.lag)
+    path = scripted.dir / "clients.jsonl"
+    try:
+        await scripted.start()
+        await scripted.open(CELLS)
+        with open(path, "w", encoding="utf-8") as history:
+            generator = Generator(scripted.cluster, play.load, history)
+            stopping = asyncio.Event()
+            running = asyncio.create_task(generator.run_until(stopping))
+            await asyncio.sleep(0.7)
+            told: list[str] = []
+            try:
+                await asyncio.wait_for(play.act(scripted), 60)
+            except (Failed, TimeoutError, AssertionError) as error:
+                told = [f"the play came to no end: {error!r}"]
+            stopping.set()
+            await running
+        await asyncio.sleep(0.6)
+        for server in list(scripted.processes):
+            scripted.kill(server)
+        return await server_faults(scripted), [*told, *check_clients([str(path)])[0]], generator.figures()
+    finally:
+        scripted.close()
+
+
+async def server_faults(scripted: Scripted) -> list[str]:
+    """What the servers' histories tell."""
+    lines = [line for name in scripted.names for line in await history_of(scripted.dir / name)]
+    checker = Checker({"s": 2, "t": 2})
+    checker.walk(lines)
+    checker.look_at_data(it for it in lines if it["kind"] == "data")
+    return checker.faults
+
+
+def main() -> int:
+    """The command line."""
+    parser = argparse.ArgumentParser(description="Plays of real servers, with and without planted bugs.")
+    parser.add_argument("names", nargs="*", metavar="NAME")
+    parser.add_argument("--sound", action="store_true", help="without bugs only")
+    parser.add_argument("--runs", type=int, default=1)
+    told = parser.parse_args()
+    wrong = 0
+    for name in told.names or PLAYS:
+        for bug in [None] * told.runs + ([] if told.sound else [name] * told.runs):
+            began = time.monotonic()
+            servers, clients, figures = asyncio.run(played(name, bug))
+            is_wrong = bool(servers or clients) != (bug is not None)
+            wrong += is_wrong
+            print(f"{name:24} {'with the bug' if bug else 'sound':13} servers {len(servers):4} clients {len(clients):4}  "
+                  f"{figures['requests']} requests, {figures['failures']} failed, {time.monotonic() - began:.0f} s{'   WRONG' if is_wrong else ''}", flush=True)
+            for fault in (servers[:2] + clients[:2]) if bug or is_wrong else ():
+                print(f"    {fault}")
+    return 1 if wrong else 0
+
+
+if __name__ == "__main__":
+    sys.exit(main())
