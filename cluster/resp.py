@@ -124,6 +124,8 @@ class Redis:
     def close(self) -> None:
         """Ends the connection; who waits gets a ConnectionError."""
         self.writer.close()
+        if asyncio.current_task() is not self.reading:
+            self.reading.cancel()
         while self.waiting:
             future = self.waiting.popleft()
             if not future.done():

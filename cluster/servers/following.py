@@ -81,6 +81,7 @@ class Following:
             ask = {"shard": self.shard.name, "from": self.server.name, "position": position, "chain": chain}
             self.writer.write(line_of({"follow": ask}))
             first = await asyncio.wait_for(read_message(reader), limits.COPYING)
+            await self.lag()
             await self.take_all([first or {"nothere": {}}], source)
             queue: asyncio.Queue[Message | None] = asyncio.Queue()
             reading = asyncio.create_task(self.read(reader, queue))
@@ -103,13 +104,17 @@ class Following:
         """Takes what has come, again and again."""
         while True:
             batch = [await queue.get()]
-            if self.server.longest_lag:
-                await asyncio.sleep(random.random() * self.server.longest_lag)
+            await self.lag()
             while not queue.empty():
                 batch.append(queue.get_nowait())
             await self.take_all([it for it in batch if it is not None], source)
             if None in batch:
                 raise EOFError
+
+    async def lag(self) -> None:
+        """Is late, if the server is to be."""
+        if self.server.longest_lag:
+            await asyncio.sleep(random.random() * self.server.longest_lag)
 
     async def take_all(self, batch: list[Message], source: str) -> None:
         """Takes messages of the source in their order, and acknowledges the writes among them."""

@@ -34,13 +34,14 @@ async def data_of(store: Store, name: str) -> dict:
 async def history_of(folder: Path) -> list[dict]:
     """All that a server did, and what it has."""
     child = start_redis(folder)
+    store = Store(await open_redis(folder))
     try:
-        store = Store(await open_redis(folder))
         await store.load()
         lines = [json.loads(it) for it in await store.redis.call("LRANGE", "history", 0, -1)]
         lines += [await data_of(store, it) for it in sorted(store.shards)]
         return [{"server": folder.name, **it} for it in lines]
     finally:
+        store.redis.close()
         child.kill()
         child.wait()
 

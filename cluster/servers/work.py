@@ -81,7 +81,7 @@ class Orders:
         """What the server makes of an order."""
         slot, bug = shard.slot, self.server.bug
         if bug == "no-numbers" and self.store.base.known and slot.at_work != order.number:
-            verdict = agent.judge(replace(self.store.base, number=0), replace(slot, last=0), self.store.used(), order)
+            verdict = agent.judge(replace(self.store.base, number=order.fence), replace(slot, last=0), self.store.used(), order)
             return Answer.AGAIN if verdict in REFUSALS else verdict
         return agent.judge(self.store.base, slot, self.store.used(), order)
 
@@ -231,9 +231,9 @@ class Orders:
         """The slot with the order's effect, None if the work is thrown away."""
         base, slot, order, bug = self.store.base, shard.slot, work.order, self.server.bug
         if bug == "commit-after-fence":
-            base, slot = replace(base, number=0, fenced=0, known=1, journal=order.journal), replace(slot, at_work=order.number)
+            base, slot = replace(base, number=order.fence, fenced=0, known=1, journal=order.journal), replace(slot, at_work=order.number)
         if bug == "no-numbers":
-            base, slot = replace(base, number=0), replace(slot, last=0)
+            base, slot = replace(base, number=order.fence), replace(slot, last=0)
         applied = max(shard.position, slot.cut) if bug in ("add-without-cut", "tail-not-copied") else shard.position
         if bug in ("add-without-cut", "tail-not-copied") and slot.cell == Cell.PREPARED and not slot.has_cut:
             slot = replace(slot, has_cut=1)

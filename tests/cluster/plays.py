@@ -126,6 +126,19 @@ async def fence_amid_passing(it: Scripted) -> None:
     await asyncio.sleep(0.5)
 
 
+async def early_add(it: Scripted) -> None:
+    """The new owner was away for a while, and is to take over as soon as it is back."""
+    orders = it.handover("s", "a", "b", ["a", "c"])
+    await it.send(orders[0])
+    it.kill("b")
+    await asyncio.sleep(3)
+    await it.start("b")
+    for order in orders[1:3]:
+        await it.send(order)
+    it.publish({"s": "b"})
+    await it.send(orders[3])
+
+
 async def change(it: Scripted) -> None:
     """The primary becomes a secondary, and the secondary the primary, and back."""
     for old, new in (("a", "c"), ("c", "a")):
@@ -147,14 +160,14 @@ PLAYS = {
     "restore-without-nonce": Play(late_restore),
     "commit-after-fence": Play(fence_at_work, think=0.6),
     "settle-twice": Play(late_settle),
-    "add-without-cut": Play(to_and_fro, lag=0.4),
+    "add-without-cut": Play(early_add, lag=1.0),
     "fence-while-passed": Play(fence_amid_passing, think=0.4),
     "change-while-writing": Play(change, think=0.1),
 }
 
 
 async def played(name: str, bug: str | None) -> tuple[list[str], list[str], dict]:
-    """Plays it; what the checkers of the servers and of the clients find, and the clients' figures."""
+    """Plays it; what the checkers of the servers and of the clients find, and the clients' figures with how the play ended."""
     play = PLAYS[name]
     scripted = Scripted("abc", bug, play.think, play.lag)
     path = scripted.dir / "clients.jsonl"
@@ -166,17 +179,17 @@ async def played(name: str, bug: str | None) -> tuple[list[str], list[str], dict
             stopping = asyncio.Event()
             running = asyncio.create_task(generator.run_until(stopping))
             await asyncio.sleep(0.7)
-            told: list[str] = []
+            told = None
             try:
                 await asyncio.wait_for(play.act(scripted), 60)
             except (Failed, TimeoutError, AssertionError) as error:
-                told = [f"the play came to no end: {error!r}"]
+                told = repr(error)
             stopping.set()
             await running
         await asyncio.sleep(0.6)
         for server in list(scripted.processes):
             scripted.kill(server)
-        return await server_faults(scripted), [*told, *check_clients([str(path)])[0]], generator.figures()
+        return await server_faults(scripted), check_clients([str(path)])[0], {**generator.figures(), "end": told}
     finally:
         scripted.close()
 
@@ -202,11 +215,11 @@ def main() -> int:
         for bug in [None] * told.runs + ([] if told.sound else [name] * told.runs):
             began = time.monotonic()
             servers, clients, figures = asyncio.run(played(name, bug))
-            is_wrong = bool(servers or clients) != (bug is not None)
+            is_wrong = not (servers or clients) if bug else bool(servers or clients or figures["end"] or figures["failures"])
             wrong += is_wrong
             print(f"{name:24} {'with the bug' if bug else 'sound':13} servers {len(servers):4} clients {len(clients):4}  "
                   f"{figures['requests']} requests, {figures['failures']} failed, {time.monotonic() - began:.0f} s{'   WRONG' if is_wrong else ''}", flush=True)
-            for fault in (servers[:2] + clients[:2]) if bug or is_wrong else ():
+            for fault in [*servers[:2], *clients[:2], *filter(None, [figures["end"]])] if bug or is_wrong else ():
                 print(f"    {fault}")
     return 1 if wrong else 0
 
