@@ -22,7 +22,7 @@ from typing import Iterable
 from smplan import agent
 from smplan.agent import Base, Slot
 
-from ..resp import Part, Redis
+from ..resp import ErrorReply, Part, Redis
 from .shard import Entry, Event, Shard
 
 Command = tuple[Part, ...]
@@ -54,11 +54,14 @@ async def open_redis(folder: Path, seconds: float = 20) -> Redis:
     # (a unix socket's path is short, and a folder's may not be)
     path = os.path.relpath(folder / "redis.sock")
     while True:
+        redis = None
         try:
             redis = await Redis.open(path)
             await redis.call("PING")
             return redis
-        except Exception:  # (refused, or the data is being read)
+        except (OSError, ErrorReply):  # (refused, or the data is being read)
+            if redis is not None:
+                redis.close()
             if time.monotonic() > deadline:
                 raise
             await asyncio.sleep(0.05)

@@ -189,15 +189,15 @@ async def played(name: str, bug: str | None) -> tuple[list[str], list[str], dict
         await asyncio.sleep(0.6)
         for server in list(scripted.processes):
             scripted.kill(server)
-        return await server_faults(scripted), check_clients([str(path)])[0], {**generator.figures(), "end": told}
+        return await server_faults(scripted, {"s": 2, "t": 2}), check_clients([str(path)])[0], {**generator.figures(), "end": told}
     finally:
         scripted.close()
 
 
-async def server_faults(scripted: Scripted) -> list[str]:
+async def server_faults(scripted: Scripted, floors: dict[str, int]) -> list[str]:
     """What the servers' histories tell."""
     lines = [line for name in scripted.names for line in await history_of(scripted.dir / name)]
-    checker = Checker({"s": 2, "t": 2})
+    checker = Checker(floors)
     checker.walk(lines)
     checker.look_at_data(it for it in lines if it["kind"] == "data")
     return checker.faults
