@@ -89,7 +89,8 @@ class Checker:
 
     def on_start(self, host: Host, event: dict) -> None:
         """It has started: with its slots, or Unknown."""
-        self.counts["start again"] += host.name in self.hosts and host.base > 0
+        self.counts["start again with slots"] += event["known"]
+        self.counts["start after a crash at work"] += event["at_work"] > 0
         if event["loses_slots"]:
             self.clear(host)
         host.nonce = event["nonce"]
@@ -110,6 +111,7 @@ class Checker:
         """It is fenced: from now on it takes no order of before, and its handovers stand still."""
         if event["base"] <= host.base:
             self.fault(event, "a fence at or below its base")
+        self.counts["fence at work"] += event["at_work"] > 0
         host.base, host.is_fenced, host.nonce = event["base"], True, event["nonce"]
         self.epoch = max(self.epoch, event["base"])
 

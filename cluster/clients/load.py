@@ -30,7 +30,7 @@ class Load:
     stray: float = 0.02
     pause: float = 0.0
     # (how long a client waits for one server's reply before it asks again)
-    attempt: float = 4.0
+    attempt: float = 3.0
     seed: int = 1
     # (so that values and identities of several generators, or of several runs, differ)
     name: str = "c"

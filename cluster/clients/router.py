@@ -33,7 +33,7 @@ class Router:
         self.connections: dict[str, Redis] = {}
         self.figures = Figures()
 
-    async def request(self, shard: str, identity: str | None, *command: str, seconds: float = 10.0, attempt: float = 4.0) -> Reply:
+    async def request(self, shard: str, identity: str | None, *command: str, seconds: float = 10.0, attempt: float = 3.0) -> Reply:
         """A request's reply; raises TimeoutError if there is none in time."""
         deadline, pause = time.monotonic() + seconds, 0.01
         names = sorted(self.cluster.servers)

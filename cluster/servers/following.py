@@ -5,11 +5,10 @@ import asyncio
 import random
 from typing import TYPE_CHECKING
 
-from smplan import agent
 from smplan.agent import Cell
 
 from ..wire import Message, line_of, open_lines, read_message
-from . import limits
+from . import agent, limits
 from .shard import Entry, Shard
 
 if TYPE_CHECKING:

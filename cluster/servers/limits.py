@@ -2,15 +2,15 @@
 
 # A follower that is gone or silent for so long is no longer waited for; it has to catch up before it counts again.
 DEAD_AFTER = 1.2
-SILENT_AFTER = 3.0
+SILENT_AFTER = 2.5
 # Work that holds requests back is given up after the first, work that copies after the second; the order comes again.
-HOLDING = 4.0
+HOLDING = 3.0
 COPYING = 20.0
 # A fence waits so long for requests of handovers that run.
 FENCING = 5.0
 # A request that may not be executed yet waits so long, and a passed one for its reply.
-WAITING = 2.0
-PASSING = 6.0
+WAITING = 1.5
+PASSING = 4.0
 # One step between servers.
 STEP = 3.0
 # How often an Unknown server asks for its slots, and a source looks after followers that are gone.

@@ -2,15 +2,15 @@
 from __future__ import annotations
 
 import asyncio
+import re
 import time
 from typing import TYPE_CHECKING
 
-from smplan import agent
 from smplan.agent import Answer, Cell, Request
 
 from ..resp import ErrorReply, Part, Reply, encode_reply, read_reply
 from ..wire import Failed, Message
-from . import limits
+from . import agent, limits
 from .shard import Entry, Shard, chained
 from .store import data_key
 
@@ -20,6 +20,8 @@ if TYPE_CHECKING:
 # For each write the command that tells what its reply will be, and how many words it has at least.
 WRITES = {"SET": None, "INCR": "GET", "APPEND": "STRLEN", "RPUSH": "LLEN"}
 READS = ("GET", "LRANGE")
+# What INCR takes: below the largest number of 64 bits.
+INTEGER, LARGEST = re.compile(rb"0|-?[1-9][0-9]{0,17}"), 10**18
 LENGTHS = {"SET": (3, 3), "INCR": (2, 2), "APPEND": (3, 3), "RPUSH": (3, 1 << 20), "GET": (2, 2), "LRANGE": (4, 4)}
 
 
@@ -162,10 +164,9 @@ class Requests:
             return "OK"
         before = await self.redis.call(WRITES[word], data_key(shard.name, key))
         if word == "INCR":
-            try:
-                return int(before or 0) + 1
-            except ValueError as error:
-                raise ErrorReply("ERR value is not an integer or out of range") from error
+            if not INTEGER.fullmatch(before or b"0") or int(before or 0) >= LARGEST:
+                raise ErrorReply("ERR value is not an integer or out of range")
+            return int(before or 0) + 1
         return before + (len(rest[0]) if word == "APPEND" else len(rest))
 
     # -- passing on
@@ -188,5 +189,7 @@ class Requests:
         try:
             reply = await self.request(passed["shard"], passed["identity"], tuple(passed["command"]), how)
         except ErrorReply as error:
+            if error.kind == "NOTHERE":
+                self.store.note("passed-late", shard=passed["shard"], handover=passed["handover"])
             raise Failed(error.kind, str(error)) from error
         return {"reply": reply.decode("latin-1")}

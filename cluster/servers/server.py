@@ -10,11 +10,10 @@ import time
 from dataclasses import replace
 from typing import Any
 
-from smplan import agent
 from smplan.agent import Answer, Base, Cell, Request, Slot
 
 from ..wire import Channel, Cluster, Failed, Message, read_message, line_of
-from . import limits
+from . import agent, limits
 from .following import Following
 from .requests import Requests
 from .shard import CELLS, STATES, Shard
@@ -38,6 +37,7 @@ class Server:
 
     def __init__(self, name: str, cluster: Cluster, store: Store, bug: str | None = None, think: float = 0, lag: float = 0) -> None:
         self.name, self.cluster, self.store, self.bug = name, cluster, store, bug
+        store.fail = self.fail
         self.longest_think, self.longest_lag = think, lag
         self.changing = asyncio.Lock()
         self.peers: dict[str, Channel] = {}
@@ -59,12 +59,12 @@ class Server:
         if not self.store.base.known and not self.store.base.nonce:
             self.store.base = agent.forget(nonce())
             commands += self.store.base_commands(self.store.base)
-        for shard in self.store.shards.values():
-            if shard.slot.at_work:
-                shard.slot = agent.abandon(shard.slot)
-                commands += self.store.slot_commands(shard.name, shard.slot)
+        at_work = [it for it in self.store.shards.values() if it.slot.at_work]
+        for shard in at_work:
+            shard.slot = agent.abandon(shard.slot)
+            commands += self.store.slot_commands(shard.name, shard.slot)
         await self.store.save(commands, "start", server=self.name, loses_slots=loses_slots, known=bool(self.store.base.known),
-                              nonce=hexadecimal(self.store.base.nonce))
+                              at_work=len(at_work), nonce=hexadecimal(self.store.base.nonce))
         self.begin(self.sources.probe())
         self.begin(self.keep_notes())
         self.resume()
@@ -217,6 +217,8 @@ class Server:
                     answer, base = agent.fence(self.store.base, journal, number, nonce())
                     if answer == Answer.TAKEN:
                         await self.take_fence(base)
+                    else:
+                        self.store.note("fence-" + answer.name.lower(), base=number)
                     if answer == Answer.IGNORED:
                         raise Failed("Ignored", "it is not above the base")
                     return {"fenced": {"server": self.name, "base": number, **self.inventory()}}
@@ -250,7 +252,7 @@ class Server:
             if shard.slot.at_work and not keeps_work:
                 slots[shard.name] = agent.abandon(shard.slot)
                 commands += self.store.slot_commands(shard.name, slots[shard.name])
-        await self.store.save(commands, "fence", base=base.number, slots=self.short_slots(), nonce=hexadecimal(base.nonce))
+        await self.store.save(commands, "fence", base=base.number, slots=self.short_slots(), at_work=len(slots), nonce=hexadecimal(base.nonce))
         self.store.base = base
         for shard in self.store.shards.values():
             if shard.name in slots:
@@ -288,6 +290,8 @@ class Server:
             answer, base = agent.settle(before, int(told["journal"], 16), told["base"], name is not None, int(name or "0", 16))
             if answer == Answer.TAKEN:
                 await self.take(base, told["slots"], "settle", told.get("nonce"))
+            else:
+                self.store.note("settle-" + answer.name.lower(), base=told["base"])
         if answer not in (Answer.TAKEN, Answer.AGAIN):
             raise Failed("Ignored", "it is not for this server now")
         return {"settled": {"server": self.name, "base": told["base"]}}
@@ -302,6 +306,8 @@ class Server:
             answer, base = agent.restore(before, int(told["journal"], 16), told["fence"], told["base"], named or 1)
             if answer == Answer.TAKEN:
                 await self.take(base, told["slots"], "restore", told["nonce"])
+            else:
+                self.store.note("restore-ignored", nonce=told["nonce"], known=bool(self.store.base.known))
         if answer != Answer.TAKEN:
             raise Failed("Ignored", "it did not ask for this now")
         return {"restored": {"server": self.name, "nonce": told["nonce"]}}

@@ -17,12 +17,12 @@ import subprocess
 import time
 from dataclasses import astuple
 from pathlib import Path
-from typing import Iterable
+from typing import Callable, Iterable
 
-from smplan import agent
 from smplan.agent import Base, Slot
 
 from ..resp import ErrorReply, Part, Redis
+from . import agent
 from .shard import Entry, Event, Shard
 
 Command = tuple[Part, ...]
@@ -80,6 +80,8 @@ class Store:
         self.base = Base()
         self.shards: dict[str, Shard] = {}
         self.unwritten: list[Event] = []
+        # (what memory says would be wrong from then on: the process has to end)
+        self.fail: Callable[[BaseException], None] = lambda error: None
 
     async def load(self) -> None:
         """Reads what is stored."""
@@ -118,7 +120,11 @@ class Store:
         noted, self.unwritten = self.unwritten, []
         lines = [json.dumps(it, separators=(",", ":")) for it in noted]
         history = [("RPUSH", "history", *lines)] if lines else []
-        await self.redis.transaction([*commands, *history])
+        try:
+            await self.redis.transaction([*commands, *history])
+        except (OSError, ErrorReply) as error:
+            self.fail(error)
+            raise
 
     async def save_notes(self) -> None:
         """Stores what was noted."""

@@ -6,11 +6,10 @@ import time
 from dataclasses import dataclass, replace
 from typing import TYPE_CHECKING
 
-from smplan import agent
 from smplan.agent import Answer, Call, Cell, Order, Role
 
 from ..wire import Failed, Message
-from . import limits
+from . import agent, limits
 from .following import Following
 from .shard import STATES, Shard
 
@@ -66,15 +65,17 @@ class Orders:
             if verdict == Answer.BEGIN:
                 await self.begin(shard, order, told)
             work = shard.work
+        if verdict == Answer.WORKING:
+            self.store.note("order-at-work", shard=shard.name, number=order.number, call=told["call"])
         if verdict in (Answer.BEGIN, Answer.WORKING):
             if work is None:
                 raise Failed("GivenUp", "nobody works")
             await asyncio.shield(work.done)
         elif verdict != Answer.AGAIN:
-            self.store.note("turned-away", shard=shard.name, number=order.number, verdict=verdict.name, slot_last=shard.slot.last)
+            self.store.note("order-" + verdict.name.lower().replace("_", "-"), shard=shard.name, number=order.number, last=shard.slot.last)
             raise Failed(TURNED_AWAY.get(verdict, "Refused"), REFUSALS.get(verdict, ""))
         else:
-            self.store.note("again", shard=shard.name, number=order.number)
+            self.store.note("order-again", shard=shard.name, number=order.number)
         return {"answered": {"plan": told["plan"], "stream": told["stream"], "number": told["number"]}}
 
     def judge(self, shard: Shard, order: Order) -> Answer:

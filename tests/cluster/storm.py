@@ -114,6 +114,8 @@ class Storm:
             for task in list(self.moving):
                 task.cancel()
             await asyncio.gather(*self.moving, return_exceptions=True)
+            # (who was killed a moment ago catches up first: only the copies of live servers are promised to have all acknowledged writes)
+            await asyncio.sleep(3)
             lost = self.dice.choice(NAMES)
             self.it.kill(lost)
             fenced = await self.it.fence(*(it for it in NAMES if it != lost))
@@ -186,11 +188,12 @@ class Storm:
 async def played(seed: int, seconds: float, keeps: bool, bug: str | None) -> bool:
     """One run; whether all was well."""
     storm = Storm(seed, bug)
+    faults = ["it was not finished"]
     try:
         faults, figures = await storm.run(seconds, is_reopened=seed % 2 == 0)
     finally:
-        storm.it.close(keeps)
-    print(f"seed {seed}: {len(faults)} faults {json.dumps(figures)} {storm.it.dir if keeps else ''}", flush=True)
+        storm.it.close(keeps and bool(faults))
+    print(f"seed {seed}: {len(faults)} faults {json.dumps(figures)} {storm.it.dir if keeps and faults else ''}", flush=True)
     for fault in faults[:8]:
         print(f"    {fault}")
     return not faults

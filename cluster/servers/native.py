@@ -1,0 +1,144 @@
+"""The proved library of include/sm_agent.h, called from Python: the same functions, with the same values, as the port smplan.agent."""
+from __future__ import annotations
+
+import ctypes
+from ctypes import Structure, byref, c_uint32, c_uint64
+from dataclasses import astuple
+from pathlib import Path
+
+from smplan.agent import Answer, Base, Order, Request, Slot
+
+
+class Record(Structure):
+    """A struct of the header whose first members are those of a dataclass, in their order."""
+
+    @classmethod
+    def of(cls, value):
+        """The struct of a value."""
+        return cls(*map(int, astuple(value)))
+
+    def members(self) -> list[int]:
+        """All members but `reserved`."""
+        return [getattr(self, name) for name, _ in self._fields_ if name != "reserved"]
+
+
+def fields(wide: str, narrow: str, *more: tuple[str, type]) -> list[tuple[str, type]]:
+    """Members of 64 bits, and then of 32 bits."""
+    return [(it, c_uint64) for it in wide.split()] + [(it, c_uint32) for it in narrow.split()] + list(more)
+
+
+class BaseRecord(Record):
+    """sm_base"""
+    _fields_ = fields("journal number nonce", "known fenced")
+
+
+class SlotRecord(Record):
+    """sm_slot"""
+    _fields_ = [("cell", c_uint32), ("party", c_uint32), *fields("handover last at_work load cut", "has_cut reserved")]
+
+
+class OrderRecord(Record):
+    """sm_order"""
+    _fields_ = fields("journal fence number load room handover", "call role new_role party")
+
+
+class RequestRecord(Record):
+    """sm_request"""
+    _fields_ = fields("handover cut", "party is_passed")
+
+
+class Numbers(Record):
+    """sm_reopening, and the beginnings of sm_settlement and sm_restoration"""
+    _fields_ = fields("first second third fourth", "")
+
+
+class Settlement(Record):
+    """sm_settlement"""
+    _fields_ = fields("journal number nonce", "has_nonce reserved")
+
+
+class Agent:
+    """The functions of the library."""
+
+    def __init__(self, path: Path) -> None:
+        self.library = ctypes.CDLL(str(path))
+
+    def call(self, name: str, *arguments) -> int:
+        """Calls a function; integers are of 64 bits."""
+        function = getattr(self.library, name)
+        function.restype = c_uint32
+        return function(*(c_uint64(it) if isinstance(it, int) else byref(it) for it in arguments))
+
+    # -- orders
+
+    def judge(self, base: Base, slot: Slot, used: int, order: Order) -> Answer:
+        """What a server makes of an order."""
+        return Answer(self.call("sm_judge", BaseRecord.of(base), SlotRecord.of(slot), used, OrderRecord.of(order)))
+
+    def changed(self, name: str, slot: Slot, *arguments) -> Slot:
+        """The slot as a function leaves it."""
+        record = SlotRecord.of(slot)
+        self.call(name, record, *arguments)
+        return Slot(*record.members())
+
+    def begin(self, slot: Slot, order: Order) -> Slot:
+        """The slot once an order's work has begun."""
+        return self.changed("sm_begin", slot, OrderRecord.of(order))
+
+    def abandon(self, slot: Slot) -> Slot:
+        """The slot once the work is given up."""
+        return self.changed("sm_abandon", slot)
+
+    def seal(self, slot: Slot, handover: int, cut: int) -> Slot:
+        """The slot once a new owner knows the old one's cut."""
+        return self.changed("sm_seal", slot, handover, cut)
+
+    def place(self, slot: Slot, brought: Slot) -> Slot:
+        """The slot as a settle or a restore brings it."""
+        return self.changed("sm_place", slot, SlotRecord.of(brought))
+
+    def commit(self, base: Base, slot: Slot, order: Order, at: int) -> Slot | None:
+        """The slot once the work is committed, None if it is thrown away or its cut is not reached."""
+        record = SlotRecord.of(slot)
+        answer = self.call("sm_commit", BaseRecord.of(base), record, OrderRecord.of(order), at)
+        return Slot(*record.members()) if answer == Answer.DONE else None
+
+    def has_reached_cut(self, slot: Slot, applied: int) -> bool:
+        """Whether a new owner has applied all writes up to the old one's cut."""
+        return self.call("sm_has_reached_cut", SlotRecord.of(slot), applied) == Answer.DONE
+
+    def may_delete(self, base: Base, slot: Slot) -> bool:
+        """Whether a slot may be deleted."""
+        return self.call("sm_may_delete", BaseRecord.of(base), SlotRecord.of(slot)) == Answer.DONE
+
+    # -- requests
+
+    def route(self, base: Base, slot: Slot, applied: int, request: Request) -> tuple[Answer, Request]:
+        """Where a request is executed, and how it is passed on."""
+        onward = RequestRecord()
+        answer = Answer(self.call("sm_route", BaseRecord.of(base), SlotRecord.of(slot), applied, RequestRecord.of(request), onward))
+        return answer, Request(*onward.members())
+
+    # -- the server as a whole
+
+    def based(self, name: str, base: Base, *arguments) -> tuple[Answer, Base]:
+        """The answer, and the base afterwards."""
+        record = BaseRecord.of(base)
+        answer = self.call(name, record, *arguments)
+        return Answer(answer), Base(*record.members())
+
+    def fence(self, base: Base, journal: int, number: int, nonce: int) -> tuple[Answer, Base]:
+        """What becomes of a fence."""
+        return self.based("sm_fence", base, Numbers(journal, number), nonce)
+
+    def settle(self, base: Base, journal: int, number: int, has_nonce: bool, nonce: int) -> tuple[Answer, Base]:
+        """What becomes of a settle."""
+        return self.based("sm_settle", base, Settlement(journal, number, nonce, has_nonce))
+
+    def restore(self, base: Base, journal: int, last_fence: int, number: int, nonce: int) -> tuple[Answer, Base]:
+        """What becomes of a restore."""
+        return self.based("sm_restore", base, Numbers(journal, last_fence, number, nonce))
+
+    def heed(self, base: Base, journal: int, number: int, nonce: int) -> Base:
+        """The base once a message has named the last reopening of its journal."""
+        return self.based("sm_heed", base, Numbers(journal, number), nonce)[1]
