@@ -44,6 +44,10 @@ class Following:
             self.writer.close()
         self.task.cancel()
 
+    def is_done(self) -> bool:
+        """A new owner that has all writes up to the cut executes itself: the old one follows from then on."""
+        return self.shard.slot.cell == Cell.PREPARED and self.shard.has_reached_cut
+
     def source(self) -> str:
         """Whom to ask next: the other party of a handover, the server that is said to be the primary, or the others in turn."""
         cell = self.shard.slot.cell
@@ -57,7 +61,7 @@ class Following:
     async def run(self) -> None:
         """Follows one source after the other."""
         pause = 0.02
-        while True:
+        while not self.is_done():
             source = self.source()
             try:
                 await self.follow(source)
@@ -71,6 +75,8 @@ class Following:
             self.joined.clear()
             await asyncio.sleep(pause)
             pause = min(pause * 1.4, 0.15)
+        if self.shard.following is self:
+            self.shard.following = None
 
     async def follow(self, source: str) -> None:
         """Follows a source until the connection ends."""
@@ -131,8 +137,11 @@ class Following:
                     writes = []
                     await self.take(message, source)
             await self.apply(writes)
+            is_done = self.is_done()
         self.writer.write(line_of({"ack": self.shard.position}))
         self.shard.wake()
+        if is_done:
+            raise EOFError
 
     async def take(self, message: Message, source: str) -> None:
         """Takes a message that is no write."""
@@ -167,10 +176,12 @@ class Following:
         after = agent.seal(shard.slot, handover, cut)
         if after == shard.slot:
             return
-        members = (shard.members | {self.server.party(shard)}) - {self.server.name}
+        old_owner = self.server.party(shard)
+        members = (shard.members | {old_owner}) - {self.server.name}
         commands = self.store.slot_commands(shard.name, after) + self.store.member_commands(shard.name, members)
+        commands.append(("HSET", "old_owner", shard.name, old_owner))
         await self.store.save(commands, "seal", shard=shard.name, handover=handover, cut=cut, position=shard.position)
-        shard.slot, shard.members = after, members
+        shard.slot, shard.members, shard.old_owner = after, members, old_owner
 
     async def apply(self, entries: list[Entry]) -> None:
         """Executes writes of the source, all in one transaction."""

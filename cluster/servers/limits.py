@@ -1,13 +1,13 @@
 """How long a server waits for what, in seconds."""
 
 # A follower that is gone or silent for so long is no longer waited for; it has to catch up before it counts again.
-DEAD_AFTER = 1.2
-SILENT_AFTER = 2.5
+DEAD_AFTER = 3.0
+SILENT_AFTER = 4.0
 # Work that holds requests back is given up after the first, work that copies after the second; the order comes again.
 HOLDING = 3.0
 COPYING = 20.0
 # A fence waits so long for requests of handovers that run.
-FENCING = 5.0
+FENCING = 0.7
 # A request that may not be executed yet waits so long, and a passed one for its reply.
 WAITING = 1.5
 PASSING = 4.0

@@ -105,7 +105,7 @@ class Requests:
                 if shard.term != term:
                     raise ErrorReply(f"TRYAGAIN {shard.name}")
                 reply = await self.execute(shard, identity, command, how)
-            await self.server.sources.replicated(shard, shard.position)
+            await self.server.sources.replicated(shard, shard.position, term)
             if shard.term != term:
                 raise ErrorReply(f"LOST {shard.name}")
             return reply

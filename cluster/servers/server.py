@@ -52,10 +52,10 @@ class Server:
         """Begins without work, and as Unknown if it has lost its slots or never had any."""
         commands = []
         if loses_slots:
-            commands += [("DEL", "base", "slots")]
+            commands += [("DEL", "base", "slots", "old_owner")]
             self.store.base = Base()
             for shard in self.store.shards.values():
-                shard.slot = Slot()
+                shard.slot, shard.old_owner = Slot(), None
         if not self.store.base.known and not self.store.base.nonce:
             self.store.base = agent.forget(nonce())
             commands += self.store.base_commands(self.store.base)
@@ -191,11 +191,11 @@ class Server:
         """Turns Unknown: slots are deleted, data is kept."""
         async with AllLocks(self.store.shards.values()):
             base = agent.forget(nonce())
-            await self.store.save([("DEL", "slots"), *self.store.base_commands(base)], "forget", before=self.store.base.number, nonce=hexadecimal(base.nonce))
+            await self.store.save([("DEL", "slots", "old_owner"), *self.store.base_commands(base)], "forget", before=self.store.base.number, nonce=hexadecimal(base.nonce))
             self.store.base = base
             for shard in self.store.shards.values():
                 self.end_term(shard, "it has turned Unknown")
-                shard.slot = Slot()
+                shard.slot, shard.old_owner = Slot(), None
                 self.stop_following(shard)
                 self.sources.close(shard)
         self.resume()
@@ -226,7 +226,7 @@ class Server:
                 self.hold(False)
 
     async def end_handovers(self) -> None:
-        """Lets running requests of handovers end, and none begin."""
+        """Lets running requests of handovers end, and none begin; who waits for too long gets no acknowledgement."""
         if self.bug == "fence-while-passed":
             return
         self.hold(True)
@@ -234,8 +234,9 @@ class Server:
         for shard in self.store.shards.values():
             while shard.is_in_handover and shard.running:
                 if not await shard.look_again(deadline):
-                    self.hold(False)
-                    raise Failed("GivenUp", f"requests of {shard.name} run")
+                    shard.term += 1
+                    deadline = time.monotonic() + limits.FENCING
+                    shard.wake()
 
     def hold(self, is_held: bool) -> None:
         """Holds requests of handovers back, or no longer."""
@@ -321,7 +322,7 @@ class Server:
     async def take(self, base: Base, slots: list[Message], kind: str, named: str | None) -> None:
         """Makes each slot what is brought, in one transaction with the base; what is not brought is absent. All locks are held."""
         brought = {it["shard"]: it for it in slots}
-        commands, after = self.store.base_commands(base), {}
+        commands, after = [*self.store.base_commands(base), ("DEL", "old_owner")], {}
         for shard in self.store.shards.values():
             slot = after[shard.name] = agent.place(shard.slot, self.slot_of(brought.get(shard.name)))
             commands += self.store.slot_commands(shard.name, slot)
@@ -337,7 +338,7 @@ class Server:
 
     def put(self, shard: Shard, slot: Slot) -> None:
         """Makes a slot what was brought, in memory. Its lock is held."""
-        before, shard.slot = shard.slot, slot
+        before, shard.slot, shard.old_owner = shard.slot, slot, None
         if slot.cell == before.cell == Cell.PRIMARY:
             shard.wake()
             return

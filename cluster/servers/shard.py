@@ -52,6 +52,8 @@ class Shard:
     chain: str = ""
     # (who has to have a write before it is acknowledged, as the last source of writes has told it or as this source has it)
     members: set[str] = field(default_factory=set)
+    # (at a new owner: the old one, until it drops the shard; no write is acknowledged without it, alive or not)
+    old_owner: str | None = None
     lock: asyncio.Lock = field(default_factory=asyncio.Lock)
     changed: asyncio.Event = field(default_factory=asyncio.Event)
     running: int = 0

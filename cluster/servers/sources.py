@@ -102,6 +102,9 @@ class Sources:
     async def leave(self, shard: Shard, name: str) -> None:
         """The follower has nothing of the shard any more."""
         async with shard.lock:
+            if name == shard.old_owner:
+                await self.store.save([("HDEL", "old_owner", shard.name)])
+                shard.old_owner = None
             if name in shard.members:
                 await self.set_members(shard, shard.members - {name})
         shard.wake()
@@ -147,8 +150,8 @@ class Sources:
             stream = shard.streams.get(name)
             if stream is not None and stream.acked >= position:
                 continue
-            is_joined = stream is not None and stream.has_joined
-            if is_joined or now - shard.seen.get(name, self.start) < limits.DEAD_AFTER:
+            is_firm = name == shard.old_owner or (stream is not None and stream.has_joined)
+            if is_firm or now - shard.seen.get(name, self.start) < limits.DEAD_AFTER:
                 lacking.append(name)
         return lacking
 
@@ -157,19 +160,20 @@ class Sources:
         streams = shard.streams
         return sorted(it for it in shard.members - {self.server.name} if it not in streams or streams[it].acked < position)
 
-    async def replicated(self, shard: Shard, position: int) -> None:
-        """Waits until all who are alive have the writes up to a position."""
+    async def replicated(self, shard: Shard, position: int, term: int) -> None:
+        """Waits until all who are alive have the writes up to a position, or the term has ended."""
         silent_at = time.monotonic() + limits.SILENT_AFTER
-        while lacking := self.lacking(shard, position):
+        while shard.term == term and (lacking := self.lacking(shard, position)):
             if time.monotonic() > silent_at:
                 self.give_up(shard, lacking)
+                silent_at += limits.SILENT_AFTER
             await shard.look_again(time.monotonic() + 1)
         missing = self.without(shard, position)
         if missing:
             self.store.note("alone", shard=shard.name, position=position, without=missing)
 
     def give_up(self, shard: Shard, names: list[str]) -> None:
-        """These are silent for too long: they have to come again."""
+        """These are silent for too long: they have to come again. (An old owner is waited for all the same.)"""
         for name in names:
             stream = shard.streams.pop(name, None)
             if stream is not None:

@@ -1,6 +1,6 @@
 """What a server keeps in its redis-server. All that belongs together changes in one MULTI, with a line of history.
 
-    base          the base, as JSON            slots, mark, members    by shard, as JSON
+    base          the base, as JSON            slots, mark, members, old_owner    by shard
     keys:S        the keys of shard S          d:S:key                 their values
     done:S        by identity, the reply       tail:S                  the last writes, which who follows may lack
     history       what happened, as JSON lines
@@ -93,6 +93,8 @@ class Store:
             self.shard(name).position, self.shard(name).chain = json.loads(text)
         for name, text in await self.hash("members"):
             self.shard(name).members = set(json.loads(text))
+        for name, text in await self.hash("old_owner"):
+            self.shard(name).old_owner = text.decode()
 
     async def hash(self, key: str) -> list[tuple[str, bytes]]:
         """The pairs of a hash."""
@@ -179,7 +181,7 @@ class Store:
         """Deletes a shard's data; the slot stays."""
         keys = [data_key(shard, it) for it in await self.data_keys(shard)]
         own = [f"{it}:{shard}" for it in ("keys", "done", "tail")]
-        return [("DEL", *own, *keys), ("HDEL", "mark", shard), ("HDEL", "members", shard)]
+        return [("DEL", *own, *keys), ("HDEL", "mark", shard), ("HDEL", "members", shard), ("HDEL", "old_owner", shard)]
 
     # -- copies
 

@@ -205,7 +205,7 @@ class Orders:
                 used=self.store.used() - before.load + slot.load)
             shard.slot, shard.work = slot, None
             if empty:
-                shard.position, shard.chain, shard.members = 0, "", set()
+                shard.position, shard.chain, shard.members, shard.old_owner = 0, "", set(), None
             self.follow_up(shard, before.cell)
         if not work.done.done():
             work.done.set_result(None)
