@@ -1,0 +1,191 @@
+"""The two checkers of cluster/checkers on histories written by hand: nothing is found in the right ones, and each wrong one is found out."""
+from __future__ import annotations
+
+import json
+import sys
+import tempfile
+from pathlib import Path
+
+ROOT = Path(__file__).resolve().parents[2]
+sys.path[:0] = [str(ROOT), str(ROOT / "python")]
+from cluster.checkers.clients import check  # noqa: E402  (the paths come first)
+from cluster.checkers.servers import STEP, Checker  # noqa: E402
+
+# -- what clients saw: a line is (client, start, end, value or list, reply)
+
+
+def client_lines(*told) -> list[dict]:
+    """Lines of a history; a text is pushed, None is read, and the last read is the final one."""
+    lines = []
+    for client, start, end, value, reply in told:
+        line = {"client": client, "op": "read" if value is None else "push", "shard": "s", "key": "s:k", "start": start, "end": end}
+        lines.append(line | ({} if value is None else {"value": value}) | ({} if reply is None else {"reply": reply}))
+    lines[-1]["final"] = True
+    return lines
+
+
+def found_by_clients(lines: list[dict]) -> list[str]:
+    """What the clients' checker finds."""
+    with tempfile.NamedTemporaryFile("w", suffix=".jsonl") as file:
+        file.write("".join(json.dumps(it) + "\n" for it in lines))
+        file.flush()
+        return check([file.name])[0]
+
+
+PUSHES = (("a", 0, 2, "x", 1), ("b", 1, 4, "y", 2), ("a", 5, 6, "z", 3))
+RIGHT_CLIENTS = {
+    "pushes and reads": (*PUSHES, ("c", 3, 5, None, ["x", "y"]), ("c", 9, 9, None, ["x", "y", "z"])),
+    "pushes at the same time, in either order": (("a", 0, 9, "x", 2), ("b", 0, 9, "y", 1), ("c", 10, 11, None, ["y", "x"])),
+    "a push without reply that is there": (("a", 0, 9, "x", None), ("c", 20, 21, None, ["x"])),
+    "a push without reply that is not there": (("a", 0, 9, "x", None), ("c", 20, 21, None, [])),
+    "a push without reply that comes late": (("a", 0, 1, "x", None), ("b", 2, 3, "y", 1), ("c", 4, 5, None, ["y"]), ("c", 20, 21, None, ["y", "x"])),
+    "a read that ran while a push did": (("a", 0, 5, "x", 1), ("c", 1, 9, None, []), ("c", 20, 21, None, ["x"])),
+}
+WRONG_CLIENTS = {
+    "is lost": (*PUSHES, ("c", 9, 9, None, ["x", "y"])),
+    "more than once": (*PUSHES, ("c", 9, 9, None, ["x", "y", "z", "x"])),
+    "pushed by nobody": (*PUSHES, ("c", 9, 9, None, ["x", "y", "z", "w"])),
+    "is number": (("a", 0, 5, "x", 1), ("b", 0, 5, "y", 2), ("c", 9, 9, None, ["y", "x"])),
+    "no beginning": (*PUSHES, ("c", 7, 8, None, ["x", "z"]), ("c", 9, 9, None, ["x", "y", "z"])),
+    "stands before": (("a", 0, 1, "x", None), ("b", 2, 3, "y", None), ("b", 5, 6, "z", None), ("c", 9, 9, None, ["z"])),
+    "had been acknowledged": (*PUSHES, ("c", 7, 8, None, ["x", "y"]), ("c", 9, 9, None, ["x", "y", "z"])),
+    "or read before": (("a", 0, 9, "x", 1), ("b", 1, 2, None, ["x"]), ("c", 3, 4, None, []), ("c", 20, 21, None, ["x"])),
+    "before its push": (("a", 5, 6, "x", 1), ("b", 1, 2, None, ["x"]), ("c", 20, 21, None, ["x"])),
+    "nobody could read": (("a", 0, 9, "x", 1),),
+}
+# (a push that had ended stands behind one that began later: both without the number that the reply told)
+WRONG_CLIENTS["stands before"] = (("a", 0, 1, "x", 2), ("b", 5, 6, "y", 1), ("c", 9, 9, None, ["y", "x"]))
+
+
+# -- what servers did
+
+class History:
+    """A history of servers a and b, and of shard s, which is at a; each line is a moment later."""
+
+    def __init__(self) -> None:
+        self.lines: list[dict] = []
+        for name in "ab":
+            self.add(name, "start", loses_slots=False, known=False, at_work=0, nonce=f"n{name}")
+            self.add(name, "fence", base=STEP, slots={}, at_work=0, nonce=f"m{name}")
+        self.add("a", "settle", base=STEP, slots={"s": ["primary", 0]}, nonce="ma")
+        self.add("b", "settle", base=STEP, slots={}, nonce="mb")
+        self.number, self.position = STEP, 0
+
+    def add(self, server: str, kind: str, **more) -> "History":
+        """One line."""
+        self.lines.append({"server": server, "t": len(self.lines), "kind": kind, **more})
+        return self
+
+    def write(self, server: str, position: int | None = None, identity: str | None = None, passed: str | None = None) -> "History":
+        """A push."""
+        self.position = self.position + 1 if position is None else position
+        text = identity or f"i{len(self.lines)}"
+        return self.add(server, "execute", shard="s", position=self.position, identity=text, command=["RPUSH", "k", text], passed=passed)
+
+    def order(self, server: str, call: str, state: str, number: int | None = None, used: int = 1, position: int | None = None) -> "History":
+        """An order that is begun and done."""
+        self.number = self.number + 1 if number is None else number
+        more = {"shard": "s", "number": self.number, "call": call, "plan": 0, "stream": 0}
+        self.add(server, "begin", **more)
+        return self.add(server, "commit", **more, state=state, position=self.position if position is None else position, used=used, room=9)
+
+    def handover(self, old: str = "a", new: str = "b") -> "History":
+        """Three orders of a handover, with a passed request, and the last."""
+        self.order(new, "prepare_add", "prepared").write(old).order(old, "prepare_drop", "forwarding").write(new, passed=old)
+        return self.order(new, "add", "primary").write(new).order(old, "drop", "absent")
+
+    def found(self, **data) -> list[str]:
+        """What the servers' checker finds."""
+        checker = Checker({"s": 1})
+        checker.walk(self.lines)
+        checker.look_at_data({"kind": "data", "shard": "s", "known": True, "base": STEP, **it} for it in data.get("data", ()))
+        if "orders" in data:
+            checker.look_at_orders(data["orders"], data["answered"])
+        if "expected" in data:
+            checker.look_at_end(data["expected"], [{"shard": "s", "known": True, "base": STEP, **it} for it in data["data"]])
+        return checker.faults
+
+
+def order_line(server: str, number: int) -> dict:
+    """An order as it was sent."""
+    return {"plan": 0, "stream": 0, "number": STEP + number, "server": server, "shard": "s", "call": "prepare_add"}
+
+
+def fenced(it: History) -> History:
+    """Another fence at both."""
+    for name in "ab":
+        it.add(name, "fence", base=2 * STEP, slots={}, at_work=0, nonce=f"m{name}")
+    return it
+
+
+def settled(it: History, a: dict, b: dict) -> History:
+    """Another settle at both."""
+    return it.add("a", "settle", base=2 * STEP, slots=a, nonce=None).add("b", "settle", base=2 * STEP, slots=b, nonce=None)
+
+
+ANSWERED = [{"plan": 0, "stream": 0, "number": STEP + 1}]
+RIGHT_SERVERS = {
+    "a handover": lambda it: it.write("a").handover().write("b").found(),
+    "a handover and back": lambda it: it.write("a").handover().handover("b", "a").write("a").found(),
+    "the data of the end": lambda it: it.write("a", identity="x").found(data=[{"server": "a", "state": "primary", "position": 1, "values": {"k": ["x"]}}]),
+    "a reopening amid a handover, in which a write is discarded": lambda it: settled(
+        fenced(it.write("a").order("b", "prepare_add", "prepared").order("a", "prepare_drop", "forwarding").write("b", passed="a")),
+        {"s": ["primary", 1]}, {}).write("a", 2).found(),
+    "answers": lambda it: it.order("b", "prepare_add", "prepared").found(orders=[order_line("b", 1)], answered=ANSWERED),
+    "a restore": lambda it: it.add("b", "forget", before=STEP, nonce="k").add("b", "restore", base=STEP + 1, slots={}, nonce="k").found(),
+}
+WRONG_SERVERS = {
+    "has its effect again": lambda it: it.handover().order("b", "drop", "absent", number=STEP + 3).found(),
+    "has its effect behind": lambda it: it.handover().order("b", "drop", "absent", number=STEP + 2).found(),
+    "fenced or Unknown": lambda it: fenced(it).order("b", "prepare_add", "prepared", number=2 * STEP + 1).found(),
+    "makes absent": lambda it: it.order("b", "prepare_drop", "forwarding").found(),
+    "more than the room": lambda it: it.order("b", "prepare_add", "prepared", used=10).found(),
+    "with 0 writes of 1": lambda it: it.write("a").order("b", "prepare_add", "prepared", position=0).found(),
+    "has the primaries": lambda it: it.order("b", "prepare_add", "prepared").order("b", "add", "primary").found(),
+    "has 0 replicas": lambda it: it.order("a", "drop", "absent").found(),
+    "by a server that is absent": lambda it: it.write("b").found(),
+    "by a server that is prepared": lambda it: it.order("b", "prepare_add", "prepared").write("b").found(),
+    "by a server that is forwarding": lambda it: it.order("b", "prepare_add", "prepared").order("a", "prepare_drop", "forwarding").write("a").found(),
+    "at a fenced server": lambda it: fenced(it.order("b", "prepare_add", "prepared").order("a", "prepare_drop", "forwarding")).write("b", passed="a").found(),
+    "its term overlaps": lambda it: it.write("a").order("b", "prepare_add", "prepared").write("b", passed="a").write("a").found(),
+    "is executed behind": lambda it: it.write("a").write("a", 3).found(),
+    "and was write": lambda it: it.write("a", identity="x").handover().write("b", identity="x").found(),
+    "taken twice": lambda it: it.add("a", "settle", base=STEP, slots={"s": ["primary", 0]}, nonce=None).found(),
+    "did not ask for": lambda it: it.add("b", "forget", before=STEP, nonce="k").add("b", "restore", base=STEP + 1, slots={}, nonce="old").found(),
+    "at or below its base": lambda it: it.add("a", "fence", base=STEP, slots={}, at_work=0, nonce="m").found(),
+    "is not what the first": lambda it: it.write("a", identity="x").found(data=[{"server": "a", "state": "primary", "position": 1, "values": {"k": []}}]),
+    "writes of 1": lambda it: it.write("a").found(data=[{"server": "a", "state": "primary", "position": 2, "values": {}}]),
+    "has not done it": lambda it: it.found(orders=[order_line("b", 1)], answered=ANSWERED),
+    "nobody sent it": lambda it: it.order("b", "prepare_add", "prepared").found(orders=[order_line("b", 2)], answered=[]),
+    "is to be at": lambda it: it.found(expected={"s": {"b": "primary"}}, data=[{"server": "a", "state": "primary", "position": 0, "values": {}}]),
+}
+
+
+def main() -> int:
+    """Tries all."""
+    wrong = 0
+    for name, told in RIGHT_CLIENTS.items():
+        wrong += report(name, found_by_clients(client_lines(*told)), None)
+    for text, told in WRONG_CLIENTS.items():
+        lines = client_lines(*told)
+        if text == "nobody could read":
+            del lines[-1]["final"]
+        wrong += report(text, found_by_clients(lines), text)
+    for name, tell in RIGHT_SERVERS.items():
+        wrong += report(name, tell(History()), None)
+    for text, tell in WRONG_SERVERS.items():
+        wrong += report(text, tell(History()), text)
+    print(f"{len(RIGHT_CLIENTS) + len(RIGHT_SERVERS)} right histories, {len(WRONG_CLIENTS) + len(WRONG_SERVERS)} wrong ones, {wrong} taken for the other")
+    return 1 if wrong else 0
+
+
+def report(name: str, found: list[str], text: str | None) -> bool:
+    """Whether a checker took a history for what it is not."""
+    is_wrong = bool(found) if text is None else not any(text in it for it in found)
+    if is_wrong:
+        print(f"{name}: {found}")
+    return is_wrong
+
+
+if __name__ == "__main__":
+    sys.exit(main())
