@@ -144,6 +144,7 @@ class Channel:
         """Sends a request and returns the reply; raises Failed, also as `Lost` and `Late`."""
         number = next(self.numbers)
         future: asyncio.Future[Message] = asyncio.get_running_loop().create_future()
+        future.add_done_callback(lambda done: done.cancelled() or done.exception())
         self.waiting[number] = future
         try:
             async with asyncio.timeout(timeout):

@@ -46,7 +46,8 @@ class Following:
 
     def is_done(self) -> bool:
         """A new owner that has all writes up to the cut executes itself: the old one follows from then on."""
-        return self.shard.slot.cell == Cell.PREPARED and self.shard.has_reached_cut
+        is_reached = self.shard.slot.cell == Cell.PREPARED and self.shard.has_reached_cut
+        return is_reached and self.server.bug != "follows-again"
 
     def source(self) -> str:
         """Whom to ask next: the other party of a handover, the server that is said to be the primary, or the others in turn."""

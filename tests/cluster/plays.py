@@ -139,6 +139,20 @@ async def early_add(it: Scripted) -> None:
     await it.send(orders[3])
 
 
+async def killed_new_owner(it: Scripted) -> None:
+    """The old owner is away while the new one, which executes what was passed on, is killed and starts again."""
+    orders = it.handover("s", "a", "b", ["a", "c"])
+    await it.send(orders[0])
+    await it.send(orders[1])
+    await asyncio.sleep(0.5)
+    it.kill("a")
+    it.kill("b")
+    await it.start("a", "b")
+    for order in orders[2:]:
+        await it.send(order)
+        it.publish({"s": "b"})
+
+
 async def change(it: Scripted) -> None:
     """The primary becomes a secondary, and the secondary the primary, and back."""
     for old, new in (("a", "c"), ("c", "a")):
@@ -162,6 +176,7 @@ PLAYS = {
     "settle-twice": Play(late_settle),
     "add-without-cut": Play(early_add, lag=1.0),
     "fence-while-passed": Play(fence_amid_passing, think=0.4),
+    "follows-again": Play(killed_new_owner),
     "change-while-writing": Play(change, think=0.1),
 }
 

@@ -1,0 +1,32 @@
+"""Runs cluster/servers/native.py, which calls the proved library build/libsm_agent.so, on the vectors of standard input (docs/AGENT-VECTORS.md)."""
+from __future__ import annotations
+
+import sys
+from pathlib import Path
+
+ROOT = Path(__file__).resolve().parents[2]
+sys.path[:0] = [str(ROOT), str(ROOT / "python"), str(ROOT / "tests/agent")]
+from vectors import TAKES, numbers_of, values_of  # noqa: E402  (the paths come first)
+
+from cluster.servers.agent import LIBRARY  # noqa: E402
+from cluster.servers.native import Agent  # noqa: E402
+
+
+def main() -> int:
+    """Compares all lines but those of `publish`, which no server needs."""
+    agent, count = Agent(LIBRARY), 0
+    for line in sys.stdin:
+        before, after = line.split(" =")
+        name, *words = before.split()
+        if name == "publish":
+            continue
+        made = numbers_of(name, getattr(agent, name)(*values_of(TAKES[name], [int(it) for it in words])))
+        if made != [int(it) for it in after.split()]:
+            sys.exit(f"another answer: {line.strip()}: {made}")
+        count += 1
+    print(count, "vectors")
+    return 0 if count else 1
+
+
+if __name__ == "__main__":
+    sys.exit(main())
