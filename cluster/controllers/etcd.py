@@ -1,0 +1,172 @@
+"""A client of etcd's JSON gateway, with the standard library alone: reads, guarded writes and leases."""
+from __future__ import annotations
+
+import asyncio
+import json
+from base64 import b64decode, b64encode
+from collections.abc import Sequence
+from dataclasses import dataclass
+from typing import Any
+
+
+class EtcdFault(OSError):
+    """etcd gave no answer, or one that says no. Whether a write was made is unknown."""
+
+
+@dataclass(frozen=True, slots=True)
+class Entry:
+    """A key as it is stored."""
+
+    key: str
+    value: str
+    version: int
+    revision: int
+
+
+def encoded(text: str) -> str:
+    """Returns a text as the gateway wants it."""
+    return b64encode(text.encode()).decode()
+
+
+def decoded(text: str) -> str:
+    """Returns the text that the gateway gives."""
+    return b64decode(text).decode()
+
+
+def end_of(prefix: str) -> str:
+    """Returns the first key behind all keys with a prefix."""
+    return prefix[:-1] + chr(ord(prefix[-1]) + 1)
+
+
+def put(key: str, value: str, lease: str | None = None) -> dict[str, Any]:
+    """A write, to be part of a transaction."""
+    request = {"key": encoded(key), "value": encoded(value)}
+    return {"request_put": request | ({"lease": lease} if lease else {})}
+
+
+def drop(key: str) -> dict[str, Any]:
+    """A deletion, to be part of a transaction."""
+    return {"request_delete_range": {"key": encoded(key)}}
+
+
+def is_absent(key: str) -> dict[str, Any]:
+    """A guard: the key is not there."""
+    return {"key": encoded(key), "target": "CREATE", "result": "EQUAL", "create_revision": "0"}
+
+
+def is_unchanged(key: str, revision: int) -> dict[str, Any]:
+    """A guard: the key was last written at this revision, 0 if it is not there."""
+    return {"key": encoded(key), "target": "MOD", "result": "EQUAL", "mod_revision": str(revision)}
+
+
+def has_value(key: str, value: str) -> dict[str, Any]:
+    """A guard: the key has this value."""
+    return {"key": encoded(key), "target": "VALUE", "result": "EQUAL", "value": encoded(value)}
+
+
+class Etcd:
+    """A client of a cluster, which goes to the next member when one does not answer."""
+
+    def __init__(self, members: Sequence[tuple[str, int]], timeout: float = 1.0, first: int = 0) -> None:
+        self.members, self.timeout, self.at = list(members), timeout, first % len(members)
+        self.idle: list[tuple[asyncio.StreamReader, asyncio.StreamWriter]] = []
+        self.retries = 0
+
+    async def close(self) -> None:
+        """Closes the connections that are open."""
+        idle, self.idle = self.idle, []
+        for _, writer in idle:
+            writer.close()
+
+    async def post(self, path: str, body: dict[str, Any]) -> dict[str, Any]:
+        """Asks the present member once. If it does not answer the next one is asked from now on, and the call fails."""
+        reader_writer = None
+        try:
+            async with asyncio.timeout(self.timeout):
+                reader_writer = self.idle.pop() if self.idle else await asyncio.open_connection(*self.members[self.at])
+                status, text = await exchange(*reader_writer, path, body)
+        except (OSError, EOFError, ValueError, TimeoutError) as why:
+            self.leave_member(reader_writer)
+            raise EtcdFault(f"etcd: {type(why).__name__} {why}") from None
+        self.idle.append(reader_writer)
+        answer = json.loads(text)
+        if status != 200:
+            self.leave_member(None)
+            raise EtcdFault(f"etcd: {answer.get('message', status)}")
+        return answer
+
+    def leave_member(self, failed: tuple[asyncio.StreamReader, asyncio.StreamWriter] | None) -> None:
+        """Goes to the next member."""
+        for _, writer in self.idle + ([failed] if failed else []):
+            writer.close()
+        self.idle, self.at, self.retries = [], (self.at + 1) % len(self.members), self.retries + 1
+
+    async def post_again(self, path: str, body: dict[str, Any], tries: int = 6) -> dict[str, Any]:
+        """Asks until a member answers. Only for what may be done twice."""
+        for left in reversed(range(tries)):
+            try:
+                return await self.post(path, body)
+            except EtcdFault:
+                if not left:
+                    raise
+                await asyncio.sleep(0.05)
+        raise AssertionError("there is a last try")
+
+    async def range(self, first: str, end: str | None = None, limit: int = 0) -> list[Entry]:
+        """Reads a key, or the keys from the first to before the end."""
+        body: dict[str, Any] = {"key": encoded(first)}
+        if end is not None:
+            body |= {"range_end": encoded(end), "limit": limit}
+        answer = await self.post_again("/v3/kv/range", body)
+        return [
+            Entry(decoded(it["key"]), decoded(it.get("value", "")), int(it["version"]), int(it["mod_revision"]))
+            for it in answer.get("kvs", [])
+        ]
+
+    async def get(self, key: str) -> Entry | None:
+        """Reads a key."""
+        found = await self.range(key)
+        return found[0] if found else None
+
+    async def transact(self, guards: Sequence[dict], writes: Sequence[dict]) -> bool:
+        """Writes if all guards hold, and returns whether it did. A fault leaves open whether it was written."""
+        answer = await self.post("/v3/kv/txn", {"compare": list(guards), "success": list(writes), "failure": []})
+        return bool(answer.get("succeeded", False))
+
+    async def grant(self, seconds: int) -> str:
+        """Makes a lease."""
+        return (await self.post("/v3/lease/grant", {"TTL": str(seconds)}))["ID"]
+
+    async def keep_alive(self, lease: str) -> bool:
+        """Renews a lease, and returns whether it is still there."""
+        answer = await self.post("/v3/lease/keepalive", {"ID": lease})
+        return int(answer.get("result", {}).get("TTL", 0)) > 0
+
+    async def revoke(self, lease: str) -> None:
+        """Ends a lease, and deletes its keys."""
+        await self.post("/v3/lease/revoke", {"ID": lease})
+
+
+async def exchange(reader: asyncio.StreamReader, writer: asyncio.StreamWriter, path: str, body: dict) -> tuple[int, bytes]:
+    """Sends a request over HTTP/1.1, and returns the status and the text of the answer."""
+    text = json.dumps(body).encode()
+    head = f"POST {path} HTTP/1.1\r\nHost: etcd\r\nContent-Type: application/json\r\nContent-Length: {len(text)}\r\n\r\n"
+    writer.write(head.encode() + text)
+    await writer.drain()
+    status = int((await reader.readuntil(b"\r\n")).split()[1])
+    fields = {}
+    while (line := await reader.readuntil(b"\r\n")) != b"\r\n":
+        name, _, value = line.decode().partition(":")
+        fields[name.strip().lower()] = value.strip()
+    return status, await body_of(reader, fields)
+
+
+async def body_of(reader: asyncio.StreamReader, fields: dict[str, str]) -> bytes:
+    """Reads the text behind the head of an answer."""
+    if fields.get("transfer-encoding") != "chunked":
+        return await reader.readexactly(int(fields.get("content-length", 0)))
+    text = b""
+    while size := int((await reader.readuntil(b"\r\n")).split(b";")[0], 16):
+        text += (await reader.readexactly(size + 2))[:-2]
+    await reader.readuntil(b"\r\n")
+    return text

@@ -1,0 +1,66 @@
+"""Carries what a controller sends: orders, restores, fences and settles to servers over the wire, publications to the map in etcd."""
+from __future__ import annotations
+
+from smplan.control import DONE, Line
+
+from cluster.wire import Channel, Cluster, Failed
+
+from .map_owner import MapOwner
+
+
+class Fleet:
+    """The servers of a cluster and the owner of its map, as `smplan.control` wants them."""
+
+    def __init__(self, cluster: Cluster, owner: MapOwner, timeout: float = 4.0) -> None:
+        self.channels = {name: Channel(entry.control) for name, entry in cluster.servers.items()}
+        self.owner, self.timeout = owner, timeout
+
+    async def ask(self, server: str, **request: Line) -> Line:
+        """Sends a server a request, and returns its reply, or `said` and why there is none."""
+        channel = self.channels.get(server)
+        if channel is None:
+            return {"said": "no such server"}
+        try:
+            return await channel.ask(self.timeout, **request)
+        except Failed as failed:
+            return {"said": str(failed)}
+
+    async def order(self, order: Line) -> str:
+        """Sends an order. It is answered once the server names this very order."""
+        reply = await self.ask(order["server"], order=order)
+        told = reply.get("answered")
+        if told is None:
+            return reply.get("said", "no answer")
+        return DONE if all(told[it] == order[it] for it in ("plan", "stream", "number")) else "another order was answered"
+
+    async def publish(self, publication: Line) -> str:
+        """Writes an entry of the map."""
+        return await self.owner.publish(publication)
+
+    async def restore(self, restore: Line) -> str:
+        """Sends slots to a server that asked. It asks again if they do not come, so one try is enough."""
+        await self.ask(restore["server"], restore=restore)
+        return DONE
+
+    async def fence(self, fence: Line) -> Line | None:
+        """Sends a fence, and returns what the server tells of its slots."""
+        if fence.get("server") is None:
+            return await self.owner.fence(fence)
+        reply = await self.ask(fence["server"], fence=fence)
+        told = reply.get("fenced")
+        if told is None or told["base"] != fence["base"]:
+            return None
+        return {it: told[it] for it in ("slots", "unknown") if it in told}
+
+    async def settle(self, settle: Line) -> str:
+        """Sends a settle."""
+        if settle.get("server") is None:
+            return await self.owner.settle(settle)
+        reply = await self.ask(settle["server"], settle=settle)
+        told = reply.get("settled")
+        return DONE if told is not None and told["base"] == settle["base"] else reply.get("said", "no answer")
+
+    def close(self) -> None:
+        """Ends all connections."""
+        for channel in self.channels.values():
+            channel.close()

@@ -1,0 +1,155 @@
+"""One controller process: it follows the journal in etcd, and leads while it holds the lease."""
+from __future__ import annotations
+
+import asyncio
+import time
+from collections.abc import Callable
+from dataclasses import dataclass, field
+
+from smplan.control import Controller, Line, Pace, Session, SessionEnded, StoreLost
+
+from cluster.wire import Cluster, Failed, Message
+
+from .etcd import Etcd, EtcdFault
+from .fleet import Fleet
+from .journal import EtcdJournal
+from .lease import Lease
+from .map_owner import MapOwner
+
+
+@dataclass(frozen=True)
+class Settings:
+    """How a controller process runs."""
+
+    name: str
+    program: tuple[str, ...]
+    cluster: Cluster
+    lease: int = 2
+    follow: float = 0.05
+    pace: Pace = Pace(timeout=5.0, again=0.2)
+    confirm: bool = False
+    bugs: frozenset[str] = frozenset()
+    log: Callable[[str], None] = print
+
+
+@dataclass
+class Past:
+    """What this process has seen, for its page."""
+
+    terms: int = 0
+    led_since: float | None = None
+    first_order: list[float] = field(default_factory=list)
+
+
+def members_of(urls: tuple[str, ...]) -> list[tuple[str, int]]:
+    """Where the members of etcd listen."""
+    hosts = [url.removeprefix("http://").rstrip("/").rsplit(":", 1) for url in urls]
+    return [(host, int(port)) for host, port in hosts]
+
+
+class Member:
+    """A controller among several, each with a session that is fed the same journal."""
+
+    def __init__(self, settings: Settings) -> None:
+        self.settings, self.past = settings, Past()
+        members = members_of(settings.cluster.etcd)
+        first = sum(map(ord, settings.name))
+        self.etcd = Etcd(members, first=first)
+        self.leasing = Etcd(members, first=first)
+        self.journal = EtcdJournal(self.etcd, settings.name)
+        self.lease = Lease(self.leasing, settings.name, settings.lease)
+        self.owner = MapOwner(Etcd(members, first=first), settings.cluster.map_prefix, settings.bugs)
+        self.fleet = Fleet(settings.cluster, self.owner)
+        self.controller: Controller | None = None
+
+    @property
+    def leads(self) -> bool:
+        """Whether this process acts."""
+        return self.controller is not None and self.controller.leads
+
+    async def run(self) -> None:
+        """Follows and leads until it is cancelled."""
+        session = await Session.start(self.settings.program)
+        self.controller = Controller(session, self.fleet, self.store, self.settings.pace)
+        try:
+            while True:
+                await self.follow()
+                if await self.lease.campaign():
+                    await self.lead()
+        finally:
+            await session.close()
+
+    async def follow(self) -> None:
+        """Feeds what is new in the journal, until the leader may be gone."""
+        assert self.controller is not None
+        until = time.monotonic() + 0.3
+        while time.monotonic() < until:
+            try:
+                await self.controller.follow(await self.journal.read())
+            except EtcdFault:
+                pass
+            await asyncio.sleep(self.settings.follow)
+
+    async def lead(self) -> None:
+        """Leads while the lease lasts."""
+        controller = self.controller
+        assert controller is not None
+        self.past.terms += 1
+        self.past.led_since = time.monotonic()
+        keeping = asyncio.create_task(self.lease.keep())
+        try:
+            await controller.follow(await self.journal.read())
+            await controller.lead()
+            self.settings.log(f"leads at place {self.journal.place}")
+            while not keeping.done() and controller.lost is None:
+                await asyncio.wait([keeping], timeout=0.5)
+                await controller.refresh()
+                await self.confirm()
+        except (EtcdFault, StoreLost):
+            pass
+        finally:
+            keeping.cancel()
+            self.past.led_since = None
+            self.settings.log(f"rests at place {self.journal.place}: {controller.lost or 'the lease has ended'}")
+            await controller.rest()
+            await self.lease.leave()
+
+    async def confirm(self) -> None:
+        """Confirms a proposal as it stands, if this is left to the controllers."""
+        assert self.controller is not None
+        proposal = self.controller.proposal
+        if self.settings.confirm and proposal is not None:
+            await self.controller.do({"do": "confirm", "base": proposal["base"]})
+
+    async def store(self, lines: list[str]) -> list[str]:
+        """Stores lines in the journal."""
+        if "feed-before-store" in self.settings.bugs:
+            asyncio.get_running_loop().call_later(0.3, lambda: asyncio.create_task(self.store_late(lines)))
+            return list(lines)
+        return await self.journal.append(lines)
+
+    async def store_late(self, lines: list[str]) -> None:
+        """A planted bug: lines are stored after they were fed."""
+        try:
+            await self.journal.append(lines)
+        except StoreLost:
+            pass
+
+    async def answer(self, message: Message) -> Message:
+        """Answers a server that asks for its slots."""
+        if not self.leads or "restore" not in message:
+            raise Failed("NotLeader")
+        reply = await self.command({"do": "restore", **message["restore"]})
+        if "restore" not in reply:
+            told = reply.get("refused") or reply.get("fault") or {}
+            raise Failed("Refused", told.get("kind", "") if isinstance(told, dict) else str(told))
+        return {"restore": reply["restore"]}
+
+    async def command(self, line: Line) -> Line:
+        """Stores and feeds an operator's command, or tells that this one does not lead."""
+        try:
+            if not self.leads or self.controller is None:
+                raise StoreLost("this controller does not lead")
+            return await self.controller.do(line)
+        except (StoreLost, SessionEnded) as why:
+            return {"fault": str(why)}

@@ -1,0 +1,48 @@
+"""`python3 -m cluster.faults`: all proxies of a run in one process, told what to do by lines over TCP."""
+from __future__ import annotations
+
+import argparse
+import asyncio
+import json
+from collections import Counter
+from dataclasses import replace
+from pathlib import Path
+
+from cluster.wire import Address, Failed, Message, listen
+
+from .dice import Dice, Rates
+from .proxies import RELAYS, Link, open_proxy
+
+
+async def run(told: dict) -> None:
+    """Opens the proxies, and waits for orders."""
+    counts: Counter[str] = Counter()
+    links = []
+    for it in told["links"]:
+        rates = Rates(**told["rates"].get(it["name"].partition(" ")[0], {}))
+        link = Link(it["name"], Dice(told["seed"], it["name"], rates, counts), "127.0.0.1", it["to"])
+        links.append(link)
+        await open_proxy(it["at"], RELAYS[it["relay"]], link)
+
+    async def obey(message: Message) -> Message:
+        if "counts" in message:
+            return {"counts": dict(counts)}
+        for link in links:
+            if link.name.startswith(tuple(message.get("links", [""]))):
+                if "cut" in message:
+                    link.is_cut = bool(message["cut"])
+                elif "rates" in message:
+                    link.dice.rates = replace(link.dice.rates, **message["rates"])
+                else:
+                    raise Failed("Unknown")
+        return {"done": True}
+
+    await listen(Address("127.0.0.1", told["control"]), obey)
+    print("ready", flush=True)
+    await asyncio.Event().wait()
+
+
+if __name__ == "__main__":
+    parser = argparse.ArgumentParser(prog="cluster.faults", description="Proxies that lose, repeat, delay and reorder.")
+    parser.add_argument("file", type=Path, help="the links, their rates and the seed")
+    asyncio.run(run(json.loads(parser.parse_args().file.read_text())))

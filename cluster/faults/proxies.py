@@ -1,0 +1,130 @@
+"""Proxies that lose, repeat, delay and reorder what goes through them: lines by themselves, HTTP requests and answers, and streams of bytes."""
+from __future__ import annotations
+
+import asyncio
+from collections.abc import Awaitable, Callable
+from dataclasses import dataclass
+
+from .dice import Dice
+
+Reader, Writer = asyncio.StreamReader, asyncio.StreamWriter
+LONGEST_LINE = 64 << 20
+Relay = Callable[[Reader, Writer, Reader, Writer, "Link"], Awaitable[None]]
+
+
+@dataclass
+class Link:
+    """A way through a proxy: whose dice are rolled, and whether it is cut, so that nothing gets through."""
+
+    name: str
+    dice: Dice
+    host: str
+    port: int
+    is_cut: bool = False
+
+
+async def send_late(writer: Writer, line: bytes, seconds: float) -> None:
+    """Writes a line later. Lines behind it may overtake it."""
+    await asyncio.sleep(seconds)
+    if not writer.is_closing():
+        writer.write(line)
+
+
+async def relay_lines(reader: Reader, writer: Writer, link: Link) -> None:
+    """Carries lines one way, each by its own luck."""
+    late: set[asyncio.Task[None]] = set()
+    while line := await reader.readline():
+        if link.is_cut or link.dice.drops():
+            continue
+        for _ in range(2 if link.dice.repeats() else 1):
+            seconds = link.dice.lateness()
+            if not seconds and not late:
+                writer.write(line)
+                continue
+            task = asyncio.create_task(send_late(writer, line, seconds))
+            late.add(task)
+            task.add_done_callback(late.discard)
+        await writer.drain()
+
+
+async def relay_line_pairs(reader: Reader, writer: Writer, far: Reader, far_writer: Writer, link: Link) -> None:
+    """Carries requests and replies, which are lines, both ways until one side ends."""
+    await until_one_ends(relay_lines(reader, far_writer, link), relay_lines(far, writer, link))
+
+
+async def relay_bytes(reader: Reader, writer: Writer, link: Link) -> None:
+    """Carries bytes one way. A loss ends the connection, since a stream has no gaps."""
+    while chunk := await reader.read(65536):
+        if link.is_cut or link.dice.drops():
+            return
+        await asyncio.sleep(link.dice.lateness())
+        writer.write(chunk)
+        await writer.drain()
+
+
+async def relay_streams(reader: Reader, writer: Writer, far: Reader, far_writer: Writer, link: Link) -> None:
+    """Carries bytes both ways until one side ends."""
+    await until_one_ends(relay_bytes(reader, far_writer, link), relay_bytes(far, writer, link))
+
+
+async def until_one_ends(*ways: Awaitable[None]) -> None:
+    """Runs both ways, and ends both when one ends."""
+    tasks = [asyncio.ensure_future(it) for it in ways]
+    try:
+        await asyncio.wait(tasks, return_when=asyncio.FIRST_COMPLETED)
+    finally:
+        for task in tasks:
+            task.cancel()
+        await asyncio.gather(*tasks, return_exceptions=True)
+
+
+async def read_http(reader: Reader) -> bytes:
+    """Reads a whole request or answer, with its head."""
+    head = await reader.readuntil(b"\r\n\r\n")
+    fields = {name.strip().lower(): value.strip() for name, _, value in (it.partition(b":") for it in head.split(b"\r\n")[1:])}
+    if fields.get(b"transfer-encoding") != b"chunked":
+        return head + await reader.readexactly(int(fields.get(b"content-length", b"0")))
+    text = head
+    while True:
+        size = await reader.readuntil(b"\r\n")
+        text += size + await reader.readexactly(int(size.split(b";")[0], 16) + 2)
+        if int(size.split(b";")[0], 16) == 0:
+            return text
+
+
+async def relay_http(reader: Reader, writer: Writer, far: Reader, far_writer: Writer, link: Link) -> None:
+    """Carries HTTP requests one by one. A lost request or answer ends the connection, and a repeated one is made twice."""
+    while True:
+        request = await read_http(reader)
+        await asyncio.sleep(link.dice.lateness())
+        if link.is_cut or link.dice.drops():
+            return
+        answer = b""
+        for _ in range(2 if link.dice.repeats() else 1):
+            far_writer.write(request)
+            answer = await read_http(far)
+        await asyncio.sleep(link.dice.lateness())
+        if link.is_cut or link.dice.drops():
+            return
+        writer.write(answer)
+
+
+RELAYS: dict[str, Relay] = {"lines": relay_line_pairs, "http": relay_http, "bytes": relay_streams}
+
+
+async def open_proxy(port: int, relay: Relay, link: Link) -> asyncio.Server:
+    """Listens, and carries each connection to the link's far end."""
+    async def carry(reader: Reader, writer: Writer) -> None:
+        far_writer = None
+        try:
+            if link.is_cut:
+                return
+            far, far_writer = await asyncio.open_connection(link.host, link.port, limit=LONGEST_LINE)
+            await relay(reader, writer, far, far_writer, link)
+        except (OSError, EOFError, ValueError, asyncio.LimitOverrunError, asyncio.CancelledError):
+            pass
+        finally:
+            writer.close()
+            if far_writer is not None:
+                far_writer.close()
+    return await asyncio.start_server(carry, "127.0.0.1", port, limit=LONGEST_LINE)

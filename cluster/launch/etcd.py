@@ -1,0 +1,23 @@
+"""Starts the members of etcd."""
+from __future__ import annotations
+
+from pathlib import Path
+
+from .processes import Processes, free_ports
+
+
+def add_etcd(processes: Processes, directory: Path, count: int = 3) -> list[tuple[str, int]]:
+    """Adds the members of a new etcd cluster. Returns the name of each, and the port at which it serves."""
+    names = [f"etcd-{it}" for it in range(count)]
+    ports = free_ports(2 * count)
+    peers = {name: f"http://127.0.0.1:{ports[count + it]}" for it, name in enumerate(names)}
+    together = ",".join(f"{name}={url}" for name, url in peers.items())
+    for name, port in zip(names, ports):
+        url = f"http://127.0.0.1:{port}"
+        processes.add(name, [
+            "etcd", "--name", name, "--data-dir", str(directory / name), "--initial-cluster", together, "--initial-cluster-token", directory.name,
+            "--listen-client-urls", url, "--advertise-client-urls", url, "--listen-peer-urls", peers[name],
+            "--initial-advertise-peer-urls", peers[name], "--initial-cluster-state", "new", "--max-txn-ops", "10000",
+            "--heartbeat-interval", "50", "--election-timeout", "500", "--log-level", "error", "--logger", "zap",
+        ], says_ready=False)
+    return list(zip(names, ports))

@@ -1,0 +1,113 @@
+"""The processes of a run: each with its log, killed and stopped by its own id, and never left behind."""
+from __future__ import annotations
+
+import asyncio
+import os
+import signal
+import socket
+from dataclasses import dataclass, field
+from pathlib import Path
+
+
+class NotReady(Exception):
+    """A process did not say that it is ready."""
+
+
+@dataclass
+class Process:
+    """One process, by its command; it may be started again."""
+
+    name: str
+    command: list[str]
+    directory: Path
+    says_ready: bool = True
+    environment: dict[str, str] = field(default_factory=dict)
+    running: asyncio.subprocess.Process | None = None
+    starts: int = 0
+
+    @property
+    def log(self) -> Path:
+        """Where its output goes."""
+        return self.directory / f"{self.name}.log"
+
+    @property
+    def is_running(self) -> bool:
+        """Whether it was started and has not ended."""
+        return self.running is not None and self.running.returncode is None
+
+    async def start(self, *more: str, timeout: float = 30.0) -> None:
+        """Starts it, and waits until it says `ready`."""
+        self.starts += 1
+        with self.log.open("ab") as log:
+            begin = log.tell()
+            self.running = await asyncio.create_subprocess_exec(
+                *self.command, *more, stdin=asyncio.subprocess.DEVNULL, stdout=log, stderr=log,
+                env={**os.environ, **self.environment}, start_new_session=True,
+            )
+        if self.says_ready:
+            await self.wait_ready(begin, timeout)
+
+    async def wait_ready(self, begin: int, timeout: float) -> None:
+        """Waits until a line `ready` stands in the log behind a place."""
+        for _ in range(int(timeout / 0.05)):
+            with self.log.open("rb") as log:
+                log.seek(begin)
+                if b"ready\n" in log.read():
+                    return
+            if not self.is_running:
+                break
+            await asyncio.sleep(0.05)
+        raise NotReady(f"{self.name} did not get ready: see {self.log}")
+
+    def signal(self, number: int) -> None:
+        """Sends it a signal, if it runs."""
+        if self.is_running:
+            assert self.running is not None
+            self.running.send_signal(number)
+
+    async def kill(self) -> None:
+        """Ends it at once, with what it has started, which stands in its own process group."""
+        if self.is_running:
+            assert self.running is not None
+            os.killpg(self.running.pid, signal.SIGKILL)
+            await self.running.wait()
+
+
+class Processes:
+    """All processes of a run."""
+
+    def __init__(self, directory: Path) -> None:
+        self.directory = directory
+        self.by_name: dict[str, Process] = {}
+        directory.mkdir(parents=True, exist_ok=True)
+
+    def add(self, name: str, command: list[str], says_ready: bool = True, **environment: str) -> Process:
+        """Adds a process, which is started by `start`."""
+        self.by_name[name] = Process(name, command, self.directory, says_ready, environment)
+        return self.by_name[name]
+
+    def __getitem__(self, name: str) -> Process:
+        return self.by_name[name]
+
+    async def start(self, *names: str) -> None:
+        """Starts processes side by side."""
+        await asyncio.gather(*(self.by_name[it].start() for it in names))
+
+    async def end(self) -> None:
+        """Ends all of them."""
+        for process in self.by_name.values():
+            if process.is_running:
+                process.signal(signal.SIGCONT)
+        await asyncio.gather(*(it.kill() for it in self.by_name.values()))
+
+
+def free_ports(count: int) -> list[int]:
+    """Returns ports that nobody listens at now."""
+    sockets = [socket.socket() for _ in range(count)]
+    try:
+        for it in sockets:
+            it.bind(("127.0.0.1", 0))
+        return [it.getsockname()[1] for it in sockets]
+    finally:
+        for it in sockets:
+            it.close()

@@ -1,0 +1,295 @@
+"""A controller over a session: it stores lines before it feeds them, and hands what goes out to handlers until it is answered.
+
+    session = await Session.start(["smpland", "-"])
+    controller = Controller(session, servers, store)
+    await controller.lead()
+    await controller.do({"do": "begin", "plan": plan, "name": "drain-c-1"})
+    await controller.rest()
+
+`servers` carries messages to servers and to the map's owner, `store` keeps the journal. An order may be sent again at any time, so a message is
+handed out again until its handler says that it is done; what a handler says else is kept beside it, as is its age.
+"""
+from __future__ import annotations
+
+import asyncio
+import secrets
+import time
+from collections import Counter
+from dataclasses import dataclass, field
+from typing import Any, Awaitable, Callable, Dict, List, Optional, Protocol, Sequence, Tuple
+
+from .control_session import Line, Session, SessionEnded, text_of
+
+__all__ = ["Controller", "Line", "Outgoing", "Pace", "Servers", "Session", "SessionEnded", "Store", "StoreLost", "DONE"]
+
+# What a handler says once its message is answered.
+DONE = "done"
+
+# Stores lines behind all that were fed, and returns the lines to feed: those of others that came between, then these.
+Store = Callable[[Sequence[str]], Awaitable[Sequence[str]]]
+
+
+class StoreLost(Exception):
+    """The journal takes no lines of this controller: it is no longer the leader, or the store is out of reach."""
+
+
+class Servers(Protocol):
+    """How messages reach servers and the map's owner. Each handler may be called again with the same message, and fail."""
+
+    async def order(self, order: Line) -> str:
+        """Sends an order to its server, and returns DONE once it is answered, or what the server says else."""
+
+    async def publish(self, publication: Line) -> str:
+        """Sends a publication to the map's owner, and returns DONE once it is answered."""
+
+    async def restore(self, restore: Line) -> str:
+        """Sends a server the slots that it asked for."""
+
+    async def fence(self, fence: Line) -> Optional[Line]:
+        """Sends a fence, and returns the members of `fenced` that answer it: `slots` or `unknown`; none if it is not answered."""
+
+    async def settle(self, settle: Line) -> str:
+        """Sends a settle, and returns DONE once it is answered."""
+
+
+@dataclass(frozen=True)
+class Pace:
+    """How long a handler may take, the rest before its message goes again, and how many are under way at once."""
+
+    timeout: float = 2.0
+    again: float = 0.2
+    most: int = 256
+    batch: int = 64
+
+
+@dataclass
+class Outgoing:
+    """A message that is not yet answered: when it first went out, how often it did, and what its handler said last."""
+
+    message: Line
+    since: float = field(default_factory=time.monotonic)
+    tries: int = 0
+    said: str = ""
+    task: Optional["asyncio.Task[None]"] = None
+
+    @property
+    def age(self) -> float:
+        """How many seconds ago it first went out."""
+        return time.monotonic() - self.since
+
+
+# A message by its kind, and by its stream or server.
+Key = Tuple[Any, ...]
+
+
+def key_of(kind: str, message: Line) -> Key:
+    """Returns what a message takes the place of: the order before it of its stream, or the fence before it of its server."""
+    if kind == "order":
+        return kind, message["plan"], message["stream"]
+    return kind, message.get("server")
+
+
+class Controller:
+    """Feeds a session and acts on its replies while it leads."""
+
+    def __init__(self, session: Session, servers: Servers, store: Store, pace: Pace = Pace()) -> None:
+        self.session, self.servers, self.store, self.pace = session, servers, store, pace
+        self.name = secrets.token_hex(4)
+        self.leads = False
+        self.outgoing: Dict[Key, Outgoing] = {}
+        self.counts: Counter[str] = Counter()
+        self.answer_times: List[float] = []
+        self.proposal: Optional[Line] = None
+        self.lost: Optional[BaseException] = None
+        self.queue: List[Tuple[str, "asyncio.Future[Line]"]] = []
+        self.has_lines = asyncio.Event()
+        self.throttle = asyncio.Semaphore(pace.most)
+        self.writer: Optional["asyncio.Task[None]"] = None
+        self.tasks: set["asyncio.Task[None]"] = set()
+
+    # Leading.
+
+    async def lead(self) -> None:
+        """Begins to act: everything outstanding goes out, and lines are stored."""
+        self.leads, self.lost = True, None
+        self.writer = asyncio.create_task(self.write())
+        await self.refresh()
+
+    async def rest(self) -> None:
+        """Stops acting. What is under way may yet arrive, which does no harm."""
+        self.leads = False
+        tasks = [it.task for it in self.outgoing.values() if it.task] + list(self.tasks) + ([self.writer] if self.writer else [])
+        self.outgoing.clear()
+        self.tasks.clear()
+        for task in tasks:
+            task.cancel()
+        await asyncio.gather(*tasks, return_exceptions=True)
+        self.fail_queue(StoreLost("this controller does not lead"))
+
+    def fail_queue(self, why: BaseException) -> None:
+        """Lets everyone know who waits for a line to be stored."""
+        queue, self.queue = self.queue, []
+        for _, waiting in queue:
+            if not waiting.done():
+                waiting.set_exception(why)
+
+    async def refresh(self) -> None:
+        """Asks for all that is outstanding, sends what is not under way, and forgets what was answered meanwhile."""
+        await self.session.ask({"do": "orders"}, self.reconcile)
+
+    def reconcile(self, reply: Line) -> None:
+        """Makes what is under way the same as what is outstanding."""
+        self.heed(reply)
+        present = {key_of(kind, it): it for kind, it in self.messages_of(reply)}
+        for key, outgoing in list(self.outgoing.items()):
+            if key[0] != "restore" and present.get(key) != outgoing.message:
+                self.forget(key)
+
+    # Lines.
+
+    async def ask(self, line: Line) -> Line:
+        """Feeds a line that only asks, which is not stored, and returns the reply."""
+        return await self.session.ask(line)
+
+    async def do(self, command: Line) -> Line:
+        """Stores a command and feeds it, and returns the reply once it is acted on."""
+        if not self.leads or self.lost is not None:
+            raise StoreLost("this controller does not lead")
+        self.counts["lines"] += 1
+        text = text_of({**command, "id": f"{self.name}-{self.counts['lines']}"})
+        waiting: "asyncio.Future[Line]" = asyncio.get_running_loop().create_future()
+        self.queue.append((text, waiting))
+        self.has_lines.set()
+        return await waiting
+
+    async def write(self) -> None:
+        """Stores and feeds what is queued, all that came together at once, until the store is lost."""
+        while True:
+            await self.has_lines.wait()
+            batch, self.queue = self.queue[:self.pace.batch], self.queue[self.pace.batch:]
+            if not self.queue:
+                self.has_lines.clear()
+            try:
+                await self.write_batch(batch)
+            except (StoreLost, SessionEnded, OSError) as why:
+                self.lost = why
+                self.queue = batch + self.queue
+                self.fail_queue(why)
+                return
+
+    async def write_batch(self, batch: List[Tuple[str, "asyncio.Future[Line]"]]) -> None:
+        """Stores a batch, then feeds what the store returns, and acts on each reply."""
+        fed = await self.store([text for text, _ in batch])
+        waiting = dict(batch)
+        self.counts["appends"] += 1
+        replies = [(text, self.session.feed(text, self.heed)) for text in fed]
+        for text, reply in replies:
+            answer = await reply
+            mine = waiting.get(text)
+            if mine is not None and not mine.done():
+                mine.set_result(answer)
+        if len(fed) > len(batch):
+            await self.refresh()
+
+    async def follow(self, lines: Sequence[str]) -> None:
+        """Feeds stored lines of others. Their replies are not acted on."""
+        for reply in [self.session.feed(text) for text in lines]:
+            await reply
+
+    # Replies.
+
+    def messages_of(self, reply: Line) -> List[Tuple[str, Line]]:
+        """Returns what a reply gives to send, each with its kind."""
+        found = [("order", it) for it in reply.get("orders") or []]
+        found += [("fence", it) for it in reply.get("fence") or []]
+        found += [("settle", it) for it in reply.get("settle") or []]
+        return found
+
+    def heed(self, reply: Line) -> None:
+        """Acts on a reply: sends what goes out, and forgets what a reopening has ended."""
+        if not self.leads:
+            return
+        if reply.get("fence") or "opened" in reply:
+            self.proposal = None
+            self.forget_all()
+        if "proposal" in reply:
+            self.proposal = reply["proposal"]
+        if "settle" in reply:
+            self.proposal = None
+        if "restore" in reply:
+            self.send("restore", reply["restore"])
+        for kind, message in self.messages_of(reply):
+            self.send(kind, message)
+        self.counts["ended"] += len(reply.get("ended") or [])
+
+    def forget(self, key: Key) -> None:
+        """Sends a message no longer."""
+        gone = self.outgoing.pop(key, None)
+        if gone and gone.task and gone.task is not asyncio.current_task():
+            gone.task.cancel()
+
+    def forget_all(self) -> None:
+        """Sends nothing any longer but restores."""
+        for key in [it for it in self.outgoing if it[0] != "restore"]:
+            self.forget(key)
+
+    # Messages.
+
+    def send(self, kind: str, message: Line) -> None:
+        """Begins to send a message, unless it is under way."""
+        key = key_of(kind, message)
+        known = self.outgoing.get(key)
+        if known is not None and known.message == message:
+            return
+        self.forget(key)
+        outgoing = Outgoing(message)
+        self.outgoing[key] = outgoing
+        outgoing.task = asyncio.create_task(self.deliver(key, outgoing))
+
+    async def deliver(self, key: Key, outgoing: Outgoing) -> None:
+        """Hands a message out until it is answered and the answer is recorded."""
+        while self.leads and self.outgoing.get(key) is outgoing:
+            line = await self.attempt(key[0], outgoing)
+            if line is None:
+                await asyncio.sleep(self.pace.again)
+                continue
+            self.answer_times.append(outgoing.age)
+            try:
+                if line:
+                    await self.do(line)
+            except (StoreLost, SessionEnded):
+                return
+            if self.outgoing.get(key) is outgoing:
+                del self.outgoing[key]
+            return
+
+    async def attempt(self, kind: str, outgoing: Outgoing) -> Optional[Line]:
+        """Hands a message out once. Returns the line that records its answer (an empty one for a restore), none if there was none."""
+        outgoing.tries += 1
+        self.counts[kind if outgoing.tries == 1 else f"{kind} again"] += 1
+        try:
+            async with self.throttle:
+                return await asyncio.wait_for(self.hand_out(kind, outgoing), self.pace.timeout)
+        except asyncio.TimeoutError:
+            outgoing.said = "no answer"
+        except (OSError, EOFError, ValueError) as why:
+            outgoing.said = str(why) or type(why).__name__
+        return None
+
+    async def hand_out(self, kind: str, outgoing: Outgoing) -> Optional[Line]:
+        """Calls the handler of a message, and returns the line that records the answer."""
+        message = outgoing.message
+        if kind == "fence":
+            found = await self.servers.fence(message)
+            return None if found is None else {"do": "fenced", "server": message.get("server"), "base": message["base"], **found}
+        if kind == "order" and message["call"] == "publish":
+            kind = "publish"
+        handler: Callable[[Line], Awaitable[str]] = getattr(self.servers, kind)
+        outgoing.said = await handler(message)
+        if outgoing.said != DONE:
+            return None
+        if kind == "settle":
+            return {"do": "settled", "server": message.get("server"), "base": message["base"]}
+        if kind == "restore":
+            return {}
+        return {"do": "answered", "plan": message["plan"], "stream": message["stream"], "number": message["number"]}
