@@ -8,6 +8,23 @@ from cluster.wire import Channel, Cluster, Failed
 from .map_owner import MapOwner
 
 
+# How the wire names what a session calls otherwise.
+WIRE_NAMES = {"cell": "state", "party": "other"}
+SESSION_NAMES = {there: here for here, there in WIRE_NAMES.items()}
+TOLD = ("shard", "cell", "party", "handover", "last", "load", "cut", "position", "reached")
+
+
+def to_wire(message: Line) -> Line:
+    """Returns a restore or a settle as the wire has it."""
+    return {**message, "slots": [{WIRE_NAMES.get(name, name): it for name, it in slot.items()} for slot in message["slots"]]}
+
+
+def from_wire(slot: Line) -> Line:
+    """Returns what a server tells of a slot as a session reads it."""
+    told = {SESSION_NAMES.get(name, name): it for name, it in slot.items()}
+    return {name: told[name] for name in TOLD if told.get(name) is not None}
+
+
 class Fleet:
     """The servers of a cluster and the owner of its map, as `smplan.control` wants them."""
 
@@ -39,7 +56,7 @@ class Fleet:
 
     async def restore(self, restore: Line) -> str:
         """Sends slots to a server that asked. It asks again if they do not come, so one try is enough."""
-        await self.ask(restore["server"], restore=restore)
+        await self.ask(restore["server"], restore=to_wire(restore))
         return DONE
 
     async def fence(self, fence: Line) -> Line | None:
@@ -50,15 +67,20 @@ class Fleet:
         told = reply.get("fenced")
         if told is None or told["base"] != fence["base"]:
             return None
-        return {it: told[it] for it in ("slots", "unknown") if it in told}
+        return {"unknown": told["unknown"]} if "unknown" in told else {"slots": [from_wire(it) for it in told["slots"]]}
 
     async def settle(self, settle: Line) -> str:
         """Sends a settle."""
         if settle.get("server") is None:
             return await self.owner.settle(settle)
-        reply = await self.ask(settle["server"], settle=settle)
+        reply = await self.ask(settle["server"], settle=to_wire(settle))
         told = reply.get("settled")
         return DONE if told is not None and told["base"] == settle["base"] else reply.get("said", "no answer")
+
+    async def notice(self, notice: Line) -> str:
+        """Tells a server of the last reopening."""
+        reply = await self.ask(notice["server"], notice={"journal": notice["journal"], "fence": notice["fence"]})
+        return DONE if "noticed" in reply else reply.get("said", "no answer")
 
     def close(self) -> None:
         """Ends all connections."""

@@ -75,7 +75,7 @@ class MapOwner:
             if answer == Answer.TAKEN and "map-not-fenced" not in self.bugs:
                 if not await self.etcd.transact([is_unchanged(BASE, revision_of(entry))], [put(BASE, text_of_base(base))]):
                     return None
-            return {"slots": []}
+            return {}
         except EtcdFault:
             return None
 
@@ -93,7 +93,7 @@ class MapOwner:
             guards += [is_unchanged(key, it.revision) for key, it in shown.items()]
             writes = [put(BASE, text_of_base(base))]
             for told in settle["entries"]:
-                value = json.dumps({"to": told["to"], "version": settle["base"]})
+                value = json.dumps({"to": told["to"], "version": told["version"]})
                 writes.append(put(self.prefix + told["shard"], value))
             return DONE if await self.etcd.transact(guards, writes) else "the map has changed"
         except EtcdFault as why:

@@ -11,7 +11,7 @@ from smplan.control import Controller, Line, Pace, Session, SessionEnded, StoreL
 from cluster.wire import Cluster, Failed, Message
 
 from .etcd import Etcd, EtcdFault
-from .fleet import Fleet
+from .fleet import Fleet, to_wire
 from .journal import EtcdJournal
 from .lease import Lease
 from .map_owner import MapOwner
@@ -143,7 +143,7 @@ class Member:
         if "restore" not in reply:
             told = reply.get("refused") or reply.get("fault") or {}
             raise Failed("Refused", told.get("kind", "") if isinstance(told, dict) else str(told))
-        return {"restore": reply["restore"]}
+        return {"restore": to_wire(reply["restore"])}
 
     async def command(self, line: Line) -> Line:
         """Stores and feeds an operator's command, or tells that this one does not lead."""

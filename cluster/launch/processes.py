@@ -3,6 +3,7 @@ from __future__ import annotations
 
 import asyncio
 import os
+import secrets
 import signal
 import socket
 from dataclasses import dataclass, field
@@ -101,13 +102,27 @@ class Processes:
         await asyncio.gather(*(it.kill() for it in self.by_name.values()))
 
 
+# Ports that were given out; below those that connections get, so that nobody takes one before its process listens.
+FIRST_PORT, LAST_PORT = 20_000, 32_000
+GIVEN: set[int] = set()
+
+
+def is_free(port: int) -> bool:
+    """Whether nobody listens at a port now."""
+    with socket.socket() as it:
+        try:
+            it.bind(("127.0.0.1", port))
+        except OSError:
+            return False
+    return True
+
+
 def free_ports(count: int) -> list[int]:
-    """Returns ports that nobody listens at now."""
-    sockets = [socket.socket() for _ in range(count)]
-    try:
-        for it in sockets:
-            it.bind(("127.0.0.1", 0))
-        return [it.getsockname()[1] for it in sockets]
-    finally:
-        for it in sockets:
-            it.close()
+    """Returns ports that nobody listens at now, and that were not given out before."""
+    found: list[int] = []
+    while len(found) < count:
+        port = secrets.randbelow(LAST_PORT - FIRST_PORT) + FIRST_PORT
+        if port not in GIVEN and is_free(port):
+            GIVEN.add(port)
+            found.append(port)
+    return found

@@ -25,6 +25,9 @@ __all__ = ["Controller", "Line", "Outgoing", "Pace", "Servers", "Session", "Sess
 # What a handler says once its message is answered.
 DONE = "done"
 
+# The commands that change nothing, which need not be stored.
+ASKING = frozenset(["hello", "orders", "map", "state", "moves", "drain", "check", "since", "audit", "failed"])
+
 # Stores lines behind all that were fed, and returns the lines to feed: those of others that came between, then these.
 Store = Callable[[Sequence[str]], Awaitable[Sequence[str]]]
 
@@ -50,6 +53,9 @@ class Servers(Protocol):
 
     async def settle(self, settle: Line) -> str:
         """Sends a settle, and returns DONE once it is answered."""
+
+    async def notice(self, notice: Line) -> str:
+        """Tells a server that was carried over of the last reopening."""
 
 
 @dataclass(frozen=True)
@@ -114,6 +120,8 @@ class Controller:
         self.leads, self.lost = True, None
         self.writer = asyncio.create_task(self.write())
         await self.refresh()
+        state = await self.session.ask({"do": "state"})
+        self.proposal = state.get("state", {}).get("reopening", {}).get("proposal")
 
     async def rest(self) -> None:
         """Stops acting. What is under way may yet arrive, which does no harm."""
@@ -149,6 +157,8 @@ class Controller:
 
     async def ask(self, line: Line) -> Line:
         """Feeds a line that only asks, which is not stored, and returns the reply."""
+        if line.get("do") not in ASKING:
+            raise ValueError(f"a line that may change something has to be stored: {line.get('do')}")
         return await self.session.ask(line)
 
     async def do(self, command: Line) -> Line:
@@ -203,6 +213,7 @@ class Controller:
         found = [("order", it) for it in reply.get("orders") or []]
         found += [("fence", it) for it in reply.get("fence") or []]
         found += [("settle", it) for it in reply.get("settle") or []]
+        found += [("notice", it) for it in reply.get("notice") or []]
         return found
 
     def heed(self, reply: Line) -> None:
@@ -264,7 +275,7 @@ class Controller:
             return
 
     async def attempt(self, kind: str, outgoing: Outgoing) -> Optional[Line]:
-        """Hands a message out once. Returns the line that records its answer (an empty one for a restore), none if there was none."""
+        """Hands a message out once. Returns the line that records its answer (an empty one where none is due), none if there was none."""
         outgoing.tries += 1
         self.counts[kind if outgoing.tries == 1 else f"{kind} again"] += 1
         try:
@@ -290,6 +301,6 @@ class Controller:
             return None
         if kind == "settle":
             return {"do": "settled", "server": message.get("server"), "base": message["base"]}
-        if kind == "restore":
+        if kind in ("restore", "notice"):
             return {}
         return {"do": "answered", "plan": message["plan"], "stream": message["stream"], "number": message["number"]}

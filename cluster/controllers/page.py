@@ -1,0 +1,89 @@
+"""What a controller's page shows."""
+from __future__ import annotations
+
+from pathlib import Path
+from typing import Any
+
+from smplan.control import Line, Outgoing
+
+from .etcd import EtcdFault
+from .journal import LEADER
+from .member import Member
+
+
+def page() -> str:
+    """Returns the page, which asks for the figures by itself."""
+    return (Path(__file__).parent / "page.html").read_text(encoding="utf-8")
+
+
+def order_row(kind: str, outgoing: Outgoing) -> Line:
+    """What the page tells of a message that is not answered."""
+    message = outgoing.message
+    call = message.get("call", kind)
+    return {
+        "to": "map" if call == "publish" else message.get("server") or "map", "what": f"{call} {message.get('shard', '')}".strip(),
+        "number": message.get("number", message.get("base", "")), "age": outgoing.age, "tries": outgoing.tries, "said": outgoing.said,
+    }
+
+
+def server_rows(state: Line) -> list[Line]:
+    """What the page tells of servers."""
+    return [
+        {"name": it["server"], "region": it["region"], "room": it["room"], "load": it["load"], "held": it["held"],
+         "note": "carried over" if it["carried"] else "down" if it["permit"] is not None else ""}
+        for it in state.get("servers", [])
+    ]
+
+
+def shard_rows(state: Line) -> list[Line]:
+    """What the page tells of shards."""
+    rows = []
+    for it in state.get("shards", []):
+        cells = {cell["server"]: cell["state"] for cell in it["cells"]}
+        primary = next((server for server, word in cells.items() if word == "primary"), None)
+        moving = any(word in ("prepared", "forwarding") for word in cells.values())
+        title = ", ".join(f"{server} {word}" for server, word in cells.items())
+        rows.append({"name": it["shard"], "primary": primary, "moving": moving, "title": title})
+    return rows
+
+
+async def leader_of(member: Member) -> str | None:
+    """Who leads, as etcd tells."""
+    if member.leads:
+        return member.settings.name
+    try:
+        entry = await member.etcd.get(LEADER)
+    except EtcdFault:
+        return None
+    return entry.value if entry else None
+
+
+async def figures_of(member: Member) -> Line:
+    """Returns everything that the page shows."""
+    controller = member.controller
+    state: dict[str, Any] = {} if controller is None else (await controller.ask({"do": "state"})).get("state", {})
+    orders = [] if controller is None else [order_row(key[0], it) for key, it in controller.outgoing.items()]
+    figures = {
+        "name": member.settings.name, "leads": member.leads, "leader": await leader_of(member), "place": member.journal.place,
+        "terms": member.past.terms, "servers": server_rows(state), "shards": shard_rows(state), "plans": plan_rows(state),
+        "orders": sorted(orders, key=lambda it: -it["age"]), "restarts": restart_rows(state), "is": state.get("is", "new"),
+        "counts": {} if controller is None else {**controller.counts, **member.journal.counts, **member.owner.counts},
+        "reopening": state.get("reopening"), "epoch": state.get("epoch"),
+    }
+    condition = {"open": f"Epoch {state.get('epoch')}", "reopening": "A reopening is under way"}.get(state.get("is", "new"), "Nothing is opened yet")
+    return figures | {"summary": f"{condition}, line {member.journal.place} of the journal, {len(orders)} messages outstanding."}
+
+
+def plan_rows(state: Line) -> list[Line]:
+    """What the page tells of plans that are running."""
+    rows = []
+    for it in state.get("plans", []):
+        if it["is"] == "running":
+            done = sum(stream["is"] == "done" for stream in it["streams"])
+            rows.append({"plan": it["plan"], "name": it["name"], "streams": len(it["streams"]), "done": done})
+    return rows
+
+
+def restart_rows(state: Line) -> list[Line]:
+    """What the page tells of servers that are down."""
+    return [{"server": it["server"], "permit": it["permit"]} for it in state.get("servers", []) if it["permit"] is not None]

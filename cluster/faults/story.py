@@ -1,0 +1,148 @@
+"""What happens to a cluster in a run: kills, stops, restarts, and a server that is given up for good in the middle of a handover."""
+from __future__ import annotations
+
+import asyncio
+import random
+import signal
+import time
+from collections import Counter
+from collections.abc import Callable
+from typing import Any
+
+from cluster.launch.cluster import LocalCluster
+from cluster.launch.operator import Operator
+
+from smplan.control import Line
+
+
+class Story:
+    """Does harm to a cluster, by a seed, and what an operator does afterwards."""
+
+    def __init__(self, cluster: LocalCluster, operator: Operator, seed: int, tell: Callable[[str], None]) -> None:
+        self.cluster, self.operator, self.tell = cluster, operator, tell
+        self.dice = random.Random(f"story {seed}")
+        self.counts: Counter[str] = Counter()
+        self.failovers: list[float] = []
+        self.lost: set[str] = set()
+        self.restarting = asyncio.Lock()
+        self.names = 0
+
+    @property
+    def alive(self) -> list[str]:
+        """The servers that are not given up."""
+        return [it for it in self.cluster.shape.server_names if it not in self.lost]
+
+    def name(self, what: str) -> str:
+        """A new name for a command."""
+        self.names += 1
+        return f"{what}-{self.names}"
+
+    # Controllers and etcd.
+
+    async def leader(self) -> str | None:
+        """Who leads now."""
+        return (await self.operator.state()).get("name")
+
+    async def wait_for_leader(self, other_than: str) -> float:
+        """Waits until another one leads, and returns how many seconds that took."""
+        begun = time.monotonic()
+        while (await self.leader()) in (None, other_than):
+            await asyncio.sleep(0.05)
+        return time.monotonic() - begun
+
+    async def kill_leader(self) -> None:
+        """Kills the leading controller, and starts it again."""
+        leader = await self.leader()
+        if leader is None:
+            return
+        self.tell(f"kill -9 {leader}, which leads")
+        await self.cluster.processes[leader].kill()
+        self.counts["leaders killed"] += 1
+        self.failovers.append(await self.wait_for_leader(leader))
+        self.tell(f"{await self.leader()} leads after {self.failovers[-1]:.1f} s")
+        await self.cluster.processes[leader].start()
+
+    async def freeze_leader(self, seconds: float = 4.0) -> None:
+        """Stops the leading controller until it is deposed, then lets it go on."""
+        leader = await self.leader()
+        if leader is None:
+            return
+        self.tell(f"stop {leader}, which leads")
+        self.cluster.processes[leader].signal(signal.SIGSTOP)
+        try:
+            await asyncio.sleep(seconds)
+        finally:
+            self.cluster.processes[leader].signal(signal.SIGCONT)
+        self.counts["leaders stopped"] += 1
+
+    async def kill_member(self) -> None:
+        """Kills a member of etcd, and starts it again."""
+        name, _ = self.dice.choice(self.cluster.members)
+        self.tell(f"kill -9 {name}")
+        await self.cluster.processes[name].kill()
+        self.counts["members of etcd killed"] += 1
+        await asyncio.sleep(1.5)
+        await self.cluster.processes[name].start()
+
+    # Servers.
+
+    async def crash_server(self) -> None:
+        """Kills a server without leave, and starts it again with its slots."""
+        async with self.restarting:
+            name = self.dice.choice(self.alive)
+            self.tell(f"kill -9 {name}, without leave")
+            await self.cluster.processes[name].kill()
+            self.counts["servers killed without leave"] += 1
+            await asyncio.sleep(self.dice.uniform(0.2, 1.0))
+            await self.cluster.processes[name].start()
+
+    async def restart_server(self, lose_slots: bool | None = None) -> bool:
+        """Asks for leave to restart a server, kills it, starts it again with or without its slots, and tells that it is up."""
+        async with self.restarting:
+            name, by = self.dice.choice(self.alive), self.name("rollout")
+            permit = await self.approved(name, by)
+            if permit is None:
+                return False
+            lose = self.dice.random() < 0.5 if lose_slots is None else lose_slots
+            self.tell(f"restart {name} under permit {permit}{', which loses its slots' if lose else ''}")
+            await self.cluster.processes[name].kill()
+            await asyncio.sleep(self.dice.uniform(0.2, 0.8))
+            await self.cluster.processes[name].start(*(["--lose-slots"] if lose else []))
+            if lose:
+                await asyncio.sleep(1.5)
+            for _ in range(self.dice.randint(1, 2)):
+                await self.operator.do({"do": "restarted", "permit": permit})
+            self.counts["restarts"] += 1
+            return True
+
+    async def approved(self, name: str, by: str, tries: int = 10) -> int | None:
+        """Asks for leave until it is given; None if it is not."""
+        if "restart-without-approval" in self.cluster.bugs:
+            return 0
+        for _ in range(tries):
+            reply = await self.operator.do({"do": "approve", "server": name, "by": by})
+            if "approved" in reply:
+                return reply["approved"]["permit"]
+            await asyncio.sleep(0.3)
+        self.counts["restarts denied"] += 1
+        return None
+
+    # A server that is lost.
+
+    async def reopen(self, document: Line, lost: list[str], why: str, **more: Any) -> bool:
+        """Reopens, until the opening is in force; tells whether it is."""
+        reply = await self.operator.do({"do": "reopen", "document": document, "lost": lost, "why": why, **more})
+        if "fence" not in reply:
+            self.tell(f"reopening refused: {reply}")
+            return False
+        base = reply["fence"][0]["base"]
+        begun = time.monotonic()
+        while time.monotonic() - begun < 30:
+            state = (await self.operator.ask({"do": "state"})).get("state", {})
+            if state.get("is") == "open" and state.get("fence") == base:
+                self.counts["reopenings"] += 1
+                self.tell(f"reopened within {time.monotonic() - begun:.1f} s")
+                return True
+            await asyncio.sleep(0.1)
+        self.tell("the reopening does not come to its end")
+        return False

@@ -1,0 +1,136 @@
+"""A cluster on this machine: etcd, servers, controllers, and proxies between all of them."""
+from __future__ import annotations
+
+import asyncio
+import json
+import shlex
+import sys
+from dataclasses import dataclass, field
+from pathlib import Path
+
+from cluster.wire import Address, Channel, Message
+
+from .etcd import add_etcd
+from .processes import Processes, free_ports
+from .shape import Shape
+
+ROOT = Path(__file__).resolve().parents[2]
+ENVIRONMENT = {"PYTHONPATH": f"{ROOT / 'python'}:{ROOT}", "PYTHONDONTWRITEBYTECODE": "1"}
+# What befalls messages, by the kind of link; see cluster.faults.
+CALM: dict[str, dict[str, float]] = {}
+ROUGH = {
+    "order": {"drop": 0.03, "repeat": 0.05, "delay": 0.2, "longest": 0.6},
+    "ask": {"drop": 0.03, "repeat": 0.05, "delay": 0.2, "longest": 0.6},
+    "etcd": {"drop": 0.004, "repeat": 0.01, "delay": 0.05, "longest": 0.2},
+    "client": {"drop": 0.002, "delay": 0.02, "longest": 0.1},
+    "peer": {"drop": 0.005, "repeat": 0.01, "delay": 0.05, "longest": 0.1},
+}
+
+
+@dataclass
+class Proxies:
+    """The links of a run, to which each process adds those that it uses."""
+
+    seed: int
+    rates: dict[str, dict[str, float]]
+    control: int
+    links: list[dict] = field(default_factory=list)
+
+    def link(self, name: str, relay: str, to: int) -> str:
+        """Adds a link, and returns where it is entered."""
+        (at,) = free_ports(1)
+        self.links.append({"name": name, "relay": relay, "at": at, "to": to})
+        return f"127.0.0.1:{at}"
+
+    def text(self) -> str:
+        """The file of the proxies' process."""
+        return json.dumps({"seed": self.seed, "control": self.control, "rates": self.rates, "links": self.links})
+
+
+@dataclass(frozen=True)
+class ServerPorts:
+    """Where a server listens."""
+
+    control: int
+    clients: int
+    peers: int
+
+
+class LocalCluster:
+    """All processes of a cluster but the clients, by their names: servers `a`, `b`, .., controllers `k0`, .., members `etcd-0`, ..."""
+
+    def __init__(self, directory: Path, shape: Shape, program: str, rates: dict = CALM, bugs: tuple[str, ...] = (), confirm: bool = True) -> None:
+        self.directory, self.shape, self.program, self.bugs, self.confirm = directory, shape, program, bugs, confirm
+        self.processes = Processes(directory / "logs")
+        self.members = add_etcd(self.processes, directory)
+        self.proxies = Proxies(shape.seed, rates, free_ports(1)[0])
+        self.ports = {name: ServerPorts(*free_ports(3)) for name in shape.server_names}
+        self.numbers = {name: it for it, name in enumerate(shape.server_names)}
+        self.asks = dict(zip(shape.controller_names, free_ports(shape.controllers)))
+        self.pages = dict(zip(shape.controller_names, free_ports(shape.controllers)))
+        self.faults = Channel(Address("127.0.0.1", self.proxies.control))
+        for name in shape.server_names:
+            self.add_server(name)
+        for name in shape.controller_names:
+            self.add_controller(name)
+        file = directory / "links.json"
+        file.write_text(self.proxies.text())
+        self.processes.add("proxies", [sys.executable, "-m", "cluster.faults", str(file)], **ENVIRONMENT)
+
+    def cluster_file(self, who: str, direct: bool = False) -> Path:
+        """Writes where everybody is for one process, which sees the others through proxies of its own."""
+        link = self.proxies.link
+        servers = {}
+        for name, ports in self.ports.items():
+            near = {it: f"127.0.0.1:{port}" for it, port in vars(ports).items()}
+            if not direct and name != who:
+                near = {"control": link(f"order {who} {name}", "lines", ports.control), "clients": link(f"client {who} {name}", "bytes", ports.clients),
+                        "peers": link(f"peer {who} {name}", "lines", ports.peers)}
+            servers[name] = {"number": self.numbers[name], **near}
+        asks = {name: f"127.0.0.1:{port}" if direct else link(f"ask {who} {name}", "lines", port) for name, port in self.asks.items()}
+        etcd = [f"http://127.0.0.1:{port}" if direct else "http://" + link(f"etcd {who} {name}", "http", port) for name, port in self.members]
+        file = self.directory / f"cluster-{who}.json"
+        file.write_text(json.dumps({"servers": servers, "controllers": asks, "etcd": etcd, "map_prefix": "/map/", "map_file": None}, indent=1))
+        return file
+
+    def add_server(self, name: str) -> None:
+        """Adds a server."""
+        ports = self.ports[name]
+        self.processes.add(name, [
+            sys.executable, "-m", "cluster.servers", "--name", name, "--cluster", str(self.cluster_file(name)), "--dir", str(self.directory / name),
+            "--listen-control", str(ports.control), "--listen-clients", str(ports.clients), "--listen-peers", str(ports.peers),
+            *(it for bug in self.bugs for it in ("--bug", bug)),
+        ], **ENVIRONMENT)
+
+    def add_controller(self, name: str) -> None:
+        """Adds a controller."""
+        self.processes.add(name, [
+            sys.executable, "-m", "cluster.controllers", "--name", name, "--cluster", str(self.cluster_file(name)), "--program", self.program,
+            "--listen", f"127.0.0.1:{self.asks[name]}", "--http", f"127.0.0.1:{self.pages[name]}", *(["--confirm"] if self.confirm else []),
+            *(it for bug in self.bugs for it in ("--bug", bug)),
+        ], **ENVIRONMENT)
+
+    async def start(self) -> None:
+        """Starts everything but the clients."""
+        await self.processes.start("proxies", *(name for name, _ in self.members))
+        await self.processes.start(*self.shape.controller_names, *self.shape.server_names)
+
+    async def end(self) -> None:
+        """Ends everything."""
+        self.faults.close()
+        await self.processes.end()
+
+    async def tell_proxies(self, **message: object) -> Message:
+        """Changes what befalls messages, or asks for the counts."""
+        return await self.faults.ask(5.0, **message)
+
+
+def program_of(text: str) -> str:
+    """Returns the session's command line, with the paths of this repository made absolute."""
+    words = [str(ROOT / it) if (ROOT / it).exists() else it for it in shlex.split(text)]
+    return shlex.join(words)
+
+
+async def settle_down(seconds: float) -> None:
+    """Lets things go on."""
+    await asyncio.sleep(seconds)

@@ -1,0 +1,60 @@
+"""An operator: sends lines to whichever controller leads, again and again until one replies."""
+from __future__ import annotations
+
+import asyncio
+from collections.abc import Mapping
+from typing import Any
+
+from smplan.control import Line
+from smplan.control_http import fetch
+from smplan.failure import Failure
+
+
+class NoLeader(Exception):
+    """No controller took a line in time."""
+
+
+class Operator:
+    """Speaks with the controllers' HTTP ports. All its lines may be sent again: they have names, or say the same twice."""
+
+    def __init__(self, pages: Mapping[str, int]) -> None:
+        self.pages = dict(pages)
+        self.leader = next(iter(pages))
+
+    async def post(self, name: str, path: str, line: Line | None, timeout: float = 5.0) -> Any:
+        """Asks one controller; None if it does not answer, or does not lead."""
+        try:
+            return await asyncio.to_thread(fetch, f"http://127.0.0.1:{self.pages[name]}{path}", line, timeout)
+        except Failure:
+            return None
+
+    async def do(self, line: Line, patience: float = 30.0) -> Line:
+        """Has the leader store and feed a line, and returns the reply."""
+        try:
+            async with asyncio.timeout(patience):
+                while True:
+                    reply = await self.post(self.leader, "/do", line)
+                    if reply is not None:
+                        return reply
+                    names = list(self.pages)
+                    self.leader = names[(names.index(self.leader) + 1) % len(names)]
+                    await asyncio.sleep(0.05)
+        except TimeoutError:
+            raise NoLeader(f"no controller took the line {line.get('do')} within {patience} s") from None
+
+    async def ask(self, line: Line) -> Line:
+        """Asks the controller that led last, or any that answers."""
+        for name in [self.leader, *self.pages]:
+            reply = await self.post(name, "/ask", line)
+            if reply is not None:
+                return reply
+        return {}
+
+    async def state(self) -> Line:
+        """What the leader's page shows, or that of any controller that answers."""
+        for name in [self.leader, *self.pages]:
+            told = await self.post(name, "/state", None)
+            if told is not None and told.get("leads"):
+                self.leader = name
+                return told
+        return {}

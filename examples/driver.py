@@ -1,0 +1,98 @@
+"""A controller and three servers in one process: what `smpland` sends, what servers do, and how its orders are answered.
+
+    python3 examples/driver.py [DOCUMENT [PROGRAM..]]
+
+The servers keep slots and data in dictionaries, and the journal is a list. Servers that keep them for good, and messages that get lost, late and
+repeated, are in cluster/.
+"""
+import asyncio
+import json
+import os
+import secrets
+import sys
+
+ROOT = os.path.dirname(os.path.dirname(os.path.abspath(__file__)))
+sys.path.insert(0, os.path.join(ROOT, "python"))
+from smplan import agent  # noqa: E402  (the path comes first)
+from smplan.agent import VACANT, Answer, Call, Cell  # noqa: E402
+from smplan.control import DONE, Controller, Session  # noqa: E402
+from smplan.control_agent import order_of, slot_of  # noqa: E402
+
+DOCUMENT = os.path.join(ROOT, "examples", "drain-berlin-1.json")
+PROGRAM = [sys.executable, os.path.join(ROOT, "tools", "smpland_model.py"), "-"]
+
+
+class Servers:
+    """The servers, by name, and the published map."""
+
+    def __init__(self, document):
+        self.numbers = {it["name"]: number for number, it in enumerate(document["servers"])}
+        self.bases = {it: agent.forget(secrets.randbits(63) | 1) for it in self.numbers}
+        self.slots = {it: {} for it in self.numbers}
+        self.data = {(cell["server"], it["name"]): ["some data"] for it in document["shards"] for cell in it["cells"]}
+        self.map = {it["name"]: (it["listed"], 0) for it in document["shards"]}
+
+    async def restore(self, told):
+        name, journal = told["server"], int(told["journal"], 16)
+        answer, self.bases[name] = agent.restore(self.bases[name], journal, told["fence"], told["base"], int(told["nonce"], 16))
+        if answer == Answer.TAKEN:
+            self.slots[name] = {it["shard"]: agent.place(VACANT, slot_of(it, self.numbers)) for it in told["slots"]}
+        return DONE
+
+    async def order(self, told):
+        name, shard, order = told["server"], told["shard"], order_of(told, self.numbers)
+        slots = self.slots[name]
+        answer = agent.judge(self.bases[name], slots.get(shard, VACANT), sum(it.load for it in slots.values()), order)
+        if answer == Answer.BEGIN:
+            slot = agent.begin(slots.get(shard, VACANT), order)
+            slots[shard] = self.work(name, shard, slot, order)
+            print(f"order {order.number}: {name} {told['call']} {shard} -> {Cell(slots[shard].cell).name.lower()}")
+        return DONE if answer in (Answer.BEGIN, Answer.AGAIN) else answer.name
+
+    def work(self, name, shard, slot, order):
+        """Copies or deletes the shard, and commits. Here no request runs, so the cut is reached at once."""
+        if order.call == Call.DROP:
+            self.data.pop((name, shard), None)
+        elif slot.cell == Cell.ABSENT:
+            self.data[name, shard] = list(next(self.data[it, shard] for it in self.numbers if (it, shard) in self.data))
+        elif slot.cell == Cell.PREPARED:
+            slot = agent.seal(slot, slot.handover, 0)
+        return agent.commit(self.bases[name], slot, order, 0)
+
+    async def publish(self, told):
+        if told["version"] > self.map[told["shard"]][1]:
+            self.map[told["shard"]] = (told["to"], told["version"])
+            print(f"order {told['number']}: the map names {told['to']} for {told['shard']}")
+        return DONE
+
+
+async def main(path, program):
+    document = json.load(open(path, encoding="utf-8"))
+    plan, drained = document.pop("plan", None), document.pop("drain", None)
+    servers, journal = Servers(document), []
+
+    async def store(lines):
+        journal.extend(lines)
+        return lines
+
+    session = await Session.start(program)
+    controller = Controller(session, servers, store)
+    await controller.lead()
+    await controller.do({"do": "open", "document": document, "journal": secrets.token_hex(8), "epoch": 0})
+    for name in servers.numbers:
+        await controller.do({"do": "restore", "server": name, "nonce": f"{servers.bases[name].nonce:x}"})
+    plan = plan or (await controller.ask({"do": "drain", "server": drained}))["plan"]
+    await controller.do({"do": "begin", "plan": plan, "name": "first"})
+    while controller.outgoing:
+        await asyncio.sleep(0.01)
+    await controller.rest()
+    await session.close()
+    for name in servers.numbers:
+        held = {shard: Cell(slot.cell).name.lower() for shard, slot in sorted(servers.slots[name].items()) if slot.cell != Cell.ABSENT}
+        assert {shard for at, shard in servers.data if at == name} == set(held), "data stand where slots say"
+        print(f"{name}: {', '.join(f'{shard} {word}' for shard, word in held.items()) or 'nothing'}")
+    print(f"{len(journal)} lines in the journal")
+
+
+if __name__ == "__main__":
+    asyncio.run(main(sys.argv[1] if len(sys.argv) > 1 else DOCUMENT, sys.argv[2:] or PROGRAM))

@@ -1,0 +1,166 @@
+"""smplan.control: lines are stored before they are fed, and messages go out until they are answered."""
+import asyncio
+import json
+import sys
+import unittest
+
+from smplan.control import DONE, Controller, Pace, Session, SessionEnded, StoreLost, text_of
+
+QUICK = Pace(timeout=0.05, again=0.01)
+ORDER = {"plan": 0, "stream": 0, "number": 7, "server": "a", "call": "add", "shard": "s"}
+
+# A session that has one order as long as it is not answered, and tells which lines it was fed.
+ECHO = """
+import json, sys
+order, fed = json.loads(sys.argv[1]), 0
+begun = answered = False
+for line in sys.stdin:
+    told = json.loads(line)
+    fed += 1
+    reply = {"id": told.get("id"), "fed": fed}
+    begun = begun or told["do"] == "begin"
+    if told["do"] in ("begin", "orders"):
+        reply["orders"] = [order] if begun and not answered else []
+    if told["do"] == "answered":
+        answered = True
+        reply["moved"] = {}
+    if told["do"] == "stop":
+        break
+    print(json.dumps(reply), flush=True)
+"""
+
+
+class FakeServers:
+    """Handlers that answer after some tries, and remember what they were given."""
+
+    def __init__(self, tries=1):
+        self.tries, self.orders = tries, []
+
+    async def order(self, order):
+        self.orders.append(order)
+        if len(self.orders) == 1 and self.tries > 2:
+            await asyncio.sleep(10)
+        if len(self.orders) < self.tries:
+            raise OSError("no way")
+        return DONE
+
+
+class ControlTest(unittest.IsolatedAsyncioTestCase):
+    """A controller over a small session of its own."""
+
+    async def asyncSetUp(self):
+        self.stored, self.between = [], []
+        self.session = await Session.start([sys.executable, "-c", ECHO, json.dumps(ORDER)])
+
+    async def asyncTearDown(self):
+        await self.session.close()
+
+    async def store(self, lines):
+        await asyncio.sleep(0)
+        between, self.between = self.between, []
+        self.stored += [*between, *lines]
+        return [*between, *lines]
+
+    async def led(self, servers, store=None):
+        controller = Controller(self.session, servers, store or self.store, QUICK)
+        await controller.lead()
+        return controller
+
+    async def until_idle(self, controller):
+        async with asyncio.timeout(5):
+            while controller.outgoing:
+                await asyncio.sleep(0.005)
+
+    async def test_answer_is_recorded(self):
+        servers = FakeServers()
+        controller = await self.led(servers)
+        await controller.do({"do": "begin"})
+        await self.until_idle(controller)
+        await controller.rest()
+        self.assertEqual([json.loads(it)["do"] for it in self.stored], ["begin", "answered"])
+        self.assertEqual(json.loads(self.stored[1])["number"], 7)
+        self.assertEqual(servers.orders, [ORDER])
+
+    async def test_order_goes_again(self):
+        servers = FakeServers(tries=4)
+        controller = await self.led(servers)
+        await controller.do({"do": "begin"})
+        await asyncio.sleep(0.02)
+        self.assertEqual(list(controller.outgoing), [("order", 0, 0)])
+        await self.until_idle(controller)
+        await controller.rest()
+        self.assertEqual(len(servers.orders), 4)
+        self.assertEqual(controller.counts["order again"], 3)
+        self.assertEqual([json.loads(it)["do"] for it in self.stored], ["begin", "answered"])
+
+    async def test_stored_before_fed(self):
+        fed_when_stored = []
+
+        async def store(lines):
+            fed_when_stored.append(self.session.fed)
+            await asyncio.sleep(0.01)
+            fed_when_stored.append(self.session.fed)
+            return lines
+
+        controller = await self.led(FakeServers(), store)
+        before = self.session.fed
+        await controller.do({"do": "approve"})
+        self.assertEqual(fed_when_stored, [before, before])
+        self.assertEqual(self.session.fed, before + 1)
+        await controller.rest()
+
+    async def test_lines_that_come_together_are_stored_together(self):
+        controller = await self.led(FakeServers())
+        await asyncio.gather(*(controller.do({"do": "approve", "by": str(it)}) for it in range(5)))
+        self.assertEqual(controller.counts["appends"], 1)
+        self.assertEqual(len(set(self.stored)), 5)
+        await controller.rest()
+
+    async def test_lines_of_others_come_first(self):
+        servers = FakeServers()
+        controller = await self.led(servers)
+        self.between = [text_of({"do": "begin", "id": "other"})]
+        reply = await controller.do({"do": "approve"})
+        self.assertEqual(reply["fed"], 4)
+        await self.until_idle(controller)
+        self.assertEqual(servers.orders, [ORDER])
+        await controller.rest()
+
+    async def test_follower_sends_nothing(self):
+        servers = FakeServers()
+        controller = Controller(self.session, servers, self.store, QUICK)
+        await controller.follow([text_of({"do": "begin"})])
+        self.assertEqual(controller.outgoing, {})
+        with self.assertRaises(StoreLost):
+            await controller.do({"do": "begin"})
+        await controller.lead()
+        await self.until_idle(controller)
+        self.assertEqual(servers.orders, [ORDER])
+        await controller.rest()
+
+    async def test_lost_store_ends_leading(self):
+        async def store(lines):
+            raise StoreLost("gone")
+
+        controller = await self.led(FakeServers(), store)
+        with self.assertRaises(StoreLost):
+            await controller.do({"do": "begin"})
+        self.assertIsInstance(controller.lost, StoreLost)
+        self.assertEqual(self.session.fed, 2)
+        await controller.rest()
+
+    async def test_lines_that_change_are_not_asked(self):
+        controller = await self.led(FakeServers())
+        with self.assertRaises(ValueError):
+            await controller.ask({"do": "begin"})
+        await controller.rest()
+
+    async def test_end_of_the_session_is_told(self):
+        controller = await self.led(FakeServers())
+        with self.assertRaises(SessionEnded):
+            await controller.do({"do": "stop"})
+        await controller.rest()
+
+
+if __name__ == "__main__":
+    unittest.main()
