@@ -1,7 +1,6 @@
 """A cluster on this machine: etcd, servers, controllers, and proxies between all of them."""
 from __future__ import annotations
 
-import asyncio
 import json
 import shlex
 import sys
@@ -59,8 +58,9 @@ class ServerPorts:
 class LocalCluster:
     """All processes of a cluster but the clients, by their names: servers `a`, `b`, .., controllers `k0`, .., members `etcd-0`, ..."""
 
-    def __init__(self, directory: Path, shape: Shape, program: str, rates: dict = CALM, bugs: tuple[str, ...] = (), confirm: bool = True) -> None:
-        self.directory, self.shape, self.program, self.bugs, self.confirm = directory, shape, program, bugs, confirm
+    def __init__(self, directory: Path, shape: Shape, program: str, rates: dict = CALM, bugs: tuple[str, ...] = (),
+                 servers: str = "cluster.servers") -> None:
+        self.directory, self.shape, self.program, self.bugs, self.server_module = directory, shape, program, bugs, servers
         self.processes = Processes(directory / "logs")
         self.members = add_etcd(self.processes, directory)
         self.proxies = Proxies(shape.seed, rates, free_ports(1)[0])
@@ -97,7 +97,7 @@ class LocalCluster:
         """Adds a server."""
         ports = self.ports[name]
         self.processes.add(name, [
-            sys.executable, "-m", "cluster.servers", "--name", name, "--cluster", str(self.cluster_file(name)), "--dir", str(self.directory / name),
+            sys.executable, "-m", self.server_module, "--name", name, "--cluster", str(self.cluster_file(name)), "--dir", str(self.directory / name),
             "--listen-control", str(ports.control), "--listen-clients", str(ports.clients), "--listen-peers", str(ports.peers),
             *(it for bug in self.bugs for it in ("--bug", bug)),
         ], **ENVIRONMENT)
@@ -106,7 +106,7 @@ class LocalCluster:
         """Adds a controller."""
         self.processes.add(name, [
             sys.executable, "-m", "cluster.controllers", "--name", name, "--cluster", str(self.cluster_file(name)), "--program", self.program,
-            "--listen", f"127.0.0.1:{self.asks[name]}", "--http", f"127.0.0.1:{self.pages[name]}", *(["--confirm"] if self.confirm else []),
+            "--listen", f"127.0.0.1:{self.asks[name]}", "--http", f"127.0.0.1:{self.pages[name]}", "--confirm",
             *(it for bug in self.bugs for it in ("--bug", bug)),
         ], **ENVIRONMENT)
 
@@ -129,8 +129,3 @@ def program_of(text: str) -> str:
     """Returns the session's command line, with the paths of this repository made absolute."""
     words = [str(ROOT / it) if (ROOT / it).exists() else it for it in shlex.split(text)]
     return shlex.join(words)
-
-
-async def settle_down(seconds: float) -> None:
-    """Lets things go on."""
-    await asyncio.sleep(seconds)

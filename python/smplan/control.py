@@ -225,7 +225,7 @@ class Controller:
             self.forget_all()
         if "proposal" in reply:
             self.proposal = reply["proposal"]
-        if "settle" in reply:
+        if reply.get("settle"):
             self.proposal = None
         if "restore" in reply:
             self.send("restore", reply["restore"])

@@ -1,0 +1,117 @@
+"""Moves replicas at random while a cluster is used, a few plans at a time, and drains a server."""
+from __future__ import annotations
+
+import asyncio
+import random
+from collections import Counter
+from typing import Any
+
+from smplan.control import Line
+
+from .operator import NoLeader, Operator
+from .plans import move_stream, plan_of, swap_stream
+
+
+class Mover:
+    """Makes plans, begins them and waits until they have ended."""
+
+    def __init__(self, operator: Operator, seed: int, swaps: float = 0.2) -> None:
+        self.operator, self.dice, self.swaps = operator, random.Random(f"moves {seed}"), swaps
+        self.busy: set[str] = set()
+        self.avoided: set[str] = set()
+        self.counts: Counter[str] = Counter()
+        self.numbers = 0
+        self.stopped = asyncio.Event()
+
+    async def run(self, workers: int = 3, moves: int = 4) -> None:
+        """Moves until it is stopped; plans that are under way then are waited for."""
+        await asyncio.gather(*(self.work(moves) for _ in range(workers)))
+
+    async def work(self, moves: int) -> None:
+        """One plan after another."""
+        while not self.stopped.is_set():
+            chosen = self.choose(await self.state(), moves)
+            shards = set(chosen)
+            self.busy |= shards
+            try:
+                ended = bool(chosen) and await self.begin(plan_of(list(chosen.values())), len(chosen))
+            except NoLeader:
+                ended = False
+            finally:
+                self.busy -= shards
+            if not ended:
+                await asyncio.sleep(0.3)
+
+    async def state(self) -> Line:
+        """What is recorded, nothing if no epoch is in force."""
+        state = (await self.operator.ask({"do": "state"})).get("state", {})
+        return state if state.get("is") == "open" else {}
+
+    def choose(self, state: Line, most: int) -> dict[str, Line]:
+        """Chooses streams for shards that may be moved, at most so many."""
+        rooms = {
+            it["server"]: it["room"] - it["load"] - it["held"] for it in state.get("servers", [])
+            if it["permit"] is None and it["server"] not in self.avoided
+        }
+        shards = [it for it in state.get("shards", []) if it["shard"] not in self.busy]
+        self.dice.shuffle(shards)
+        chosen: dict[str, Line] = {}
+        for shard in shards:
+            stream = self.stream_of(shard, rooms) if len(chosen) < most else None
+            if stream is not None:
+                chosen[shard["shard"]] = stream
+        return chosen
+
+    def stream_of(self, shard: Line, rooms: dict[str, int]) -> Line | None:
+        """Chooses where a replica of a shard goes, or that its primary and a secondary change roles."""
+        has = {it["server"]: it["state"] for it in shard["cells"]}
+        if any(it not in ("primary", "secondary") for it in has.values()):
+            return None
+        staying = [it for it in has if it in rooms]
+        free = [it for it, room in rooms.items() if it not in has and room >= shard["load"]]
+        primary = next((it for it in staying if has[it] == "primary"), None)
+        secondaries = [it for it in staying if has[it] == "secondary"]
+        if primary is not None and secondaries and self.dice.random() < self.swaps:
+            return swap_stream(shard, primary, self.dice.choice(secondaries))
+        if not staying or not free:
+            return None
+        target = self.dice.choice(free)
+        rooms[target] -= shard["load"]
+        return move_stream(shard, self.dice.choice(staying), target)
+
+    async def begin(self, plan: Line, moves: int) -> bool:
+        """Begins a plan, and waits until it has ended; tells whether it did."""
+        self.numbers += 1
+        begun = await self.operator.do({"do": "begin", "plan": plan, "name": f"moves-{self.numbers}"})
+        if "begun" not in begun:
+            self.counts["plans not begun"] += 1
+            return False
+        self.counts["plans begun"] += 1
+        if not await self.wait(begun["begun"]):
+            self.counts["plans broken off"] += 1
+            return False
+        self.counts["plans"] += 1
+        self.counts["moves"] += moves
+        return True
+
+    async def wait(self, begun: dict[str, Any]) -> bool:
+        """Waits until a plan has ended; false if a reopening has broken it off."""
+        while True:
+            reply = (await self.operator.ask({"do": "state", "plan": begun["plan"]})).get("state")
+            told = await self.state() if reply is None else {}
+            if reply is not None and reply["plan"]["is"] != "running":
+                return reply["plan"]["is"] == "ended"
+            if told.get("epoch", begun["epoch"]) != begun["epoch"]:
+                return False
+            await asyncio.sleep(0.1)
+
+    async def drain(self, server: str) -> bool:
+        """Empties a server, while no other plan is made for it."""
+        self.avoided.add(server)
+        for _ in range(50):
+            reply = await self.operator.ask({"do": "drain", "server": server})
+            if "plan" in reply and await self.begin(reply["plan"], 0):
+                self.counts["drains"] += 1
+                return True
+            await asyncio.sleep(0.3)
+        return False
