@@ -28,7 +28,7 @@ def from_wire(slot: Line) -> Line:
 class Fleet:
     """The servers of a cluster and the owner of its map, as `smplan.control` wants them."""
 
-    def __init__(self, cluster: Cluster, owner: MapOwner, timeout: float = 4.0) -> None:
+    def __init__(self, cluster: Cluster, owner: MapOwner, timeout: float = 1.5) -> None:
         self.channels = {name: Channel(entry.control) for name, entry in cluster.servers.items()}
         self.owner, self.timeout = owner, timeout
 

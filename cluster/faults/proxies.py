@@ -107,6 +107,8 @@ async def relay_http(reader: Reader, writer: Writer, far: Reader, far_writer: Wr
         if link.is_cut or link.dice.drops():
             return
         writer.write(answer)
+        if b"\r\nconnection: close\r\n" in request.lower():
+            return
 
 
 RELAYS: dict[str, Relay] = {"lines": relay_line_pairs, "http": relay_http, "bytes": relay_streams}

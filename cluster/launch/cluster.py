@@ -7,6 +7,7 @@ import sys
 from dataclasses import dataclass, field
 from pathlib import Path
 
+from cluster.servers.bugs import BUGS as SERVER_BUGS
 from cluster.wire import Address, Channel, Message
 
 from .etcd import add_etcd
@@ -22,7 +23,7 @@ ROUGH = {
     "ask": {"drop": 0.03, "repeat": 0.05, "delay": 0.2, "longest": 0.6},
     "etcd": {"drop": 0.004, "repeat": 0.01, "delay": 0.05, "longest": 0.2},
     "client": {"drop": 0.002, "delay": 0.02, "longest": 0.1},
-    "peer": {"drop": 0.005, "repeat": 0.01, "delay": 0.05, "longest": 0.1},
+    "peer": {"drop": 0.0005, "delay": 0.05, "longest": 0.1},
 }
 
 
@@ -59,8 +60,8 @@ class LocalCluster:
     """All processes of a cluster but the clients, by their names: servers `a`, `b`, .., controllers `k0`, .., members `etcd-0`, ..."""
 
     def __init__(self, directory: Path, shape: Shape, program: str, rates: dict = CALM, bugs: tuple[str, ...] = (),
-                 servers: str = "cluster.servers") -> None:
-        self.directory, self.shape, self.program, self.bugs, self.server_module = directory, shape, program, bugs, servers
+                 servers: str = "cluster.servers", pause: float = 0.01) -> None:
+        self.directory, self.shape, self.program, self.bugs, self.server_module, self.pause = directory, shape, program, bugs, servers, pause
         self.processes = Processes(directory / "logs")
         self.members = add_etcd(self.processes, directory)
         self.proxies = Proxies(shape.seed, rates, free_ports(1)[0])
@@ -73,6 +74,7 @@ class LocalCluster:
             self.add_server(name)
         for name in shape.controller_names:
             self.add_controller(name)
+        self.add_clients()
         file = directory / "links.json"
         file.write_text(self.proxies.text())
         self.processes.add("proxies", [sys.executable, "-m", "cluster.faults", str(file)], **ENVIRONMENT)
@@ -85,7 +87,7 @@ class LocalCluster:
             near = {it: f"127.0.0.1:{port}" for it, port in vars(ports).items()}
             if not direct and name != who:
                 near = {"control": link(f"order {who} {name}", "lines", ports.control), "clients": link(f"client {who} {name}", "bytes", ports.clients),
-                        "peers": link(f"peer {who} {name}", "lines", ports.peers)}
+                        "peers": link(f"peer {who} {name}", "bytes", ports.peers)}
             servers[name] = {"number": self.numbers[name], **near}
         asks = {name: f"127.0.0.1:{port}" if direct else link(f"ask {who} {name}", "lines", port) for name, port in self.asks.items()}
         etcd = [f"http://127.0.0.1:{port}" if direct else "http://" + link(f"etcd {who} {name}", "http", port) for name, port in self.members]
@@ -99,7 +101,7 @@ class LocalCluster:
         self.processes.add(name, [
             sys.executable, "-m", self.server_module, "--name", name, "--cluster", str(self.cluster_file(name)), "--dir", str(self.directory / name),
             "--listen-control", str(ports.control), "--listen-clients", str(ports.clients), "--listen-peers", str(ports.peers),
-            *(it for bug in self.bugs for it in ("--bug", bug)),
+            *(it for bug in self.bugs if bug in SERVER_BUGS for it in ("--bug", bug)),
         ], **ENVIRONMENT)
 
     def add_controller(self, name: str) -> None:
@@ -107,8 +109,16 @@ class LocalCluster:
         self.processes.add(name, [
             sys.executable, "-m", "cluster.controllers", "--name", name, "--cluster", str(self.cluster_file(name)), "--program", self.program,
             "--listen", f"127.0.0.1:{self.asks[name]}", "--http", f"127.0.0.1:{self.pages[name]}", "--confirm",
-            *(it for bug in self.bugs for it in ("--bug", bug)),
+            *(it for bug in self.bugs if bug not in SERVER_BUGS for it in ("--bug", bug)),
         ], **ENVIRONMENT)
+
+    def add_clients(self, name: str = "clients") -> None:
+        """Adds the clients, all of them in one process, which run until their input ends."""
+        self.processes.add(name, [
+            sys.executable, "-m", "cluster.clients", "--cluster", str(self.cluster_file(name)), "--shards", ",".join(self.shape.shard_names),
+            "--history", str(self.directory / f"{name}.jsonl"), "--seconds", "0", "--clients", str(self.shape.clients), "--seed", str(self.shape.seed),
+            "--pause", str(self.pause),
+        ], says_ready=False, has_input=True, **ENVIRONMENT)
 
     async def start(self) -> None:
         """Starts everything but the clients."""

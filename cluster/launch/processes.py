@@ -23,6 +23,7 @@ class Process:
     directory: Path
     says_ready: bool = True
     environment: dict[str, str] = field(default_factory=dict)
+    has_input: bool = False
     running: asyncio.subprocess.Process | None = None
     starts: int = 0
 
@@ -42,7 +43,7 @@ class Process:
         with self.log.open("ab") as log:
             begin = log.tell()
             self.running = await asyncio.create_subprocess_exec(
-                *self.command, *more, stdin=asyncio.subprocess.DEVNULL, stdout=log, stderr=log,
+                *self.command, *more, stdin=asyncio.subprocess.PIPE if self.has_input else asyncio.subprocess.DEVNULL, stdout=log, stderr=log,
                 env={**os.environ, **self.environment}, start_new_session=True,
             )
         if self.says_ready:
@@ -66,6 +67,12 @@ class Process:
             assert self.running is not None
             self.running.send_signal(number)
 
+    async def end_input(self, timeout: float = 60.0) -> None:
+        """Ends its input, and waits until it has ended by itself."""
+        if self.running is not None and self.running.stdin is not None:
+            self.running.stdin.close()
+            await asyncio.wait_for(self.running.wait(), timeout)
+
     async def kill(self) -> None:
         """Ends it at once, with what it has started, which stands in its own process group."""
         if self.is_running:
@@ -82,9 +89,9 @@ class Processes:
         self.by_name: dict[str, Process] = {}
         directory.mkdir(parents=True, exist_ok=True)
 
-    def add(self, name: str, command: list[str], says_ready: bool = True, **environment: str) -> Process:
+    def add(self, name: str, command: list[str], says_ready: bool = True, has_input: bool = False, **environment: str) -> Process:
         """Adds a process, which is started by `start`."""
-        self.by_name[name] = Process(name, command, self.directory, says_ready, environment)
+        self.by_name[name] = Process(name, command, self.directory, says_ready, environment, has_input)
         return self.by_name[name]
 
     def __getitem__(self, name: str) -> Process:
