@@ -1,0 +1,185 @@
+"""What is looked at when a run has ended: the journal played again, audits, the map, and the two checkers."""
+from __future__ import annotations
+
+import asyncio
+import json
+import os
+import sys
+from collections import Counter
+from dataclasses import dataclass, field
+from pathlib import Path
+
+from smplan.control import Line, Session
+
+from cluster.controllers.etcd import Etcd, end_of
+from cluster.controllers.fleet import from_wire
+from cluster.controllers.journal import PREFIX
+from cluster.wire import Address, Channel, Failed
+
+from .cluster import ENVIRONMENT, LocalCluster
+from .operator import Operator
+
+
+@dataclass
+class Verdict:
+    """The faults that were found, and what was counted."""
+
+    faults: list[str] = field(default_factory=list)
+    counts: Counter[str] = field(default_factory=Counter)
+
+    def need(self, holds: bool, text: str) -> None:
+        """Notes a fault unless something holds."""
+        if not holds:
+            self.faults.append(text)
+
+
+@dataclass
+class Journal:
+    """A journal played again: its lines, the orders that it sent, and how it stands."""
+
+    lines: list[str]
+    orders: list[Line] = field(default_factory=list)
+    replies: Counter[str] = field(default_factory=Counter)
+    state: Line = field(default_factory=dict)
+    shown: list[Line] = field(default_factory=list)
+    audits: dict[str, Line] = field(default_factory=dict)
+
+
+async def read_journal(cluster: LocalCluster) -> list[str]:
+    """Reads the journal from etcd, without proxies."""
+    etcd = Etcd([("127.0.0.1", port) for _, port in cluster.members], timeout=5.0)
+    lines: list[str] = []
+    after = PREFIX
+    while found := await etcd.range(after, end_of(PREFIX), limit=500):
+        lines += [it.value for it in found]
+        after = found[-1].key + "0"
+    await etcd.close()
+    return lines
+
+
+async def play(program: list[str], lines: list[str], audits: dict[str, Line]) -> Journal:
+    """Feeds a journal to a new session, and asks it what it has."""
+    journal = Journal(lines)
+    session = await Session.start(program)
+    for text, reply in [(text, session.feed(text)) for text in lines]:
+        told = await reply
+        journal.orders += told.get("orders", [])
+        journal.replies[f"{json.loads(text)['do']}: {next(it for it in told if it != 'id')}"] += 1
+    journal.state = (await session.ask({"do": "state"}))["state"]
+    journal.shown = (await session.ask({"do": "map"}))["map"]
+    for server, told in audits.items():
+        slots = [from_wire(it) for it in told["slots"]]
+        journal.audits[server] = await session.ask({"do": "audit", "server": server, "place": journal.state["place"], "slots": slots})
+    await session.close()
+    return journal
+
+
+async def audits_of(cluster: LocalCluster, servers: list[str]) -> dict[str, Line]:
+    """Asks servers for all their slots, without proxies."""
+    found = {}
+    for name in servers:
+        channel = Channel(Address("127.0.0.1", cluster.ports[name].control))
+        try:
+            found[name] = (await channel.ask(5.0, audit={}))["audit"]
+        except Failed as failed:
+            found[name] = {"slots": [], "known": False, "failed": str(failed)}
+        channel.close()
+    return found
+
+
+async def map_of(cluster: LocalCluster) -> dict[str, Line]:
+    """Reads the published map from etcd."""
+    etcd = Etcd([("127.0.0.1", port) for _, port in cluster.members], timeout=5.0)
+    found = {it.key.removeprefix("/map/"): json.loads(it.value) for it in await etcd.range("/map/", end_of("/map/"))}
+    await etcd.close()
+    return found
+
+
+def look_at_servers(verdict: Verdict, journal: Journal, audits: dict[str, Line]) -> None:
+    """Each server has what the journal says of it."""
+    verdict.need(journal.state.get("is") == "open", "no epoch is in force in the end")
+    names = {it["server"] for it in journal.state.get("servers", [])}
+    for server in sorted(names):
+        told, audit = audits.get(server, {}), journal.audits.get(server, {}).get("audit", {})
+        verdict.need(told.get("known", False) and not told.get("fenced"), f"{server} is Unknown or fenced in the end: {told.get('failed', '')}")
+        verdict.need(audit.get("is") == "agrees", f"the audit of {server}: {json.dumps(journal.audits.get(server))}")
+        verdict.counts["servers audited"] += 1
+
+
+def look_at_map(verdict: Verdict, journal: Journal, shown: dict[str, Line]) -> None:
+    """The map shows what the journal says."""
+    for entry in journal.shown:
+        found = shown.get(entry["shard"])
+        verdict.need(found is not None and found["to"] == entry["to"], f"the map names {found} for {entry['shard']}, and is to name {entry['to']}")
+        verdict.counts["map entries compared"] += 1
+
+
+async def look_at_replicas(verdict: Verdict, operator: Operator, journal: Journal) -> None:
+    """The controllers' sessions say the same as one that is fed the journal anew."""
+    for name in operator.pages:
+        reply = await operator.post(name, "/ask", {"do": "state"})
+        state = (reply or {}).get("state", {})
+        if state.get("place") == journal.state["place"]:
+            verdict.need(state == journal.state, f"{name} has another state than the journal")
+            verdict.counts["controllers compared"] += 1
+
+
+def expected_of(state: Line) -> dict[str, dict[str, str]]:
+    """The end placement, as the servers' checker wants it."""
+    return {it["shard"]: {cell["server"]: cell["state"] for cell in it["cells"]} for it in state.get("shards", [])}
+
+
+def write_lines(path: Path, lines: list[str]) -> Path:
+    """Writes lines to a file."""
+    path.write_text("".join(f"{it}\n" for it in lines), encoding="utf-8")
+    return path
+
+
+async def run_checker(verdict: Verdict, name: str, directory: Path, *words: str) -> None:
+    """Runs a checker, whose faults and last line become part of the verdict."""
+    pipe = asyncio.subprocess.PIPE
+    done = await asyncio.create_subprocess_exec(sys.executable, "-m", name, *words, stdout=pipe, stderr=pipe, env={**os.environ, **ENVIRONMENT})
+    out, err = await done.communicate()
+    lines = out.decode().splitlines()
+    write_lines(directory / f"{name}.txt", lines + err.decode().splitlines())
+    if done.returncode == 0 and lines:
+        verdict.counts.update({f"{name.rpartition('.')[2]}: {what}": count for what, count in json.loads(lines[-1]).items() if isinstance(count, int)})
+        return
+    verdict.faults += [f"{name.rpartition('.')[2]}: {it}" for it in lines[:20]] or [f"{name} failed: {err.decode()[-300:]}"]
+
+
+async def histories_of(cluster: LocalCluster) -> Path:
+    """Prints the servers' histories, once they have ended."""
+    path = cluster.directory / "histories.jsonl"
+    folders = [str(cluster.directory / it) for it in cluster.shape.server_names if (cluster.directory / it).is_dir()]
+    with path.open("wb") as out:
+        done = await asyncio.create_subprocess_exec(sys.executable, "-m", "cluster.servers.history", *folders, stdout=out, env={**os.environ, **ENVIRONMENT})
+        await done.wait()
+    return path
+
+
+async def judge(cluster: LocalCluster, operator: Operator, program: list[str], alive: list[str], floors: dict[str, int]) -> Verdict:
+    """Looks at everything. Ends the cluster's processes in between."""
+    verdict = Verdict()
+    audits = await audits_of(cluster, alive)
+    lines = await read_journal(cluster)
+    journal = await play(program, lines, audits)
+    shown = await map_of(cluster)
+    look_at_servers(verdict, journal, audits)
+    look_at_map(verdict, journal, shown)
+    await look_at_replicas(verdict, operator, journal)
+    verdict.counts["lines of the journal"] = len(lines)
+    verdict.counts["orders"] = len(journal.orders)
+    await cluster.end()
+    where = cluster.directory
+    write_lines(where / "journal.jsonl", lines)
+    write_lines(where / "replies.txt", [f"{count} {what}" for what, count in journal.replies.items()])
+    (where / "expected.json").write_text(json.dumps(expected_of(journal.state)))
+    (where / "floors.json").write_text(json.dumps(floors))
+    answered = write_lines(where / "answered.jsonl", [it for it in lines if json.loads(it)["do"] == "answered"])
+    orders = write_lines(where / "orders.jsonl", [json.dumps(it) for it in journal.orders])
+    histories = await histories_of(cluster)
+    await run_checker(verdict, "cluster.checkers.servers", where, "--history", str(histories), "--orders", str(orders), "--answered", str(answered),
+                      "--expected", str(where / "expected.json"), "--wants", str(where / "floors.json"))
+    await run_checker(verdict, "cluster.checkers.clients", where, str(where / "clients.jsonl"))
+    return verdict
