@@ -11,6 +11,8 @@ from typing import Any
 
 from cluster.launch.cluster import LocalCluster
 from cluster.launch.operator import Operator
+from cluster.launch.plans import move_stream, plan_of, promote_stream
+from cluster.launch.shape import document_of
 
 from smplan.control import Line
 
@@ -26,6 +28,7 @@ class Story:
         self.lost: set[str] = set()
         self.restarting = asyncio.Lock()
         self.names = 0
+        self.document = document_of(cluster.shape)
 
     @property
     def alive(self) -> list[str]:
@@ -142,7 +145,94 @@ class Story:
             if state.get("is") == "open" and state.get("fence") == base:
                 self.counts["reopenings"] += 1
                 self.tell(f"reopened within {time.monotonic() - begun:.1f} s")
+                await self.promote(state)
                 return True
             await asyncio.sleep(0.1)
         self.tell("the reopening does not come to its end")
         return False
+
+    async def promote(self, state: Line) -> None:
+        """Makes a secondary the primary of each shard that a reopening left without one."""
+        streams = []
+        for shard in state["shards"]:
+            has = {it["server"]: it["state"] for it in shard["cells"]}
+            if has and "primary" not in has.values():
+                streams.append(promote_stream(shard, sorted(has)[0]))
+        if streams:
+            self.counts["secondaries promoted"] += len(streams)
+            reply = await self.operator.do({"do": "begin", "plan": plan_of(streams), "name": self.name("promote")})
+            self.tell(f"{len(streams)} shards without a primary: {'promoted' if 'begun' in reply else reply}")
+
+    # A server that is lost in a handover.
+
+    async def lose_server(self, target: str | None = None) -> bool:
+        """Gives the new owner of a handover up for good while the old one forwards to it, and reopens without it. Tells whether it came to that."""
+        async with self.restarting:
+            found = await self.stuck_handover(target)
+            if found is None:
+                return False
+            shard, old, new = found
+            self.lost.add(new)
+            self.counts["servers lost in a handover"] += 1
+            document = without(await self.state(), self.document, self.lost)
+            return await self.reopen(document, [new], f"{new} was lost while it took {shard} from {old}")
+
+    async def stuck_handover(self, target: str | None) -> tuple[str, str, str] | None:
+        """Begins a handover, holds orders to the old owner back until the new one is prepared, and kills that one. Returns shard, old and new owner."""
+        for _ in range(20):
+            chosen = self.handover_in(await self.state(), target)
+            if chosen is not None:
+                shard, old, new = chosen
+                held = [f"order {it} {old}" for it in self.cluster.shape.controller_names]
+                await self.cluster.tell_proxies(links=held, cut=True)
+                try:
+                    reply = await self.operator.do({"do": "begin", "plan": plan_of([move_stream(shard, old, new)]), "name": self.name("handover")})
+                    if "begun" in reply and await self.wait_for_cell(shard["shard"], new, "prepared"):
+                        self.tell(f"kill -9 {new} for good, which is to take {shard['shard']} from {old}")
+                        await self.cluster.processes[new].kill()
+                        return shard["shard"], old, new
+                finally:
+                    await self.cluster.tell_proxies(links=held, cut=False)
+            await asyncio.sleep(0.3)
+        return None
+
+    def handover_in(self, state: Line, target: str | None) -> tuple[Line, str, str] | None:
+        """Chooses a shard whose primary may be handed over, its owner and the new one."""
+        rooms = {it["server"]: it["room"] - it["load"] - it["held"] for it in state.get("servers", []) if it["permit"] is None}
+        chosen = []
+        for shard in state.get("shards", []):
+            has = {it["server"]: it["state"] for it in shard["cells"]}
+            owner = next((it for it, word in has.items() if word == "primary"), None)
+            new = [it for it, room in rooms.items() if it not in has and room >= shard["load"] and target in (None, it)]
+            if owner in rooms and new and set(has.values()) <= {"primary", "secondary"}:
+                chosen.append((shard, owner, self.dice.choice(new)))
+        return self.dice.choice(chosen) if chosen else None
+
+    async def state(self) -> Line:
+        """What is recorded, nothing if no epoch is in force."""
+        state = (await self.operator.ask({"do": "state"})).get("state", {})
+        return state if state.get("is") == "open" else {}
+
+    async def wait_for_cell(self, shard: str, server: str, word: str, seconds: float = 8.0) -> bool:
+        """Waits until a server has a shard in a state, as recorded."""
+        begun = time.monotonic()
+        while time.monotonic() - begun < seconds:
+            found = (await self.operator.ask({"do": "state", "shard": shard})).get("state", {}).get("shard", {})
+            if any(it["server"] == server and it["state"] == word for it in found.get("cells", [])):
+                return True
+            await asyncio.sleep(0.05)
+        return False
+
+
+def without(state: Line, document: Line, lost: set[str]) -> Line:
+    """The document of a reopening without servers that are lost. Its cells count for servers alone that have forgotten theirs: those that are recorded."""
+    recorded = {it["shard"]: it["cells"] for it in state.get("shards", [])}
+    shards = []
+    for shard in document["shards"]:
+        cells = [
+            {"server": it["server"], "state": it["state"]} for it in recorded.get(shard["name"], shard["cells"])
+            if it["server"] not in lost and it["state"] in ("primary", "secondary")
+        ]
+        listed = next((it["server"] for it in cells if it["state"] == "primary"), None)
+        shards.append({**shard, "cells": cells, "listed": listed})
+    return {**document, "servers": [it for it in document["servers"] if it["name"] not in lost], "shards": shards}

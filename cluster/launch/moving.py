@@ -65,7 +65,7 @@ class Mover:
     def stream_of(self, shard: Line, rooms: dict[str, int]) -> Line | None:
         """Chooses where a replica of a shard goes, or that its primary and a secondary change roles."""
         has = {it["server"]: it["state"] for it in shard["cells"]}
-        if any(it not in ("primary", "secondary") for it in has.values()):
+        if any(it not in ("primary", "secondary") for it in has.values()) or "primary" not in has.values():
             return None
         staying = [it for it in has if it in rooms]
         free = [it for it, room in rooms.items() if it not in has and room >= shard["load"]]
@@ -82,26 +82,26 @@ class Mover:
     async def begin(self, plan: Line, moves: int) -> bool:
         """Begins a plan, and waits until it has ended; tells whether it did."""
         self.numbers += 1
-        begun = await self.operator.do({"do": "begin", "plan": plan, "name": f"moves-{self.numbers}"})
+        name = f"moves-{self.numbers}"
+        begun = await self.operator.do({"do": "begin", "plan": plan, "name": name})
         if "begun" not in begun:
             self.counts["plans not begun"] += 1
             return False
         self.counts["plans begun"] += 1
-        if not await self.wait(begun["begun"]):
+        if not await self.wait(name, begun["begun"]):
             self.counts["plans broken off"] += 1
             return False
         self.counts["plans"] += 1
         self.counts["moves"] += moves
         return True
 
-    async def wait(self, begun: dict[str, Any]) -> bool:
+    async def wait(self, name: str, begun: dict[str, Any]) -> bool:
         """Waits until a plan has ended; false if a reopening has broken it off."""
         while True:
-            reply = (await self.operator.ask({"do": "state", "plan": begun["plan"]})).get("state")
-            told = await self.state() if reply is None else {}
-            if reply is not None and reply["plan"]["is"] != "running":
-                return reply["plan"]["is"] == "ended"
-            if told.get("epoch", begun["epoch"]) != begun["epoch"]:
+            told = (await self.operator.ask({"do": "state", "plan": begun["plan"]})).get("state", {}).get("plan", {})
+            if told.get("name") == name and told["is"] != "running":
+                return told["is"] == "ended"
+            if told.get("name") != name and (await self.state()).get("epoch", begun["epoch"]) != begun["epoch"]:
                 return False
             await asyncio.sleep(0.1)
 

@@ -36,6 +36,14 @@ def swap_stream(shard: Line, primary: str, secondary: str) -> Line:
     return {"budget": 2, "holds": {"cells": cells, "crowns": [crown]}, "code": code}
 
 
+def promote_stream(shard: Line, server: str) -> Line:
+    """A stream that makes a secondary the primary of a shard that has none."""
+    name = shard["shard"]
+    code = [{"do": "change", "shard": name, "server": server, "to": "primary"}, {"do": "publish", "shard": name}]
+    crown = {"shard": name, "lead": "gone", "listed": shard["listed"]}
+    return {"budget": 1, "holds": {"cells": [{"shard": name, "server": server, "state": "secondary"}], "crowns": [crown]}, "code": code}
+
+
 def plan_of(streams: list[Line]) -> Line:
     """A plan of these streams."""
     return {"budget": sum(it["budget"] for it in streams), "streams": streams}
