@@ -3,6 +3,7 @@ from __future__ import annotations
 
 import asyncio
 import random
+import time
 from collections import Counter
 from typing import Any
 
@@ -47,12 +48,16 @@ class Mover:
         state = (await self.operator.ask({"do": "state"})).get("state", {})
         return state if state.get("is") == "open" else {}
 
-    def choose(self, state: Line, most: int) -> dict[str, Line]:
-        """Chooses streams for shards that may be moved, at most so many."""
-        rooms = {
+    def rooms(self, state: Line) -> dict[str, int]:
+        """How much room there is at the servers to which replicas may go."""
+        return {
             it["server"]: it["room"] - it["load"] - it["held"] for it in state.get("servers", [])
             if it["permit"] is None and it["server"] not in self.avoided
         }
+
+    def choose(self, state: Line, most: int) -> dict[str, Line]:
+        """Chooses streams for shards that may be moved, at most so many."""
+        rooms = self.rooms(state)
         shards = [it for it in state.get("shards", []) if it["shard"] not in self.busy]
         self.dice.shuffle(shards)
         chosen: dict[str, Line] = {}
@@ -105,13 +110,33 @@ class Mover:
                 return False
             await asyncio.sleep(0.1)
 
-    async def drain(self, server: str) -> bool:
-        """Empties a server, while no other plan is made for it."""
+    async def empty(self, server: str, seconds: float = 30.0) -> bool:
+        """Empties a server, while nothing else is moved to it; tells whether it is empty."""
         self.avoided.add(server)
-        for _ in range(50):
-            reply = await self.operator.ask({"do": "drain", "server": server})
-            if "plan" in reply and await self.begin(reply["plan"], 0):
+        until = time.monotonic() + seconds
+        while time.monotonic() < until:
+            state = await self.state()
+            held = [it for it in state.get("shards", []) if any(cell["server"] == server for cell in it["cells"])]
+            if state and not held:
                 self.counts["drains"] += 1
                 return True
-            await asyncio.sleep(0.3)
+            await self.empty_some(state, server, held)
+            await asyncio.sleep(0.1)
         return False
+
+    async def empty_some(self, state: Line, server: str, held: list[Line]) -> None:
+        """Moves replicas away from a server, as many as are not moved otherwise."""
+        rooms = self.rooms(state)
+        chosen: dict[str, Line] = {}
+        for shard in held:
+            has = {it["server"]: it["state"] for it in shard["cells"]}
+            free = [it for it, room in rooms.items() if it not in has and room >= shard["load"]]
+            if shard["shard"] in self.busy or not free or not set(has.values()) <= {"primary", "secondary"}:
+                continue
+            target = max(free, key=lambda it: rooms[it])
+            rooms[target] -= shard["load"]
+            chosen[shard["shard"]] = move_stream(shard, server, target)
+        if chosen:
+            self.busy |= set(chosen)
+            await self.begin(plan_of(list(chosen.values())), len(chosen))
+            self.busy -= set(chosen)

@@ -21,7 +21,7 @@ class Operator:
         self.pages = dict(pages)
         self.leader = next(iter(pages))
 
-    async def post(self, name: str, path: str, line: Line | None, timeout: float = 5.0) -> Any:
+    async def post(self, name: str, path: str, line: Line | None, timeout: float = 2.5) -> Any:
         """Asks one controller; None if it does not answer, or does not lead."""
         try:
             return await asyncio.to_thread(fetch, f"http://127.0.0.1:{self.pages[name]}{path}", line, timeout)
@@ -36,19 +36,24 @@ class Operator:
                     reply = await self.post(self.leader, "/do", line)
                     if reply is not None:
                         return reply
-                    names = list(self.pages)
-                    self.leader = names[(names.index(self.leader) + 1) % len(names)]
+                    self.turn()
                     await asyncio.sleep(0.05)
         except TimeoutError:
             raise NoLeader(f"no controller took the line {line.get('do')} within {patience} s") from None
 
     async def ask(self, line: Line) -> Line:
         """Asks the controller that led last, or any that answers."""
-        for name in [self.leader, *self.pages]:
-            reply = await self.post(name, "/ask", line)
+        for _ in range(2 * len(self.pages)):
+            reply = await self.post(self.leader, "/ask", line)
             if reply is not None:
                 return reply
+            self.turn()
         return {}
+
+    def turn(self) -> None:
+        """Speaks with the next controller from now on."""
+        names = list(self.pages)
+        self.leader = names[(names.index(self.leader) + 1) % len(names)]
 
     async def state(self) -> Line:
         """What the leader's page shows, or that of any controller that answers."""

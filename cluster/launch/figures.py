@@ -1,0 +1,67 @@
+"""The figures of a run, from the histories of servers and clients."""
+from __future__ import annotations
+
+import json
+from collections import Counter, defaultdict
+from collections.abc import Iterable
+from pathlib import Path
+from statistics import median
+
+NANO = 1e-9
+
+
+def lines_of(path: Path) -> list[dict]:
+    """The JSON lines of a file, none if it is not there."""
+    if not path.exists():
+        return []
+    with path.open(encoding="utf-8") as lines:
+        return [json.loads(it) for it in lines]
+
+
+def handover_waits(events: Iterable[dict]) -> list[float]:
+    """For each handover how many seconds there were between the last request that the old owner executed, or the moment when it began to hold
+    requests back if that was later, and the moment when the new owner knew the cut."""
+    held: dict[str, float] = {}
+    waits = []
+    for event in sorted((it for it in events if "t" in it), key=lambda it: it["t"]):
+        shard = event.get("shard")
+        if event["kind"] == "begin" and event.get("call") == "prepare_drop":
+            held[shard] = event["t"]
+        elif event["kind"] == "commit" and event.get("call") == "prepare_drop" and shard in held:
+            waits.append((event["t"] - held.pop(shard)) * NANO)
+    return waits
+
+
+def request_waits(lines: Iterable[dict]) -> list[float]:
+    """How many seconds each request of a client took."""
+    return sorted((it["end"] - it["start"]) * NANO for it in lines if not it.get("final") and "reply" in it)
+
+
+def rates(lines: list[dict], times: list[tuple[int, int]]) -> float:
+    """Requests a second within these spans of time."""
+    seconds = sum(end - start for start, end in times) * NANO
+    count = sum(any(start <= it["end"] < end for start, end in times) for it in lines if "reply" in it)
+    return count / seconds if seconds else 0.0
+
+
+def at(sorted_values: list[float], share: float) -> float:
+    """The value below which this share of the values lies."""
+    return sorted_values[min(len(sorted_values) - 1, int(share * len(sorted_values)))] if sorted_values else 0.0
+
+
+def in_words(values: list[float]) -> str:
+    """Median and worst."""
+    return f"median {1000 * median(values):.0f} ms, worst {1000 * max(values):.0f} ms" if values else "none"
+
+
+def kinds(events: Iterable[dict]) -> Counter[str]:
+    """How many events there were of each kind."""
+    return Counter(it["kind"] for it in events)
+
+
+def by_server(events: Iterable[dict]) -> dict[str, list[dict]]:
+    """Events by server."""
+    found: dict[str, list[dict]] = defaultdict(list)
+    for event in events:
+        found[event["server"]].append(event)
+    return found

@@ -1,0 +1,241 @@
+"""`python3 -m cluster.run`: a minute of a cluster that is moved while it is used, and harmed. It ends with figures and a verdict."""
+from __future__ import annotations
+
+import argparse
+import asyncio
+import json
+import os
+import shlex
+import shutil
+import sys
+import tempfile
+import time
+from collections import Counter
+from collections.abc import Awaitable, Callable
+from dataclasses import dataclass, field
+from pathlib import Path
+
+from cluster.faults.story import Story
+from cluster.launch.cluster import CALM, ROOT, ROUGH, LocalCluster, program_of
+from cluster.launch.figures import at, handover_waits, in_words, lines_of, request_waits
+from cluster.launch.moving import Mover
+from cluster.launch.operator import NoLeader, Operator
+from cluster.launch.processes import NotReady
+from cluster.launch.shape import Shape, document_of
+from cluster.launch.verdict import Verdict, judge
+
+# The whole story, by the share of a run at which each part begins.
+WHOLE = (
+    (0.10, "drain"), (0.22, "kill_leader"), (0.36, "restart_server"), (0.44, "kill_member"), (0.52, "crash_server"), (0.60, "restart_server"),
+    (0.66, "freeze_leader"), (0.84, "lose_server"),
+)
+JOURNAL_BITS = 64
+
+
+@dataclass(frozen=True)
+class Settings:
+    """How a run goes."""
+
+    directory: Path
+    shape: Shape
+    program: str
+    seconds: float = 60.0
+    is_rough: bool = True
+    parts: tuple[tuple[float, str], ...] = WHOLE
+    bugs: tuple[str, ...] = ()
+    workers: int = 3
+    moves: int = 4
+    pause: float = 0.01
+    is_quiet: bool = False
+
+
+@dataclass
+class Result:
+    """What came of a run."""
+
+    verdict: Verdict
+    clients: dict[str, float] = field(default_factory=dict)
+    counts: Counter[str] = field(default_factory=Counter)
+    failovers: list[float] = field(default_factory=list)
+    waits: list[float] = field(default_factory=list)
+    handovers: list[float] = field(default_factory=list)
+    seconds: float = 0.0
+
+
+class Run:
+    """One run."""
+
+    def __init__(self, settings: Settings) -> None:
+        self.settings = settings
+        self.begun = time.monotonic()
+        self.cluster = LocalCluster(settings.directory, settings.shape, settings.program, ROUGH if settings.is_rough else CALM, settings.bugs, pause=settings.pause)
+        self.operator = Operator(self.cluster.pages)
+        self.story = Story(self.cluster, self.operator, settings.shape.seed, self.tell)
+        self.mover = Mover(self.operator, settings.shape.seed)
+        self.verdict: Verdict | None = None
+
+    def tell(self, text: str) -> None:
+        """Tells what happens, above the live line."""
+        if not self.settings.is_quiet:
+            print(f"\r\033[K{time.monotonic() - self.begun:6.1f} s  {text}" if sys.stdout.isatty() else f"{time.monotonic() - self.begun:6.1f} s  {text}", flush=True)
+
+    async def run(self) -> Result:
+        """Runs all of it, and ends every process."""
+        try:
+            await self.cluster.start()
+            self.tell(f"{self.settings.shape.servers} servers, {self.settings.shape.controllers} controllers and {len(self.cluster.members)} members of etcd run; "
+                      f"a page is at http://127.0.0.1:{next(iter(self.cluster.pages.values()))}/")
+            journal = os.urandom(JOURNAL_BITS // 8).hex().lstrip("0") or "1"
+            await self.story.reopen(document_of(self.settings.shape), [], "the first opening", journal=journal, epoch=1)
+            await self.cluster.processes.start("clients")
+            await self.harm()
+            counts = (await self.cluster.tell_proxies(counts=True))["counts"]
+            await self.calm_down()
+            self.tell("everything has come to rest; now the checkers look at it")
+            program = shlex.split(self.cluster.program)
+            floors = {it["name"]: 0 if self.story.lost else it["want"] - it["cap"] for it in document_of(self.settings.shape)["shards"]}
+            self.verdict = await judge(self.cluster, self.operator, program, self.story.alive, floors)
+            return self.result(counts)
+        finally:
+            await self.cluster.end()
+
+    async def harm(self) -> None:
+        """Moves replicas, and does harm at the times of the story."""
+        moving = asyncio.create_task(self.mover.run(self.settings.workers, self.settings.moves))
+        showing = asyncio.create_task(self.show())
+        start = time.monotonic()
+        doing = [asyncio.create_task(self.do_at(start + share * self.settings.seconds, name)) for share, name in self.settings.parts]
+        await asyncio.sleep(self.settings.seconds)
+        await asyncio.gather(*doing)
+        self.mover.stopped.set()
+        try:
+            await asyncio.wait_for(moving, 30)
+        except TimeoutError:
+            self.tell("plans do not come to their end: " + json.dumps((await self.operator.state()).get("orders")))
+        showing.cancel()
+
+    async def do_at(self, when: float, name: str) -> None:
+        """Does a part of the story at a time."""
+        await asyncio.sleep(max(0.0, when - time.monotonic()))
+        part: Callable[[], Awaitable[object]] = self.drain if name == "drain" else getattr(self.story, name)
+        try:
+            if name == "lose_server":
+                await self.lose_server()
+            else:
+                await part()
+        except (NoLeader, NotReady) as why:
+            self.tell(f"{name}: {why}")
+
+    async def drain(self) -> None:
+        """Empties a server, which is filled again afterwards."""
+        server = self.story.dice.choice(self.story.alive)
+        self.tell(f"drain {server}")
+        begun = time.monotonic()
+        is_done = await self.mover.empty(server)
+        self.tell(f"{server} is empty after {time.monotonic() - begun:.1f} s" if is_done else f"{server} could not be emptied")
+        self.mover.avoided.discard(server)
+
+    async def lose_server(self) -> None:
+        """Loses a server in a handover, which nobody else moves meanwhile."""
+        await self.story.lose_server()
+        self.mover.avoided |= self.story.lost
+
+    async def calm_down(self) -> None:
+        """Lets messages through again, and ends the clients, which read everything at the end."""
+        await self.cluster.tell_proxies(rates={"drop": 0.0, "repeat": 0.0, "delay": 0.0})
+        await asyncio.sleep(1.0)
+        await self.cluster.processes["clients"].end_input(120.0)
+        await asyncio.sleep(1.0)
+
+    async def show(self) -> None:
+        """Keeps a line of what goes on."""
+        while sys.stdout.isatty() and not self.settings.is_quiet:
+            told = await self.operator.state()
+            path = self.settings.directory / "clients.jsonl"
+            size = path.stat().st_size if path.exists() else 0
+            print(f"\r\033[K{time.monotonic() - self.begun:6.1f} s  {told.get('leader')} leads, line {told.get('place')}, {self.mover.counts['moves']} moves, "
+                  f"{len(told.get('orders', []))} orders outstanding, some {size // 110} requests", end="", flush=True)
+            await asyncio.sleep(0.5)
+
+    def result(self, faults: dict[str, int]) -> Result:
+        """Gathers the figures."""
+        assert self.verdict is not None
+        where = self.settings.directory
+        log = (where / "logs" / "clients.log").read_text().splitlines()
+        clients = json.loads(next((it for it in log if it.startswith("{")), "{}"))
+        counts = Counter(faults) + self.story.counts + self.mover.counts
+        waits = request_waits(lines_of(where / "clients.jsonl"))
+        handovers = handover_waits(lines_of(where / "histories.jsonl"))
+        if clients.get("failures") and not self.story.lost:
+            self.verdict.faults.append(f"{clients['failures']} requests were not acknowledged within 10 s")
+        return Result(self.verdict, clients, counts, self.story.failovers, waits, handovers, self.settings.seconds)
+
+
+def report(result: Result) -> str:
+    """Writes the figures and the verdict."""
+    verdict, counts = result.verdict, result.counts
+    harm = {it: count for it, count in sorted(counts.items()) if it.split(" ")[-1] in ("dropped", "repeated", "delayed")}
+    killed = [f"{count} {what}" for what, count in sorted(counts.items()) if "killed" in what or "stopped" in what or "lost" in what or what == "restarts"]
+    lines = [
+        f"requests     {result.clients.get('requests', 0)}, {result.clients.get('failures', 0)} not acknowledged within 10 s; "
+        f"median {1000 * at(result.waits, 0.5):.0f} ms, 99 % {1000 * at(result.waits, 0.99):.0f} ms, worst {1000 * at(result.waits, 1.0):.0f} ms",
+        f"moves        {counts['moves']} in {counts['plans']} plans, {verdict.counts['orders']} orders, {verdict.counts['lines of the journal']} lines of the journal",
+        f"handovers    {len(result.handovers)}; a shard's requests were held back {in_words(result.handovers)}",
+        f"messages     {sum(harm.values())} harmed: " + ", ".join(f"{count} {what}" for what, count in harm.items()),
+        f"processes    {', '.join(killed) or 'none harmed'}",
+        f"failovers    {', '.join(f'{it:.1f} s' for it in result.failovers) or 'none'}",
+        f"compared     {verdict.counts['servers: answers compared']} answered orders, {verdict.counts['servers: replicas compared']} replicas, "
+        f"{verdict.counts['clients: pushes acknowledged']} acknowledged pushes, {verdict.counts['servers audited']} audits",
+        f"verdict      {len(verdict.faults)} violations",
+    ]
+    return "\n".join([*lines, *(f"  {it}" for it in verdict.faults[:20])])
+
+
+def default_program() -> str:
+    """The session that is used if none is named: smpland if it is built, otherwise its reference in Python."""
+    for path in (ROOT / "build" / "smpland", ROOT / "build" / "smpland-unproved"):
+        if path.exists():
+            return f"{path} -"
+    return f"{sys.executable} {ROOT / 'tools' / 'smpland_model.py'} -"
+
+
+def arguments() -> argparse.Namespace:
+    """Reads the command line."""
+    parser = argparse.ArgumentParser(prog="cluster.run", description="Runs a cluster under load, moves it and harms it, and checks what came of it.")
+    parser.add_argument("--program", default=default_program(), help="the session's command line")
+    parser.add_argument("--seconds", type=float, default=60.0)
+    parser.add_argument("--servers", type=int, default=8)
+    parser.add_argument("--shards", type=int, default=64)
+    parser.add_argument("--clients", type=int, default=16)
+    parser.add_argument("--seed", type=int, default=1)
+    parser.add_argument("--calm", action="store_true", help="no message is harmed")
+    parser.add_argument("--parts", help="what happens, as drain,kill_leader; everything if it is missing")
+    parser.add_argument("--bug", action="append", default=[], help="plant a bug, which the checkers are to find")
+    parser.add_argument("--keep", type=Path, metavar="DIR", help="keep logs and histories there")
+    return parser.parse_args()
+
+
+def parts_of(text: str | None) -> tuple[tuple[float, str], ...]:
+    """Which parts happen when."""
+    names = text.split(",") if text else []
+    return tuple((0.1 + 0.8 * it / len(names), name) for it, name in enumerate(names)) if names else WHOLE if text is None else ()
+
+
+def main() -> int:
+    """Runs once, and returns 0 if there was no violation."""
+    told = arguments()
+    directory = Path(tempfile.mkdtemp(prefix="cluster-", dir="/dev/shm" if os.access("/dev/shm", os.W_OK) else None))
+    shape = Shape(servers=told.servers, shards=told.shards, clients=told.clients, seed=told.seed)
+    settings = Settings(directory, shape, program_of(told.program), told.seconds, not told.calm, parts_of(told.parts), tuple(told.bug))
+    try:
+        result = asyncio.run(Run(settings).run())
+        print(report(result))
+        return 1 if result.verdict.faults else 0
+    finally:
+        if told.keep:
+            shutil.copytree(directory, told.keep, dirs_exist_ok=True, ignore=shutil.ignore_patterns("*.sock", "etcd-*", "member"))
+        shutil.rmtree(directory, ignore_errors=True)
+
+
+if __name__ == "__main__":
+    sys.exit(main())
