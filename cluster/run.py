@@ -22,6 +22,7 @@ from cluster.launch.moving import Mover
 from cluster.launch.operator import NoLeader, Operator
 from cluster.launch.processes import NotReady
 from cluster.launch.shape import Shape, document_of
+from cluster.launch.situations import situations_of
 from cluster.launch.verdict import Verdict, judge
 
 # The whole story, by the share of a run at which each part begins.
@@ -59,6 +60,7 @@ class Result:
     failovers: list[float] = field(default_factory=list)
     waits: list[float] = field(default_factory=list)
     handovers: list[float] = field(default_factory=list)
+    situations: Counter[str] = field(default_factory=Counter)
     seconds: float = 0.0
 
 
@@ -165,10 +167,11 @@ class Run:
         clients = json.loads(next((it for it in log if it.startswith("{")), "{}"))
         counts = Counter(faults) + self.story.counts + self.mover.counts
         waits = request_waits(lines_of(where / "clients.jsonl"))
-        handovers = handover_waits(lines_of(where / "histories.jsonl"))
+        histories = lines_of(where / "histories.jsonl")
+        situations = situations_of(histories, self.verdict.replies, self.verdict.counts + self.story.counts)
         if clients.get("failures") and not self.story.lost:
             self.verdict.faults.append(f"{clients['failures']} requests were not acknowledged within 10 s")
-        return Result(self.verdict, clients, counts, self.story.failovers, waits, handovers, self.settings.seconds)
+        return Result(self.verdict, clients, counts, self.story.failovers, waits, handover_waits(histories), situations, self.settings.seconds)
 
 
 def report(result: Result) -> str:
@@ -186,6 +189,7 @@ def report(result: Result) -> str:
         f"failovers    {', '.join(f'{it:.1f} s' for it in result.failovers) or 'none'}",
         f"compared     {verdict.counts['servers: answers compared']} answered orders, {verdict.counts['servers: replicas compared']} replicas, "
         f"{verdict.counts['clients: pushes acknowledged']} acknowledged pushes, {verdict.counts['servers audited']} audits",
+        f"situations   {'; '.join(f'{count} x {what}' for what, count in sorted(result.situations.items()))}",
         f"verdict      {len(verdict.faults)} violations",
     ]
     return "\n".join([*lines, *(f"  {it}" for it in verdict.faults[:20])])

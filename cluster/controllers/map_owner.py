@@ -3,6 +3,7 @@ from __future__ import annotations
 
 import json
 from collections import Counter
+from collections.abc import Callable
 
 from smplan import agent
 from smplan.agent import Answer, Base
@@ -35,10 +36,12 @@ class MapOwner:
     def __init__(self, etcd: Etcd, prefix: str = "/map/", bugs: frozenset[str] = frozenset()) -> None:
         self.etcd, self.prefix, self.bugs = etcd, prefix, bugs
         self.counts: Counter[str] = Counter()
+        self.leads: Callable[[], bool] = lambda: True
 
     async def publish(self, publication: Line) -> str:
         """Shows an entry if it is newer. Answers one that is shown, or that was overtaken."""
         try:
+            self.counts["publications of one that does not lead"] += not self.leads()
             base, shown = await self.etcd.get(BASE), await self.etcd.get(self.prefix + publication["shard"])
             version = json.loads(shown.value)["version"] if shown else 0
             fence = publication.get("fence", 0)

@@ -59,6 +59,7 @@ class Member:
         self.journal = EtcdJournal(self.etcd, settings.name)
         self.lease = Lease(self.leasing, settings.name, settings.lease)
         self.owner = MapOwner(Etcd(members, first=first), settings.cluster.map_prefix, settings.bugs)
+        self.owner.leads = lambda: self.lease.is_leader
         self.fleet = Fleet(settings.cluster, self.owner)
         self.controller: Controller | None = None
 

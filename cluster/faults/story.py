@@ -55,13 +55,16 @@ class Story:
 
     async def kill_leader(self) -> None:
         """Kills the leading controller, and starts it again."""
-        leader = await self.leader()
+        state = await self.operator.state()
+        leader = state.get("name")
         if leader is None:
             return
         self.tell(f"kill -9 {leader}, which leads")
+        self.counts["leaders killed with orders outstanding"] += bool(state["orders"])
         await self.cluster.processes[leader].kill()
         self.counts["leaders killed"] += 1
         self.failovers.append(await self.wait_for_leader(leader))
+        self.counts["failovers"] += 1
         self.tell(f"{await self.leader()} leads after {self.failovers[-1]:.1f} s")
         await self.cluster.processes[leader].start()
 

@@ -26,6 +26,7 @@ class Verdict:
 
     faults: list[str] = field(default_factory=list)
     counts: Counter[str] = field(default_factory=Counter)
+    replies: Counter[str] = field(default_factory=Counter)
 
     def need(self, holds: bool, text: str) -> None:
         """Notes a fault unless something holds."""
@@ -117,6 +118,8 @@ def look_at_map(verdict: Verdict, journal: Journal, shown: dict[str, Line]) -> N
 async def look_at_replicas(verdict: Verdict, operator: Operator, journal: Journal) -> None:
     """The controllers' sessions say the same as one that is fed the journal anew."""
     for name in operator.pages:
+        page = await operator.post(name, "/state", None) or {}
+        verdict.counts.update({it: count for it, count in page.get("counts", {}).items() if " " in it})
         reply = await operator.post(name, "/ask", {"do": "state"})
         state = (reply or {}).get("state", {})
         if state.get("place") == journal.state["place"]:
@@ -168,6 +171,8 @@ async def judge(cluster: LocalCluster, operator: Operator, program: list[str], a
     look_at_servers(verdict, journal, audits)
     look_at_map(verdict, journal, shown)
     await look_at_replicas(verdict, operator, journal)
+    verdict.replies = journal.replies
+    verdict.counts["reopenings replaced"] = journal.replies["reopen: fence"] - journal.replies["settled: opened"]
     verdict.counts["lines of the journal"] = len(lines)
     verdict.counts["orders"] = len(journal.orders)
     await cluster.end()

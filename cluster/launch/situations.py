@@ -1,0 +1,77 @@
+"""Which situations came up in a run, from histories, replies and counts. A storm counts in how many runs each did."""
+from __future__ import annotations
+
+from bisect import bisect_left
+from collections import Counter, defaultdict
+from collections.abc import Iterable
+
+# Every situation that a storm is to meet.
+SITUATIONS = (
+    "an order answered again after its stream went on", "an order answered old", "a restore that comes late", "a second restarted",
+    "a passed request after its handover ended", "an append that timed out and went through", "a map write of a deposed leader",
+    "a repetition while work runs", "a server that crashed without leave", "a leader killed between an order and its answer's entry",
+    "a fence that meets an order at work", "a crash while at work", "a late fence", "a late inventory", "a late settle",
+    "a second reopening in place of one under way", "a late publication after a reopening", "a failover",
+)
+
+
+def at_work(events: Iterable[dict]) -> Counter[str]:
+    """Fences and crashes that met an order at work, by the histories."""
+    found: Counter[str] = Counter()
+    working: dict[str, set[tuple[str, int]]] = defaultdict(set)
+    for event in events:
+        server, kind = event["server"], event["kind"]
+        key = (event.get("shard", ""), event.get("number", 0))
+        if kind == "begin":
+            working[server].add(key)
+        elif kind in ("commit", "abandon"):
+            working[server].discard(key)
+        elif kind in ("fence", "start", "forget"):
+            found["a fence that meets an order at work" if kind == "fence" else "a crash while at work"] += len(working[server])
+            working[server].clear()
+    return found
+
+
+def answered_again(events: list[dict]) -> int:
+    """How many orders came again after their streams had gone on."""
+    streams: dict[tuple[int, int, int], list[float]] = defaultdict(list)
+    of_order: dict[tuple[str, int], tuple[int, int, int]] = {}
+    for event in events:
+        if event["kind"] == "commit":
+            stream = (event["number"] >> 21, event["plan"], event["stream"])
+            of_order[event["shard"], event["number"]] = stream
+            streams[stream].append(event["t"])
+    found = 0
+    for event in events:
+        stream = of_order.get((event.get("shard", ""), event.get("number", 0)))
+        if event["kind"] == "again" and stream is not None:
+            times = streams[stream]
+            own = next(it["t"] for it in events if it["kind"] == "commit" and (it["shard"], it["number"]) == (event["shard"], event["number"]))
+            found += bisect_left(times, event["t"]) > times.index(own) + 1
+    return found
+
+
+def situations_of(events: list[dict], replies: Counter[str], counts: Counter[str]) -> Counter[str]:
+    """How often each situation came up."""
+    ordered = sorted((it for it in events if "t" in it), key=lambda it: it["t"])
+    kinds = Counter(it["kind"] for it in ordered)
+    verdicts = Counter(it["verdict"] for it in ordered if it["kind"] == "turned-away")
+    ignored = Counter(it["what"] for it in ordered if it["kind"] == "ignored")
+    found = at_work(ordered)
+    found["an order answered again after its stream went on"] = answered_again(ordered)
+    found["an order answered old"] = verdicts["OLD"]
+    found["a restore that comes late"] = ignored["restore"]
+    found["a second restarted"] = replies["restarted: ignored"]
+    found["a passed request after its handover ended"] = kinds["late-pass"]
+    found["an append that timed out and went through"] = counts["appends that went through unanswered"]
+    found["a map write of a deposed leader"] = counts["publications of one that does not lead"]
+    found["a repetition while work runs"] = kinds["working"]
+    found["a server that crashed without leave"] = counts["servers killed without leave"]
+    found["a leader killed between an order and its answer's entry"] = counts["leaders killed with orders outstanding"]
+    found["a late fence"] = ignored["fence"]
+    found["a late inventory"] = replies["fenced: ignored"]
+    found["a late settle"] = ignored["settle"] + replies["settled: ignored"]
+    found["a second reopening in place of one under way"] = counts["reopenings replaced"]
+    found["a late publication after a reopening"] = counts["publications old"] + counts["publications not_ready"]
+    found["a failover"] = counts["failovers"]
+    return +found
