@@ -8,12 +8,14 @@ from dataclasses import dataclass
 
 @dataclass(frozen=True, slots=True)
 class Rates:
-    """How often a message is lost, comes twice or comes late, each from 0 to 1, and how late at most in seconds."""
+    """How often a message is lost, comes twice or comes late, each from 0 to 1, and how late at most in seconds. `rare` is how often those come
+    twice that are seldom sent: fences, settles, restores."""
 
     drop: float = 0.0
     repeat: float = 0.0
     delay: float = 0.0
     longest: float = 0.3
+    rare: float = 0.0
 
 
 class Dice:
@@ -34,9 +36,13 @@ class Dice:
         """Whether a message is lost."""
         return self.rolls(self.rates.drop, "dropped")
 
-    def repeats(self) -> bool:
+    def repeats(self, is_rare: bool = False) -> bool:
         """Whether a message comes twice."""
-        return self.rolls(self.rates.repeat, "repeated")
+        return self.rolls(max(self.rates.repeat, self.rates.rare if is_rare else 0.0), "repeated")
+
+    def lateness_of_copy(self) -> float:
+        """How many seconds after the first one a copy comes: at most ten times as late as any other message."""
+        return self.random.random() ** 2 * 10 * self.rates.longest
 
     def lateness(self) -> float:
         """How many seconds late a message comes."""

@@ -9,6 +9,8 @@ from .dice import Dice
 
 Reader, Writer = asyncio.StreamReader, asyncio.StreamWriter
 LONGEST_LINE = 64 << 20
+# What is seldom sent, and its answers.
+RARE = (b'"fence"', b'"fenced"', b'"settle"', b'"settled"', b'"restore"', b'"restored"')
 Relay = Callable[[Reader, Writer, Reader, Writer, "Link"], Awaitable[None]]
 
 
@@ -33,17 +35,21 @@ async def send_late(writer: Writer, line: bytes, seconds: float) -> None:
 async def relay_lines(reader: Reader, writer: Writer, link: Link) -> None:
     """Carries lines one way, each by its own luck."""
     late: set[asyncio.Task[None]] = set()
+
+    def send(line: bytes, seconds: float) -> None:
+        if not seconds:
+            writer.write(line)
+            return
+        task = asyncio.create_task(send_late(writer, line, seconds))
+        late.add(task)
+        task.add_done_callback(late.discard)
+
     while line := await reader.readline():
         if link.is_cut or link.dice.drops():
             continue
-        for _ in range(2 if link.dice.repeats() else 1):
-            seconds = link.dice.lateness()
-            if not seconds and not late:
-                writer.write(line)
-                continue
-            task = asyncio.create_task(send_late(writer, line, seconds))
-            late.add(task)
-            task.add_done_callback(late.discard)
+        send(line, link.dice.lateness())
+        if link.dice.repeats(is_rare=any(it in line[:40] for it in RARE)):
+            send(line, link.dice.lateness_of_copy())
         await writer.drain()
 
 

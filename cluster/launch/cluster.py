@@ -19,8 +19,8 @@ ENVIRONMENT = {"PYTHONPATH": f"{ROOT / 'python'}:{ROOT}", "PYTHONDONTWRITEBYTECO
 # What befalls messages, by the kind of link; see cluster.faults.
 CALM: dict[str, dict[str, float]] = {}
 ROUGH = {
-    "order": {"drop": 0.03, "repeat": 0.05, "delay": 0.2, "longest": 0.6},
-    "ask": {"drop": 0.03, "repeat": 0.05, "delay": 0.2, "longest": 0.6},
+    "order": {"drop": 0.03, "repeat": 0.05, "delay": 0.2, "longest": 0.5, "rare": 0.4},
+    "ask": {"drop": 0.03, "repeat": 0.05, "delay": 0.2, "longest": 0.5, "rare": 0.4},
     "etcd": {"drop": 0.004, "repeat": 0.01, "delay": 0.05, "longest": 0.2},
     "client": {"drop": 0.002, "delay": 0.02, "longest": 0.1},
     "peer": {"drop": 0.0005, "delay": 0.05, "longest": 0.1},

@@ -1,0 +1,135 @@
+"""`python3 -m cluster.storm RUNS`: runs with different seeds, each with harm of its own, and in how many of them each situation came up."""
+from __future__ import annotations
+
+import argparse
+import asyncio
+import os
+import random
+import shutil
+import sys
+import tempfile
+import time
+from collections import Counter
+from dataclasses import dataclass, field
+from pathlib import Path
+
+from cluster.launch.cluster import program_of
+from cluster.launch.processes import NotReady
+from cluster.launch.shape import Shape
+from cluster.launch.situations import SITUATIONS
+from cluster.run import Result, Run, Settings, default_program, in_words
+
+# What may happen in a run, and how often.
+HARM = (("kill_leader", 1), ("freeze_leader", 1), ("kill_member", 1), ("crash_server", 2), ("restart_server", 4), ("drain", 1))
+
+
+@dataclass
+class Sums:
+    """What all runs came to."""
+
+    runs: int = 0
+    failed: list[str] = field(default_factory=list)
+    situations: Counter[str] = field(default_factory=Counter)
+    counts: Counter[str] = field(default_factory=Counter)
+    failovers: list[float] = field(default_factory=list)
+    handovers: list[float] = field(default_factory=list)
+
+    def add(self, seed: int, result: Result) -> None:
+        """Adds a run."""
+        self.runs += 1
+        self.situations.update(result.situations.keys())
+        self.counts += result.counts + result.verdict.counts
+        self.counts["requests"] += int(result.clients.get("requests", 0))
+        self.counts["requests not acknowledged"] += int(result.clients.get("failures", 0))
+        self.failovers += result.failovers
+        self.handovers += result.handovers
+        if result.verdict.faults:
+            self.failed.append(f"seed {seed}: {len(result.verdict.faults)} violations, the first: {result.verdict.faults[0]}")
+
+
+def parts_of(seed: int, loses: bool) -> tuple[tuple[float, str], ...]:
+    """The harm of a run: everything of HARM at times of its own, and at the end perhaps a server that is lost."""
+    dice = random.Random(f"parts {seed}")
+    parts = [(dice.uniform(0.05, 0.75), name) for name, count in HARM for _ in range(count)]
+    return tuple(sorted([*parts, (0.8, "lose_server")] if loses else parts))
+
+
+class Storm:
+    """Runs side by side."""
+
+    def __init__(self, told: argparse.Namespace) -> None:
+        self.told, self.sums = told, Sums()
+        self.seeds = iter(range(told.seed, told.seed + told.runs))
+
+    async def run(self) -> None:
+        """Runs all, so many at a time."""
+        await asyncio.gather(*(self.work() for _ in range(self.told.jobs)))
+
+    async def work(self) -> None:
+        """One run after the other."""
+        for seed in self.seeds:
+            await self.run_once(seed)
+
+    async def run_once(self, seed: int) -> None:
+        """One run, whose folder is kept if something was wrong."""
+        told, begun = self.told, time.monotonic()
+        directory = Path(tempfile.mkdtemp(prefix=f"storm-{seed}-", dir="/dev/shm" if os.access("/dev/shm", os.W_OK) else None))
+        shape = Shape(servers=told.servers, shards=told.shards, clients=told.clients, seed=seed)
+        settings = Settings(directory, shape, program_of(told.program), told.seconds, not told.calm, parts_of(seed, seed % 2 == 0), tuple(told.bug), is_quiet=True)
+        try:
+            result = await Run(settings).run()
+        except (NotReady, OSError, TimeoutError) as why:
+            self.sums.failed.append(f"seed {seed}: {type(why).__name__} {why}")
+            print(f"seed {seed}: {why}", flush=True)
+            return
+        self.sums.add(seed, result)
+        faults = result.verdict.faults
+        print(f"seed {seed}: {len(faults)} violations, {result.clients.get('requests', 0)} requests, {result.counts['moves']} moves, "
+              f"{len(result.situations)} situations, {time.monotonic() - begun:.0f} s" + "".join(f"\n    {it}" for it in faults[:5]), flush=True)
+        if faults and told.keep:
+            shutil.copytree(directory, told.keep / str(seed), dirs_exist_ok=True, ignore=shutil.ignore_patterns("*.sock", "etcd-*"))
+        shutil.rmtree(directory, ignore_errors=True)
+
+
+def report(sums: Sums) -> str:
+    """What all runs came to."""
+    counts = sums.counts
+    lines = [
+        f"{sums.runs} runs, {len(sums.failed)} with violations",
+        f"{counts['requests']} requests, {counts['requests not acknowledged']} not acknowledged; {counts['moves']} moves, {counts['orders']} orders, "
+        f"{counts['restarts']} restarts, {counts['failovers']} failovers, {counts['reopenings']} openings and reopenings",
+        f"handovers held requests back {in_words(sums.handovers)}; failovers took {in_words(sums.failovers)}",
+        "situations, each with the number of runs in which it came up:",
+        *(f"  {sums.situations[it]:4} {it}" for it in SITUATIONS),
+        *sums.failed,
+    ]
+    return "\n".join(lines)
+
+
+def arguments() -> argparse.Namespace:
+    """Reads the command line."""
+    parser = argparse.ArgumentParser(prog="cluster.storm", description="Runs a cluster many times, each time with other harm.")
+    parser.add_argument("runs", type=int, nargs="?", default=200)
+    parser.add_argument("--seed", type=int, default=1, help="the first seed")
+    parser.add_argument("--jobs", type=int, default=1, help="runs side by side")
+    parser.add_argument("--program", default=default_program())
+    parser.add_argument("--seconds", type=float, default=20.0)
+    parser.add_argument("--servers", type=int, default=8)
+    parser.add_argument("--shards", type=int, default=64)
+    parser.add_argument("--clients", type=int, default=16)
+    parser.add_argument("--calm", action="store_true")
+    parser.add_argument("--bug", action="append", default=[])
+    parser.add_argument("--keep", type=Path, metavar="DIR", help="keep the folders of runs with violations there")
+    return parser.parse_args()
+
+
+def main() -> int:
+    """Runs all, and returns 0 if there was no violation."""
+    storm = Storm(arguments())
+    asyncio.run(storm.run())
+    print(report(storm.sums))
+    return 1 if storm.sums.failed else 0
+
+
+if __name__ == "__main__":
+    sys.exit(main())
