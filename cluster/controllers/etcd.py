@@ -64,6 +64,13 @@ def has_value(key: str, value: str) -> dict[str, Any]:
     return {"key": encoded(key), "target": "VALUE", "result": "EQUAL", "value": encoded(value)}
 
 
+def entries_of(answer: dict[str, Any]) -> list[Entry]:
+    """Returns the keys of an answer."""
+    return [
+        Entry(decoded(it["key"]), decoded(it.get("value", "")), int(it["version"]), int(it["mod_revision"])) for it in answer.get("kvs", [])
+    ]
+
+
 class Etcd:
     """A client of a cluster, which goes to the next member when one does not answer."""
 
@@ -117,16 +124,21 @@ class Etcd:
         body: dict[str, Any] = {"key": encoded(first)}
         if end is not None:
             body |= {"range_end": encoded(end), "limit": limit}
-        answer = await self.post_again("/v3/kv/range", body)
-        return [
-            Entry(decoded(it["key"]), decoded(it.get("value", "")), int(it["version"]), int(it["mod_revision"]))
-            for it in answer.get("kvs", [])
-        ]
+        return entries_of(await self.post_again("/v3/kv/range", body))
 
     async def get(self, key: str) -> Entry | None:
         """Reads a key."""
         found = await self.range(key)
         return found[0] if found else None
+
+    async def past(self, entry: Entry) -> list[Entry]:
+        """Reads what a key was before, the first value first, and this one at the end."""
+        found = [entry]
+        while found[0].version > 1:
+            body = {"key": encoded(entry.key), "revision": str(found[0].revision - 1)}
+            (before,) = entries_of(await self.post_again("/v3/kv/range", body))
+            found.insert(0, before)
+        return found
 
     async def transact(self, guards: Sequence[dict], writes: Sequence[dict]) -> bool:
         """Writes if all guards hold, and returns whether it did. A fault leaves open whether it was written."""

@@ -44,7 +44,7 @@ def answered_again(events: list[dict]) -> int:
     found = 0
     for event in events:
         stream = of_order.get((event.get("shard", ""), event.get("number", 0)))
-        if event["kind"] == "again" and stream is not None:
+        if event["kind"] == "order-again" and stream is not None:
             times = streams[stream]
             own = next(it["t"] for it in events if it["kind"] == "commit" and (it["shard"], it["number"]) == (event["shard"], event["number"]))
             found += bisect_left(times, event["t"]) > times.index(own) + 1
@@ -55,22 +55,20 @@ def situations_of(events: list[dict], replies: Counter[str], counts: Counter[str
     """How often each situation came up."""
     ordered = sorted((it for it in events if "t" in it), key=lambda it: it["t"])
     kinds = Counter(it["kind"] for it in ordered)
-    verdicts = Counter(it["verdict"] for it in ordered if it["kind"] == "turned-away")
-    ignored = Counter(it["what"] for it in ordered if it["kind"] == "ignored")
     found = at_work(ordered)
     found["an order answered again after its stream went on"] = answered_again(ordered)
-    found["an order answered old"] = verdicts["OLD"]
-    found["a restore that comes late"] = ignored["restore"]
+    found["an order answered old"] = kinds["order-old"]
+    found["a restore that comes late"] = kinds["restore-ignored"]
     found["a second restarted"] = replies["restarted: ignored"]
-    found["a passed request after its handover ended"] = kinds["late-pass"]
+    found["a passed request after its handover ended"] = kinds["passed-late"]
     found["an append that timed out and went through"] = counts["appends that went through unanswered"]
     found["a map write of a deposed leader"] = counts["publications of one that does not lead"]
-    found["a repetition while work runs"] = kinds["working"]
+    found["a repetition while work runs"] = kinds["order-at-work"]
     found["a server that crashed without leave"] = counts["servers killed without leave"]
     found["a leader killed between an order and its answer's entry"] = counts["leaders killed with orders outstanding"]
-    found["a late fence"] = ignored["fence"]
+    found["a late fence"] = kinds["fence-ignored"] + kinds["fence-again"]
     found["a late inventory"] = replies["fenced: ignored"]
-    found["a late settle"] = ignored["settle"] + replies["settled: ignored"]
+    found["a late settle"] = kinds["settle-again"] + kinds["settle-ignored"] + replies["settled: ignored"]
     found["a second reopening in place of one under way"] = counts["reopenings replaced"]
     found["a late publication after a reopening"] = counts["publications old"] + counts["publications not_ready"]
     found["a failover"] = counts["failovers"]

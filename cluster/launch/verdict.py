@@ -88,10 +88,12 @@ async def audits_of(cluster: LocalCluster, servers: list[str]) -> dict[str, Line
     return found
 
 
-async def map_of(cluster: LocalCluster) -> dict[str, Line]:
-    """Reads the published map from etcd."""
+async def map_of(cluster: LocalCluster) -> dict[str, list[Line]]:
+    """Reads the published map from etcd: of each shard all its entries, the last one at the end."""
     etcd = Etcd([("127.0.0.1", port) for _, port in cluster.members], timeout=5.0)
-    found = {it.key.removeprefix("/map/"): json.loads(it.value) for it in await etcd.range("/map/", end_of("/map/"))}
+    found = {}
+    for entry in await etcd.range("/map/", end_of("/map/")):
+        found[entry.key.removeprefix("/map/")] = [json.loads(it.value) for it in await etcd.past(entry)]
     await etcd.close()
     return found
 
@@ -99,6 +101,8 @@ async def map_of(cluster: LocalCluster) -> dict[str, Line]:
 def look_at_servers(verdict: Verdict, journal: Journal, audits: dict[str, Line]) -> None:
     """Each server has what the journal says of it."""
     verdict.need(journal.state.get("is") == "open", "no epoch is in force in the end")
+    running = [it["name"] for it in journal.state.get("plans", []) if it["is"] == "running"]
+    verdict.need(not running, f"plans that have not come to their end: {', '.join(running)}")
     names = {it["server"] for it in journal.state.get("servers", [])}
     for server in sorted(names):
         told, audit = audits.get(server, {}), journal.audits.get(server, {}).get("audit", {})
@@ -107,12 +111,17 @@ def look_at_servers(verdict: Verdict, journal: Journal, audits: dict[str, Line])
         verdict.counts["servers audited"] += 1
 
 
-def look_at_map(verdict: Verdict, journal: Journal, shown: dict[str, Line]) -> None:
-    """The map shows what the journal says."""
+def look_at_map(verdict: Verdict, journal: Journal, shown: dict[str, list[Line]]) -> None:
+    """The map shows what the journal says, and never went back."""
     for entry in journal.shown:
-        found = shown.get(entry["shard"])
-        verdict.need(found is not None and found["to"] == entry["to"], f"the map names {found} for {entry['shard']}, and is to name {entry['to']}")
+        found = shown.get(entry["shard"], [])
+        to = found[-1]["to"] if found else None
+        verdict.need(bool(found) and to == entry["to"], f"the map names {to} for {entry['shard']}, and is to name {entry['to']}")
         verdict.counts["map entries compared"] += 1
+    for shard, entries in shown.items():
+        versions = [it["version"] for it in entries]
+        verdict.need(versions == sorted(set(versions)), f"the map's entry of {shard} went back: {versions}")
+        verdict.counts["map writes compared"] += len(versions)
 
 
 async def look_at_replicas(verdict: Verdict, operator: Operator, journal: Journal) -> None:
