@@ -72,6 +72,8 @@ check-program:
 	scripts/check-plans
 	scripts/check-readme
 	scripts/check-driving-model
+	scripts/check-smpland-model build/smplan
+	scripts/check-driver-example
 	scripts/check-documents
 	scripts/check-reports
 	scripts/check-faults

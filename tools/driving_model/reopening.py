@@ -16,12 +16,14 @@ FULL, COPY, PART, NOBODY = 3, 2, 1, -1
 
 @dataclass(slots=True)
 class Survey:
-    """What is known of a shard's cells: of servers that answered, of those carried over, and of the document."""
+    """What is known of a shard's cells: of servers that answered, of those carried over, and of the document. The shard
+    is led if it has a primary or is in a handover by any of them, or by the record."""
 
     row: list[Cell]
     standing: list[tuple[int, int]]
     sure: set[int] = field(default_factory=set)
     silent: set[int] = field(default_factory=set)
+    is_led: bool = False
 
     def primary(self) -> int | None:
         """The server that has told, or is recorded, as primary."""
@@ -119,6 +121,9 @@ class Reopening:
                 survey.row[server] = slot.cell
                 survey.standing[server] = self.standing_of(slot)
                 survey.sure |= {server} if slot.cell != ABSENT else set()
+        recorded = self.record.cells[shard] if self.record else ()
+        known = (*survey.row, *recorded, *self.document.cells[shard])
+        survey.is_led = any(it not in (ABSENT, SECONDARY) for it in known)
         return survey
 
     def add_silent(self, survey: Survey, shard: int, server: int) -> None:
@@ -143,7 +148,7 @@ class Reopening:
             best = max(survey.standing[it] for it in parties + secondaries)
             return next(it for it in parties + secondaries if survey.standing[it] == best)
         documented = primary_of(survey.row)
-        if secondaries and (documented is None or self.rules.survivor_position):
+        if secondaries and survey.is_led and (documented is None or self.rules.survivor_position):
             return max(secondaries, key=lambda it: survey.standing[it])
         return documented
 
