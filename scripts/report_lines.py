@@ -1,4 +1,4 @@
-"""The lines that each command can print, as docs/FORMATS.md tells them, and which of them no case has.
+"""The lines that each command can print, as docs/FORMATS.md and docs/TROUBLESHOOTING.md tell them, and which of them no case has.
 
 A form is a line whose words in capitals stand for others: S and V for names, MEMBER for one of a member, MORE for one number or more, PLAN for
 the text of a plan, and all others for a number.
@@ -9,10 +9,12 @@ from fault_cases import FILES, cases_of
 from report_cases import ROOT
 
 FORMATS = (ROOT / "docs/FORMATS.md").read_text()
+# The lines that say no.
+TROUBLE = (ROOT / "docs/TROUBLESHOOTING.md").read_text()
 EVERY = ("calls", "check", "play", "plan", "run")
 # The commands that check a plan and begin it, or say whether it may begin.
 CHECKING = ("check", "play", "run")
-WHY = re.findall(r"^\| `(\w+)` \|", FORMATS[FORMATS.index("| WHY |"):].split("\n\n")[0], re.MULTILINE)
+WHY = re.findall(r"^\| `(\w+)` \|", TROUBLE[TROUBLE.index("| WHY |"):].split("\n\n")[0], re.MULTILINE)
 REFUSED = [
     "refused: 2 Budget streams A plan B",
     "refused: 3 SignalNotOnce signal K posts A waits B",
@@ -114,13 +116,13 @@ def faults():
 
 
 def told():
-    """The lines in the tables of docs/FORMATS.md, with 0 for each word in capitals, and the commands that print each."""
+    """The lines in the tables of both, with 0 for each word in capitals, and the commands that print each."""
     title = ""
-    for line in FORMATS[FORMATS.index("## The report"):].splitlines():
+    for line in (FORMATS[FORMATS.index("## The report"):] + TROUBLE).splitlines():
         title = line if line.startswith("#") else title
         cells = line.strip("| ").split(" | ") if line.startswith("| `") else [""]
         of = re.match(r"(`\w+`(, )?)+(?=:)", cells[-1])
-        commands = re.findall(r"\w+", of[0]) if of else re.findall("`(play|run)`", title) or ["calls"]
+        commands = re.findall(r"\w+", of[0]) if of else re.findall("`(check|plan|play|run)`", title) or ["calls"]
         for form in re.findall("`(.*?)`", cells[0]):
             # (such a form stands for several others, and such a word in the place of WHY)
             if not form.endswith(": ..") and form not in WHY:
@@ -129,7 +131,7 @@ def told():
 
 
 def wrong(cases):
-    """The forms that none of these cases, of the examples and of the faults has, lines that have no form, and lines of docs/FORMATS.md without one."""
+    """The forms that none of these cases, of the examples and of the faults has, lines that have no form, and lines of the documents without one."""
     printed = [*cases, *examples(), *faults()]
     lines = {(command, line) for command, report in printed for line in report.splitlines()}
     found = {(command, line): forms_of(command, line) for command, line in lines}
@@ -140,9 +142,9 @@ def wrong(cases):
         yield from (f"{command}: a case has a line {form!r}, of which it is said that none has" for form in ELSEWHERE if (command, form) in had)
     lines_told = [*told()]
     if not lines_told:
-        yield "docs/FORMATS.md has no line of a report in its tables, as they are read here"
+        yield "the documents have no line of a report in their tables, as they are read here"
     for commands, line in lines_told:
-        yield from (f"docs/FORMATS.md tells of {line!r} of {it}, which has no form here" for it in commands if not forms_of(it, line))
+        yield from (f"the documents tell of {line!r} of {it}, which has no form here" for it in commands if not forms_of(it, line))
 
 
 def line_count():
