@@ -81,11 +81,14 @@ class Generator:
             if dice.random() < self.load.reads:
                 await self.ask(router, name, shard, {"op": "read", "shard": shard, "key": key}, None, "LRANGE", key, "0", "-1")
             else:
-                value = f"{name}-{count}"
-                await self.ask(router, name, shard, {"op": "push", "shard": shard, "key": key, "value": value}, value, "RPUSH", key, value)
+                await self.push(router, name, shard, key, f"{name}-{count}")
             if self.load.pause:
                 await asyncio.sleep(dice.random() * 2 * self.load.pause)
         router.close()
+
+    async def push(self, router: Router, name: str, shard: str, key: str, value: str) -> None:
+        """Pushes a value, which is the request's identity as well."""
+        await self.ask(router, name, shard, {"op": "push", "shard": shard, "key": key, "value": value}, value, "RPUSH", key, value)
 
     async def ask(self, router: Router, name: str, shard: str, line: dict, identity: str | None, *command: str, seconds: float = 10) -> None:
         """One request, and its line of history."""

@@ -8,7 +8,7 @@ from typing import TYPE_CHECKING
 from smplan.agent import Cell
 
 from ..wire import Message, line_of, open_lines, read_message
-from . import agent, limits
+from . import limits
 from .shard import Entry, Shard
 
 if TYPE_CHECKING:
@@ -46,8 +46,7 @@ class Following:
 
     def is_done(self) -> bool:
         """A new owner that has all writes up to the cut executes itself: the old one follows from then on."""
-        is_reached = self.shard.slot.cell == Cell.PREPARED and self.shard.has_reached_cut
-        return is_reached and self.server.bug != "follows-again"
+        return self.shard.slot.cell == Cell.PREPARED and self.shard.has_reached_cut
 
     def source(self) -> str:
         """Whom to ask next: the other party of a handover, the server that is said to be the primary, or the others in turn."""
@@ -81,13 +80,13 @@ class Following:
 
     async def follow(self, source: str) -> None:
         """Follows a source until the connection ends."""
+        await self.lag()
         reader, self.writer = await asyncio.wait_for(open_lines(self.server.cluster.servers[source].peers), limits.STEP)
         try:
             position, chain = (-1, "") if self.is_fresh else (self.shard.position, self.shard.chain)
             ask = {"shard": self.shard.name, "from": self.server.name, "position": position, "chain": chain}
             self.writer.write(line_of({"follow": ask}))
             first = await asyncio.wait_for(read_message(reader), limits.COPYING)
-            await self.lag()
             await self.take_all([first or {"nothere": {}}], source)
             queue: asyncio.Queue[Message | None] = asyncio.Queue()
             reading = asyncio.create_task(self.read(reader, queue))
@@ -127,6 +126,8 @@ class Following:
         async with self.shard.lock:
             if self.shard.following is not self:
                 raise asyncio.CancelledError
+            if self.is_done():
+                raise EOFError
             writes: list[Entry] = []
             for message in batch:
                 if "write" in message:
@@ -157,7 +158,7 @@ class Following:
             if "joined" in message:
                 self.joined.set()
         elif "seal" in message:
-            await self.take_seal(message["seal"]["handover"], message["seal"]["cut"])
+            await self.server.seal(shard, message["seal"]["handover"], message["seal"]["cut"])
         elif "moved" in message:
             raise Elsewhere(message["moved"]["to"])
         else:
@@ -170,19 +171,6 @@ class Following:
         await self.store.save(commands, "copy", shard=shard.name, source=source, position=copy["position"])
         shard.position, shard.chain, shard.members = copy["position"], copy["chain"], set(copy["members"])
         self.is_fresh = False
-
-    async def take_seal(self, handover: int, cut: int) -> None:
-        """The old owner has ended its writes at its cut. It is to have all that is executed here from now on."""
-        shard = self.shard
-        after = agent.seal(shard.slot, handover, cut)
-        if after == shard.slot:
-            return
-        old_owner = self.server.party(shard)
-        members = (shard.members | {old_owner}) - {self.server.name}
-        commands = self.store.slot_commands(shard.name, after) + self.store.member_commands(shard.name, members)
-        commands.append(("HSET", "old_owner", shard.name, old_owner))
-        await self.store.save(commands, "seal", shard=shard.name, handover=handover, cut=cut, position=shard.position)
-        shard.slot, shard.members, shard.old_owner = after, members, old_owner
 
     async def apply(self, entries: list[Entry]) -> None:
         """Executes writes of the source, all in one transaction."""

@@ -84,6 +84,8 @@ class Requests:
         deadline = time.monotonic() + limits.WAITING
         while True:
             async with shard.lock:
+                if how.is_passed and self.server.bug != "cut-unheeded":
+                    await self.heed_cut(shard, how)
                 answer, onward = self.route(shard, how)
                 if answer == Answer.EXECUTE:
                     shard.running += 1
@@ -115,6 +117,13 @@ class Requests:
         finally:
             shard.running -= 1
             shard.wake()
+
+    async def heed_cut(self, shard: Shard, how: Request) -> None:
+        """A request that is passed on tells the cut, which may not have come with the old owner's writes yet. Who executes behind it must not follow
+        the old owner any more."""
+        slot = shard.slot
+        if slot.cell == Cell.PREPARED and (slot.party, slot.handover) == (how.party, how.handover) and not slot.has_cut:
+            await self.server.seal(shard, how.handover, how.cut)
 
     def route(self, shard: Shard, how: Request) -> tuple[Answer, Request]:
         """Where a request is executed."""

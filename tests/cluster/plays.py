@@ -6,14 +6,13 @@ from __future__ import annotations
 
 import argparse
 import asyncio
-import json
-import subprocess
+import random
 import sys
 import time
 from dataclasses import dataclass
 from typing import Awaitable, Callable
 
-from scripted import JOURNAL, ROOT, Scripted
+from scripted import JOURNAL, Scripted
 
 from cluster.checkers.clients import check as check_clients
 from cluster.checkers.servers import Checker
@@ -139,18 +138,26 @@ async def early_add(it: Scripted) -> None:
     await it.send(orders[3])
 
 
-async def killed_new_owner(it: Scripted) -> None:
-    """The old owner is away while the new one, which executes what was passed on, is killed and starts again."""
+async def late_seal(it: Scripted) -> None:
+    """The old owner is killed, and hands over as soon as it is back, before the new one follows it again: the cut comes with a request."""
     orders = it.handover("s", "a", "b", ["a", "c"])
+    await push(it, "one")
     await it.send(orders[0])
-    await it.send(orders[1])
-    await asyncio.sleep(0.5)
+    await push(it, "two")
     it.kill("a")
-    it.kill("b")
-    await it.start("a", "b")
+    await it.start("a")
+    await it.send(orders[1])
+    await push(it, "three")
+    await asyncio.sleep(3)
     for order in orders[2:]:
         await it.send(order)
         it.publish({"s": "b"})
+    await push(it, "four")
+
+
+async def push(it: Scripted, value: str) -> None:
+    """One push, as if a client of the load did it."""
+    await it.generator.push(it.generator.router(random.Random(value)), "play", "s", "s:k0", value)
 
 
 async def change(it: Scripted) -> None:
@@ -176,7 +183,7 @@ PLAYS = {
     "settle-twice": Play(late_settle),
     "add-without-cut": Play(early_add, lag=1.0),
     "fence-while-passed": Play(fence_amid_passing, think=0.4),
-    "follows-again": Play(killed_new_owner),
+    "cut-unheeded": Play(late_seal, Load(("s", "t"), clients=0), lag=2.0),
     "change-while-writing": Play(change, think=0.1),
 }
 
@@ -190,7 +197,7 @@ async def played(name: str, bug: str | None) -> tuple[list[str], list[str], dict
         await scripted.start()
         await scripted.open(CELLS)
         with open(path, "w", encoding="utf-8") as history:
-            generator = Generator(scripted.cluster, play.load, history)
+            generator = scripted.generator = Generator(scripted.cluster, play.load, history)
             stopping = asyncio.Event()
             running = asyncio.create_task(generator.run_until(stopping))
             await asyncio.sleep(0.7)

@@ -15,7 +15,8 @@ from pathlib import Path
 
 ROOT = Path(__file__).resolve().parents[2]
 sys.path[:0] = [str(ROOT), str(ROOT / "python")]
-from cluster.wire import Address, Channel, Cluster, Failed, listen  # noqa: E402  (the paths come first)
+from cluster.clients.load import Generator  # noqa: E402  (the paths come first)
+from cluster.wire import Address, Channel, Cluster, Failed, listen  # noqa: E402
 
 JOURNAL = "00000000000000a7"
 LOADS, ROOM = 1, 1000
@@ -56,6 +57,7 @@ class Scripted:
         self.answered: list[dict] = []
         self.asked: dict[str, str] = {}
         self.listener: asyncio.Server | None = None
+        self.generator: Generator | None = None
 
     def publish(self, entries: dict[str, str | None]) -> None:
         """Changes the published map."""
