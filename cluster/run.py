@@ -113,7 +113,8 @@ class Run:
         try:
             await asyncio.wait_for(moving, 30)
         except TimeoutError:
-            self.tell("plans do not come to their end: " + json.dumps((await self.operator.state()).get("orders")))
+            orders = (await self.operator.state()).get("orders", [])
+            self.tell("plans do not come to their end: " + "; ".join(f"{it['what']} to {it['to']}, {it['said']}" for it in orders))
         showing.cancel()
 
     async def do_at(self, when: float, name: str) -> None:

@@ -67,7 +67,8 @@ class Servers:
 
 
 async def main(path, program):
-    document = json.load(open(path, encoding="utf-8"))
+    with open(path, encoding="utf-8") as file:
+        document = json.load(file)
     plan, drained = document.pop("plan", None), document.pop("drain", None)
     servers, journal = Servers(document), []
 

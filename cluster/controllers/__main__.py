@@ -3,12 +3,12 @@ from __future__ import annotations
 
 import argparse
 import asyncio
-import json
 import shlex
 import time
 
 from smplan.control import Pace
-from smplan.control_http import Page, serve
+from smplan.control_http import Page, Route, serve
+from smplan.control_serve import routes_of
 
 from cluster.wire import Address, Cluster, listen
 
@@ -31,25 +31,16 @@ def arguments() -> argparse.Namespace:
     return parser.parse_args()
 
 
-def routes_of(member: Member) -> dict:
+def routes(member: Member) -> dict[str, Route]:
     """What is served over HTTP."""
-    async def do(body: bytes) -> Page:
-        line = json.loads(body)
-        reply = await member.command(line)
-        return Page.of(reply, 409 if "fault" in reply else 200)
-
-    async def ask(body: bytes) -> Page:
-        if member.controller is None:
-            return Page.of({"fault": "not yet"}, 503)
-        return Page.of(await member.controller.ask(json.loads(body)))
-
     async def state(_: bytes) -> Page:
         return Page.of(await figures_of(member))
 
     async def front(_: bytes) -> Page:
         return Page(page().encode(), "text/html; charset=utf-8")
 
-    return {"POST /do": do, "POST /ask": ask, "GET /state": state, "GET /": front}
+    assert member.controller is not None
+    return {**routes_of(member.controller), "GET /state": state, "GET /": front}
 
 
 async def run(told: argparse.Namespace) -> None:
@@ -65,7 +56,8 @@ async def run(told: argparse.Namespace) -> None:
     )
     member = Member(settings)
     http = Address.of(told.http)
-    await serve(http.host, http.port, routes_of(member))
+    await member.start()
+    await serve(http.host, http.port, routes(member))
     await listen(Address.of(told.listen), member.answer)
     print("ready", flush=True)
     await member.run()

@@ -140,6 +140,10 @@ class Etcd:
             found.insert(0, before)
         return found
 
+    async def delete(self, first: str, end: str) -> None:
+        """Deletes the keys from the first to before the end."""
+        await self.post_again("/v3/kv/deleterange", {"key": encoded(first), "range_end": encoded(end)})
+
     async def transact(self, guards: Sequence[dict], writes: Sequence[dict]) -> bool:
         """Writes if all guards hold, and returns whether it did. A fault leaves open whether it was written."""
         answer = await self.post("/v3/kv/txn", {"compare": list(guards), "success": list(writes), "failure": []})

@@ -10,6 +10,7 @@ from smplan.control import Controller, Line, Pace, Session, SessionEnded, StoreL
 
 from cluster.wire import Cluster, Failed, Message
 
+from .bugs import move_primaries
 from .etcd import Etcd, EtcdFault
 from .fleet import Fleet, to_wire
 from .journal import EtcdJournal
@@ -68,17 +69,23 @@ class Member:
         """Whether this process acts."""
         return self.controller is not None and self.controller.leads
 
-    async def run(self) -> None:
-        """Follows and leads until it is cancelled."""
+    async def start(self) -> None:
+        """Starts the session."""
         session = await Session.start(self.settings.program)
         self.controller = Controller(session, self.fleet, self.store, self.settings.pace)
+        if "confirm-moves-primary" in self.settings.bugs:
+            move_primaries(self.controller)
+
+    async def run(self) -> None:
+        """Follows and leads until it is cancelled."""
+        assert self.controller is not None
         try:
             while True:
                 await self.follow()
                 if await self.lease.campaign():
                     await self.lead()
         finally:
-            await session.close()
+            await self.controller.session.close()
 
     async def follow(self) -> None:
         """Feeds what is new in the journal, until the leader may be gone."""

@@ -9,6 +9,8 @@ from collections import Counter
 from collections.abc import Callable
 from typing import Any
 
+from cluster.controllers.etcd import Etcd, end_of
+from cluster.controllers.journal import PREFIX
 from cluster.launch.cluster import LocalCluster
 from cluster.launch.operator import Operator
 from cluster.launch.plans import move_stream, plan_of, promote_stream
@@ -153,6 +155,21 @@ class Story:
             await asyncio.sleep(0.1)
         self.tell("the reopening does not come to its end")
         return False
+
+    async def open_anew(self) -> None:
+        """A planted bug: the journal is deleted, and a new one of the same name is opened over what is there."""
+        state = await self.state()
+        if not state or "new-journal-without-reopening" not in self.cluster.bugs:
+            return
+        for name in self.cluster.shape.controller_names:
+            await self.cluster.processes[name].kill()
+        etcd = Etcd([("127.0.0.1", port) for _, port in self.cluster.members])
+        await etcd.delete(PREFIX, end_of(PREFIX))
+        await etcd.close()
+        await self.cluster.processes.start(*self.cluster.shape.controller_names)
+        document = without(state, self.document, self.lost)
+        told = await self.operator.do({"do": "open", "document": document, "journal": state["journal"], "epoch": state["epoch"]})
+        self.tell(f"a new journal is opened without a reopening: {'opened' if 'opened' in told else told}")
 
     async def promote(self, state: Line) -> None:
         """Makes a secondary the primary of each shard that a reopening left without one."""

@@ -1,0 +1,62 @@
+"""`python3 -m cluster.catch`: plants each bug in turn, and tells in how many runs the checkers found something."""
+from __future__ import annotations
+
+import argparse
+import asyncio
+import os
+import shutil
+import sys
+import tempfile
+from pathlib import Path
+
+from cluster.controllers.bugs import BUGS as CONTROLLER_BUGS
+from cluster.launch.cluster import program_of
+from cluster.launch.processes import NotReady
+from cluster.launch.shape import Shape
+from cluster.run import Run, Settings, default_program
+from cluster.servers.bugs import BUGS as SERVER_BUGS
+
+# What happens in a run, by the share of it: everything that some bug needs to do harm.
+PARTS = (
+    (0.05, "restart_server"), (0.15, "kill_leader"), (0.3, "restart_server"), (0.4, "crash_server"), (0.5, "freeze_leader"), (0.55, "restart_server"),
+    (0.7, "lose_server"),
+)
+PARTS_OF = {"new-journal-without-reopening": ((0.5, "open_anew"),)}
+
+
+async def is_caught(bug: str, seed: int, told: argparse.Namespace) -> str | None:
+    """Runs once with a bug, and returns the first violation."""
+    directory = Path(tempfile.mkdtemp(prefix=f"catch-{bug}-", dir="/dev/shm" if os.access("/dev/shm", os.W_OK) else None))
+    shape = Shape(servers=told.servers, shards=told.shards, clients=told.clients, seed=seed)
+    settings = Settings(directory, shape, program_of(told.program), told.seconds, True, PARTS_OF.get(bug, PARTS), (bug,), is_quiet=True)
+    try:
+        result = await Run(settings).run()
+        return result.verdict.faults[0] if result.verdict.faults else None
+    except (NotReady, OSError, TimeoutError) as why:
+        return f"the run did not come to its end: {type(why).__name__} {why}"
+    finally:
+        shutil.rmtree(directory, ignore_errors=True)
+
+
+def main() -> int:
+    """Plants all, or those that are named, and returns 0 if each was found at least once."""
+    parser = argparse.ArgumentParser(prog="cluster.catch", description="Plants bugs, and tells which are found.")
+    parser.add_argument("bugs", nargs="*", metavar="BUG", help=f"one of {', '.join({**CONTROLLER_BUGS, **SERVER_BUGS})}; all if none is named")
+    parser.add_argument("--runs", type=int, default=3)
+    parser.add_argument("--seconds", type=float, default=20.0)
+    parser.add_argument("--servers", type=int, default=5)
+    parser.add_argument("--shards", type=int, default=16)
+    parser.add_argument("--clients", type=int, default=8)
+    parser.add_argument("--program", default=default_program())
+    told = parser.parse_args()
+    missed = []
+    for bug in told.bugs or [*CONTROLLER_BUGS, *SERVER_BUGS]:
+        found = [asyncio.run(is_caught(bug, seed, told)) for seed in range(1, told.runs + 1)]
+        caught = [it for it in found if it]
+        print(f"{bug}: found in {len(caught)} of {told.runs} runs{': ' + caught[0][:200] if caught else ''}", flush=True)
+        missed += [] if caught else [bug]
+    return 1 if missed else 0
+
+
+if __name__ == "__main__":
+    sys.exit(main())

@@ -1,0 +1,38 @@
+"""`python3 -m smplan.control_commands`: what an operator does with a running controller."""
+from __future__ import annotations
+
+import argparse
+import importlib
+import sys
+from typing import List, Optional
+
+from .failure import Failure
+
+# Each module adds its commands with `add_parser(subparsers)`.
+MODULES = ["control_drain", "control_watch", "control_audit"]
+
+
+def parser() -> argparse.ArgumentParser:
+    """Returns the parser of all commands."""
+    top = argparse.ArgumentParser(
+        prog="smplan-control", description="Drains servers, watches a controller, and audits its journal.",
+        epilog="exit status: 0 done, 1 the answer is no, 2 bad input or a fault of the command line, 3 a controller or a program does not answer",
+    )
+    subparsers = top.add_subparsers(metavar="COMMAND", required=True)
+    for name in MODULES:
+        importlib.import_module(f".{name}", __package__).add_parser(subparsers)
+    return top
+
+
+def main(words: Optional[List[str]] = None) -> int:
+    """Runs one command, and returns its exit status."""
+    told = parser().parse_args(words)
+    try:
+        return told.run(told)
+    except Failure as why:
+        print(f"smplan-control: {why}", file=sys.stderr)
+        return why.status
+
+
+if __name__ == "__main__":
+    sys.exit(main())

@@ -1,0 +1,120 @@
+"""Empties a server by a campaign of small plans, with rests between them."""
+from __future__ import annotations
+
+import argparse
+import signal
+import time
+from dataclasses import dataclass
+from typing import Any, Callable, Dict, List, Optional
+
+from .control_http import fetch
+from .failure import Failure
+
+Line = Dict[str, Any]
+Post = Callable[[str, Line], Line]
+
+
+def moves_of(plan: Line, server: str) -> List[Line]:
+    """Returns the moves away from a server that a plan makes: for each shard that it drops there, where its replica comes to."""
+    targets: Dict[str, str] = {}
+    for stream in plan["streams"]:
+        for step in stream["code"]:
+            if step["do"] == "prepare_add" or (step["do"] == "add" and step["role"] == "secondary"):
+                targets[step["shard"]] = step["server"]
+    dropped = [it["shard"] for stream in plan["streams"] for it in stream["code"] if it["do"] == "drop" and it["server"] == server]
+    return [{"shard": it, "from": server, "to": targets[it]} for it in dropped if it in targets]
+
+
+@dataclass
+class Campaign:
+    """A drain: at most so many moves at once, a rest between plans, and no further plan once one takes longer than `patience`."""
+
+    post: Post
+    server: str
+    batch: int = 4
+    pause: float = 1.0
+    patience: Optional[float] = None
+    tell: Callable[[str], None] = print
+    sleep: Callable[[float], None] = time.sleep
+    is_stopped: bool = False
+    moved: int = 0
+
+    def run(self) -> int:
+        """Runs until the server is empty: 0; or stopped: 1."""
+        while not self.is_stopped:
+            moves = self.next_moves()
+            if not moves:
+                self.tell(f"{self.server} is empty; {self.moved} replicas moved")
+                return 0
+            if not self.make(moves[:self.batch]):
+                return 1
+            self.moved += len(moves[:self.batch])
+            if len(moves) > self.batch:
+                self.sleep(self.pause)
+        self.tell(f"stopped; {self.moved} replicas moved")
+        return 1
+
+    def refused(self, reply: Line) -> Failure:
+        """Returns why a line was not done."""
+        told = reply.get("refused") or reply.get("bad") or {}
+        return Failure(told.get("text") or str(reply), 1)
+
+    def next_moves(self) -> List[Line]:
+        """Asks where everything would go that the server has now."""
+        reply = self.post("/ask", {"do": "drain", "server": self.server})
+        if "plan" not in reply:
+            raise self.refused(reply)
+        return moves_of(reply["plan"], self.server)
+
+    def make(self, moves: List[Line]) -> bool:
+        """Moves some replicas, and waits until they are moved. Tells whether the campaign goes on."""
+        reply = self.post("/ask", {"do": "moves", "moves": moves})
+        if "plan" not in reply:
+            raise self.refused(reply)
+        state = self.post("/ask", {"do": "state"})["state"]
+        begun = self.post("/do", {"do": "begin", "plan": reply["plan"], "name": f"drain-{self.server}-{state['epoch']}-{state['place']}"})
+        if "begun" not in begun:
+            raise self.refused(begun)
+        self.tell(f"{', '.join(it['shard'] + ' to ' + it['to'] for it in moves)}")
+        return self.wait(begun["begun"]["plan"], state["epoch"])
+
+    def wait(self, plan: int, epoch: int) -> bool:
+        """Waits until a plan has ended."""
+        waited, step = 0.0, 0.2
+        while True:
+            told = self.post("/ask", {"do": "state", "plan": plan}).get("state", {}).get("plan")
+            if told is None or told["is"] == "broken_off" or self.post("/ask", {"do": "hello"})["hello"]["epoch"] != epoch:
+                self.tell("a reopening has broken the plan off")
+                return False
+            if told["is"] == "ended":
+                return True
+            if self.patience is not None and waited > self.patience:
+                self.tell(f"the plan takes longer than {self.patience:g} s; it goes on, and no other one begins: see `watch`")
+                return False
+            self.sleep(step)
+            waited += step
+
+
+def run(told: argparse.Namespace) -> int:
+    """Runs the command. The first interrupt ends the campaign behind the present plan."""
+    url = told.controller.rstrip("/")
+    campaign = Campaign(lambda path, line: fetch(url + path, line), told.server, told.batch, told.pause, told.stop)
+
+    def stop(*_: object) -> None:
+        campaign.is_stopped = True
+        signal.signal(signal.SIGINT, signal.default_int_handler)
+        print("stops behind the present plan; once more to leave at once", flush=True)
+
+    signal.signal(signal.SIGINT, stop)
+    return campaign.run()
+
+
+def add_parser(subparsers: Any) -> None:
+    """Adds the command."""
+    parser = subparsers.add_parser("drain", help="empties a server by small plans, one after the other")
+    parser.add_argument("server")
+    parser.add_argument("--controller", required=True, metavar="URL", help="the leading controller's HTTP port")
+    parser.add_argument("--batch", type=int, default=4, metavar="N", help="moves in a plan (4)")
+    parser.add_argument("--pause", type=float, default=1.0, metavar="SECONDS", help="rest between two plans (1)")
+    parser.add_argument("--stop", type=float, metavar="SECONDS", help="begin no further plan once one takes longer than this")
+    parser.set_defaults(run=run)

@@ -1,0 +1,45 @@
+"""What a controller serves over HTTP, for operators and for scrapers: lines, outstanding messages, figures."""
+from __future__ import annotations
+
+import json
+from typing import Any, Dict
+
+from .control import ASKING, Controller, Line, Outgoing, SessionEnded, StoreLost
+from .control_http import Page, Route
+from .control_metrics import metrics_of
+
+
+def told_of(kind: str, outgoing: Outgoing) -> Dict[str, Any]:
+    """Returns what is told of a message that is not answered."""
+    return {"kind": kind, "message": outgoing.message, "age": outgoing.age, "tries": outgoing.tries, "said": outgoing.said}
+
+
+def routes_of(controller: Controller) -> Dict[str, Route]:
+    """Returns the routes: `POST /do` stores and feeds a line, `POST /ask` feeds one that only asks."""
+    async def do(body: bytes) -> Page:
+        try:
+            line: Line = json.loads(body)
+            return Page.of(await controller.do(line))
+        except (StoreLost, SessionEnded) as why:
+            return Page.of({"fault": str(why)}, 409)
+        except ValueError as why:
+            return Page.of({"fault": str(why)}, 400)
+
+    async def ask(body: bytes) -> Page:
+        try:
+            line: Line = json.loads(body)
+            if line.get("do") not in ASKING:
+                return Page.of({"fault": "this line may change something: POST /do"}, 400)
+            return Page.of(await controller.ask(line))
+        except SessionEnded as why:
+            return Page.of({"fault": str(why)}, 503)
+        except (ValueError, AttributeError) as why:
+            return Page.of({"fault": str(why)}, 400)
+
+    async def outgoing(_: bytes) -> Page:
+        return Page.of([told_of(key[0], it) for key, it in controller.outgoing.items()])
+
+    async def metrics(_: bytes) -> Page:
+        return Page((await metrics_of(controller)).encode(), "text/plain; version=0.0.4; charset=utf-8")
+
+    return {"POST /do": do, "POST /ask": ask, "GET /outgoing": outgoing, "GET /metrics": metrics}

@@ -1,0 +1,97 @@
+"""Shows in a terminal what a controller does: plans, messages with their age, servers with load against room, restarts."""
+from __future__ import annotations
+
+import argparse
+import sys
+import time
+from typing import Any, Dict, List
+
+from .control_http import fetch
+
+Line = Dict[str, Any]
+WIDTH = 24
+
+
+def bar(load: int, held: int, room: int) -> str:
+    """Draws a server's room: what is used, what plans hold, what is free."""
+    full = min(WIDTH, round(WIDTH * load / room)) if room else WIDTH
+    more = min(WIDTH - full, round(WIDTH * held / room)) if room else 0
+    return "#" * full + "+" * more + "." * (WIDTH - full - more)
+
+
+def server_lines(state: Line) -> List[str]:
+    """Shows servers."""
+    lines = []
+    for it in state.get("servers", []):
+        note = "carried over" if it["carried"] else f"down, permit {it['permit']}" if it["permit"] is not None else ""
+        lines.append(f"  {it['server']:<16} {bar(it['load'], it['held'], it['room'])} {it['load']:>6} of {it['room']:<6} {note}".rstrip())
+    return lines
+
+
+def plan_lines(state: Line) -> List[str]:
+    """Shows plans that are running."""
+    lines = []
+    for it in state.get("plans", []):
+        if it["is"] == "running":
+            done = sum(stream["is"] == "done" for stream in it["streams"])
+            steps, of = sum(stream["at"] for stream in it["streams"]), sum(stream["of"] for stream in it["streams"])
+            lines.append(f"  {it['plan']:>4} {it['name']:<32} {done} of {len(it['streams'])} streams, {steps} of {of} steps")
+    return lines
+
+
+def message_lines(outgoing: List[Line], most: int) -> List[str]:
+    """Shows messages that are not answered, the oldest first."""
+    lines = []
+    for it in sorted(outgoing, key=lambda told: -told["age"])[:most]:
+        message = it["message"]
+        what = f"{message.get('call', it['kind'])} {message.get('shard', '')}".strip()
+        lines.append(f"  {it['age']:7.1f} s  {message.get('server') or 'map':<16} {what:<32} sent {it['tries']} times  {it['said']}".rstrip())
+    return lines
+
+
+def screen(state: Line, outgoing: List[Line], most: int = 15) -> str:
+    """Writes everything."""
+    condition = {"open": "in force", "reopening": "a reopening is under way", "new": "nothing is opened yet"}[state.get("is", "new")]
+    shards = state.get("shards", [])
+    without = [it["shard"] for it in shards if not any(cell["state"] in ("primary", "forwarding") for cell in it["cells"])]
+    parts = [
+        f"journal {state.get('journal')}  epoch {state.get('epoch')}  place {state.get('place')}  {condition}",
+        "servers", *(server_lines(state) or ["  none"]),
+        f"{len(shards)} shards" + (f", without a primary: {', '.join(without[:10])}" if without else ""),
+        "plans", *(plan_lines(state) or ["  none"]),
+        f"messages outstanding: {len(outgoing)}", *(message_lines(outgoing, most) or ["  none"]),
+    ]
+    return "\n".join(parts) + "\n"
+
+
+def run(told: argparse.Namespace) -> int:
+    """Runs the command, until it is interrupted."""
+    url = told.controller.rstrip("/")
+    try:
+        while True:
+            text = screen(fetch(url + "/ask", {"do": "state"})["state"], fetch(url + "/outgoing"))
+            sys.stdout.write(("\033[H\033[J" if sys.stdout.isatty() and not told.once else "") + text)
+            sys.stdout.flush()
+            if told.once:
+                return 0
+            time.sleep(told.every)
+    except KeyboardInterrupt:
+        return 0
+
+
+def run_metrics(told: argparse.Namespace) -> int:
+    """Prints the figures once."""
+    sys.stdout.write(fetch(told.controller.rstrip("/") + "/metrics"))
+    return 0
+
+
+def add_parser(subparsers: Any) -> None:
+    """Adds both commands."""
+    parser = subparsers.add_parser("watch", help="shows plans, outstanding messages, servers and restarts")
+    parser.add_argument("--controller", required=True, metavar="URL")
+    parser.add_argument("--every", type=float, default=1.0, metavar="SECONDS")
+    parser.add_argument("--once", action="store_true", help="show it once")
+    parser.set_defaults(run=run)
+    parser = subparsers.add_parser("metrics", help="prints figures as Prometheus reads them; a controller serves them at /metrics")
+    parser.add_argument("--controller", required=True, metavar="URL")
+    parser.set_defaults(run=run_metrics)

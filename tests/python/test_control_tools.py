@@ -1,0 +1,181 @@
+"""The operator's commands: drain, watch, metrics, audit-journal."""
+import asyncio
+import hashlib
+import json
+import sys
+import unittest
+
+from smplan import control_audit, control_watch
+from smplan.control import Controller, Outgoing, Session
+from smplan.control_drain import Campaign, moves_of
+from smplan.control_metrics import metrics_of
+from smplan.failure import Failure
+
+STATE = {
+    "journal": "9f2c", "epoch": 1, "place": 7, "fence": 0, "is": "open", "limit": 1, "log": {"places": 65536, "used": 7, "free": 65000},
+    "servers": [
+        {"server": "a", "region": "r", "room": 10, "load": 4, "held": 2, "permit": None, "carried": False},
+        {"server": "b", "region": "r", "room": 10, "load": 4, "held": 0, "permit": 17, "carried": False},
+    ],
+    "shards": [
+        {"shard": "s", "load": 4, "live": 1, "floor": 1, "listed": "a", "version": 0, "cells": [{"server": "a", "state": "primary"}]},
+        {"shard": "t", "load": 4, "live": 0, "floor": 0, "listed": None, "version": 0, "cells": [{"server": "b", "state": "secondary"}]},
+    ],
+    "plans": [{"plan": 0, "name": "drain-b-1", "is": "running", "streams": [{"at": 1, "of": 5, "is": "ordered", "number": 9}]}],
+}
+HANDOVER = {"budget": 4, "holds": {}, "code": [
+    {"do": "prepare_add", "shard": "s", "server": "c", "other": "a"}, {"do": "prepare_drop", "shard": "s", "server": "a", "other": "c"},
+    {"do": "add", "shard": "s", "server": "c", "role": "primary"}, {"do": "publish", "shard": "s"}, {"do": "drop", "shard": "s", "server": "a"},
+]}
+SECONDARY = {"budget": 2, "holds": {}, "code": [
+    {"do": "add", "shard": "t", "server": "b", "role": "secondary"}, {"do": "drop", "shard": "t", "server": "a"},
+]}
+STATES = f"import sys\nfor line in sys.stdin:\n    print({json.dumps(json.dumps({'state': STATE}))}, flush=True)\n"
+
+
+def journal_of(*batches):
+    """A journal as smpland writes it."""
+    lines, after = [control_audit.HEAD], control_audit.NO_SUM
+    for batch in batches:
+        front = '{"entries":[' + ",".join(batch) + '],"after":"' + after + '"'
+        after = hashlib.sha256(front.encode()).hexdigest()
+        lines.append(front + ',"sum":"' + after + '"}')
+    return "\n".join(lines) + "\n"
+
+
+class FakeController:
+    """Answers a campaign: every plan ends at once, and moves what it is to move."""
+
+    def __init__(self, shards, ends=True):
+        self.shards, self.ends, self.begun, self.batches = list(shards), ends, [], []
+
+    def post(self, path, line):
+        do = line["do"]
+        if do == "drain":
+            return {"plan": {"streams": [{"code": [{"do": "add", "shard": it, "server": "b", "role": "secondary"},
+                                                   {"do": "drop", "shard": it, "server": "a"}]} for it in self.shards]}}
+        if do == "moves":
+            self.batches.append([it["shard"] for it in line["moves"]])
+            return {"plan": {"streams": []}}
+        if do == "begin":
+            assert path == "/do"
+            self.begun.append(line["name"])
+            self.shards = [it for it in self.shards if it not in self.batches[-1]]
+            return {"begun": {"plan": len(self.begun) - 1}}
+        if do == "hello":
+            return {"hello": {"epoch": 1}}
+        if "plan" in line:
+            return {"state": {"plan": {"is": "ended" if self.ends else "running"}}}
+        return {"state": {"epoch": 1, "place": len(self.begun)}}
+
+
+class DrainTest(unittest.TestCase):
+    """A drain as a campaign."""
+
+    def campaign(self, fake, **more):
+        self.rests = []
+        return Campaign(fake.post, "a", tell=lambda text: None, sleep=self.rests.append, **more)
+
+    def test_moves_of_a_plan(self):
+        plan = {"streams": [HANDOVER, SECONDARY]}
+        self.assertEqual(moves_of(plan, "a"), [{"shard": "s", "from": "a", "to": "c"}, {"shard": "t", "from": "a", "to": "b"}])
+        self.assertEqual(moves_of(plan, "c"), [])
+
+    def test_batches_and_rests(self):
+        fake = FakeController("stuvw")
+        self.assertEqual(self.campaign(fake, batch=2, pause=3.0).run(), 0)
+        self.assertEqual(fake.batches, [["s", "t"], ["u", "v"], ["w"]])
+        self.assertEqual(self.rests.count(3.0), 2)
+        self.assertEqual(len(set(fake.begun)), 3)
+
+    def test_stops_when_a_plan_takes_long(self):
+        fake = FakeController("stu", ends=False)
+        self.assertEqual(self.campaign(fake, batch=1, patience=1.0).run(), 1)
+        self.assertEqual(fake.batches, [["s"]])
+
+    def test_stops_behind_the_present_plan(self):
+        fake = FakeController("stu")
+        campaign = self.campaign(fake, batch=1)
+        campaign.sleep = lambda seconds: setattr(campaign, "is_stopped", True)
+        self.assertEqual(campaign.run(), 1)
+        self.assertEqual(fake.batches, [["s"]])
+
+    def test_refusal_is_told(self):
+        campaign = Campaign(lambda path, line: {"refused": {"text": "no plan: 6 NoPlace shard s"}}, "a")
+        with self.assertRaisesRegex(Failure, "NoPlace"):
+            campaign.run()
+
+
+class WatchTest(unittest.TestCase):
+    """What is shown, and what is scraped."""
+
+    def test_screen(self):
+        outgoing = [{"kind": "order", "message": {"server": "b", "call": "add", "shard": "s"}, "age": 2.5, "tries": 3, "said": "no answer"}]
+        text = control_watch.screen(STATE, outgoing)
+        self.assertIn("  a                ##########+++++.........      4 of 10\n", text)
+        self.assertIn("down, permit 17", text)
+        self.assertIn("2 shards, without a primary: t", text)
+        self.assertIn("0 of 1 streams, 1 of 5 steps", text)
+        self.assertIn("2.5 s  b                add s", text)
+
+    def test_metrics(self):
+        async def figures():
+            session = await Session.start([sys.executable, "-c", STATES])
+            controller = Controller(session, None, None)
+            controller.outgoing["order", 0, 0] = Outgoing({"server": "b"})
+            controller.answer_times += [0.01, 3.0]
+            text = await metrics_of(controller)
+            await session.close()
+            return text
+
+        lines = asyncio.run(figures()).splitlines()
+        self.assertIn('smplan_server_load{server="a"} 4', lines)
+        self.assertIn('smplan_server_down{server="b"} 1', lines)
+        self.assertIn("smplan_shards_without_primary 1", lines)
+        self.assertIn("smplan_shards_at_floor 2", lines)
+        self.assertIn('smplan_outstanding{kind="order"} 1', lines)
+        self.assertIn('smplan_answer_seconds_bucket{le="0.02"} 1', lines)
+        self.assertIn('smplan_answer_seconds_bucket{le="+Inf"} 2', lines)
+        names = [it.split()[2] for it in lines if it.startswith("# TYPE")]
+        self.assertEqual(len(names), len(set(names)))
+
+
+class AuditTest(unittest.TestCase):
+    """Journals, right and wrong."""
+
+    def test_sums(self):
+        text = journal_of(['{"do":"new_epoch"}', '{"a":"]}"}'], ['{"do":"x"}'])
+        read = control_audit.read_journal(text)
+        self.assertEqual(read.lines, ['{"do":"new_epoch"}', '{"a":"]}"}', '{"do":"x"}'])
+        self.assertEqual((read.faults, read.is_torn), ([], False))
+
+    def test_wrong_sums(self):
+        text = journal_of(['{"do":"a"}'], ['{"do":"b"}'], ['{"do":"c"}'])
+        lines = text.split("\n")
+        for wrong in (text.replace('"b"', '"d"'), "\n".join(lines[:2] + lines[3:]), text.replace('"sum":"', '"sum":"0', 1)):
+            self.assertEqual(len(control_audit.read_journal(wrong).faults), 1)
+
+    def test_torn_end(self):
+        read = control_audit.read_journal(journal_of(['{"do":"a"}']) + '{"entries":[')
+        self.assertEqual((read.lines, read.faults, read.is_torn), (['{"do":"a"}'], [], True))
+
+    def test_lines_of_a_host(self):
+        self.assertEqual(control_audit.read_journal('{"do":"a"}\n{"do":"b"}\n').lines, ['{"do":"a"}', '{"do":"b"}'])
+
+    def test_steps_that_need_nobody(self):
+        piece = control_audit.Piece({}, {})
+        wait = {"code": [{"do": "wait", "signal": 0}, {"do": "drop"}]}
+        post = {"code": [{"do": "add"}, {"do": "signal", "signal": 0}]}
+        piece.begin({"streams": [wait, post]})
+        self.assertEqual(piece.streams, [[0, 0]])
+        piece.step(0, 1)
+        self.assertEqual([it["stream"] for it in piece.events[1:]], [1, 1, 0, 1])
+        self.assertEqual(piece.streams, [[1, 3]])
+
+    def test_placement_of_a_report(self):
+        report = ["server a room 10 load 4 up", "shard s live 2 floor 1 listed a version 0", "  a primary", "  c secondary", "shard t live 0 floor 0 listed - version 0"]
+        self.assertEqual(control_audit.placement_of(report), {"s": {"a": "primary", "c": "secondary"}, "t": {}})
+
+
+if __name__ == "__main__":
+    unittest.main()
