@@ -17,7 +17,7 @@ from pathlib import Path
 
 from cluster.faults.story import Story
 from cluster.launch.cluster import CALM, ROOT, ROUGH, LocalCluster, program_of
-from cluster.launch.figures import at, handover_waits, in_words, lines_of, request_waits
+from cluster.launch.figures import at, handover_waits, in_words, lines_of, rate_of, request_waits
 from cluster.launch.moving import Mover
 from cluster.launch.operator import NoLeader, Operator
 from cluster.launch.processes import NotReady
@@ -30,6 +30,8 @@ WHOLE = (
     (0.10, "drain"), (0.22, "kill_leader"), (0.36, "restart_server"), (0.44, "kill_member"), (0.52, "crash_server"), (0.60, "restart_server"),
     (0.66, "freeze_leader"), (0.84, "lose_server"),
 )
+# The share of a run in which nothing is moved, before the story begins.
+REST = 0.08
 JOURNAL_BITS = 64
 
 
@@ -61,7 +63,8 @@ class Result:
     waits: list[float] = field(default_factory=list)
     handovers: list[float] = field(default_factory=list)
     situations: Counter[str] = field(default_factory=Counter)
-    seconds: float = 0.0
+    rates: dict[str, float] = field(default_factory=dict)
+    orders_a_second: float = 0.0
 
 
 class Run:
@@ -75,6 +78,9 @@ class Run:
         self.story = Story(self.cluster, self.operator, settings.shape.seed, self.tell)
         self.mover = Mover(self.operator, settings.shape.seed)
         self.verdict: Verdict | None = None
+        # Spans of time, by what went on in them.
+        self.spans: dict[str, list[tuple[int, int]]] = {"at rest": [], "while a server is drained": []}
+        self.moved_for = 0.0
 
     def tell(self, text: str) -> None:
         """Tells what happens, above the live line."""
@@ -102,13 +108,17 @@ class Run:
             await self.cluster.end()
 
     async def harm(self) -> None:
-        """Moves replicas, and does harm at the times of the story."""
+        """Moves replicas, and does harm at the times of the story. Before that nothing is moved for a while."""
+        begun = time.monotonic_ns()
+        await asyncio.sleep(self.settings.seconds * REST)
+        self.spans["at rest"].append((begun, time.monotonic_ns()))
         moving = asyncio.create_task(self.mover.run(self.settings.workers, self.settings.moves))
         showing = asyncio.create_task(self.show())
         start = time.monotonic()
         doing = [asyncio.create_task(self.do_at(start + share * self.settings.seconds, name)) for share, name in self.settings.parts]
         await asyncio.sleep(self.settings.seconds)
         await asyncio.gather(*doing)
+        self.moved_for = time.monotonic() - start
         self.mover.stopped.set()
         try:
             await asyncio.wait_for(moving, 30)
@@ -133,9 +143,10 @@ class Run:
         """Empties a server, which is filled again afterwards."""
         server = self.story.dice.choice(self.story.alive)
         self.tell(f"drain {server}")
-        begun = time.monotonic()
+        begun = time.monotonic_ns()
         is_done = await self.mover.empty(server)
-        self.tell(f"{server} is empty after {time.monotonic() - begun:.1f} s" if is_done else f"{server} could not be emptied")
+        self.spans["while a server is drained"].append((begun, time.monotonic_ns()))
+        self.tell(f"{server} is empty after {(time.monotonic_ns() - begun) / 1e9:.1f} s" if is_done else f"{server} could not be emptied")
         self.mover.avoided.discard(server)
 
     async def lose_server(self) -> None:
@@ -167,12 +178,14 @@ class Run:
         log = (where / "logs" / "clients.log").read_text().splitlines()
         clients = json.loads(next((it for it in log if it.startswith("{")), "{}"))
         counts = Counter(faults) + self.story.counts + self.mover.counts
-        waits = request_waits(lines_of(where / "clients.jsonl"))
+        asked = lines_of(where / "clients.jsonl")
+        by_span = {name: rate_of(asked, spans) for name, spans in self.spans.items() if spans}
         histories = lines_of(where / "histories.jsonl")
         situations = situations_of(histories, self.verdict.replies, self.verdict.counts + self.story.counts)
         if clients.get("failures") and not self.story.lost:
             self.verdict.faults.append(f"{clients['failures']} requests were not acknowledged within 10 s")
-        return Result(self.verdict, clients, counts, self.story.failovers, waits, handover_waits(histories), situations, self.settings.seconds)
+        orders = self.verdict.counts["orders"] / self.moved_for if self.moved_for else 0.0
+        return Result(self.verdict, clients, counts, self.story.failovers, request_waits(asked), handover_waits(histories), situations, by_span, orders)
 
 
 def report(result: Result) -> str:
@@ -183,6 +196,7 @@ def report(result: Result) -> str:
     lines = [
         f"requests     {result.clients.get('requests', 0)}, {result.clients.get('failures', 0)} not acknowledged within 10 s; "
         f"median {1000 * at(result.waits, 0.5):.0f} ms, 99 % {1000 * at(result.waits, 0.99):.0f} ms, worst {1000 * at(result.waits, 1.0):.0f} ms",
+        f"rates        {', '.join(f'{rate:.0f} requests a second {name}' for name, rate in result.rates.items())}; {result.orders_a_second:.1f} orders a second",
         f"moves        {counts['moves']} in {counts['plans']} plans, {verdict.counts['orders']} orders, {verdict.counts['lines of the journal']} lines of the journal",
         f"handovers    {len(result.handovers)}; a shard's requests were held back {in_words(result.handovers)}",
         f"messages     {sum(harm.values())} harmed: " + ", ".join(f"{count} {what}" for what, count in harm.items()),

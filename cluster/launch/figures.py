@@ -2,7 +2,6 @@
 from __future__ import annotations
 
 import json
-from collections import Counter, defaultdict
 from collections.abc import Iterable
 from pathlib import Path
 from statistics import median
@@ -19,16 +18,19 @@ def lines_of(path: Path) -> list[dict]:
 
 
 def handover_waits(events: Iterable[dict]) -> list[float]:
-    """For each handover how many seconds there were between the last request that the old owner executed, or the moment when it began to hold
-    requests back if that was later, and the moment when the new owner knew the cut."""
+    """For each handover how many seconds requests of its shard were held back: from the moment when the old owner begins to let running ones end, until
+    it passes them on and the new owner has the writes up to the cut."""
     held: dict[str, float] = {}
+    passing: dict[str, float] = {}
     waits = []
     for event in sorted((it for it in events if "t" in it), key=lambda it: it["t"]):
-        shard = event.get("shard")
-        if event["kind"] == "begin" and event.get("call") == "prepare_drop":
+        shard, kind = event.get("shard", ""), event["kind"]
+        if kind == "begin" and event["call"] == "prepare_drop":
             held[shard] = event["t"]
-        elif event["kind"] == "commit" and event.get("call") == "prepare_drop" and shard in held:
-            waits.append((event["t"] - held.pop(shard)) * NANO)
+        elif kind == "commit" and event["call"] == "prepare_drop" and shard in held:
+            passing[shard] = held.pop(shard)
+        elif kind == "seal" and shard in passing:
+            waits.append((event["t"] - passing.pop(shard)) * NANO)
     return waits
 
 
@@ -37,7 +39,7 @@ def request_waits(lines: Iterable[dict]) -> list[float]:
     return sorted((it["end"] - it["start"]) * NANO for it in lines if not it.get("final") and "reply" in it)
 
 
-def rates(lines: list[dict], times: list[tuple[int, int]]) -> float:
+def rate_of(lines: list[dict], times: list[tuple[int, int]]) -> float:
     """Requests a second within these spans of time."""
     seconds = sum(end - start for start, end in times) * NANO
     count = sum(any(start <= it["end"] < end for start, end in times) for it in lines if "reply" in it)
@@ -52,16 +54,3 @@ def at(sorted_values: list[float], share: float) -> float:
 def in_words(values: list[float]) -> str:
     """Median and worst."""
     return f"median {1000 * median(values):.0f} ms, worst {1000 * max(values):.0f} ms" if values else "none"
-
-
-def kinds(events: Iterable[dict]) -> Counter[str]:
-    """How many events there were of each kind."""
-    return Counter(it["kind"] for it in events)
-
-
-def by_server(events: Iterable[dict]) -> dict[str, list[dict]]:
-    """Events by server."""
-    found: dict[str, list[dict]] = defaultdict(list)
-    for event in events:
-        found[event["server"]].append(event)
-    return found
