@@ -2,7 +2,7 @@
 SHELL := bash
 .SHELLFLAGS := -e -o pipefail -c
 .DEFAULT_GOAL := help
-.PHONY: help run try build agent vectors test edits page-test storm bench install uninstall dist check-caught check-program check-tests
+.PHONY: help run try build agent vectors test edits page-test storm bench install uninstall dist cluster cluster-storm check-caught check-program check-tests
 
 PREFIX ?= /usr/local
 
@@ -82,6 +82,7 @@ check-program:
 	scripts/check-python
 	scripts/check-dist
 	scripts/page-test --or-leave-out
+	scripts/check-cluster
 	scripts/check-memory
 	scripts/check-threads
 	scripts/storm 20
@@ -95,6 +96,13 @@ check-tests:
 
 edits: ## tries all wrong versions, over what make test has built: hours of a processor
 	scripts/try-edits --always tests/must-fail
+
+cluster: ## a minute of a real cluster of Redis servers, moved and harmed while clients write (it needs Debian's etcd-server and redis-server)
+	scripts/cluster run
+
+RUNS ?= 200
+cluster-storm: ## RUNS (200) runs of the cluster of 20 seconds, each with other harm, and in how many each situation came up
+	scripts/cluster storm $(RUNS)
 
 page-test: ## loads the tools' pages in Debian's chromium, and writes pictures to build/pages
 	scripts/page-test
