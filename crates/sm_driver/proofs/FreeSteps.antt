@@ -1,5 +1,5 @@
 -- A step that needs nobody is recorded.
-use Rattle.std.proofs.Common.{◌≡◌, ◌≢◌, ◌∙◌, ◌+◌, ◌++◌, ◌∷◌, [], ℕ, Bool, true, false, not, Option, Some, None, List, length, map, refl, sym, ap, subst, arith}
+use Rattle.std.proofs.Common.{◌≡◌, ◌≢◌, ◌∙◌, ◌+◌, ◌++◌, ◌∷◌, [], Bool, true, false, not, Option, Some, None, List, length, map, refl, sym, ap, subst, arith}
 use Rattle.std.specs.Prelude.{◌&&◌, is_none, if◌then◌else◌}
 use Rattle.std.proofs.lemmas.Bool.{and_parts, not-true}
 use Rattle.sm_reservation.specs.declared.stream_id.StreamId.{StreamId}
@@ -56,7 +56,7 @@ free_is_recorded w id running free =
     subst (λ (o : Outcome × State). IsRecorded w o.1) (sym ready) step
 
 -- the answer of an outcome
-abbrev told : Outcome → Played
+abbrev pub told : Outcome → Played
 told (Answered a) = a
 told Refused = played.Halted
 

@@ -1,3 +1,10 @@
+mod AtRest
+mod Beside
+mod Driving
 mod FreeSteps
+mod Lists
+mod PermitLookups
 mod Searches
 mod SmallCalls
+mod SmallCells
+mod Waiting

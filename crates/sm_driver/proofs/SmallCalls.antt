@@ -1,6 +1,6 @@
 -- The handover numbers of calls and the versions of entries are far below what a word has room for.
-use Rattle.std.proofs.Common.{◌≡◌, ◌≤◌, ◌<◌, ℕ, zero, suc, Bool, true, false, Option, Some, None, arith, refl, subst}
-use Rattle.std.specs.Prelude.{IfSome, if◌then◌else◌}
+use Rattle.std.proofs.Common.{◌≡◌, ◌≤◌, ◌<◌, ℕ, suc, Option, Some, None, arith, refl, subst}
+use Rattle.std.specs.Prelude.{IfSome}
 use Rattle.sm_plan_code.specs.declared.instruction.Instr.{Instr}
 use Rattle.sm_plan_code.specs.declared.instruction.Instr.TheVariants as instr
 use Rattle.sm_plan_code.specs.declared.call.ServerCall.{ServerCall}

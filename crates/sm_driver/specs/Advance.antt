@@ -1,11 +1,11 @@
 -- Steps that need nobody: signals, waits for posted signals, and ends of streams. The driver makes them by itself, each time that of
 -- the lowest stream of the lowest plan that can make one.
-use Rattle.std.specs.Prelude.{◌≡◌, ℕ, ◌&&◌, Bool, Option, Some, None, List, [], ◌∷◌, is_none, length, map, if◌then◌else◌}
+use Rattle.std.specs.Prelude.{◌≡◌, ◌&&◌, Bool, Option, Some, None, List, [], ◌∷◌, is_none, length, map, if◌then◌else◌}
 use Rattle.sm_reservation.specs.declared.stream_id.StreamId.{StreamId}
 use Rattle.sm_protocol.specs.Words.{first_from}
 use Rattle.sm_protocol.specs.State.{State, is_running, stream_count, stream_id}
 use Rattle.sm_protocol.specs.Next.{blocked_on, next_call_of, next_entry_of}
-use Rattle.sm_protocol.specs.Happens.{Happening, Step, happens, run}
+use Rattle.sm_protocol.specs.Happens.{Step, happens, run}
 
 -- a running stream whose next step is no call, changes no entry of the published map and waits for no signal
 abbrev pub is_free : State → StreamId → Bool

@@ -1,22 +1,28 @@
 -- A driver, and what its commands make of what is recorded.
-use Rattle.std.specs.Prelude.{◌≡◌, ℕ, ◌+◌, ◌==◌, ◌||◌, Bool, Option, Some, None, is_some, nat_lt, not, if◌then◌else◌, ◌&&◌}
+-- `IsDriving` is the driver's own: whoever reads public contracts need not read it.
+use Rattle.std.specs.Prelude.{◌≡◌, ℕ, ◌+◌, ◌==◌, ◌||◌, Bool, List, Option, Some, None, length, nat_lt, slice_set, ◌&&◌}
 use Rattle.sm_reservation.specs.declared.stream_id.StreamId.{StreamId}
 use Rattle.sm_plan_code.specs.Plan.{PlanModel}
 use Rattle.sm_protocol.specs.declared.event.Played.TheVariants as played
 use Rattle.sm_protocol.specs.State.{State, is_begun, progress_of}
 use Rattle.sm_protocol.specs.Steps.{Answered}
-use Rattle.sm_protocol.specs.Next.{next_call_of, next_entry_of, since_of}
-use Rattle.sm_protocol.specs.Happens.{Begin, Step, happens}
+use Rattle.sm_protocol.specs.Next.{since_of}
+use Rattle.sm_protocol.specs.Happens.{Approve, Begin, Done, Step, engaged, happens}
 use Rattle.sm_machine.specs.Machine.{MachineModel}
 use Rattle.sm_machine.specs.State.{state_of}
-use Rattle.sm_driver.specs.Advance.{IsAdvanced}
-use Rattle.sm_driver.specs.Orders.{epoch_base}
+use Rattle.sm_driver.specs.Advance.{IsAdvanced, next_free}
+use Rattle.sm_driver.specs.Orders.{awaits, epoch_base}
+use Rattle.sm_driver.specs.Permits.{ArePermitsOfDown}
+use Rattle.sm_driver.specs.Restores.{RestoreModel, restore_now}
 
 -- A driver, as contracts see it: a machine, whose state is what is recorded, the journal that it belongs to, and its epoch there.
 pub record DriverModel : Type 0 where
   pub machine : MachineModel
   pub journal : ℕ
   pub epoch : ℕ
+  -- by the servers' numbers: of each that is down the permit of its restart, and what each was told last after it had lost all it had
+  pub permits : List (Option ℕ)
+  pub restores : List (Option RestoreModel)
 
 -- what is recorded
 abbrev pub record_of : DriverModel → State
@@ -32,7 +38,7 @@ order_number d id = base d + since_of (record_of d) id + 1
 
 -- the stream stands before a call or an entry of the published map, so that its next step waits for an answer
 abbrev pub awaits_answer : DriverModel → StreamId → Bool
-awaits_answer d id = is_some (next_call_of (record_of d) id) || is_some (next_entry_of (record_of d) id)
+awaits_answer d id = awaits (record_of d) id
 
 -- an answer is the one that the stream waits for
 abbrev pub is_due : DriverModel → StreamId → ℕ → Bool
@@ -42,17 +48,27 @@ is_due d id number = awaits_answer d id && (number == order_number d id)
 abbrev pub is_past : DriverModel → StreamId → ℕ → Bool
 is_past d id number = is_begun (record_of d) id && ((progress_of (record_of d) id).done || nat_lt number (order_number d id))
 
--- journal, epoch and configuration stay
+-- journal, epoch, configuration and restores stay
 pub record IsOfJournal (old new : DriverModel) : Type 0 where
   pub journal : new.journal ≡ old.journal
   pub epoch : new.epoch ≡ old.epoch
   pub setup : new.machine.placement.setup ≡ old.machine.placement.setup
+  pub restores : new.restores ≡ old.restores
+
+-- What holds of every driver whose log has so many places: no stream stands before a step that needs nobody, and the permits are those of
+-- the servers that are down.
+pub record IsDriving (places : ℕ) (d : DriverModel) : Type 0 where
+  pub free : next_free (record_of d) ≡ None
+  pub permits : ArePermitsOfDown (record_of d) d.permits
+  pub restores : length d.restores ≡ (record_of d).sizes.servers
+  pub room : (record_of d).room ≡ places
 
 -- The plan begins under this number, and every step that needs nobody is made.
 pub record HasBegunPlan (plan : PlanModel) (number : ℕ) (old new : DriverModel) : Type 0 where
   pub between : State
   pub begun : happens (record_of old) (Begin plan) ≡ (Answered (played.Begun number), between)
   pub advanced : IsAdvanced between (record_of new)
+  pub permits : new.permits ≡ old.permits
   pub journal : IsOfJournal old new
 
 -- The stream makes the step whose answer has come, and every step that needs nobody is made.
@@ -60,4 +76,29 @@ pub record HasTakenStep (id : StreamId) (old new : DriverModel) : Type 0 where
   pub between : State
   pub step : (happens (record_of old) (Step id)).1 ≡ between
   pub advanced : IsAdvanced between (record_of new)
+  pub permits : new.permits ≡ old.permits
+  pub journal : IsOfJournal old new
+
+-- The restart of a server is approved, under the number of the approval in the log, above the base.
+pub record HasApproved (v permit : ℕ) (old new : DriverModel) : Type 0 where
+  pub event : happens (record_of old) (Approve v) ≡ (Answered played.Approved, record_of new)
+  pub number : permit ≡ base old + length (record_of old).log + 1
+  pub permits : new.permits ≡ slice_set old.permits v (Some permit)
+  pub journal : IsOfJournal old new
+
+-- The restart of a server has ended, and its permit with it.
+pub record HasEndedRestart (v : ℕ) (old new : DriverModel) : Type 0 where
+  pub event : happens (record_of old) (Done v) ≡ (Answered played.Up, record_of new)
+  pub permits : new.permits ≡ slice_set old.permits v None
+  pub journal : IsOfJournal old new
+
+-- A server is restored that no unfinished stream names.
+pub record HasRestored (v nonce : ℕ) (old new : DriverModel) : Type 0 where
+  pub disengaged : engaged (record_of old) v ≡ None
+  pub told : new ≡ record old { restores = slice_set old.restores v (Some (restore_now (base old) (record_of old) v nonce)) }
+
+-- The same is recorded, and all else is as it was.
+pub record IsAsBefore (old new : DriverModel) : Type 0 where
+  pub recorded : record_of new ≡ record_of old
+  pub permits : new.permits ≡ old.permits
   pub journal : IsOfJournal old new

@@ -1,12 +1,19 @@
 -- Orders and publications as they leave the driver: those of the network.
 -- `handover_of` is for a private function's contract: whoever reads public contracts need not read it.
-use Rattle.std.specs.Prelude.{ℕ, ◌*◌, ◌^◌}
+use Rattle.std.specs.Prelude.{ℕ, ◌*◌, ◌^◌, ◌||◌, Bool, List, Option, Some, None, is_some, length, option_map, if◌then◌else◌}
+use Rattle.std.specs.List.{filter_map, flat_map, range_with_len}
+use Rattle.std.specs.Option.{option_or}
 use Rattle.sm_server.specs.declared.call.Call.{Call}
 use Rattle.sm_server.specs.declared.call.Call.TheVariants.{PrepareAdd, PrepareDrop}
-use Rattle.sm_network.specs.Net.{Order as NetOrder}
-use Rattle.sm_network.specs.World.{Publication as NetPublication}
+use Rattle.sm_reservation.specs.declared.stream_id.StreamId.{StreamId}
+use Rattle.sm_protocol.specs.State.{State, stream_count, stream_id}
+use Rattle.sm_protocol.specs.Next.{next_call_of, next_entry_of}
+use Rattle.sm_network.specs.Net.{Order as NetOrder, order_of}
+use Rattle.sm_network.specs.World.{Publication as NetPublication, publication_of}
 use Rattle.sm_driver.specs.declared.order.StreamOrder.{StreamOrder}
 use Rattle.sm_driver.specs.declared.order.StreamPublication.{StreamPublication}
+use Rattle.sm_driver.specs.declared.order.StreamMessage.{StreamMessage}
+use Rattle.sm_driver.specs.declared.order.StreamMessage.TheVariants as message
 
 -- an order is the network's
 abbrev pub net_order : StreamOrder → NetOrder
@@ -15,6 +22,36 @@ net_order o = record { stream = o.stream; at = o.at; call = o.call; number = o.n
 -- and so is a publication
 abbrev pub net_publication : StreamPublication → NetPublication
 net_publication p = record { stream = p.stream; shard = p.shard; entry = p.entry }
+
+-- An order or a publication, as the network has them.
+pub data NetMessage : Type 0 where
+  OfOrder : (order : NetOrder) → NetMessage
+  OfPublication : (publication : NetPublication) → NetMessage
+
+-- the one or the other is the network's
+abbrev pub net_message : StreamMessage → NetMessage
+net_message (message.Order o) = OfOrder (net_order o)
+net_message (message.Publication p) = OfPublication (net_publication p)
+
+-- the order or the publication that a stream stands before
+abbrev pub message_of : ℕ → State → StreamId → Option NetMessage
+message_of base w id = option_or (option_map OfOrder (order_of base w id)) (option_map OfPublication (publication_of base w id))
+
+-- a stream stands before a call or an entry of the published map, so that its next step waits for an answer
+abbrev pub awaits : State → StreamId → Bool
+awaits w id = is_some (next_call_of w id) || is_some (next_entry_of w id)
+
+-- the stream, if it does
+abbrev pub awaiting : State → StreamId → Option StreamId
+awaiting w id = if awaits w id then Some id else None
+
+-- the streams of a plan that do
+abbrev pub awaiting_in : State → ℕ → List StreamId
+awaiting_in w k = filter_map (λ i. awaiting w (stream_id k i)) (range_with_len 0 (stream_count w k))
+
+-- those of all plans, by plan, then by stream
+abbrev pub awaiting_of : State → List StreamId
+awaiting_of w = flat_map (awaiting_in w) (range_with_len 0 (length w.plans))
 
 -- the handover number of a call, 0 if it has none
 abbrev pub handover_of : Call → ℕ

@@ -1,25 +1,42 @@
 //! Drivers.
-ghost use Rattle.std.specs.Prelude.{◌≡◌, ◌≤◌, ◌<◌, ◌↔◌, ◌⊎◌, IfOk, OnOk, IfErr, OnErr, option_map, length, IsTrue, true, false};
+ghost use Rattle.std.specs.Prelude.{◌≡◌, ◌≢◌, ◌≤◌, ◌<◌, ◌↔◌, ◌⊎◌, IfOk, OnOk, IfErr, OnErr, IfSome, IfNone, Some, None, option_map, length, not, replicate, slice_get, true, false};
+ghost use Rattle.std.specs.Option.{option_copied};
 ghost use Rattle.sm_placement.specs.Setup.{sizes_of};
 ghost use Rattle.sm_placement.specs.Place.{down_count};
 ghost use Rattle.sm_placement.specs.Layout.{place_of};
 ghost use Rattle.sm_placement.specs.Lead.{IsSettled};
 ghost use Rattle.sm_plan_code.specs.declared.limits.TheConstants.{MOST_PLACES};
+ghost use Rattle.sm_protocol.specs.declared.event.Played.TheVariants as played;
 ghost use Rattle.sm_protocol.specs.State.{is_begun, opened};
+ghost use Rattle.sm_protocol.specs.Next.{unfinished_plans};
+ghost use Rattle.sm_protocol.specs.Steps.{Answered};
+ghost use Rattle.sm_protocol.specs.Happens.{Approve, engaged, happens};
 ghost use Rattle.sm_network.specs.Net.{order_of};
 ghost use Rattle.sm_network.specs.World.{publication_of};
 ghost use Rattle.sm_machine.specs.declared.open_fault.OpenFault.TheVariants.{LogFull};
-ghost use Rattle.sm_driver.specs.Orders.{epoch_base, bases_end, net_order, net_publication};
-ghost use Rattle.sm_driver.specs.Driver.{HasBegunPlan, HasTakenStep, base, is_due, is_past, awaits_answer, order_number, record_of};
+ghost use Rattle.sm_driver.specs.Orders.{awaiting_of, bases_end, message_of, net_message, net_order, net_publication};
+ghost use Rattle.sm_driver.specs.Permits.{ArePermitsOfDown, denied_by, opening_permits, restart_effect, server_permitted};
+ghost use Rattle.sm_driver.specs.Epochs.{HasOpenedEpoch, epoch_fault};
+ghost use Rattle.sm_driver.specs.Restores.{restore_at, was_told};
+ghost use Rattle.sm_driver.specs.Driver.{HasRestored, HasApproved, IsAsBefore, HasBegunPlan, HasEndedRestart, HasTakenStep, base, is_due, is_past, awaits_answer, order_number, record_of};
 ghost use Rattle.sm_driver.specs.declared.driver.AnswerEffect.TheVariants as answer;
+ghost use Rattle.sm_driver.specs.declared.epoch.EpochFault.TheVariants as refusal;
+ghost use Rattle.sm_driver.specs.declared.restores.RestoreFault.TheVariants as fault;
 
-use crate::order::{StreamOrder, StreamPublication};
-use crate::ordering::{order_of, publication_of};
+use crate::epoch::{EpochFault, epoch_after, fault_by, shard_spent};
+use crate::order::{StreamMessage, StreamOrder, StreamPublication};
+use crate::ordering::{awaiting, message_of, order_of, publication_of};
 use crate::own_steps::advance;
-use sm_machine::{BeginFault, Director, Event, Machine, OpenFault, ReadyPlan};
+use crate::permits::Permits;
+use crate::restart::RestartEffect;
+use crate::restores::{RestoreFault, Restores, ServerRestore, cells_told};
+use sm_machine::{BeginFault, Director, Event, Machine, OpenFault, Played, ReadyPlan};
 use sm_placement::Placement;
+use sm_plan_code::MOST_PLACES;
 use sm_reservation::StreamId;
-use std::alloc::Global;
+use sm_server::ServerId;
+use sm_task_controller::Denied;
+use std::alloc::{AllocError, Global};
 use std::marker::Model;
 
 /// How far the bases of two epochs are apart: twice the places of the longest log.
@@ -39,25 +56,38 @@ pub enum AnswerEffect {
 /// A controller of real servers: a machine whose calls and publications are orders, each of which is recorded once its answer has come.
 pub struct Driver {
     director: Director,
+    room: u32,
     journal: u64,
     epoch: u32,
+    permits: Permits,
+    restores: Restores,
 }
 
 impl Model for Driver {
-    ghost use Rattle.std.specs.Prelude.{◌≡◌, None};
-    ghost use Rattle.sm_machine.specs.State.{state_of};
-    ghost use Rattle.sm_driver.specs.Advance.{next_free};
-    ghost use Rattle.sm_driver.specs.Driver.{DriverModel};
+    ghost use Rattle.sm_driver.specs.Epochs.{HasOpenedEpoch, epoch_fault};
+    ghost use Rattle.sm_driver.specs.Restores.{restore_at, was_told};
+    ghost use Rattle.sm_driver.specs.Driver.{HasRestored, DriverModel, IsDriving};
 
     ghost Value = { DriverModel };
 
-    ghost view = { λ d. record { machine = d.director; journal = d.journal; epoch = d.epoch } };
+    ghost view = { λ d. record { machine = d.director; journal = d.journal; epoch = d.epoch; permits = d.permits; restores = d.restores } };
 
-    ghost invariant = { λ d. next_free (state_of d.director) ≡ None };
+    ghost invariant = { λ d. IsDriving d.room (record { machine = d.director; journal = d.journal; epoch = d.epoch; permits = d.permits; restores = d.restores }) };
+}
+
+/// Returns why a restart was denied, by the answer to the question.
+fn denied_by(answer: Played) -> Option<Denied>
+    ensures { result ≡ denied_by answer }
+{
+    match answer {
+        Played::Denied(why) => Some(why),
+        _ => None,
+    }
 }
 
 impl Driver {
-    /// Opens a driver over a settled placement, for a journal and one of its epochs, as `Director::open` does.
+    /// Opens a driver over a settled placement, for a journal and one of its epochs, as `Director::open` does. Each server that is
+    /// down has a permit.
     pub fn open(
         alloc: Global,
         placement: Placement,
@@ -70,14 +100,29 @@ impl Driver {
         ensures setup { IfOk result (λ d. d.machine.placement.setup ≡ placement.setup) }
         ensures journal { IfOk result (λ d. d.journal ≡ journal) }
         ensures epoch { IfOk result (λ d. d.epoch ≡ epoch) }
+        ensures restores { IfOk result (λ d. d.restores ≡ replicate (length placement.setup.servers) None) }
+        ensures permits { IfOk result (λ d. d.permits ≡ opening_permits (base d) (length placement.setup.servers) (place_of placement).down) }
         ensures back { IfErr result (λ e. e.0 ≡ placement) }
         ensures full { IfErr result (λ e. (e.1 ≡ LogFull) ↔ ((MOST_PLACES < log_room) ⊎ (log_room < down_count (sizes_of placement.setup) (place_of placement)))) }
     {
+        if log_room > MOST_PLACES || log_room < placement.down_count() {
+            return Err((placement, OpenFault::LogFull));
+        }
+        let base = epoch as u64 * EPOCH_STEP;
+        let Ok(permits) = Permits::at_opening(alloc, &placement, base) else {
+            return Err((placement, OpenFault::NoMemory));
+        };
+        let Ok(restores) = Restores::none(alloc, placement.config().server_count()) else {
+            return Err((placement, OpenFault::NoMemory));
+        };
         let director = Director::open(alloc, placement, log_room)?;
         Ok(Driver {
             director,
+            room: log_room,
             journal,
             epoch,
+            permits,
+            restores,
         })
     }
 
@@ -86,6 +131,20 @@ impl Driver {
         ensures { result.now ≡ self.now.machine }
     {
         self.director.machine()
+    }
+
+    /// Returns the journal that the driver belongs to.
+    pub fn journal(&self) -> u64
+        ensures { result ≡ self.now.journal }
+    {
+        self.journal
+    }
+
+    /// Returns the driver's epoch in its journal.
+    pub fn epoch(&self) -> u32
+        ensures { result ≡ self.now.epoch }
+    {
+        self.epoch
     }
 
     /// Returns the number above which all numbers of the driver are.
@@ -108,6 +167,20 @@ impl Driver {
         ensures { option_map net_publication result ≡ publication_of (base self.now) (record_of self.now) id }
     {
         publication_of(self.machine(), self.base(), id)
+    }
+
+    /// Returns the order or the publication that a running stream stands before.
+    pub fn message(&self, id: StreamId) -> Option<StreamMessage>
+        ensures { option_map net_message result ≡ message_of (base self.now) (record_of self.now) id }
+    {
+        message_of(self.machine(), self.base(), id)
+    }
+
+    /// Writes all streams that stand before orders or publications into a list, by plan, then by stream. What the list had is gone.
+    pub fn awaiting(&self, list: &mut Vec<StreamId>) -> Result<(), AllocError>
+        ensures { OnOk result (list.new.items ≡ awaiting_of (record_of self.now)) }
+    {
+        awaiting(self.machine(), list)
     }
 
     /// Begins a plan that is ready and was checked for the configuration, and makes every step that needs nobody. Returns the plan's
@@ -168,6 +241,137 @@ impl Driver {
         }
     }
 
+    /// Returns the permits of restarts, by the servers' numbers: those of the servers that are down.
+    pub fn permits(&self) -> &[Option<u64>]
+        ensures permits { result.now ≡ self.now.permits }
+        ensures down { ArePermitsOfDown (record_of self.now) self.now.permits }
+    {
+        self.permits.as_slice()
+    }
+
+    /// Approves the restart of a server, if nothing is against it, and returns its permit. The server is down then.
+    pub fn approve(&mut self, server: ServerId) -> Result<u64, Denied>
+        requires { server < (record_of self.old).sizes.servers }
+        ensures approved { IfOk result (λ permit. HasApproved server permit self.old self.new) }
+        ensures denied { IfErr result (λ why. (happens (record_of self.old) (Approve server)).0 ≡ Answered (played.Denied why)) }
+        ensures unchanged { OnErr result (IsAsBefore self.old self.new) }
+    {
+        let permit = self.base() + self.machine().log().len() as u64 + 1;
+        let answer = self.director.play(Event::Approve { server });
+        if let Some(why) = denied_by(answer) {
+            return Err(why);
+        }
+        self.permits.set(server, Some(permit));
+        Ok(permit)
+    }
+
+    /// Ends the restart that has this permit: the server is up. No other permit ends anything. A full log is no hindrance.
+    pub fn restarted(&mut self, permit: u64) -> RestartEffect
+        ensures effect { result ≡ restart_effect (server_permitted self.old.permits permit) }
+        ensures up { IfSome (server_permitted self.old.permits permit) (λ server. HasEndedRestart server self.old self.new) }
+        ensures unchanged { IfNone (server_permitted self.old.permits permit) (self.new ≡ self.old) }
+    {
+        let servers = self.machine().config().server_count();
+        match self.permits.server(servers, permit) {
+            None => RestartEffect::Old,
+            Some(server) => {
+                let _ = self.director.play(Event::Done { server });
+                self.permits.set(server, None);
+                RestartEffect::Up(server)
+            }
+        }
+    }
+
+    /// Restores a server that has lost all it had, and asks under a nonce: keeps what it is told, and returns true. If it was told
+    /// under this nonce last, returns false, and nothing changes.
+    pub fn restore(
+        &mut self,
+        alloc: Global,
+        server: ServerId,
+        nonce: u64,
+    ) -> Result<bool, RestoreFault>
+        requires { server < (record_of self.old).sizes.servers }
+        ensures again { IfOk result (λ is_new. is_new ≡ not (was_told self.old.restores server nonce)) }
+        ensures restored { IfOk result (λ is_new. is_new ≡ true → HasRestored server nonce self.old self.new) }
+        ensures known { IfOk result (λ is_new. is_new ≡ false → self.new ≡ self.old) }
+        ensures engaged { IfErr result (λ why. why ≢ fault.NoMemory → option_map fault.Engaged (engaged (record_of self.old) server) ≡ Some why) }
+        ensures unknown { OnErr result (was_told self.old.restores server nonce ≡ false) }
+        ensures unchanged { OnErr result (self.new ≡ self.old) }
+    {
+        if self.restores.was_told(server, nonce) {
+            return Ok(false);
+        }
+        if let Some(stream) = self.machine().engaged(server) {
+            return Err(RestoreFault::Engaged { stream });
+        }
+        let number = self.base() + self.machine().log().len() as u64;
+        let Ok(cells) = cells_told(alloc, self.machine(), self.base(), server) else {
+            return Err(RestoreFault::NoMemory);
+        };
+        self.restores
+            .set(server, ServerRestore::new(nonce, number, cells));
+        Ok(true)
+    }
+
+    /// Returns what a server was told last after it had lost all it had.
+    pub fn restored(&self, server: ServerId) -> Option<&ServerRestore>
+        requires { server < (record_of self.now).sizes.servers }
+        ensures { option_copied result ≡ restore_at self.now.restores server }
+    {
+        self.restores.get(server)
+    }
+
+    /// Returns the lowest plan that is unfinished.
+    fn lowest_unfinished(&self) -> Option<u32>
+        ensures { result ≡ slice_get (unfinished_plans (record_of self.now)) 0 }
+    {
+        self.machine().unfinished().first().copied()
+    }
+
+    /// Returns why the next epoch does not open now.
+    fn epoch_fault(&self) -> Option<EpochFault>
+        ensures { result ≡ epoch_fault self.now }
+    {
+        let is_last = self.epoch == u32::MAX;
+        fault_by(
+            self.lowest_unfinished(),
+            is_last,
+            shard_spent(self.machine()),
+        )
+    }
+
+    /// Opens the next epoch over the placement as it is recorded, if no plan is unfinished: the log is empty again. Permits and
+    /// restores stay.
+    pub fn new_epoch(&mut self, alloc: Global) -> Result<(), EpochFault>
+        ensures opened { OnOk result (HasOpenedEpoch self.old self.new) }
+        ensures fits { OnOk result (epoch_fault self.old ≡ None) }
+        ensures refused { IfErr result (λ why. why ≢ refusal.NoMemory → epoch_fault self.old ≡ Some why) }
+        ensures memory { IfErr result (λ why. why ≡ refusal.NoMemory → epoch_fault self.old ≡ None) }
+        ensures unchanged { OnErr result (self.new ≡ self.old) }
+    {
+        if let Some(why) = self.epoch_fault() {
+            return Err(why);
+        }
+        let machine = self.machine();
+        machine.is_reached();
+        machine.is_safe();
+        let Ok(placement) = machine.placement().copy(alloc) else {
+            return Err(EpochFault::NoMemory);
+        };
+        match Director::open(alloc, placement, self.room) {
+            Err((placement, _)) => {
+                drop(placement);
+                Err(EpochFault::NoMemory)
+            }
+            Ok(director) => {
+                let old = std::mem::replace(&mut self.director, director);
+                drop(old.give_up());
+                self.epoch = epoch_after(self.epoch);
+                Ok(())
+            }
+        }
+    }
+
     /// Ends the driver, and returns its placement as it is recorded. Takes no memory.
     pub fn give_up(self) -> Placement
         ensures place { place_of result ≡ (record_of self).place }
@@ -175,9 +379,14 @@ impl Driver {
     {
         let Driver {
             director,
+            room: _,
             journal: _,
             epoch: _,
+            permits,
+            restores,
         } = self;
+        drop(permits);
+        drop(restores);
         director.give_up()
     }
 }

@@ -3,11 +3,18 @@
 #![tactic(auto)]
 
 mod driver;
+mod epoch;
 mod order;
 mod ordering;
 mod own_steps;
+mod permits;
+mod restart;
+mod restores;
 
 pub use driver::{AnswerEffect, Driver};
-pub use order::{StreamOrder, StreamPublication};
-pub use ordering::{order_of, publication_of};
+pub use epoch::EpochFault;
+pub use order::{StreamMessage, StreamOrder, StreamPublication};
+pub use ordering::{awaiting, awaits, message_of, order_of, publication_of};
 pub use own_steps::{advance, is_free};
+pub use restart::RestartEffect;
+pub use restores::{RestoreFault, ServerRestore};

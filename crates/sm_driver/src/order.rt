@@ -27,3 +27,12 @@ pub struct StreamPublication {
     /// What the map is to show, with the base added to its version.
     pub entry: Entry,
 }
+
+/// What a stream stands before whose next step waits for an answer.
+#[derive(Clone, Copy, Debug, PartialEq, Eq)]
+pub enum StreamMessage {
+    /// An order to a server.
+    Order(StreamOrder),
+    /// A publication, to the owner of the published map.
+    Publication(StreamPublication),
+}

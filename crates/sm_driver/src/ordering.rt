@@ -1,17 +1,19 @@
 //! Which order and which publication a stream stands before.
-ghost use Rattle.std.specs.Prelude.{◌≡◌, ◌≤◌, ◌<◌, option_map};
+ghost use Rattle.std.specs.Prelude.{◌≡◌, ◌≤◌, ◌<◌, ◌++◌, OnOk, length, option_map};
+ghost use Rattle.std.specs.Option.{option_to_list};
 ghost use Rattle.sm_protocol.specs.State.{numbers_end};
 ghost use Rattle.sm_network.specs.Net.{call_above, order_of};
 ghost use Rattle.sm_network.specs.World.{publication_of};
 ghost use Rattle.sm_machine.specs.State.{state_of};
-ghost use Rattle.sm_driver.specs.Orders.{bases_end, handover_of, net_order, net_publication};
+ghost use Rattle.sm_driver.specs.Orders.{awaiting, awaiting_in, awaiting_of, awaits, bases_end, handover_of, message_of, net_message, net_order, net_publication};
 
-use crate::order::{StreamOrder, StreamPublication};
+use crate::order::{StreamMessage, StreamOrder, StreamPublication};
 use sm_machine::Machine;
 use sm_placement::Entry;
 use sm_plan_code::ServerCall;
 use sm_reservation::StreamId;
 use sm_server::Call;
+use std::alloc::AllocError;
 
 /// Returns a call with the base added to its handover number, if it has one.
 fn call_above(base: u64, call: Call) -> Call
@@ -68,4 +70,60 @@ pub fn publication_of(machine: &Machine, base: u64, id: StreamId) -> Option<Stre
             version: base + entry.version,
         },
     })
+}
+
+/// Returns the order or the publication that a running stream stands before.
+pub fn message_of(machine: &Machine, base: u64, id: StreamId) -> Option<StreamMessage>
+    requires { base < bases_end }
+    ensures { option_map net_message result ≡ message_of base (state_of machine.now) id }
+{
+    if let Some(order) = order_of(machine, base, id) {
+        return Some(StreamMessage::Order(order));
+    }
+    let publication = publication_of(machine, base, id)?;
+    Some(StreamMessage::Publication(publication))
+}
+
+/// Returns whether a stream stands before a call or an entry of the published map.
+pub fn awaits(machine: &Machine, id: StreamId) -> bool
+    ensures { result ≡ awaits (state_of machine.now) id }
+{
+    machine.next_call(id).is_some() || machine.next_entry(id).is_some()
+}
+
+/// Adds a stream to a list, if it waits for an answer.
+fn push_stream(machine: &Machine, id: StreamId, list: &mut Vec<StreamId>) -> Result<(), AllocError>
+    ensures { OnOk result (list.new.items ≡ list.old.items ++ option_to_list (awaiting (state_of machine.now) id)) }
+{
+    if awaits(machine, id) {
+        list.push(id)?;
+    }
+    Ok(())
+}
+
+/// Adds the streams of a plan that wait for answers to a list.
+fn push_streams(machine: &Machine, plan: u32, list: &mut Vec<StreamId>) -> Result<(), AllocError>
+    requires { plan < length (state_of machine.now).plans }
+    ensures { OnOk result (list.new.items ≡ list.old.items ++ awaiting_in (state_of machine.now) plan) }
+{
+    let count = machine.plan(plan).streams().len();
+    for stream in 0..count {
+        let id = StreamId {
+            plan,
+            stream: stream as u32,
+        };
+        push_stream(machine, id, list)?;
+    }
+    Ok(())
+}
+
+/// Writes all streams that wait for answers into a list, by plan, then by stream. What the list had is gone.
+pub fn awaiting(machine: &Machine, list: &mut Vec<StreamId>) -> Result<(), AllocError>
+    ensures { OnOk result (list.new.items ≡ awaiting_of (state_of machine.now)) }
+{
+    list.clear();
+    for plan in machine.unfinished() {
+        push_streams(machine, *plan, list)?;
+    }
+    Ok(())
 }

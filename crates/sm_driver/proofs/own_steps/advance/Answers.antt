@@ -1,5 +1,5 @@
 -- Every step that needs nobody.
-use Rattle.std.proofs.Common.{◌≡◌, ◌-◌, ◌<◌, ◌≤◌, ◌+◌, ◌∙◌, Some, length, sym, ap, subst, arith}
+use Rattle.std.proofs.Common.{◌≡◌, ◌≤◌, ◌+◌, ◌∙◌, Some, length, sym, ap, subst, arith}
 use Rattle.sm_protocol.specs.State.{State}
 use Rattle.sm_protocol.specs.Happens.{Step, happens}
 use Rattle.sm_protocol.proofs.SmallNumbers.{numbers_stay_small}

@@ -1,7 +1,6 @@
 -- The lowest free stream.
-use Rattle.std.proofs.Common.{sym, ap, ◌∙◌, ◌<◌, ℕ, List, length, get_or, subst}
+use Rattle.std.proofs.Common.{sym, ap, ◌∙◌, ◌<◌, length, get_or, subst}
 use Rattle.sm_protocol.specs.Next.{unfinished_plans}
-use Rattle.sm_protocol.specs.State.{is_unfinished}
 use Rattle.sm_machine.specs.State.{state_of}
 use Rattle.sm_machine.proofs.Unfinished.{first_in, first_found, first_passed, first_past}
 use Rattle.sm_driver.proofs.Searches.{free_of, next_in_unfinished, plan_is_known}

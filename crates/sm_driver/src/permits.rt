@@ -1,0 +1,97 @@
+//! Permits of restarts.
+ghost use Rattle.std.specs.Prelude.{◌≡◌, ◌<◌, IfOk, length, slice_set};
+ghost use Rattle.sm_placement.specs.Layout.{place_of};
+ghost use Rattle.sm_network.specs.Controller.{is_permitted};
+ghost use Rattle.sm_driver.specs.Orders.{bases_end};
+ghost use Rattle.sm_driver.specs.Permits.{opening_permit, opening_permits, permit_of, server_permitted};
+
+use sm_placement::Placement;
+use sm_plan_code::MOST_PLACES;
+use sm_server::ServerId;
+use std::alloc::{AllocError, Global};
+use std::marker::Model;
+
+/// The permits of the servers that are down, by the servers' numbers.
+#[derive(Drop)]
+pub(crate) struct Permits {
+    given: Vec<Option<u64>>,
+}
+
+impl Model for Permits {
+    ghost use Rattle.std.specs.Prelude.{ℕ, List, Option};
+
+    ghost Value = { List (Option ℕ) };
+
+    ghost view = { λ p. p.given.items };
+}
+
+/// Returns the permit that a server has at an opening over a placement, if it is down.
+fn opening_permit(placement: &Placement, base: u64, server: u32) -> Option<u64>
+    requires base { base < bases_end }
+    requires server { server < length placement.now.setup.servers }
+    ensures { result ≡ opening_permit base (place_of placement.now).down server }
+{
+    if placement.is_down(ServerId::new(server)) {
+        Some(base + MOST_PLACES as u64 + 1 + server as u64)
+    } else {
+        None
+    }
+}
+
+impl Permits {
+    /// Returns the permits at an opening over a placement.
+    #[tactic(auto, using(crate::proofs::Lists::mapped_more))]
+    pub fn at_opening(
+        alloc: Global,
+        placement: &Placement,
+        base: u64,
+    ) -> Result<Permits, AllocError>
+        requires { base < bases_end }
+        ensures { IfOk result (λ permits. permits ≡ opening_permits base (length placement.now.setup.servers) (place_of placement.now).down) }
+    {
+        let mut given = Vec::new(alloc);
+        for number in 0..placement.config().server_count() {
+            given.push(opening_permit(placement, base, number))?;
+        }
+        Ok(Permits { given })
+    }
+
+    /// Returns all permits, by the servers' numbers.
+    pub fn as_slice(&self) -> &[Option<u64>]
+        ensures { result.now ≡ self.now }
+    {
+        self.given.as_slice()
+    }
+
+    /// Returns whether a server's permit is this one.
+    fn is_permitted(&self, server: u32, permit: u64) -> bool
+        requires { server < length self.now }
+        ensures { result ≡ is_permitted (permit_of self.now server) permit }
+    {
+        match self.given[server as usize] {
+            None => false,
+            Some(given) => given == permit,
+        }
+    }
+
+    /// Returns the server, of so many, whose restart has this permit.
+    pub fn server(&self, servers: u32, permit: u64) -> Option<ServerId>
+        requires { length self.now ≡ servers }
+        ensures { result ≡ server_permitted self.now permit }
+    {
+        for number in 0..servers {
+            if self.is_permitted(number, permit) {
+                return Some(ServerId::new(number));
+            }
+        }
+        None
+    }
+
+    /// Gives a server a permit, or takes it away.
+    pub fn set(&mut self, server: ServerId, permit: Option<u64>)
+        requires { server < length self.old }
+        ensures { self.new ≡ slice_set self.old server permit }
+    {
+        self.given[server.number() as usize] = permit;
+    }
+}
