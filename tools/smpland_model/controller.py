@@ -267,7 +267,9 @@ class NamedController(Controller):
         self.approved = {
             by: Named(it.epoch, replace(it.reply, server=numbers[it.reply.server])) for by, it in self.approved.items()
         }
-        self.restores = {numbers[it]: restore for it, restore in self.restores.items()}
+        self.restores = {
+            numbers[it]: replace(restore, server=numbers[it]) for it, restore in self.restores.items()
+        }
         if self.record:
             self.renumber_record(self.record, numbers, [shards.get(name) for name in numbering.shards])
 
