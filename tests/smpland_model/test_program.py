@@ -1,20 +1,35 @@
-"""The program that $SMPLAND names against the model: random sessions, with lines that were spoilt, reply for reply."""
+"""The program that $SMPLAND names against the model, reply for reply: the sessions worked by hand, and random ones with lines that were spoilt.
+
+$SMPLAND_DOES may name the commands that the program knows so far; then both are given those alone.
+"""
 from __future__ import annotations
 
 import json
 import os
 import random
 import unittest
+from collections.abc import Iterable, Iterator
 from typing import Any
 
 from smpland_model.session import Session
 
 from random_lines import as_bytes, sessions, spoilt
-from session_files import Program
+from session_files import FOLDER, Program, exchanges
 
 Json = dict[str, Any]
 PROGRAM = os.environ.get("SMPLAND", "").split()
+DOES = os.environ.get("SMPLAND_DOES", "").split()
 SEEDS = range(int(os.environ.get("FIRST_SEED", "3000")), int(os.environ.get("LAST_SEED", "3020")))
+
+
+def is_known(line: bytes) -> bool:
+    """Returns whether the program has to know the command of a line."""
+    try:
+        value = json.loads(line)
+    except ValueError:
+        return True
+    do = value.get("do") if isinstance(value, dict) else None
+    return not DOES or do in DOES or not isinstance(do, str)
 
 
 def comparable(reply: Json) -> Json:
@@ -28,18 +43,34 @@ def comparable(reply: Json) -> Json:
 class Comparison(unittest.TestCase):
     """The program and the model."""
 
-    def test_each_reply_is_that_of_the_model(self) -> None:
-        """Each line has the same reply, and each third line goes to both once more, spoilt."""
+    def compare(self, name: str, lines: Iterable[bytes]) -> None:
+        """Gives both the same lines, and compares their replies."""
+        model, program = Session(), Program(PROGRAM)
+        for line in filter(is_known, lines):
+            told = program.reply(line)
+            self.assertEqual(comparable(told), comparable(model.reply(line)), f"{name}: {line.decode(errors='replace')}")
+        self.assertEqual(program.end(), 0)
+
+    def test_sessions_worked_by_hand(self) -> None:
+        """The lines of each file."""
+        for path in sorted(FOLDER.glob("*.session")):
+            with self.subTest(path.name):
+                self.compare(path.name, (it.line for it in exchanges(path)))
+
+    def test_random_sessions(self) -> None:
+        """Some lines go to both spoilt before they go as they are."""
         for seed in SEEDS:
-            dice = random.Random(seed)
             for lines in sessions(seed, 200):
-                model, program = Session(), Program(PROGRAM)
-                for line in lines:
-                    given = [as_bytes(line)] + ([spoilt(line, dice)] if dice.random() < 0.3 else [])
-                    for data in reversed(given):
-                        told = program.reply(data)
-                        self.assertEqual(comparable(told), comparable(model.reply(data)), f"seed {seed}: {data.decode(errors='replace')}")
-                self.assertEqual(program.end(), 0)
+                with self.subTest(seed=seed):
+                    self.compare(f"seed {seed}", self.with_spoilt(lines, random.Random(seed)))
+
+    @staticmethod
+    def with_spoilt(lines: list[Json], dice: random.Random) -> Iterator[bytes]:
+        """Yields lines, and before some of them the same spoilt."""
+        for line in lines:
+            if dice.random() < 0.3:
+                yield spoilt(line, dice)
+            yield as_bytes(line)
 
     def test_a_difference_is_told(self) -> None:
         """The comparison looks at each member but the version."""
