@@ -12,12 +12,11 @@ from driving_model.rules import SOUND
 from driving_model.schedule import PROFILES, Schedule
 from smpland_model.session import Session
 
-from plain_commands import command_json, has_two_primaries, line_form, present, reply_form, with_own_cells, without
+from plain_commands import command_json, has_two_primaries, line_form, present, reply_form, shard_name, with_own_cells, without
 
 SEEDS = range(1, 41)
-# What only lines are refused for: the model does not look whether replicas come or go, and leaves a shard whose primary is
-# lost to the operator, if the document names none.
-STRICTER = ("Moved", "NoPrimary", "Missing")
+# What only lines are refused for: the model does not look whether replicas come or go.
+STRICTER = ("Moved", "NoPrimary")
 
 
 class Divergence(Exception):
@@ -50,25 +49,22 @@ class Pair:
             # (there the two look at faults in another order)
             case.assertIn("refused", found)
             expected = found
-        if self.has_other_heir(expected, found):
-            self.coverage["other heir"] += 1
-            return
+        self.leave_open(expected, found)
         case.assertEqual(expected, self.same_permit(found), f"{command} -> {outcome.reply}; {json.dumps(line)} -> {told}")
         case.assertEqual([it["number"] for it in told.get("orders", [])] if "again" not in told else [], [it.number for it in outcome.orders])
         self.note_permits(outcome.reply, told)
         orders = self.session.reply(b'{"do":"orders"}')["orders"]
         case.assertEqual([without(it, "primary", "replicas") for it in orders], present(self.model))
 
-    @staticmethod
-    def has_other_heir(expected: dict, found: dict) -> bool:
-        """Returns whether the model proposes no primary for a shard, and the session one, or waits for it."""
-        if "proposal" not in expected or expected == found:
-            return False
-        without_primary = [all(it["state"] != "primary" for it in row) for row in expected["proposal"]["cells"]]
-        if "waiting" in found:
-            return any(without_primary)
-        pairs = zip(without_primary, expected["proposal"]["cells"], found["proposal"]["cells"])
-        return all(theirs == ours or is_without for is_without, theirs, ours in pairs)
+    def leave_open(self, expected: dict, found: dict) -> None:
+        """Takes shards for which both propose no primary out of those that are lost: the model names them, though a secondary
+        is left that has all."""
+        if "proposal" not in expected or "proposal" not in found:
+            return
+        bare = {shard_name(it) for it, row in enumerate(expected["proposal"]["cells"]) if all(cell["state"] != "primary" for cell in row)}
+        for proposal in (expected["proposal"], found["proposal"]):
+            self.coverage["without primary"] += len(bare)
+            proposal["lost"] = [it for it in proposal["lost"] if it not in bare]
 
     def same_permit(self, found: dict) -> dict:
         """Returns a reply with the model's number of a permit."""
