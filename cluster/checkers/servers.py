@@ -16,6 +16,7 @@ from typing import Iterable, Iterator
 from .data import Data
 
 STEP = 1 << 21
+REFUSALS = ("order-already-held", "order-not-held", "order-wrong-role", "order-no-room")
 HELD = ("secondary", "primary", "forwarding", "prepared")
 
 # What each call makes of which cell.
@@ -81,7 +82,8 @@ class Checker:
         for event in sorted((it for it in events if "t" in it), key=lambda it: it["t"]):
             self.counts[event["kind"]] += 1
             host = self.hosts.setdefault(event["server"], Host(event["server"]))
-            handler = getattr(self, "on_" + event["kind"].replace("-", "_"), None)
+            kind = "order-refused" if event["kind"] in REFUSALS else event["kind"]
+            handler = getattr(self, "on_" + kind.replace("-", "_"), None)
             if handler is not None:
                 handler(host, event)
 
@@ -173,6 +175,10 @@ class Checker:
         at.state, at.last, at.position = event["state"], number, event["position"]
         self.look_at_primaries(event, [shard])
         self.look_at_floor(event)
+
+    def on_order_refused(self, host: Host, event: dict) -> None:
+        """An order fits nothing that the server has; one that is late would be old."""
+        self.fault(event, f"order {event['number']} is refused")
 
     def look_at_copy(self, host: Host, event: dict, before: str) -> None:
         """Who begins to have a shard, or to serve it, has all writes that were executed when the order's work began."""

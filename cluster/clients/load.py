@@ -29,6 +29,8 @@ class Load:
     reads: float = 0.3
     stray: float = 0.02
     pause: float = 0.0
+    # (who reads anything anywhere all the time, and mostly hears that it is not there)
+    scouts: int = 2
     # (how long a client waits for one server's reply before it asks again)
     attempt: float = 3.0
     seed: int = 1
@@ -43,7 +45,7 @@ class Generator:
         self.cluster, self.load, self.history = cluster, load, history
         self.published = PublishedMap(cluster)
         self.is_stopped = False
-        self.requests = self.failures = 0
+        self.requests = self.failures = self.scouted = 0
         self.slowest = 0.0
         self.waits: list[float] = []
         self.routers: list[Router] = []
@@ -56,6 +58,7 @@ class Generator:
         """Runs all clients until the event is set or the time is over, if it is not 0, and reads every list at the end."""
         watching = asyncio.create_task(self.published.watch())
         clients = [asyncio.create_task(self.client(it)) for it in range(self.load.clients)]
+        clients += [asyncio.create_task(self.scout(it)) for it in range(self.load.scouts)]
         try:
             await asyncio.wait_for(stopping.wait(), seconds or None)
         except TimeoutError:
@@ -86,6 +89,25 @@ class Generator:
                 await asyncio.sleep(dice.random() * 2 * self.load.pause)
         router.close()
 
+    async def scout(self, number: int) -> None:
+        """Reads any shard at any server. Who answers has to have the right to, and to have all that was acknowledged."""
+        dice, name = random.Random(f"{self.load.seed} scout {number}"), f"{self.load.name}-scout{number}"
+        router, servers = self.router(dice), sorted(self.cluster.servers)
+        while not self.is_stopped:
+            shard, server = dice.choice(self.load.shards), dice.choice(servers)
+            key = f"{shard}:k{dice.randrange(self.load.keys)}"
+            line = {"client": name, "op": "read", "shard": shard, "key": key, "start": time.monotonic_ns()}
+            try:
+                reply = await asyncio.wait_for(router.call(server, ("LRANGE", key, "0", "-1")), 0.3)
+                self.tell(line | {"reply": [it.decode() for it in reply]})
+                self.scouted += 1
+            except (OSError, TimeoutError):
+                router.drop(server)
+            except ErrorReply:
+                pass
+            await asyncio.sleep(dice.random() * 0.03)
+        router.close()
+
     async def push(self, router: Router, name: str, shard: str, key: str, value: str) -> None:
         """Pushes a value, which is the request's identity as well."""
         await self.ask(router, name, shard, {"op": "push", "shard": shard, "key": key, "value": value}, value, "RPUSH", key, value)
@@ -103,11 +125,15 @@ class Generator:
         except ErrorReply as error:
             self.failures += 1
             line["error"] = str(error)
-        line["end"] = time.monotonic_ns()
-        wait = (line["end"] - start) / 1e9
+        wait = (self.tell(line) - start) / 1e9
         self.waits.append(wait)
         self.slowest = max(self.slowest, wait)
+
+    def tell(self, line: dict) -> int:
+        """Writes a line of history, and returns its end."""
+        line["end"] = time.monotonic_ns()
         self.history.write(json.dumps(line, separators=(",", ":")) + "\n")
+        return line["end"]
 
     async def read_all(self) -> None:
         """Reads every list, for the checkers."""
@@ -131,5 +157,5 @@ class Generator:
             for name, value in asdict(router.figures).items():
                 setattr(total, name, getattr(total, name) + value)
         waits = sorted(self.waits) or [0.0]
-        return {"requests": self.requests, "failures": self.failures, "slowest": round(self.slowest, 3),
+        return {"requests": self.requests, "failures": self.failures, "scouted": self.scouted, "slowest": round(self.slowest, 3),
                 "median": round(waits[len(waits) // 2], 4), "p99": round(waits[len(waits) * 99 // 100], 4), **asdict(total)}

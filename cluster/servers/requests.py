@@ -8,7 +8,7 @@ from typing import TYPE_CHECKING
 
 from smplan.agent import Answer, Cell, Request
 
-from ..resp import ErrorReply, Part, Reply, encode_reply, read_reply
+from ..resp import ErrorReply, Reply, encode_reply, read_reply
 from ..wire import Failed, Message
 from . import agent, limits
 from .shard import Entry, Shard, chained

@@ -4,6 +4,7 @@ from __future__ import annotations
 import asyncio
 import hashlib
 import json
+import secrets
 import time
 from dataclasses import dataclass, field
 from typing import TYPE_CHECKING, Any
@@ -106,3 +107,34 @@ STATES = {
 CELLS = {word: cell for cell, word in STATES.items()}
 
 Event = dict[str, Any]
+
+
+def nonce() -> int:
+    """A fresh random number, never 0."""
+    return secrets.randbits(63) | 1
+
+
+def hexadecimal(number: int) -> str:
+    """A journal or a nonce as text."""
+    return f"{number:016x}"
+
+
+class AllLocks:
+    """The locks of several shards, taken in the order of their names."""
+
+    def __init__(self, shards) -> None:
+        self.locks = [it.lock for it in sorted(shards, key=lambda it: it.name)]
+        self.held: list[asyncio.Lock] = []
+
+    async def __aenter__(self) -> None:
+        try:
+            for lock in self.locks:
+                await lock.acquire()
+                self.held.append(lock)
+        except BaseException:
+            await self.__aexit__()
+            raise
+
+    async def __aexit__(self, *_: object) -> None:
+        while self.held:
+            self.held.pop().release()

@@ -138,6 +138,7 @@ WRONG_SERVERS = {
     "has its effect again": lambda it: it.handover().order("b", "drop", "absent", number=STEP + 3).found(),
     "has its effect behind": lambda it: it.handover().order("b", "drop", "absent", number=STEP + 2).found(),
     "fenced or Unknown": lambda it: fenced(it).order("b", "prepare_add", "prepared", number=2 * STEP + 1).found(),
+    "is refused": lambda it: it.add("b", "order-not-held", shard="s", number=STEP + 1, last=0).found(),
     "makes absent": lambda it: it.order("b", "prepare_drop", "forwarding").found(),
     "more than the room": lambda it: it.order("b", "prepare_add", "prepared", used=10).found(),
     "with 0 writes of 1": lambda it: it.write("a").order("b", "prepare_add", "prepared", position=0).found(),

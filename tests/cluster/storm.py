@@ -10,7 +10,6 @@ import asyncio
 import json
 import random
 import sys
-import time
 from collections import Counter
 
 from plays import server_faults
@@ -18,7 +17,6 @@ from scripted import JOURNAL, Scripted
 
 from cluster.checkers.clients import check as check_clients
 from cluster.clients.load import Generator, Load
-from cluster.wire import Failed
 
 NAMES, SHARDS = "abcd", ("s", "t", "u", "v", "w", "x")
 

@@ -1,0 +1,174 @@
+"""Reopenings and restores: a server tells what it has, and takes what it is to have."""
+from __future__ import annotations
+
+import time
+from dataclasses import replace
+from typing import TYPE_CHECKING
+
+from smplan.agent import Answer, Base, Cell, Slot
+
+from ..wire import Failed, Message
+from . import agent, limits
+from .shard import CELLS, STATES, AllLocks, Shard, hexadecimal, nonce
+
+if TYPE_CHECKING:
+    from .server import Server
+
+
+class Reopenings:
+    """The side of a server that is fenced, settled and restored."""
+
+    def __init__(self, server: "Server") -> None:
+        self.server, self.store = server, server.store
+
+    async def fence(self, told: Message) -> Message:
+        """Takes a fence once no request of a handover runs, and answers with all slots or with a nonce."""
+        journal, number = int(told["journal"], 16), told["base"]
+        async with self.server.changing:
+            if self.store.base.number < number:
+                await self.end_handovers()
+            try:
+                async with AllLocks(self.store.shards.values()):
+                    answer, base = agent.fence(self.store.base, journal, number, nonce())
+                    if answer == Answer.TAKEN:
+                        await self.take_fence(base)
+                    else:
+                        self.store.note("fence-" + answer.name.lower(), base=number)
+                    if answer == Answer.IGNORED:
+                        raise Failed("Ignored", "it is not above the base")
+                    return {"fenced": {"server": self.server.name, "base": number, **self.inventory()}}
+            finally:
+                self.hold(False)
+
+    async def end_handovers(self) -> None:
+        """Lets running requests of handovers end, and none begin; who waits for too long gets no acknowledgement."""
+        if self.server.bug == "fence-while-passed":
+            return
+        self.hold(True)
+        deadline = time.monotonic() + limits.FENCING
+        for shard in self.store.shards.values():
+            while shard.is_in_handover and shard.running:
+                if not await shard.look_again(deadline):
+                    shard.term += 1
+                    deadline = time.monotonic() + limits.FENCING
+                    shard.wake()
+
+    def hold(self, is_held: bool) -> None:
+        """Holds requests of handovers back, or no longer."""
+        for shard in self.store.shards.values():
+            if shard.is_held != is_held:
+                shard.is_held = is_held
+                shard.wake()
+
+    async def take_fence(self, base: Base) -> None:
+        """Stores a fence, and ends all work. All locks are held."""
+        commands, slots = self.store.base_commands(base), {}
+        keeps_work = self.server.bug == "commit-after-fence"
+        for shard in self.store.shards.values():
+            if shard.slot.at_work and not keeps_work:
+                slots[shard.name] = agent.abandon(shard.slot)
+                commands += self.store.slot_commands(shard.name, slots[shard.name])
+        await self.store.save(commands, "fence", base=base.number, slots=self.short_slots(), at_work=len(slots), nonce=hexadecimal(base.nonce))
+        self.store.base = base
+        for shard in self.store.shards.values():
+            if shard.name in slots:
+                shard.slot = slots[shard.name]
+            if not keeps_work:
+                self.server.orders.drop_work(shard, "a fence has come")
+            shard.wake()
+
+    def short_slots(self) -> dict[str, list]:
+        """Cells and positions, for history."""
+        return {it.name: [STATES[Cell(it.slot.cell)], it.position] for it in self.store.shards.values()
+                if it.slot.cell not in (Cell.ABSENT, Cell.UNKNOWN)}
+
+    def inventory(self) -> Message:
+        """What it tells of its slots, or its nonce if it has none."""
+        if not self.store.base.known:
+            return {"unknown": hexadecimal(self.store.base.nonce)}
+        return {"slots": [self.slot_told(it) for it in self.store.shards.values() if it.slot.cell != Cell.ABSENT]}
+
+    def slot_told(self, shard: Shard) -> Message:
+        """A slot as it is told."""
+        slot = shard.slot
+        told: Message = {"shard": shard.name, "state": STATES[Cell(slot.cell)], "load": slot.load, "position": shard.position}
+        if shard.is_in_handover:
+            told |= {"other": self.server.party(shard), "handover": slot.handover}
+        return told | ({"reached": shard.has_reached_cut} if slot.cell == Cell.PREPARED else {})
+
+    async def settle(self, told: Message) -> Message:
+        """Takes the slots that end a reopening."""
+        name = told.get("nonce")
+        async with self.server.changing, AllLocks(self.shards_with(told)):
+            before = self.store.base
+            if self.server.bug == "settle-twice" and before.number == told["base"] and before.known:
+                before = replace(before, fenced=1)
+            answer, base = agent.settle(before, int(told["journal"], 16), told["base"], name is not None, int(name or "0", 16))
+            if answer == Answer.TAKEN:
+                await self.take(base, told["slots"], "settle", told.get("nonce"))
+            else:
+                self.store.note("settle-" + answer.name.lower(), base=told["base"])
+        if answer not in (Answer.TAKEN, Answer.AGAIN):
+            raise Failed("Ignored", "it is not for this server now")
+        return {"settled": {"server": self.server.name, "base": told["base"]}}
+
+    async def restore(self, told: Message) -> Message:
+        """Takes the slots that it asked for under a nonce."""
+        async with self.server.changing, AllLocks(self.shards_with(told)):
+            named = self.store.base.nonce if self.server.bug == "restore-without-nonce" else int(told["nonce"], 16)
+            before = self.store.base
+            if self.server.bug == "restore-without-nonce":
+                before = agent.forget(named or 1)
+            answer, base = agent.restore(before, int(told["journal"], 16), told["fence"], told["base"], named or 1)
+            if answer == Answer.TAKEN:
+                await self.take(base, told["slots"], "restore", told["nonce"])
+            else:
+                self.store.note("restore-ignored", nonce=told["nonce"], known=bool(self.store.base.known))
+        if answer != Answer.TAKEN:
+            raise Failed("Ignored", "it did not ask for this now")
+        return {"restored": {"server": self.server.name, "nonce": told["nonce"]}}
+
+    def shards_with(self, told: Message) -> list[Shard]:
+        """All shards of this server, those that it is to have included."""
+        for slot in told["slots"]:
+            self.store.shard(slot["shard"])
+        return list(self.store.shards.values())
+
+    async def take(self, base: Base, slots: list[Message], kind: str, named: str | None) -> None:
+        """Makes each slot what is brought, in one transaction with the base; what is not brought is absent. All locks are held."""
+        brought = {it["shard"]: it for it in slots}
+        commands, after = [*self.store.base_commands(base), ("DEL", "old_owner")], {}
+        for shard in self.store.shards.values():
+            slot = after[shard.name] = agent.place(shard.slot, self.slot_of(brought.get(shard.name)))
+            commands += self.store.slot_commands(shard.name, slot)
+            if slot.cell == Cell.ABSENT:
+                commands += await self.store.delete_commands(shard.name)
+        positions = {it.name: it.position for it in self.store.shards.values()}
+        told = {name: [STATES[Cell(it.cell)], positions[name]] for name, it in after.items() if it.cell != Cell.ABSENT}
+        await self.store.save(commands, kind, base=base.number, slots=told, nonce=hexadecimal(int(named, 16)) if named else None)
+        self.store.base = base
+        for shard in self.store.shards.values():
+            self.put(shard, after[shard.name])
+        self.server.resume()
+
+    def put(self, shard: Shard, slot: Slot) -> None:
+        """Makes a slot what was brought, in memory. Its lock is held."""
+        before, shard.slot, shard.old_owner = shard.slot, slot, None
+        if slot.cell == before.cell == Cell.PRIMARY:
+            shard.wake()
+            return
+        self.server.end_term(shard, "the slots were set")
+        self.server.stop_following(shard, leaves=slot.cell == Cell.ABSENT)
+        if slot.cell != Cell.PRIMARY:
+            self.server.sources.close(shard)
+        else:
+            shard.seen = {it: time.monotonic() for it in shard.members}
+        if slot.cell == Cell.ABSENT:
+            shard.position, shard.chain, shard.members = 0, "", set()
+
+    def slot_of(self, told: Message | None) -> Slot:
+        """A slot as a settle or a restore brings it."""
+        if told is None:
+            return agent.VACANT
+        party = self.server.cluster.servers[told["other"]].number if told.get("other") else 0
+        return Slot(cell=CELLS[told["state"]], party=party, handover=told.get("handover") or 0, load=told["load"])
