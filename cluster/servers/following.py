@@ -24,7 +24,8 @@ class Elsewhere(Exception):
 
 
 class Following:
-    """Follows one shard until it is stopped. `joined` is set once the source waits for this server with each write."""
+    """Follows one shard until it is stopped. `joined` is set once it has what there was when it came; unless it is a new owner, each write waits for it
+    from then on."""
 
     def __init__(self, server: "Server", shard: Shard, hint: str | None, is_fresh: bool) -> None:
         self.server, self.store, self.shard = server, server.store, shard
@@ -43,6 +44,11 @@ class Following:
                 self.writer.write(line_of({"leave": {}}))
             self.writer.close()
         self.task.cancel()
+
+    def takes_over(self) -> bool:
+        """It is a new owner, or is to be one: no write waits for it before the cut."""
+        work = self.shard.work
+        return self.shard.slot.cell == Cell.PREPARED or (work is not None and work.told["call"] == "prepare_add")
 
     def is_done(self) -> bool:
         """A new owner that has all writes up to the cut executes itself: the old one follows from then on."""
@@ -84,7 +90,7 @@ class Following:
         reader, self.writer = await asyncio.wait_for(open_lines(self.server.cluster.servers[source].peers), limits.STEP)
         try:
             position, chain = (-1, "") if self.is_fresh else (self.shard.position, self.shard.chain)
-            ask = {"shard": self.shard.name, "from": self.server.name, "position": position, "chain": chain}
+            ask = {"shard": self.shard.name, "from": self.server.name, "position": position, "chain": chain, "takes_over": self.takes_over()}
             self.writer.write(line_of({"follow": ask}))
             first = await asyncio.wait_for(read_message(reader), limits.COPYING)
             await self.take_all([first or {"nothere": {}}], source)
@@ -118,8 +124,9 @@ class Following:
 
     async def lag(self) -> None:
         """Is late, if the server is to be."""
-        if self.server.longest_lag:
-            await asyncio.sleep(random.random() * self.server.longest_lag)
+        longest = self.server.lag(self.shard)
+        if longest:
+            await asyncio.sleep(random.random() * longest)
 
     async def take_all(self, batch: list[Message], source: str) -> None:
         """Takes messages of the source in their order, and acknowledges the writes among them."""

@@ -17,10 +17,10 @@ if TYPE_CHECKING:
 
 
 class Stream:
-    """A follower's connection for one shard. Once it has joined, writes wait for it."""
+    """A follower's connection for one shard. Once it has joined, writes wait for it, unless it is a new owner before the cut."""
 
-    def __init__(self, name: str, writer: asyncio.StreamWriter, start: int) -> None:
-        self.name, self.writer, self.start = name, writer, start
+    def __init__(self, name: str, writer: asyncio.StreamWriter, start: int, takes_over: bool) -> None:
+        self.name, self.writer, self.start, self.takes_over = name, writer, start, takes_over
         self.acked = -1
         self.has_joined = False
 
@@ -80,7 +80,7 @@ class Sources:
                 writer.write(line_of({"copy": await self.store.copy_of(shard)}))
             else:
                 writer.write(line_of({"tail": [it.text() for it in tail]}))
-            stream = Stream(name, writer, shard.position)
+            stream = Stream(name, writer, shard.position, ask["takes_over"])
             before = shard.streams.get(name)
             if before is not None:
                 before.close()
@@ -90,12 +90,12 @@ class Sources:
         return stream
 
     async def join(self, shard: Shard, stream: Stream) -> None:
-        """The follower has what there was when it came: from now on each write waits for it, and it is told so."""
+        """The follower has what there was when it came, and is told so; from now on each write waits for it, unless it is a new owner."""
         async with shard.lock:
             if shard.streams.get(stream.name) is not stream or not shard.is_source:
                 return
             stream.has_joined = True
-            if stream.name not in shard.members and shard.slot.cell != Cell.FORWARDING:
+            if stream.name not in shard.members and not stream.takes_over:
                 await self.set_members(shard, shard.members | {stream.name})
             stream.send({"joined": {"members": sorted(shard.members)}})
 
