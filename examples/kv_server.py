@@ -123,6 +123,8 @@ class Server:
         with self.db:
             answer, onward = agent.route(self.base(), self.slot(shard), self.applied(shard), how)
             if answer == Answer.EXECUTE:
+                if how.is_passed:  # (a passed request may tell the cut before the old owner does)
+                    self.store_slot(shard, agent.seal(self.slot(shard), how.handover, how.cut))
                 return self.execute(shard, request, command)
         if answer == Answer.PASS_ON:
             return self.peers[onward.party].request(shard, request, command, replace(onward, party=self.number))
