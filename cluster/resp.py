@@ -1,4 +1,5 @@
-"""RESP, the protocol of Redis, as far as the cluster speaks it: as a client of a redis-server, and as what clients speak to the cluster's servers."""
+"""RESP, the protocol of Redis, as far as the cluster speaks it: as a client of a redis-server, and as what clients
+speak to the cluster's servers."""
 from __future__ import annotations
 
 import asyncio
@@ -64,7 +65,8 @@ async def read_reply(reader: asyncio.StreamReader) -> Reply:
 
 
 class Redis:
-    """A connection to a redis-server. Commands of several tasks go out one behind the other; a transaction goes out as a whole."""
+    """A connection to a redis-server. Commands of several tasks go out one behind the other; a transaction goes out
+    as a whole."""
 
     def __init__(self, reader: asyncio.StreamReader, writer: asyncio.StreamWriter) -> None:
         self.reader, self.writer = reader, writer

@@ -1,7 +1,8 @@
-"""What the processes of the cluster say to one another: JSON lines over TCP, and the file that tells each process where the others are.
+"""What the processes of the cluster say to one another: JSON lines over TCP, and the file that tells each process
+where the others are. WIRE.md tells it by example.
 
-/work/notes/cluster-wire.md tells it by example. A request is one JSON object in one line, with an `id` that the reply echoes; replies may
-come in another order than the requests. A reply has one member beside `id`: what came of it, or `failed`.
+A request is one JSON object in one line, with an `id` that the reply echoes; replies may come in another order than the
+requests. A reply has one member beside `id`: what came of it, or `failed`.
 """
 from __future__ import annotations
 
@@ -47,7 +48,8 @@ class Address:
 
 @dataclass(frozen=True)
 class ServerEntry:
-    """A server as another process sees it. `number` is its own for ever: slots name the other party of a handover by it."""
+    """A server as another process sees it. `number` is its own for ever: slots name the other party of a handover by
+    it."""
 
     name: str
     number: int
@@ -130,7 +132,8 @@ async def listen(address: Address, handle: Handler) -> asyncio.Server:
 
 
 class Channel:
-    """A connection for requests to one address, made anew when it breaks. What waits for a reply then fails with `Lost`."""
+    """A connection for requests to one address, made anew when it breaks. What waits for a reply then fails with
+    `Lost`."""
 
     def __init__(self, address: Address) -> None:
         self.address = address

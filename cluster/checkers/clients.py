@@ -1,4 +1,5 @@
-"""What the clients saw, and nothing else: each key is a list of values that were pushed, in one order that fits what every client saw and when.
+"""What the clients saw, and nothing else: each key is a list of values that were pushed, in one order that fits what
+every client saw and when.
 
 `python3 -m cluster.checkers.clients HISTORY..` reads the load generator's lines. Exit status 1 if anything is wrong.
 """
@@ -16,7 +17,8 @@ NEVER = 1 << 63
 
 @dataclass(frozen=True)
 class Asked:
-    """A request of a client. `end` is NEVER if there was no reply: a push may then have been done at any time since, or not at all."""
+    """A request of a client. `end` is NEVER if there was no reply: a push may then have been done at any time since,
+    or not at all."""
 
     client: str
     is_push: bool
@@ -83,7 +85,8 @@ def out_of_time(final: tuple[str, ...], pushes: dict[str, Asked], reads: list[As
         if earliest_end < push.start:
             found.append(f"{value} stands before a value whose push had ended when its own began")
         earliest_end = min(earliest_end, push.end)
-    # (a list of n values has been there from the last start of its pushes, and one longer from the first end of the others)
+    # (a list of n values has been there from the last start of its pushes, and one longer from the first end of the
+    # others)
     ends = sorted([(push.end, places + 1) for places, push in enumerate(map(pushes.get, final))] + [(it.end, len(it.reply)) for it in reads])
     longest, turn = 0, 0
     for it in sorted(reads, key=lambda it: it.start):

@@ -1,8 +1,10 @@
-"""What the servers did, told by their own histories, and by the journal's orders if they are given. Nothing that a client saw is looked at.
+"""What the servers did, told by their own histories, and by the journal's orders if they are given. Nothing that a
+client saw is looked at.
 
-`python3 -m cluster.checkers.servers --history FILE.. [--orders FILE --answered FILE] [--expected FILE] [--wants FILE]`. Histories are those of
-`python3 -m cluster.servers.history`. Orders are lines of orders as they were sent, answered are lines of the journal with `"do":"answered"`, expected
-is `{"s":{"a":"primary",..},..}` at the end, wants is `{"s":FLOOR,..}`, the fewest replicas that a shard may have. Exit status 1 if anything is wrong.
+`python3 -m cluster.checkers.servers --history FILE.. [--orders FILE --answered FILE] [--expected FILE] [--wants FILE]`.
+Histories are those of `python3 -m cluster.servers.history`. Orders are lines of orders as they were sent, answered are
+lines of the journal with `"do":"answered"`, expected is `{"s":{"a":"primary",..},..}` at the end, wants is
+`{"s":FLOOR,..}`, the fewest replicas that a shard may have. Exit status 1 if anything is wrong.
 """
 from __future__ import annotations
 
@@ -21,8 +23,10 @@ HELD = ("secondary", "primary", "forwarding", "prepared")
 
 # What each call makes of which cell.
 LEADS = {
-    ("add", "absent"): {"primary", "secondary"}, ("add", "prepared"): {"primary"}, ("drop", "prepared"): {"absent"}, ("drop", "secondary"): {"absent"},
-    ("drop", "primary"): {"absent"}, ("drop", "forwarding"): {"absent"}, ("change", "primary"): {"secondary"}, ("change", "secondary"): {"primary"},
+    ("add", "absent"): {"primary", "secondary"}, ("add", "prepared"): {"primary"},
+    ("drop", "prepared"): {"absent"}, ("drop", "secondary"): {"absent"},
+    ("drop", "primary"): {"absent"}, ("drop", "forwarding"): {"absent"},
+    ("change", "primary"): {"secondary"}, ("change", "secondary"): {"primary"},
     ("prepare_add", "absent"): {"prepared"}, ("prepare_drop", "primary"): {"forwarding"},
 }
 

@@ -1,8 +1,9 @@
 """A load generator: each key is a list, to which clients push values that are never used twice, and which they read.
 
-`python3 -m cluster.clients --cluster FILE --shards s0,s1 --history FILE --seconds 20` writes one JSON line for each request:
-`{"client","op":"push"|"read","shard","key","value"?,"start","end","reply"?,"final"?}`, with times of time.monotonic_ns(). Without `reply`
-there was none in time: a push may have been done all the same, once, later or not at all.
+`python3 -m cluster.clients --cluster FILE --shards s0,s1 --history FILE --seconds 20` writes one JSON line for each
+request: `{"client","op":"push"|"read","shard","key","value"?,"start","end","reply"?,"final"?}`, with times of
+time.monotonic_ns(). Without `reply` there was none in time: a push may have been done all the same, once, later or not
+at all.
 """
 from __future__ import annotations
 
@@ -55,7 +56,8 @@ class Generator:
         await self.run_until(asyncio.Event(), seconds)
 
     async def run_until(self, stopping: asyncio.Event, seconds: float = 0) -> None:
-        """Runs all clients until the event is set or the time is over, if it is not 0, and reads every list at the end."""
+        """Runs all clients until the event is set or the time is over, if it is not 0, and reads every list at the
+        end."""
         watching = asyncio.create_task(self.published.watch())
         clients = [asyncio.create_task(self.client(it)) for it in range(self.load.clients)]
         clients += [asyncio.create_task(self.scout(it)) for it in range(self.load.scouts)]
@@ -90,7 +92,8 @@ class Generator:
         router.close()
 
     async def scout(self, number: int) -> None:
-        """Reads any shard at any server. Who answers has to have the right to, and to have all that was acknowledged."""
+        """Reads any shard at any server. Who answers has to have the right to, and to have all that was
+        acknowledged."""
         dice, name = random.Random(f"{self.load.seed} scout {number}"), f"{self.load.name}-scout{number}"
         router, servers = self.router(dice), sorted(self.cluster.servers)
         while not self.is_stopped:

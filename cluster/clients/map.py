@@ -17,8 +17,9 @@ async def post(url: str, path: str, body: dict, seconds: float = 2.0) -> dict:
         reader, writer = await asyncio.open_connection(host, int(port), limit=1 << 26)
         try:
             data = json.dumps(body).encode()
-            head = f"POST {path} HTTP/1.1\r\nHost: {host}\r\nContent-Type: application/json\r\nContent-Length: {len(data)}\r\nConnection: close\r\n\r\n"
-            writer.write(head.encode() + data)
+            head = (f"POST {path} HTTP/1.1", f"Host: {host}", "Content-Type: application/json", f"Content-Length: {len(data)}",
+                    "Connection: close", "", "")
+            writer.write("\r\n".join(head).encode() + data)
             answer = await reader.read()
         finally:
             writer.close()

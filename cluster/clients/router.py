@@ -1,4 +1,5 @@
-"""Sends requests to the servers that the published map names, and again, with the same identity, until there is a reply."""
+"""Sends requests to the servers that the published map names, and again, with the same identity, until there is a
+reply."""
 from __future__ import annotations
 
 import asyncio

@@ -1,4 +1,5 @@
-"""The side of a server that follows a shard's writes: a secondary, a new owner up to the cut, and an old owner behind it."""
+"""The side of a server that follows a shard's writes: a secondary, a new owner up to the cut, and an old owner
+behind it."""
 from __future__ import annotations
 
 import asyncio
@@ -24,7 +25,8 @@ class Elsewhere(Exception):
 
 
 class Following:
-    """Follows one shard until it is stopped. `joined` is set once it has what there was when it came; unless it is a new owner, each write waits for it
+    """Follows one shard until it is stopped. `joined` is set once it has what there was when it came; unless it is a
+    new owner, each write waits for it
     from then on."""
 
     def __init__(self, server: "Server", shard: Shard, hint: str | None, is_fresh: bool) -> None:
@@ -55,7 +57,8 @@ class Following:
         return self.shard.slot.cell == Cell.PREPARED and self.shard.has_reached_cut
 
     def source(self) -> str:
-        """Whom to ask next: the other party of a handover, the server that is said to be the primary, or the others in turn."""
+        """Whom to ask next: the other party of a handover, the server that is said to be the primary, or the others
+        in turn."""
         cell = self.shard.slot.cell
         if cell in (Cell.PREPARED, Cell.FORWARDING):
             return self.server.party(self.shard)

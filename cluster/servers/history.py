@@ -1,4 +1,5 @@
-"""Prints what a server did: `python3 -m cluster.servers.history DIR..`, once the server has ended (it starts the redis-server of the folder).
+"""Prints what a server did: `python3 -m cluster.servers.history DIR..`, once the server has ended (it starts the
+redis-server of the folder).
 
 Each line of history gets the `server`; the last lines, `data`, tell what the server has of each shard in the end.
 """

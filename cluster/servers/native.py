@@ -1,4 +1,5 @@
-"""The proved library of include/sm_agent.h, called from Python: the same functions, with the same values, as the port smplan.agent."""
+"""The proved library of include/sm_agent.h, called from Python: the same functions, with the same values, as the
+port smplan.agent."""
 from __future__ import annotations
 
 import ctypes

@@ -135,7 +135,8 @@ class Reopenings:
         return list(self.store.shards.values())
 
     async def take(self, base: Base, slots: list[Message], kind: str, named: str | None) -> None:
-        """Makes each slot what is brought, in one transaction with the base; what is not brought is absent. All locks are held."""
+        """Makes each slot what is brought, in one transaction with the base; what is not brought is absent. All
+        locks are held."""
         brought = {it["shard"]: it for it in slots}
         commands, after = [*self.store.base_commands(base), ("DEL", "old_owner")], {}
         for shard in self.store.shards.values():

@@ -1,4 +1,5 @@
-"""Requests of clients: routed and executed in one act, under the shard's lock; acknowledged when all who are alive have them."""
+"""Requests of clients: routed and executed in one act, under the shard's lock; acknowledged when all who are alive
+have them."""
 from __future__ import annotations
 
 import asyncio
@@ -99,7 +100,8 @@ class Requests:
                 raise ErrorReply(f"TRYAGAIN {name}")
 
     async def run(self, shard: Shard, identity: str | None, command: tuple[str, ...], how: Request) -> bytes:
-        """Executes a request that counts as running, and returns its reply once all who are alive have the shard's writes."""
+        """Executes a request that counts as running, and returns its reply once all who are alive have the shard's
+        writes."""
         term = shard.term
         try:
             await asyncio.sleep(self.server.think(shard, how))
@@ -119,7 +121,8 @@ class Requests:
             shard.wake()
 
     async def heed_cut(self, shard: Shard, how: Request) -> None:
-        """A request that is passed on tells the cut, which may not have come with the old owner's writes yet. Who executes behind it must not follow
+        """A request that is passed on tells the cut, which may not have come with the old owner's writes yet. Who
+        executes behind it must not follow
         the old owner any more."""
         slot = shard.slot
         if slot.cell == Cell.PREPARED and (slot.party, slot.handover) == (how.party, how.handover) and not slot.has_cut:

@@ -120,7 +120,8 @@ class Server:
             shard.following.stop(leaves)
 
     async def seal(self, shard: Shard, handover: int, cut: int) -> None:
-        """Takes the old owner's cut, from its stream of writes or with a request that it passes on. From then on the old owner is to have all that is
+        """Takes the old owner's cut, from its stream of writes or with a request that it passes on. From then on the
+        old owner is to have all that is
         executed here, and so are the other members, who have yet to come. The shard's lock is held."""
         after = agent.seal(shard.slot, handover, cut)
         if after == shard.slot:
@@ -203,7 +204,8 @@ class Server:
         """Turns Unknown: slots are deleted, data is kept."""
         async with AllLocks(self.store.shards.values()):
             base = agent.forget(nonce())
-            await self.store.save([("DEL", "slots", "old_owner"), *self.store.base_commands(base)], "forget", before=self.store.base.number, nonce=hexadecimal(base.nonce))
+            commands = [("DEL", "slots", "old_owner"), *self.store.base_commands(base)]
+            await self.store.save(commands, "forget", before=self.store.base.number, nonce=hexadecimal(base.nonce))
             self.store.base = base
             for shard in self.store.shards.values():
                 self.end_term(shard, "it has turned Unknown")

@@ -1,4 +1,5 @@
-"""What a server holds of a shard in memory: the slot and the mark as they are stored, and who runs, follows and works."""
+"""What a server holds of a shard in memory: the slot and the mark as they are stored, and who runs, follows and
+works."""
 from __future__ import annotations
 
 import asyncio
@@ -19,7 +20,8 @@ if TYPE_CHECKING:
 
 @dataclass(frozen=True)
 class Entry:
-    """A write as it is stored and sent on: its place, who asked for it, the command, the reply, and a sum over all writes up to it."""
+    """A write as it is stored and sent on: its place, who asked for it, the command, the reply, and a sum over all
+    writes up to it."""
 
     position: int
     identity: str | None
@@ -51,7 +53,8 @@ class Shard:
     slot: Slot
     position: int = 0
     chain: str = ""
-    # (who has to have a write before it is acknowledged, as the last source of writes has told it or as this source has it)
+    # (who has to have a write before it is acknowledged, as the last source of writes has told it or as this source has
+    # it)
     members: set[str] = field(default_factory=set)
     # (at a new owner: the old one, until it drops the shard; no write is acknowledged without it, alive or not)
     old_owner: str | None = None

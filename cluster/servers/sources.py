@@ -1,4 +1,5 @@
-"""The side of a server whose writes others follow: it sends them a shard's copy or its last writes, then each write, and waits until all who
+"""The side of a server whose writes others follow: it sends them a shard's copy or its last writes, then each write,
+and waits until all who
 are alive have a write before it is acknowledged."""
 from __future__ import annotations
 
@@ -17,7 +18,8 @@ if TYPE_CHECKING:
 
 
 class Stream:
-    """A follower's connection for one shard. Once it has joined, writes wait for it, unless it is a new owner before the cut."""
+    """A follower's connection for one shard. Once it has joined, writes wait for it, unless it is a new owner before
+    the cut."""
 
     def __init__(self, name: str, writer: asyncio.StreamWriter, start: int, takes_over: bool) -> None:
         self.name, self.writer, self.start, self.takes_over = name, writer, start, takes_over
@@ -90,7 +92,8 @@ class Sources:
         return stream
 
     async def join(self, shard: Shard, stream: Stream) -> None:
-        """The follower has what there was when it came, and is told so; from now on each write waits for it, unless it is a new owner."""
+        """The follower has what there was when it came, and is told so; from now on each write waits for it, unless
+        it is a new owner."""
         async with shard.lock:
             if shard.streams.get(stream.name) is not stream or not shard.is_source:
                 return

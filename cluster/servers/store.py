@@ -36,7 +36,8 @@ def die_with_parent() -> None:
 
 
 def start_redis(folder: Path) -> "subprocess.Popen[bytes]":
-    """Starts the redis-server of a folder, once nobody else has it. It ends with this process, however this process ends."""
+    """Starts the redis-server of a folder, once nobody else has it. It ends with this process, however this process
+    ends."""
     lock = os.open(folder / "lock", os.O_RDWR | os.O_CREAT)
     fcntl.flock(lock, fcntl.LOCK_EX)
     (folder / "redis.sock").unlink(missing_ok=True)
@@ -212,7 +213,8 @@ class Store:
         return commands + self.mark_commands(shard, copy["position"], copy["chain"])
 
     async def tail_after(self, shard: Shard, position: int, chain: str) -> list[Entry] | None:
-        """The writes behind a position, None if they are not all kept, or if the other one's writes up to there were others."""
+        """The writes behind a position, None if they are not all kept, or if the other one's writes up to there were
+        others."""
         if position >= shard.position:
             return [] if (position, chain) == (shard.position, shard.chain) else None
         texts = await self.redis.call("LRANGE", f"tail:{shard.name}", -(shard.position - position) - 1, -1)

@@ -1,4 +1,5 @@
-"""The two checkers of cluster/checkers on histories written by hand: nothing is found in the right ones, and each wrong one is found out."""
+"""The two checkers of cluster/checkers on histories written by hand: nothing is found in the right ones, and each
+wrong one is found out."""
 from __future__ import annotations
 
 import json

@@ -1,4 +1,5 @@
-"""One shard's primary moves from a server to another and back, again and again, while clients push and read all the time: no acknowledged push is lost
+"""One shard's primary moves from a server to another and back, again and again, while clients push and read all the
+time: no acknowledged push is lost
 or doubled, and no request fails."""
 from __future__ import annotations
 

@@ -1,4 +1,5 @@
-"""Runs cluster/servers/native.py, which calls the proved library build/libsm_agent.so, on the vectors of standard input (docs/AGENT-VECTORS.md)."""
+"""Runs cluster/servers/native.py, which calls the proved library build/libsm_agent.so, on the vectors of standard
+input (docs/AGENT-VECTORS.md)."""
 from __future__ import annotations
 
 import sys

@@ -1,4 +1,5 @@
-"""Plays of real servers under load, each of which a planted bug makes go wrong: without the bug both checkers find nothing, with it at least one does.
+"""Plays of real servers under load, each of which a planted bug makes go wrong: without the bug both checkers find
+nothing, with it at least one does.
 
 `python3 tests/cluster/plays.py [--sound] [--runs N] [NAME..]`; a name is that of a bug (cluster/servers/bugs.py).
 """
@@ -139,7 +140,8 @@ async def early_add(it: Scripted) -> None:
 
 
 async def late_seal(it: Scripted) -> None:
-    """The old owner is killed, and hands over as soon as it is back, before the new one follows it again: the cut comes with a request."""
+    """The old owner is killed, and hands over as soon as it is back, before the new one follows it again: the cut
+    comes with a request."""
     orders = it.handover("s", "a", "b", ["a", "c"])
     await push(it, "one")
     await it.send(orders[0])
@@ -189,7 +191,8 @@ PLAYS = {
 
 
 async def played(name: str, bug: str | None) -> tuple[list[str], list[str], dict]:
-    """Plays it; what the checkers of the servers and of the clients find, and the clients' figures with how the play ended."""
+    """Plays it; what the checkers of the servers and of the clients find, and the clients' figures with how the play
+    ended."""
     play = PLAYS[name]
     scripted = Scripted("abc", bug, play.think, play.lag)
     path = scripted.dir / "clients.jsonl"
@@ -239,8 +242,9 @@ def main() -> int:
             servers, clients, figures = asyncio.run(played(name, bug))
             is_wrong = not (servers or clients) if bug else bool(servers or clients or figures["end"] or figures["failures"])
             wrong += is_wrong
-            print(f"{name:24} {'with the bug' if bug else 'sound':13} servers {len(servers):4} clients {len(clients):4}  "
-                  f"{figures['requests']} requests, {figures['failures']} failed, {time.monotonic() - began:.0f} s{'   WRONG' if is_wrong else ''}", flush=True)
+            how, end = "with the bug" if bug else "sound", "   WRONG" if is_wrong else ""
+            print(f"{name:24} {how:13} servers {len(servers):4} clients {len(clients):4}  {figures['requests']} requests, "
+                  f"{figures['failures']} failed, {time.monotonic() - began:.0f} s{end}", flush=True)
             for fault in [*servers[:2], *clients[:2], *filter(None, [figures["end"]])] if bug or is_wrong else ():
                 print(f"    {fault}")
     return 1 if wrong else 0

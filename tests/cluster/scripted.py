@@ -1,4 +1,5 @@
-"""Servers in processes of their own, driven by a script that stands in for a controller: it settles them, sends orders of its own and keeps the
+"""Servers in processes of their own, driven by a script that stands in for a controller: it settles them, sends orders
+of its own and keeps the
 published map in a file."""
 from __future__ import annotations
 

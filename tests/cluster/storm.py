@@ -1,4 +1,5 @@
-"""Real servers under load in a storm: shards move and change roles side by side, servers are killed amid it and start again with their slots, old orders
+"""Real servers under load in a storm: shards move and change roles side by side, servers are killed amid it and start
+again with their slots, old orders
 come again, and now and then all is fenced, one server is given up for good and comes back later. Both checkers are to find nothing.
 
 `python3 tests/cluster/storm.py [--seed N] [--runs N] [--seconds N] [--keep]`
@@ -107,12 +108,14 @@ class Storm:
                     self.counts["kills"] += 1
 
     async def reopen(self) -> None:
-        """All moves break off, a server is given up, and the others are settled; later it comes back, and is settled with nothing."""
+        """All moves break off, a server is given up, and the others are settled; later it comes back, and is settled
+        with nothing."""
         async with self.pause:
             for task in list(self.moving):
                 task.cancel()
             await asyncio.gather(*self.moving, return_exceptions=True)
-            # (who was killed a moment ago catches up first: only the copies of live servers are promised to have all acknowledged writes)
+            # (who was killed a moment ago catches up first: only the copies of live servers are promised to have all
+            # acknowledged writes)
             await asyncio.sleep(3)
             lost = self.dice.choice(NAMES)
             self.it.kill(lost)
