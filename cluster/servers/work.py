@@ -2,6 +2,7 @@
 from __future__ import annotations
 
 import asyncio
+import random
 import time
 from dataclasses import dataclass, replace
 from typing import TYPE_CHECKING
@@ -115,6 +116,8 @@ class Orders:
         """Does the work, and commits it; if it takes too long it is given up, and the order comes again."""
         try:
             await self.prepare(shard, work)
+            if self.server.bug == "commit-after-fence":  # (work that takes long enough to see it)
+                await asyncio.sleep(random.random() * 1.5)
             committed = await self.commit(shard, work)
         except Failed as failed:
             committed, why = False, failed.why
