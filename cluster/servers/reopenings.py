@@ -102,7 +102,7 @@ class Reopenings:
         async with self.server.changing, AllLocks(self.shards_with(told)):
             before = self.store.base
             if self.server.bug == "settle-twice" and before.number == told["base"] and before.known:
-                before = replace(before, fenced=1)
+                before, name = replace(before, fenced=1), None
             answer, base = agent.settle(before, int(told["journal"], 16), told["base"], name is not None, int(name or "0", 16))
             if answer == Answer.TAKEN:
                 await self.take(base, told["slots"], "settle", told.get("nonce"))
