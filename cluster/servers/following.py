@@ -26,8 +26,7 @@ class Elsewhere(Exception):
 
 class Following:
     """Follows one shard until it is stopped. `joined` is set once it has what there was when it came; unless it is a
-    new owner, each write waits for it
-    from then on."""
+    new owner, each write waits for it from then on."""
 
     def __init__(self, server: "Server", shard: Shard, hint: str | None, is_fresh: bool) -> None:
         self.server, self.store, self.shard = server, server.store, shard

@@ -122,8 +122,7 @@ class Requests:
 
     async def heed_cut(self, shard: Shard, how: Request) -> None:
         """A request that is passed on tells the cut, which may not have come with the old owner's writes yet. Who
-        executes behind it must not follow
-        the old owner any more."""
+        executes behind it must not follow the old owner any more."""
         slot = shard.slot
         if slot.cell == Cell.PREPARED and (slot.party, slot.handover) == (how.party, how.handover) and not slot.has_cut:
             await self.server.seal(shard, how.handover, how.cut)
@@ -143,12 +142,19 @@ class Requests:
         """Executes a request once. The shard's lock is held."""
         if command[0] in READS:
             return await self.read(shard, command, how)
-        done, reply = await asyncio.gather(self.done(shard, identity), self.foreseen(shard, command))
-        if done is not None:
-            return done
-        position, text = shard.position + 1, encode_reply(reply).decode("latin-1")
+        done, reply = await asyncio.gather(self.done(shard, identity), self.foreseen(shard, command), return_exceptions=True)
+        if done is None and not isinstance(reply, BaseException):
+            return await self.write(shard, identity, command, how, encode_reply(reply))
+        failed = next((it for it in (done, reply) if isinstance(it, BaseException)), None)
+        if done is None or isinstance(done, BaseException):
+            raise failed
+        return done
+
+    async def write(self, shard: Shard, identity: str | None, command: tuple[str, ...], how: Request, reply: bytes) -> bytes:
+        """Executes a write with all that belongs to it in one transaction, and sends it to all who follow."""
+        position = shard.position + 1
         kept = None if self.server.bug == "no-identities" else identity
-        entry = Entry(position, kept, command, text, chained(shard.chain, identity, command))
+        entry = Entry(position, kept, command, reply.decode("latin-1"), chained(shard.chain, identity, command))
         commands = self.store.entry_commands(shard.name, entry) + self.store.trim_commands(shard.name, position)
         commands += self.store.mark_commands(shard.name, position, entry.chain)
         await self.store.save(
@@ -156,7 +162,7 @@ class Requests:
             passed=self.server.cluster.name_of(how.party) if how.is_passed else None)
         shard.position, shard.chain = position, entry.chain
         self.server.sources.send(shard, entry)
-        return text.encode("latin-1")
+        return reply
 
     async def read(self, shard: Shard, command: tuple[str, ...], how: Request) -> bytes:
         """Executes a read; history has it with the next change."""

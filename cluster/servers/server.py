@@ -34,7 +34,6 @@ class Server:
         self.reopenings = Reopenings(self)
         self.tasks: set[asyncio.Task[Any]] = set()
         self.asking: asyncio.Task[None] | None = None
-        self.ended = asyncio.Event()
 
     # -- beginning and ending
 
@@ -121,8 +120,8 @@ class Server:
 
     async def seal(self, shard: Shard, handover: int, cut: int) -> None:
         """Takes the old owner's cut, from its stream of writes or with a request that it passes on. From then on the
-        old owner is to have all that is
-        executed here, and so are the other members, who have yet to come. The shard's lock is held."""
+        old owner is to have all that is executed here, and so are the other members, who have yet to come. The shard's
+        lock is held."""
         after = agent.seal(shard.slot, handover, cut)
         if after == shard.slot:
             return

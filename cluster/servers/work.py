@@ -193,7 +193,7 @@ class Orders:
     async def commit(self, shard: Shard, work: Work) -> bool:
         """Commits the work with its data in one transaction. Only if this is true the order is answered."""
         async with shard.lock:
-            if shard.work is not work or (self.holds(work.order) and not self.is_quiet(shard)):
+            if shard.work is not work or (self.holds(work.order) and shard.running):
                 return False
             slot, before = self.slot_after(shard, work), shard.slot
             if slot is None:
@@ -221,10 +221,6 @@ class Orders:
         return (order.call == Call.PREPARE_DROP and bug != "drop-while-writing") or (
             order.call == Call.CHANGE and order.new_role == Role.SECONDARY and bug != "change-while-writing")
 
-    def is_quiet(self, shard: Shard) -> bool:
-        """No request of the shard runs."""
-        return shard.running == 0
-
     def slot_commands(self, shard: Shard, slot) -> list:
         """Stores the slot; with the bug a dropped one is deleted."""
         if self.server.bug == "slot-deleted" and slot.cell == Cell.ABSENT:
@@ -248,19 +244,19 @@ class Orders:
 
     def follow_up(self, shard: Shard, before: Cell) -> None:
         """Follows, is followed or ends both, as the new slot asks for. The shard's lock is held."""
-        cell, told = shard.slot.cell, self.server
+        cell, server = shard.slot.cell, self.server
         if cell == Cell.PRIMARY:
-            self.server.stop_following(shard)
+            server.stop_following(shard)
             if before == Cell.SECONDARY:
                 shard.seen = {it: time.monotonic() for it in shard.members}
         elif cell == Cell.FORWARDING:
-            told.sources.end(shard)
-            self.server.start_following(shard)
+            server.sources.end(shard)
+            server.start_following(shard)
         elif cell == Cell.ABSENT:
-            self.server.stop_following(shard, leaves=True)
-            told.sources.close(shard)
+            server.stop_following(shard, leaves=True)
+            server.sources.close(shard)
         elif before == Cell.PRIMARY:
-            told.sources.close(shard)
-            self.server.start_following(shard)
+            server.sources.close(shard)
+            server.start_following(shard)
         elif shard.following is None:
-            self.server.start_following(shard)
+            server.start_following(shard)
