@@ -1,0 +1,126 @@
+"""The proxies, and the figures of a run."""
+import asyncio
+import json
+import unittest
+from collections import Counter
+
+from cluster.faults.dice import Dice, Rates
+from cluster.faults.proxies import RELAYS, Link, open_proxy
+from cluster.launch.figures import handover_waits
+from cluster.launch.moving import Mover
+from cluster.launch.processes import free_ports
+from cluster.launch.shape import Shape, document_of
+from cluster.launch.situations import SITUATIONS, situations_of
+
+
+async def echo(reader, writer):
+    """Answers each line with itself."""
+    while line := await reader.readline():
+        writer.write(line)
+    writer.close()
+
+
+class ProxyTest(unittest.IsolatedAsyncioTestCase):
+    """Lines through a proxy."""
+
+    async def lines_through(self, rates, count=200, seed=1):
+        """What comes back of some lines."""
+        counts = Counter()
+        far, near = free_ports(2)
+        server = await asyncio.start_server(echo, "127.0.0.1", far)
+        proxy = await open_proxy(near, RELAYS["lines"], Link("order k a", Dice(seed, "order k a", rates, counts), "127.0.0.1", far))
+        reader, writer = await asyncio.open_connection("127.0.0.1", near)
+        for it in range(count):
+            writer.write(b"%d\n" % it)
+        found = []
+        try:
+            # (a lossless proxy gives each line at least once; behind that nothing comes any more but copies)
+            while True:
+                is_all = len(set(found)) == count - counts["order dropped"]
+                found.append(int(await asyncio.wait_for(reader.readline(), 1 if is_all else 20)))
+        except (asyncio.TimeoutError, ValueError):
+            pass
+        writer.close()
+        await writer.wait_closed()
+        await asyncio.sleep(0.2)
+        server.close()
+        proxy.close()
+        return found, counts
+
+    async def test_calm(self):
+        found, counts = await self.lines_through(Rates())
+        self.assertEqual((found, counts), (list(range(200)), Counter()))
+
+    async def test_drops(self):
+        found, counts = await self.lines_through(Rates(drop=0.1))
+        self.assertEqual(len(found), 200 - counts["order dropped"])
+        self.assertTrue(10 < counts["order dropped"] < 80)
+
+    async def test_repeats_and_delays_reorder(self):
+        found, counts = await self.lines_through(Rates(repeat=0.2, delay=0.3, longest=0.05))
+        self.assertEqual(set(found), set(range(200)))
+        self.assertGreater(len(found), 200 + 20)
+        self.assertNotEqual(found, sorted(found))
+        self.assertTrue(counts["order repeated"] and counts["order delayed"])
+
+    def test_dice_of_one_seed_roll_the_same(self):
+        def rolls(seed):
+            dice = Dice(seed, "order k a", Rates(drop=0.5), Counter())
+            return [dice.drops() for _ in range(50)]
+
+        self.assertEqual(rolls(1), rolls(1))
+        self.assertNotEqual(rolls(1), rolls(2))
+
+
+class ShapeTest(unittest.TestCase):
+    """The document that a cluster begins with, and moves."""
+
+    def test_document(self):
+        for shape in (Shape(), Shape(servers=8, shards=64), Shape(servers=1, shards=3, want=1)):
+            document = document_of(shape)
+            loads = Counter()
+            for shard in document["shards"]:
+                servers = [it["server"] for it in shard["cells"]]
+                self.assertEqual(len(set(servers)), shape.want)
+                loads.update({it: shard["load"] for it in servers})
+            self.assertTrue(all(loads[it["name"]] <= it["room"] for it in document["servers"]))
+
+    def test_moves_fit(self):
+        mover = Mover(None, 1)
+        servers = [{"server": it, "room": 10, "load": 6, "held": 0, "permit": None} for it in "abc"] + [{"server": "d", "room": 99, "load": 0, "held": 0, "permit": 5}]
+        shards = [{"shard": f"s{it}", "load": 3, "listed": "a", "cells": [{"server": "a", "state": "primary"}]} for it in range(4)]
+        chosen = mover.choose({"servers": servers, "shards": shards}, 4)
+        targets = Counter(it["holds"]["room"][0]["server"] for it in chosen.values())
+        self.assertEqual(targets, Counter({"b": 1, "c": 1}))
+
+
+class SituationsTest(unittest.TestCase):
+    """What is counted from histories."""
+
+    def event(self, t, kind, **more):
+        return {"t": t, "server": "a", "kind": kind, "shard": "s", **more}
+
+    def test_situations(self):
+        order = {"number": 5, "plan": 0, "stream": 0}
+        events = [
+            self.event(1, "begin", call="prepare_drop", **order), self.event(3, "commit", call="prepare_drop", **order),
+            self.event(4, "seal"), self.event(5, "order-again", number=5),
+            self.event(6, "begin", call="drop", **{**order, "number": 7}), self.event(8, "commit", call="drop", **{**order, "number": 7}),
+            self.event(9, "order-again", number=5), self.event(10, "begin", call="add", number=9), self.event(11, "fence"),
+            self.event(12, "begin", call="add", number=11), self.event(13, "start"), self.event(14, "order-old", number=5),
+        ]
+        found = situations_of(events, Counter({"restarted: ignored": 2}), Counter())
+        self.assertEqual(found["an order answered again after its stream went on"], 1)
+        self.assertEqual(found["a fence that meets an order at work"], 1)
+        self.assertEqual(found["a crash while at work"], 1)
+        self.assertEqual(found["an order answered old"], 1)
+        self.assertEqual(found["a second restarted"], 2)
+        self.assertLessEqual(set(found), set(SITUATIONS))
+        self.assertEqual(handover_waits([{**it, "t": it["t"] * 1e9} for it in events]), [3.0])
+
+    def test_situations_are_json(self):
+        self.assertEqual(json.loads(json.dumps(situations_of([], Counter(), Counter()))), {})
+
+
+if __name__ == "__main__":
+    unittest.main()
