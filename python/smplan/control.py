@@ -20,7 +20,7 @@ from typing import Any, Awaitable, Callable, Dict, List, Optional, Protocol, Seq
 
 from .control_session import Line, Session, SessionEnded, text_of
 
-__all__ = ["Controller", "Line", "Outgoing", "Pace", "Servers", "Session", "SessionEnded", "Store", "StoreLost", "DONE"]
+__all__ = ["Controller", "Line", "Outgoing", "Pace", "Servers", "Session", "SessionEnded", "Store", "StoreLost", "Times", "BOUNDS", "DONE"]
 
 # What a handler says once its message is answered.
 DONE = "done"
@@ -68,6 +68,26 @@ class Pace:
     batch: int = 64
 
 
+# Bounds of the histogram of answer times, in seconds.
+BOUNDS = (0.005, 0.02, 0.1, 0.5, 2.0, 10.0, 60.0, 600.0)
+
+
+@dataclass
+class Times:
+    """How long messages took to be answered, repetitions included: how many at most so long, and all together."""
+
+    within: List[int] = field(default_factory=lambda: [0] * len(BOUNDS))
+    count: int = 0
+    total: float = 0.0
+
+    def add(self, seconds: float) -> None:
+        """Adds an answer."""
+        self.count += 1
+        self.total += seconds
+        for place, bound in enumerate(BOUNDS):
+            self.within[place] += seconds <= bound
+
+
 @dataclass
 class Outgoing:
     """A message that is not yet answered: when it first went out, how often it did, and what its handler said last."""
@@ -88,6 +108,15 @@ class Outgoing:
 Key = Tuple[Any, ...]
 
 
+# The members that tell messages of one key apart. Others, as the replicas of an order, may change while it is outstanding.
+NAMING = ("journal", "epoch", "fence", "number", "base", "nonce")
+
+
+def is_same(message: Line, other: Line) -> bool:
+    """Whether two messages of one key are the same one."""
+    return all(message.get(it) == other.get(it) for it in NAMING)
+
+
 def key_of(kind: str, message: Line) -> Key:
     """Returns what a message takes the place of: the order before it of its stream, or the fence before it of its server."""
     if kind == "order":
@@ -104,7 +133,7 @@ class Controller:
         self.leads = False
         self.outgoing: Dict[Key, Outgoing] = {}
         self.counts: Counter[str] = Counter()
-        self.answer_times: List[float] = []
+        self.times = Times()
         self.proposal: Optional[Line] = None
         self.lost: Optional[BaseException] = None
         self.queue: List[Tuple[str, "asyncio.Future[Line]"]] = []
@@ -150,7 +179,7 @@ class Controller:
         self.heed(reply)
         present = {key_of(kind, it): it for kind, it in self.messages_of(reply)}
         for key, outgoing in list(self.outgoing.items()):
-            if key[0] != "restore" and present.get(key) != outgoing.message:
+            if key[0] != "restore" and not is_same(present.get(key, {}), outgoing.message):
                 self.forget(key)
 
     # Lines.
@@ -250,7 +279,8 @@ class Controller:
         """Begins to send a message, unless it is under way."""
         key = key_of(kind, message)
         known = self.outgoing.get(key)
-        if known is not None and known.message == message:
+        if known is not None and is_same(known.message, message):
+            known.message = message
             return
         self.forget(key)
         outgoing = Outgoing(message)
@@ -264,7 +294,7 @@ class Controller:
             if line is None:
                 await asyncio.sleep(self.pace.again)
                 continue
-            self.answer_times.append(outgoing.age)
+            self.times.add(outgoing.age)
             try:
                 if line:
                     await self.do(line)
@@ -283,8 +313,8 @@ class Controller:
                 return await asyncio.wait_for(self.hand_out(kind, outgoing), self.pace.timeout)
         except asyncio.TimeoutError:
             outgoing.said = "no answer"
-        except (OSError, EOFError, ValueError) as why:
-            outgoing.said = str(why) or type(why).__name__
+        except Exception as why:  # (handlers are others' code, and whatever befalls them the message goes again)
+            outgoing.said = f"{type(why).__name__} {why}".strip()
         return None
 
     async def hand_out(self, kind: str, outgoing: Outgoing) -> Optional[Line]:

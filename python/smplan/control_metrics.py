@@ -3,10 +3,7 @@ from __future__ import annotations
 
 from typing import Any, Dict, Iterable, List, Tuple
 
-from .control import Controller, Line
-
-# Bounds of the histogram of answer times, in seconds.
-BOUNDS = (0.005, 0.02, 0.1, 0.5, 2.0, 10.0, 60.0, 600.0)
+from .control import BOUNDS, Controller, Line, Times
 
 Sample = Tuple[Dict[str, str], float]
 
@@ -23,13 +20,12 @@ def metric(name: str, kind: str, text: str, samples: Iterable[Sample]) -> List[s
     return lines + [f"smplan_{name}{label_text(labels)} {value:g}" for labels, value in samples]
 
 
-def histogram(name: str, text: str, values: List[float]) -> List[str]:
+def histogram(name: str, text: str, times: Times) -> List[str]:
     """Returns a histogram of seconds."""
     lines = [f"# HELP smplan_{name} {text}", f"# TYPE smplan_{name} histogram"]
-    for bound in BOUNDS:
-        lines.append(f'smplan_{name}_bucket{{le="{bound:g}"}} {sum(it <= bound for it in values)}')
-    lines.append(f'smplan_{name}_bucket{{le="+Inf"}} {len(values)}')
-    return [*lines, f"smplan_{name}_sum {sum(values):g}", f"smplan_{name}_count {len(values)}"]
+    lines += [f'smplan_{name}_bucket{{le="{bound:g}"}} {count}' for bound, count in zip(BOUNDS, times.within)]
+    lines.append(f'smplan_{name}_bucket{{le="+Inf"}} {times.count}')
+    return [*lines, f"smplan_{name}_sum {times.total:g}", f"smplan_{name}_count {times.count}"]
 
 
 def of_servers(state: Line) -> List[str]:
@@ -72,7 +68,7 @@ def of_controller(controller: Controller) -> List[str]:
         *metric("outstanding", "gauge", "messages that are not answered", count),
         *metric("outstanding_age_seconds", "gauge", "age of the oldest message that is not answered", oldest),
         *metric("events_total", "counter", "what this controller did", events),
-        *histogram("answer_seconds", "how long a message took to be answered, repetitions included", controller.answer_times),
+        *histogram("answer_seconds", "how long a message took to be answered, repetitions included", controller.times),
     ]
 
 

@@ -93,6 +93,34 @@ class ControlTest(unittest.IsolatedAsyncioTestCase):
         self.assertEqual(controller.counts["order again"], 3)
         self.assertEqual([json.loads(it)["do"] for it in self.stored], ["begin", "answered"])
 
+    async def test_faulty_handler_is_called_again(self):
+        class Faulty(FakeServers):
+            async def order(self, order):
+                self.orders.append(order)
+                return DONE if len(self.orders) == 3 else {}["no"]
+
+        servers = Faulty()
+        controller = await self.led(servers)
+        await controller.do({"do": "begin"})
+        await self.until_idle(controller)
+        await controller.rest()
+        self.assertEqual(len(servers.orders), 3)
+
+    async def test_age_is_kept_when_a_message_comes_anew(self):
+        controller = await self.led(FakeServers(tries=1000))
+        await controller.do({"do": "begin"})
+        outgoing = controller.outgoing["order", 0, 0]
+        controller.send("order", {**ORDER, "replicas": ["a", "b"]})
+        self.assertIs(controller.outgoing["order", 0, 0], outgoing)
+        self.assertEqual(outgoing.message["replicas"], ["a", "b"])
+        await controller.refresh()
+        self.assertIs(controller.outgoing["order", 0, 0], outgoing)
+        controller.send("order", {**ORDER, "number": 8})
+        self.assertIsNot(controller.outgoing["order", 0, 0], outgoing)
+        await controller.refresh()
+        self.assertEqual(controller.outgoing["order", 0, 0].message["number"], 7)
+        await controller.rest()
+
     async def test_stored_before_fed(self):
         fed_when_stored = []
 

@@ -123,7 +123,8 @@ class WatchTest(unittest.TestCase):
             session = await Session.start([sys.executable, "-c", STATES])
             controller = Controller(session, None, None)
             controller.outgoing["order", 0, 0] = Outgoing({"server": "b"})
-            controller.answer_times += [0.01, 3.0]
+            controller.times.add(0.01)
+            controller.times.add(3.0)
             text = await metrics_of(controller)
             await session.close()
             return text
