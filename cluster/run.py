@@ -97,6 +97,7 @@ class Run:
             journal = os.urandom(JOURNAL_BITS // 8).hex().lstrip("0") or "1"
             await self.story.reopen(document_of(self.settings.shape), [], "the first opening", journal=journal, epoch=1)
             await self.cluster.processes.start("clients")
+            await self.wait_for_clients()
             await self.harm()
             counts = (await self.cluster.tell_proxies(counts=True))["counts"]
             await self.calm_down()
@@ -107,6 +108,12 @@ class Run:
             return self.result(counts)
         finally:
             await self.cluster.end()
+
+    async def wait_for_clients(self) -> None:
+        """Waits until the clients have begun."""
+        while not (self.settings.directory / "clients.jsonl").exists():
+            await asyncio.sleep(0.1)
+        await asyncio.sleep(0.5)
 
     async def harm(self) -> None:
         """Moves replicas, and does harm at the times of the story. Before that nothing is moved for a while."""

@@ -1,6 +1,7 @@
 """The journal, the lease and the map in etcd, over an etcd in memory that fails when it is told to."""
 import asyncio
 import json
+import logging
 import unittest
 
 from smplan.control import DONE, StoreLost
@@ -10,6 +11,9 @@ from cluster.controllers.journal import LEADER, EtcdJournal, key_of
 from cluster.controllers.lease import Lease
 from cluster.controllers.map_owner import BASE, MapOwner
 
+
+# (asyncio tells in its debug mode of each step that a busy machine made slow)
+logging.getLogger("asyncio").setLevel(logging.ERROR)
 
 class FakeEtcd:
     """Keys in a dictionary. `faults` says of the next transactions whether they fail, and whether they went through all the same."""

@@ -1,6 +1,7 @@
 """The proxies, and the figures of a run."""
 import asyncio
 import json
+import logging
 import unittest
 from collections import Counter
 
@@ -19,6 +20,9 @@ async def echo(reader, writer):
         writer.write(line)
     writer.close()
 
+
+# (asyncio tells in its debug mode of each step that a busy machine made slow)
+logging.getLogger("asyncio").setLevel(logging.ERROR)
 
 class ProxyTest(unittest.IsolatedAsyncioTestCase):
     """Lines through a proxy."""

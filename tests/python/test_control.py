@@ -1,6 +1,7 @@
 """smplan.control: lines are stored before they are fed, and messages go out until they are answered."""
 import asyncio
 import json
+import logging
 import sys
 import unittest
 
@@ -29,6 +30,9 @@ for line in sys.stdin:
     print(json.dumps(reply), flush=True)
 """
 
+
+# (asyncio tells in its debug mode of each step that a busy machine made slow)
+logging.getLogger("asyncio").setLevel(logging.ERROR)
 
 class FakeServers:
     """Handlers that answer after some tries, and remember what they were given."""
