@@ -1,4 +1,4 @@
-"""Commands of the model of the network as lines of `smpland`, and replies of both in one form, so that they can be compared.
+"""Commands of the model of the network as lines of `smpland`, and replies of both in one form, to be compared.
 
 Server 2 is named `v2` and shard 1 is named `s1`; the map's owner has no name.
 """
@@ -45,8 +45,8 @@ def document_json(document: commands.Document) -> Json:
         ],
         "shards": [
             {
-                "name": shard_name(it), "load": document.loads[it], "want": document.wants[it], "cap": document.caps[it],
-                "spread": 0, "listed": server_name(primary_of(row)), "cells": cells_json(row),
+                "name": shard_name(it), "load": document.loads[it], "want": document.wants[it],
+                "cap": document.caps[it], "spread": 0, "listed": server_name(primary_of(row)), "cells": cells_json(row),
             }
             for it, row in enumerate(document.cells)
         ],
@@ -79,7 +79,8 @@ def parcel_json(hold: Any) -> Json:
     told: Json = {"cells": [], "crowns": [], "room": [], "spare": []}
     for key, value in hold.items():
         if isinstance(key, CellRight):
-            told["cells"].append({"shard": shard_name(key.shard), "server": server_name(key.server), "state": value.kind.value})
+            names = {"shard": shard_name(key.shard), "server": server_name(key.server)}
+            told["cells"].append(names | {"state": value.kind.value})
         elif isinstance(key, CrownRight):
             told["crowns"].append(crown_json(key, value))
         elif isinstance(key, RoomRight):
@@ -95,7 +96,9 @@ def crown_json(key: CrownRight, crown: Crown) -> Json:
     told = {"shard": shard_name(key.shard), "lead": lead.stage.value, "listed": server_name(crown.listed)}
     if lead.stage is Stage.AT:
         return told | {"server": server_name(lead.owner)}
-    return told if lead.stage is Stage.GONE else told | {"from": server_name(lead.owner), "to": server_name(lead.new_owner)}
+    if lead.stage is Stage.GONE:
+        return told
+    return told | {"from": server_name(lead.owner), "to": server_name(lead.new_owner)}
 
 
 def instruction_json(it: Instruction) -> Json:
@@ -126,7 +129,8 @@ def command_json(command: commands.Command) -> Json:
     """Returns a command as a line has it."""
     match command:
         case commands.Open():
-            return {"do": "open", "document": document_json(command.document), "journal": f"{command.journal:x}", "epoch": command.epoch}
+            told = {"do": "open", "document": document_json(command.document)}
+            return told | {"journal": f"{command.journal:x}", "epoch": command.epoch}
         case commands.Begin():
             return {"do": "begin", "plan": plan_json(command.plan), "name": command.name}
         case commands.Answered():
@@ -154,7 +158,8 @@ def command_json(command: commands.Command) -> Json:
 
 def reopen_json(command: commands.Reopen) -> Json:
     """Returns a reopening."""
-    told: Json = {"do": "reopen", "document": document_json(command.document), "lost": [server_name(it) for it in sorted(command.lost)]}
+    told: Json = {"do": "reopen", "document": document_json(command.document)}
+    told["lost"] = [server_name(it) for it in sorted(command.lost)]
     if command.journal is not None:
         told |= {"journal": f"{command.journal:x}", "epoch": command.epoch}
     return told
@@ -203,9 +208,11 @@ def told_slots(slots: tuple[SlotTold, ...]) -> list[Json]:
     """Returns the slots of a restore or a settle."""
     found = []
     for shard, slot in enumerate(slots):
-        if slot.cell != ABSENT:
-            party = {"party": server_name(slot.cell.party), "handover": slot.cell.handover} if slot.cell.is_in_handover else {}
-            found.append({"shard": shard_name(shard), "cell": slot.cell.kind.value, "load": slot.load} | party)
+        cell = slot.cell
+        told = {"shard": shard_name(shard), "cell": cell.kind.value, "load": slot.load}
+        if cell.is_in_handover:
+            told |= {"party": server_name(cell.party), "handover": cell.handover}
+        found += [told] if cell != ABSENT else []
     return found
 
 
@@ -213,8 +220,8 @@ def settle_form(settle: Settle | SettleMap) -> Json:
     """Returns a settle."""
     told: Json = {"server": server_name(settle.server), "base": settle.base, "journal": f"{settle.journal:x}"}
     if isinstance(settle, SettleMap):
-        entries = [{"shard": shard_name(it), "to": server_name(to), "version": settle.base} for it, to in enumerate(settle.entries)]
-        return told | {"entries": entries}
+        entries = [(shard_name(it), server_name(to)) for it, to in enumerate(settle.entries)]
+        return told | {"entries": [{"shard": it, "to": to, "version": settle.base} for it, to in entries]}
     return told | {"nonce": None if settle.nonce is None else f"{settle.nonce:x}", "slots": told_slots(settle.slots)}
 
 
@@ -222,10 +229,11 @@ def reply_form(reply: replies.Reply) -> Json:
     """Returns a reply of the model, but for what has another order or other words."""
     match reply:
         case replies.Opened():
-            return {"opened": {"epoch": reply.epoch, "journal": f"{reply.journal:x}", "permits": [server_name(it) for it, _ in reply.permits]}}
+            servers = [server_name(it) for it, _ in reply.permits]
+            return {"opened": {"epoch": reply.epoch, "journal": f"{reply.journal:x}", "permits": servers}}
         case replies.Begun():
-            again = {"again": True} if reply.is_again else {}
-            return {"begun": {"plan": reply.plan, "calls": reply.calls, "streams": reply.streams, "epoch": reply.epoch}} | again
+            names = ("plan", "calls", "streams", "epoch")
+            return {"begun": {it: getattr(reply, it) for it in names}} | ({"again": True} if reply.is_again else {})
         case replies.Moved():
             return {"moved": {"plan": reply.plan, "stream": reply.stream, "at": reply.at}}
         case replies.Approved():
@@ -247,7 +255,8 @@ def reply_form(reply: replies.Reply) -> Json:
         case replies.Proposal():
             return {"proposal": {
                 "cells": [cells_json(row) for row in reply.cells], "lost": [shard_name(it) for it in reply.lost],
-                "floors": [(shard_name(it), live) for it, live in reply.floors], "carried": set(map(server_name, reply.carried)),
+                "floors": [(shard_name(it), live) for it, live in reply.floors],
+                "carried": set(map(server_name, reply.carried)),
             }}
         case replies.Settling():
             return {"settle": {server_name(it.server): settle_form(it) for it in reply.settles}}

@@ -1,9 +1,10 @@
-"""Random sessions as lines: the commands of random schedules of the model of the network, with questions between, and lines that were spoilt."""
+"""Random sessions as lines: commands of random schedules of the model, with questions between, and spoilt lines."""
 from __future__ import annotations
 
 import json
 import random
 from collections.abc import Iterator
+from dataclasses import replace
 from typing import Any
 
 from driving_model import commands
@@ -14,8 +15,9 @@ from plain_commands import command_json, with_own_cells
 
 Json = dict[str, Any]
 QUESTIONS = [
-    {"do": "hello"}, {"do": "orders"}, {"do": "map"}, {"do": "state"}, {"do": "state", "shard": "s0"}, {"do": "state", "plan": 0},
-    {"do": "since", "place": 3}, {"do": "failed", "plan": 0, "stream": 0, "number": 1, "answer": "old"},
+    {"do": "hello"}, {"do": "orders"}, {"do": "map"}, {"do": "state"}, {"do": "state", "shard": "s0"},
+    {"do": "state", "plan": 0}, {"do": "since", "place": 3},
+    {"do": "failed", "plan": 0, "stream": 0, "number": 1, "answer": "old"},
     {"do": "audit", "server": "v0", "place": 5, "slots": []},
 ]
 
@@ -37,7 +39,7 @@ def sessions(seed: int, steps: int) -> Iterator[list[Json]]:
             yield lines
             lines = []
         if is_opening:
-            command = type(command)(**{it: getattr(command, it) for it in command.__slots__} | {"document": with_own_cells(command.document)})
+            command = replace(command, document=with_own_cells(command.document))
         lines.append(command_json(command))
         if dice.random() < 0.2:
             lines.append(dice.choice(QUESTIONS))

@@ -1,8 +1,8 @@
 """Session files: lines with the replies that are due.
 
-`= NAME JSON` names a value; `"@NAME"` in a line or a reply stands for it. `> LINE` is a line, as it stands if it is no JSON.
-Below it stands what is due: `< REPLY` the whole reply, `! TEXT` a refusal or a bad line with this text (for a bad line the
-path stands behind ` at `), or `?`, anything. `#` begins a comment.
+`= NAME JSON` names a value; `"@NAME"` in a line or a reply stands for it. `> LINE` is a line, as it stands if it is no
+JSON. Below it stands what is due: `< REPLY` the whole reply, `! TEXT` a refusal or a bad line with this text (for a bad
+line the path stands behind ` at `), or `?`, anything. `#` begins a comment.
 """
 from __future__ import annotations
 
@@ -90,7 +90,8 @@ def exchanges(path: Path) -> Iterator[Exchange]:
         elif mark == ">":
             line = filled_text(rest, names).encode()
         elif mark in ("<", "!", "?"):
-            yield Exchange(f"{path.name}:{number}", line, filled_text(text, names) if mark != "<" else "< " + filled_text(rest, names))
+            due = f"< {filled_text(rest, names)}" if mark == "<" else text
+            yield Exchange(f"{path.name}:{number}", line, due)
         elif mark not in ("", "#"):
             raise ValueError(f"{path.name}:{number}: {text}")
 

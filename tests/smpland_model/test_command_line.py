@@ -30,7 +30,8 @@ class CommandLine(unittest.TestCase):
 
     def test_a_reply_comes_before_the_next_line(self) -> None:
         """A client may wait for each reply."""
-        with subprocess.Popen([sys.executable, str(TOOL), "-"], stdin=subprocess.PIPE, stdout=subprocess.PIPE) as process:
+        words = [sys.executable, str(TOOL), "-"]
+        with subprocess.Popen(words, stdin=subprocess.PIPE, stdout=subprocess.PIPE) as process:
             for _ in range(2):
                 process.stdin.write(b'{"do":"hello"}\n')
                 process.stdin.flush()

@@ -47,24 +47,26 @@ class Planning(unittest.TestCase):
         for name in ("moves-in-a-chain", "moves-too-close", "drain-berlin-1", "drain-without-a-place"):
             document = json.loads((ROOT / "examples" / f"{name}.json").read_text())
             tasks.append((document, {it: document.pop(it) for it in ("moves", "drain") if it in document}))
-        for shard, source, target in (("s0", "v2", "v3"), ("s0", "v0", "v1"), ("s0", "v0", "v2"), ("s1", "v2", "v0"), ("s0", "v3", "v3")):
-            tasks.append((service(), {"moves": [{"shard": shard, "from": source, "to": target}]}))
+        for words in ("s0 v2 v3", "s0 v0 v1", "s0 v0 v2", "s1 v2 v0", "s0 v3 v3"):
+            tasks.append((service(), {"moves": [dict(zip(("shard", "from", "to"), words.split()))]}))
         twice = [{"shard": "s0", "from": "v0", "to": "v2"}, {"shard": "s0", "from": "v1", "to": "v2"}]
         tasks.append((service(), {"moves": twice}))
         for document, task in tasks:
             told = program.run(PROGRAM, "plan", json.dumps(document | task).encode()).report.strip()
             session = Session(PROGRAM)
             self.assertIn("opened", reply(session, do="open", document=document, journal="1", epoch=0))
-            line = {"do": "drain", "server": task["drain"]} if "drain" in task else {"do": "moves", "moves": task["moves"]}
+            line = {"do": "drain", "server": task["drain"]} if "drain" in task else {"do": "moves"} | task
             found = reply(session, **line)
-            self.assertEqual(found.get("plan") or found["refused"]["text"], json.loads(told) if told[0] == "{" else told)
+            due = json.loads(told) if told[0] == "{" else told
+            self.assertEqual(found.get("plan") or found["refused"]["text"], due)
 
     def test_a_plan_beside_a_running_one_begins(self) -> None:
         """At each step of a handover, a drain that does not need its shard begins, and one that does is refused."""
         moved = reply(self.session, do="moves", moves=[{"shard": "s0", "from": "v0", "to": "v2"}])["plan"]
         order = reply(self.session, do="begin", plan=moved, name="p")["orders"]
         while order:
-            self.assertEqual(reply(self.session, do="drain", server="v0")["refused"]["text"], "no plan: 3 Held shard s0 server v0")
+            held = reply(self.session, do="drain", server="v0")
+            self.assertEqual(held["refused"]["text"], "no plan: 3 Held shard s0 server v0")
             plan = reply(self.session, do="drain", server="v3")["plan"]
             self.assertIn("accepted", reply(self.session, do="check", plan=plan))
             held = reply(self.session, do="moves", moves=[{"shard": "s0", "from": "v1", "to": "v2"}])
@@ -79,7 +81,8 @@ class Planning(unittest.TestCase):
         told = reply(self.session, do="drain", server="v3")
         while orders:
             order = orders.pop()
-            orders += reply(self.session, do="answered", plan=0, stream=order["stream"], number=order["number"])["orders"]
+            answer = {"do": "answered", "plan": 0, "stream": order["stream"], "number": order["number"]}
+            orders += reply(self.session, **answer)["orders"]
             if "plan" in told:
                 self.assertIn("accepted", reply(self.session, do="check", plan=told["plan"]))
             told = reply(self.session, do="drain", server="v3")
@@ -89,7 +92,8 @@ class Planning(unittest.TestCase):
     def test_a_server_that_is_down(self) -> None:
         """It is neither emptied nor filled."""
         reply(self.session, do="approve", server="v3", by="x")
-        self.assertEqual(reply(self.session, do="drain", server="v3")["refused"]["text"], "no plan: 4 ServerDown server v3")
+        told = reply(self.session, do="drain", server="v3")
+        self.assertEqual(told["refused"]["text"], "no plan: 4 ServerDown server v3")
         told = reply(self.session, do="moves", moves=[{"shard": "s0", "from": "v0", "to": "v3"}])
         self.assertEqual(told["refused"]["text"], "no plan: 4 ServerDown server v3")
 

@@ -49,11 +49,17 @@ class Refusals(unittest.TestCase):
     def test_a_refusal_tells_the_pairs_of_its_line(self) -> None:
         """Names stay texts, and numbers become numbers."""
         cases: dict[str, Json] = {
-            "held: 3 ShortRoom server 7 free 3 declared 4": {"kind": "ShortRoom", "number": 3, "server": "7", "free": 3, "declared": 4},
-            "refused: 4 Stream stream 0 at 3 NoRoom": {"kind": "Stream", "number": 4, "stream": 0, "at": 3, "why": "NoRoom"},
+            "held: 3 ShortRoom server 7 free 3 declared 4": {
+                "kind": "ShortRoom", "number": 3, "server": "7", "free": 3, "declared": 4,
+            },
+            "refused: 4 Stream stream 0 at 3 NoRoom": {
+                "kind": "Stream", "number": 4, "stream": 0, "at": 3, "why": "NoRoom",
+            },
             "refused: 5 Stuck positions 1 0": {"kind": "Stuck", "number": 5, "positions": [1, 0]},
             "refused: 2 Budget streams 3 plan 2": {"kind": "Budget", "number": 2, "streams": 3, "plan": 2},
-            "refused: 3 SignalNotOnce signal 0 posts 1 waits 2": {"kind": "SignalNotOnce", "number": 3, "signal": 0, "posts": 1, "waits": 2},
+            "refused: 3 SignalNotOnce signal 0 posts 1 waits 2": {
+                "kind": "SignalNotOnce", "number": 3, "signal": 0, "posts": 1, "waits": 2,
+            },
             "held: 1 Untrue cell s v": {"kind": "Untrue", "number": 1, "right": "cell", "shard": "s", "server": "v"},
             "held: 2 Taken crown s": {"kind": "Taken", "number": 2, "right": "crown", "shard": "s"},
             "denied 2 Engaged plan 0 stream 1": {"kind": "Engaged", "number": 2, "plan": 0, "stream": 1},
@@ -65,8 +71,9 @@ class Refusals(unittest.TestCase):
 
     def test_a_refusal_of_its_own_has_no_number(self) -> None:
         """Its text names what it is about."""
-        told = {"kind": "Engaged", "server": "c", "plan": 0, "stream": 1, "text": "refused: Engaged server c plan 0 stream 1"}
-        self.assertEqual(words.own("Engaged", server="c", plan=0, stream=1), told)
+        where = {"server": "c", "plan": 0, "stream": 1}
+        told = {"kind": "Engaged"} | where | {"text": "refused: Engaged server c plan 0 stream 1"}
+        self.assertEqual(words.own("Engaged", **where), told)
 
 
 if __name__ == "__main__":

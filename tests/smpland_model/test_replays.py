@@ -15,8 +15,8 @@ SEEDS = range(500, 512)
 SPOILT = 2_000
 QUESTIONS = [b'{"do":"state"}', b'{"do":"orders"}', b'{"do":"hello"}', b'{"do":"since","place":0}']
 WORDS = {
-    "opened", "begun", "moved", "approved", "ended", "up", "restore", "fence", "waiting", "proposal", "settle", "ignored",
-    "refused", "bad", "hello", "orders", "map", "state", "since", "audit", "failed", "plan", "accepted",
+    "opened", "begun", "moved", "approved", "ended", "up", "restore", "fence", "waiting", "proposal", "settle",
+    "ignored", "refused", "bad", "hello", "orders", "map", "state", "since", "audit", "failed", "plan", "accepted",
 }
 
 
@@ -48,7 +48,7 @@ class Replays(unittest.TestCase):
                         self.assertEqual(condition(second), there)
 
     def test_what_changed_something_brings_all_back(self) -> None:
-        """A fresh session that is fed only the lines that changed something, each of which changes something there too, is the same."""
+        """A fresh session that is fed only what changed something is the same; each line changes something there."""
         for seed in SEEDS:
             for lines in sessions(seed, 200):
                 session, journal = Session(), []

@@ -1,4 +1,4 @@
-"""The commands of random schedules of the model of the network, as lines: each reply is what the model says of the command."""
+"""Commands of random schedules of the model of the network, as lines: each reply is what the model says."""
 from __future__ import annotations
 
 import json
@@ -12,11 +12,16 @@ from driving_model.rules import SOUND
 from driving_model.schedule import PROFILES, Schedule
 from smpland_model.session import Session
 
-from plain_commands import command_json, has_two_primaries, line_form, present, reply_form, shard_name, with_own_cells, without
+from plain_commands import (
+    command_json, has_two_primaries, line_form, present, reply_form, shard_name, with_own_cells, without,
+)
 
 SEEDS = range(1, 41)
 # What only lines are refused for: the model does not look whether replicas come or go.
 STRICTER = ("Moved", "NoPrimary")
+REPLIES = (
+    "begun", "moved", "approved", "up", "restore", "fence", "waiting", "proposal", "settle", "opened", "ignored",
+)
 
 
 class Divergence(Exception):
@@ -50,18 +55,21 @@ class Pair:
             case.assertIn("refused", found)
             expected = found
         self.leave_open(expected, found)
-        case.assertEqual(expected, self.same_permit(found), f"{command} -> {outcome.reply}; {json.dumps(line)} -> {told}")
-        case.assertEqual([it["number"] for it in told.get("orders", [])] if "again" not in told else [], [it.number for it in outcome.orders])
+        what = f"{command} -> {outcome.reply}; {json.dumps(line)} -> {told}"
+        case.assertEqual(expected, self.same_permit(found), what)
+        numbers = [it["number"] for it in told.get("orders", [])]
+        case.assertEqual([] if "again" in told else numbers, [it.number for it in outcome.orders])
         self.note_permits(outcome.reply, told)
         orders = self.session.reply(b'{"do":"orders"}')["orders"]
         case.assertEqual([without(it, "primary", "replicas") for it in orders], present(self.model))
 
     def leave_open(self, expected: dict, found: dict) -> None:
-        """Takes shards for which both propose no primary out of those that are lost: the model names them, though a secondary
-        is left that has all."""
+        """Takes shards for which both propose no primary out of those that are lost: the model names them, though a
+        secondary is left that has all."""
         if "proposal" not in expected or "proposal" not in found:
             return
-        bare = {shard_name(it) for it, row in enumerate(expected["proposal"]["cells"]) if all(cell["state"] != "primary" for cell in row)}
+        rows = [[cell["state"] for cell in row] for row in expected["proposal"]["cells"]]
+        bare = {shard_name(it) for it, row in enumerate(rows) if "primary" not in row}
         for proposal in (expected["proposal"], found["proposal"]):
             self.coverage["without primary"] += len(bare)
             proposal["lost"] = [it for it in proposal["lost"] if it not in bare]
@@ -89,7 +97,7 @@ class Schedules(unittest.TestCase):
         for seed in SEEDS:
             with self.subTest(seed=seed):
                 self.play(seed, coverage)
-        for word in ("begun", "moved", "approved", "up", "restore", "fence", "waiting", "proposal", "settle", "opened", "ignored"):
+        for word in REPLIES:
             self.assertGreater(coverage[f"{word} "], 20, coverage)
         self.assertLess(coverage["apart"], len(SEEDS) / 10, coverage)
 
@@ -100,8 +108,8 @@ class Schedules(unittest.TestCase):
         pair = Pair(coverage)
         try:
             for command, _ in schedule.world.session:
-                is_first = isinstance(command, commands.Open) or (isinstance(command, commands.Reopen) and command.journal is not None)
-                if is_first and pair.model.journal is not None:
+                is_opening = isinstance(command, (commands.Open, commands.Reopen))
+                if is_opening and command.journal is not None and pair.model.journal is not None:
                     pair = Pair(coverage)
                 pair.do(self, command)
         except Divergence:

@@ -22,7 +22,8 @@ BAD = {"NotJson", "Shape", "UnknownName", "Number"}
 def documented() -> set[str]:
     """Returns the refusals that docs/SMPLAND.md has, a row each."""
     text = (Path(__file__).resolve().parents[2] / "docs" / "SMPLAND.md").read_text()
-    return {word for row in re.findall(r"^\| ((?:`[A-Za-z]+`(?:, )?)+) \|", text, re.M) for word in re.findall(r"`([A-Z][A-Za-z]+)`", row)}
+    rows = re.findall(r"^\| ((?:`[A-Za-z]+`(?:, )?)+) \|", text, re.M)
+    return {word for row in rows for word in re.findall(r"`([A-Z][A-Za-z]+)`", row)}
 
 
 class Sessions(unittest.TestCase):
@@ -35,7 +36,8 @@ class Sessions(unittest.TestCase):
             replier = subject(PROGRAM or None)
             for exchange in exchanges(path):
                 reply = replier.reply(exchange.line)
-                self.assertIsNone(fault_of(exchange.due, reply), f"{exchange.place}: {exchange.line[:300]!r} -> {reply}")
+                what = f"{exchange.place}: {exchange.line[:300]!r} -> {reply}"
+                self.assertIsNone(fault_of(exchange.due, reply), what)
             if isinstance(replier, Program):
                 self.assertEqual(replier.end(), 0)
 

@@ -27,7 +27,8 @@ class Audit:
         if any(self.is_ahead(it, orders) for it in slots.values()):
             return self.told(command, "ahead")
         names = list(dict.fromkeys([*controller.document.shards, *slots]))
-        differing = [it for name in names if (it := self.differing(name, server, slots.get(name), orders, command["place"]))]
+        found = (self.differing(name, server, slots.get(name), orders, command["place"]) for name in names)
+        differing = [it for it in found if it]
         return self.told(command, "differs", slots=differing) if differing else self.told(command, "agrees")
 
     @staticmethod
@@ -47,7 +48,7 @@ class Audit:
         return last > highest and not (order and last == order.number)
 
     def differing(self, name: str, server: int, slot: Json | None, orders: dict[int, Order], place: int) -> Json | None:
-        """Returns how a slot differs from the record, if it does. One that was recorded anew after the place is passed over."""
+        """Returns how a slot differs from the record. A cell that was recorded after the place is passed over."""
         controller = self.controller
         number = controller.numbering.shard_numbers.get(name, len(controller.record.cells))
         is_recorded = number < len(controller.record.cells)
@@ -59,8 +60,9 @@ class Audit:
         found = self.found(slot)
         if found in (recorded, ahead):
             return None
-        told = {"shard": name, "recorded": self.writer.cell(recorded)}
-        return told | {"found": {it: slot[it] for it in ("cell", "party", "handover") if it in slot} if slot else {"cell": "absent"}}
+        slot = slot or {"cell": "absent"}
+        told = {it: slot[it] for it in ("cell", "party", "handover") if it in slot}
+        return {"shard": name, "recorded": self.writer.cell(recorded), "found": told}
 
     def found(self, slot: Json | None) -> Cell:
         """Returns the cell that a slot tells."""

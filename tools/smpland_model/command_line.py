@@ -10,8 +10,9 @@ from typing import BinaryIO
 from smpland_model.session import Session
 from smplan.limits import MOST_BYTES
 
-ABOUT = """The reference of `smpland -`, in plain Python: slow, tested, not proved. Each line of standard input is a command, a JSON
-object, and gets one line on standard output: docs/SMPLAND.md. `moves` and `drain` ask the program smplan."""
+ABOUT = """The reference of `smpland -`, in plain Python: slow, tested, not proved. Each line of standard input is a
+command, a JSON object, and gets one line on standard output: docs/SMPLAND.md. `moves` and `drain` ask smplan."""
+PROGRAM = "the program smplan ($SMPLAN, build/smplan, build/smplan-unproved, or on the PATH)"
 
 
 def pieces(source: BinaryIO, most: int = MOST_BYTES) -> Iterator[bytes | None]:
@@ -31,7 +32,7 @@ def arguments(given: list[str] | None) -> argparse.Namespace:
     """Reads the command line."""
     parser = argparse.ArgumentParser(prog="smpland_model.py", description=ABOUT)
     parser.add_argument("journal", metavar="-", choices=["-"], help="keep no file: standard input is the journal")
-    parser.add_argument("--program", metavar="PATH", help="the program smplan ($SMPLAN, build/smplan, build/smplan-unproved, or on the PATH)")
+    parser.add_argument("--program", metavar="PATH", help=PROGRAM)
     return parser.parse_args(given)
 
 

@@ -251,7 +251,7 @@ class NamedController(Controller):
         return outcome
 
     def note_settles(self) -> None:
-        """Notes to whom the reopening that is replaced has sent a settle, as long as the numbers are those of its document."""
+        """Notes to whom a reopening that is replaced has sent a settle, before numbers change."""
         if self.reopening:
             self.settle_sent |= {it.server for it in self.reopening.settles}
             self.reopening.settles = ()

@@ -3,13 +3,12 @@ from __future__ import annotations
 
 from driving_model import replies
 from driving_model.cells import Cell
-from driving_model.messages import Publication
 from driving_model.replies import Outcome
 from smpland_model.controller import NamedController
 
 
 class History:
-    """Where the present orders came up, where entries of the map changed, and where plans ended, in the present epoch."""
+    """Where present orders came up, where entries of the map changed, and where plans of the epoch ended."""
 
     def __init__(self, controller: NamedController) -> None:
         self.controller = controller

@@ -1,4 +1,4 @@
-"""Reads a line, and finds its faults in the order in which a document's reader meets them (docs/FORMATS.md, "Faults")."""
+"""Reads a line, and finds its faults in the order in which a reader of documents meets them (docs/FORMATS.md)."""
 from __future__ import annotations
 
 import re
@@ -42,8 +42,8 @@ class BadLine(Exception):
 
 @dataclass
 class Known:
-    """The names that a line may have: those of the document in force, and those of the document of a reopening under way.
-    As long as there is no such document any name may be one."""
+    """The names that a line may have: those of the document in force, and those of the document of a reopening under
+    way. As long as there is no such document any name may be one."""
 
     names: Names
     next_names: Names
@@ -60,7 +60,8 @@ class Known:
 def label(value: Any, place: str, member: str) -> Iterator[Fault]:
     """Tests for a name of up to 64 bytes, as plans and restarts have."""
     if not isinstance(value, str) or not LABEL.fullmatch(value):
-        yield shape(member, place, f"a name of 1 to 64 letters, digits, '-', '.' and '_' belongs here, not {kind_of(value)}")
+        what = "a name of 1 to 64 letters, digits, '-', '.' and '_' belongs here"
+        yield shape(member, place, f"{what}, not {kind_of(value)}")
 
 
 def random_bits(value: Any, place: str, member: str) -> Iterator[Fault]:
@@ -136,10 +137,11 @@ def slot_faults(value: Json, place: str, needed: dict[str, tuple[str, ...]]) -> 
 def chosen_faults(value: Json, place: str, known: Names) -> Iterator[Fault]:
     """Yields the faults of the cells that are to be settled."""
     rows = [one("shard", known.shard), one("cells", keyed("server"))]
+    cell_rows = [one("server", known.server), one("state", word("primary", "secondary"))]
     for entry, inner in entries(value, "cells", place):
         yield from own_faults("cells", rows, entry, inner)
         for cell, at in entries(entry, "cells", inner):
-            yield from own_faults("cells", [one("server", known.server), one("state", word("primary", "secondary"))], cell, at)
+            yield from own_faults("cells", cell_rows, cell, at)
 
 
 def inventory_faults(value: Json) -> Iterator[Fault]:
@@ -228,7 +230,7 @@ def line_faults(value: Any, known: Known) -> Iterator[Fault]:
 
 
 def path_of(fault: Fault) -> str:
-    """Returns the path of what a fault is about: of a missing or an unknown member, the object that it is a member of."""
+    """Returns the path of what a fault is about: of a missing or an unknown member, its object."""
     if not fault.what.startswith("no member is named"):
         return fault.place
     entry = ENTRY.match(fault.place)

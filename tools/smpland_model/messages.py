@@ -19,7 +19,7 @@ def hexadecimal(number: int | None) -> str | None:
 
 
 def owner_of(lead: Lead) -> int | None:
-    """Returns the server from which a replica is copied: the primary, in a handover the old owner until the new one has taken over."""
+    """Returns from whom a replica is copied: in a handover the old owner until the new one has taken over."""
     return lead.new_owner if lead.stage is Stage.HANDED else lead.owner
 
 
@@ -100,10 +100,8 @@ class Writer:
         """Returns a settle, of the map's owner with all entries of the map."""
         told = {"server": self.server(settle.server), "journal": hexadecimal(settle.journal), "base": settle.base}
         if isinstance(settle, SettleMap):
-            entries = enumerate(settle.entries)
-            return told | {
-                "entries": [{"shard": self.shard(it), "to": self.server(to), "version": settle.base} for it, to in entries]
-            }
+            entries = [(self.shard(it), self.server(to)) for it, to in enumerate(settle.entries)]
+            return told | {"entries": [{"shard": it, "to": to, "version": settle.base} for it, to in entries]}
         assert isinstance(settle, Settle)
         return told | {"nonce": hexadecimal(settle.nonce), "slots": self.slots(settle.slots)}
 
@@ -126,7 +124,8 @@ class Writer:
         """Returns what may be confirmed."""
         document = self.controller.reopening.document
         return {
-            "base": proposal.base, "cells": self.cells(proposal.cells), "lost": [self.shard(it) for it in proposal.lost],
+            "base": proposal.base, "cells": self.cells(proposal.cells),
+            "lost": [self.shard(it) for it in proposal.lost],
             "floors": [
                 {"shard": self.shard(it), "live": live, "floor": document.floor(it)} for it, live in proposal.floors
             ],

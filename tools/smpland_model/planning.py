@@ -25,11 +25,8 @@ class Planner:
 
     def of_moves(self, moves: list[Move]) -> Json:
         """Returns a plan of moves."""
-        numbering = self.controller.numbering
-        numbered = [
-            (numbering.shard_numbers[it.shard], numbering.server_numbers[it.source], numbering.server_numbers[it.target])
-            for it in moves
-        ]
+        shards, servers = self.controller.numbering.shard_numbers, self.controller.numbering.server_numbers
+        numbered = [(shards[it.shard], servers[it.source], servers[it.target]) for it in moves]
         self.check_moves(numbered)
         return self.made({"moves": [{"shard": it.shard, "from": it.source, "to": it.target} for it in moves]})
 
@@ -82,8 +79,8 @@ class Planner:
         if server in record.permits:
             self.refuse("4 ServerDown", None, server)
         left = {it: max(0, record.free_room(it, held)) for it in record.document.servers}
-        moves = [{"shard": controller.shard_name(it), "from": name, "to": self.target(it, server, held, left)} for it in shards]
-        return self.made({"moves": moves})
+        targets = [(controller.shard_name(it), self.target(it, server, held, left)) for it in shards]
+        return self.made({"moves": [{"shard": shard, "from": name, "to": target} for shard, target in targets]})
 
     def target(self, shard: int, drained: int, held: Any, left: dict[int, int]) -> str | None:
         """Returns where a shard goes, and takes the room for it."""
@@ -143,8 +140,8 @@ class Planner:
                 "listed": controller.server_name(listed) if listed == owner else None, "cells": cells,
             })
         servers = [
-            {"name": name, "region": controller.document.servers[name].region, "room": rooms[it], "down": it in record.permits}
-            for it, name in enumerate(controller.numbering.servers) if it in rooms
+            {"name": it.name, "region": it.region, "room": rooms[number], "down": number in record.permits}
+            for number, it in enumerate(controller.document.servers.values())
         ]
         return {"limit": len(servers), "log": MOST_PLACES, "servers": servers, "shards": shards}
 

@@ -40,7 +40,7 @@ def keeps(told: Cell, settled: Cell) -> bool:
 
 @dataclass(slots=True)
 class NamedReopening(Reopening):
-    """A reopening whose servers and shards have names. `strays` has the shards that a server told of and that nobody knows."""
+    """A reopening whose servers and shards have names. `strays` are shards that a server told of and nobody knows."""
 
     numbering: Numbering = field(default_factory=Numbering)
     strays: dict[int, list[str]] = field(default_factory=dict)
@@ -142,7 +142,8 @@ class NamedReopening(Reopening):
     def is_bare(self, survey: object, shard: int, heir: int | None) -> bool:
         """Returns whether no server is left that has all of a shard, of which there is or was to be one."""
         standings = [self.standing(shard, it)[0] for it in self.servers]
-        has_been = any(self.recorded(shard, it) != ABSENT or self.document.cells[shard][it] != ABSENT for it in self.servers)
+        cells = [(self.recorded(shard, it), self.document.cells[shard][it]) for it in self.servers]
+        has_been = any(it != (ABSENT, ABSENT) for it in cells)
         return max(standings, default=0) < 2 and (has_been or max(standings, default=0) > 0)
 
     # What may be settled.
@@ -187,7 +188,8 @@ class NamedReopening(Reopening):
         """Returns what is wrong with a cell, in one word."""
         if self.is_silent(server) and row[server] != self.recorded(shard, server):
             return "CarriedOver"
-        if row[server] == PRIMARY and any(self.standing(shard, it) > self.standing(shard, server) for it in self.servers):
+        best = max(self.standing(shard, it) for it in self.servers)
+        if row[server] == PRIMARY and self.standing(shard, server) < best:
             return "LowerChoice"
         slot = self.told(shard, server)
         if slot is None:

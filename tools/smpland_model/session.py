@@ -182,7 +182,8 @@ class Session:
         self.controller.check_journal(journal, command.get("epoch"))
         self.read_inside(command)
         document = document_of(command["document"])
-        return self.controller.begin_reopening(Reopened(document, command.get("lost", []), journal, command.get("epoch")))
+        reopened = Reopened(document, command.get("lost", []), journal, command.get("epoch"))
+        return self.controller.begin_reopening(reopened)
 
     def fenced(self, command: Json) -> Outcome:
         """Takes what a server has."""
