@@ -12,9 +12,9 @@ use Rattle.sm_protocol.specs.Laws.{IsReached}
 use Rattle.sm_protocol.proofs.Invariant.{IsKept}
 use Rattle.sm_protocol.proofs.SmallNumbers.{numbers_stay_small}
 use Rattle.sm_protocol.proofs.Whole.{reached_keeps}
-use Rattle.sm_driver.specs.Restores.{cell_handover}
+use Rattle.sm_driver.specs.Restores.{handover_in_cell}
 
-plain_is_small : (c : Cell) → IsPlain c → cell_handover c ≤ numbers_end
+plain_is_small : (c : Cell) → IsPlain c → handover_in_cell c ≤ numbers_end
 plain_is_small cell.Absent h = omega arith
 plain_is_small cell.Secondary h = omega arith
 plain_is_small cell.Primary h = absurd h
@@ -22,14 +22,14 @@ plain_is_small (cell.Prepared u n) h = absurd h
 plain_is_small (cell.Forwarding u n) h = absurd h
 
 -- a cell that is recorded has a small handover number
-pub cell_is_small : (setup : Setup) (w : State) → IsReached setup w → (s v : ℕ) → cell_handover (w.place.cells s v) ≤ numbers_end
+pub cell_is_small : (setup : Setup) (w : State) → IsReached setup w → (s v : ℕ) → handover_in_cell (w.place.cells s v) ≤ numbers_end
 cell_is_small setup w reached s v = go (keeps.leads s) (keeps.stage.described s)
   where
     keeps : IsKept w
     keeps = (reached_keeps setup w reached).0
 
-    is : (u : ℕ) (c : Cell) → v ≡ u → w.place.cells s u ≡ c → cell_handover c ≤ numbers_end → cell_handover (w.place.cells s v) ≤ numbers_end
-    is u c same e l = subst (λ d. cell_handover d ≤ numbers_end) (sym (ap (w.place.cells s) same ∙ e)) l
+    is : (u : ℕ) (c : Cell) → v ≡ u → w.place.cells s u ≡ c → handover_in_cell c ≤ numbers_end → handover_in_cell (w.place.cells s v) ≤ numbers_end
+    is u c same e l = subst (λ d. handover_in_cell d ≤ numbers_end) (sym (ap (w.place.cells s) same ∙ e)) l
 
     small : w.numbers s ≤ numbers_end
     small = let l = (numbers_stay_small setup w reached).numbers s in omega arith
@@ -37,7 +37,7 @@ cell_is_small setup w reached s v = go (keeps.leads s) (keeps.stage.described s)
     none : 0 ≤ numbers_end
     none = omega arith
 
-    go : (lead : Lead) → Describes lead (w.numbers s) (w.place.cells s) → cell_handover (w.place.cells s v) ≤ numbers_end
+    go : (lead : Lead) → Describes lead (w.numbers s) (w.place.cells s) → handover_in_cell (w.place.cells s v) ≤ numbers_end
     go Gone d = plain_is_small (w.place.cells s v) (d v)
     go (At u) d = elim (cases_eq v u) [
       | inl e ↦ is u cell.Primary e d.0 none

@@ -1,5 +1,5 @@
 -- What servers are told that have lost all they had.
--- `cell_handover` is for a private function's contract: whoever reads public contracts need not read it.
+-- `handover_in_cell` is for a private function's contract: whoever reads public contracts need not read it.
 use Rattle.std.specs.Prelude.{ℕ, ◌+◌, ◌==◌, Bool, false, Option, Some, None, List, length, map, slice_index_or}
 use Rattle.std.specs.List.{range_with_len}
 use Rattle.sm_server.specs.declared.call.Cell.{Cell}
@@ -36,7 +36,7 @@ abbrev pub restore_now : ℕ → State → ℕ → ℕ → RestoreModel
 restore_now base w v nonce = record { nonce = nonce; number = base + length w.log; cells = cells_told base w v }
 
 -- the handover number in a cell, 0 if it has none
-abbrev pub cell_handover : Cell → ℕ
-cell_handover (Prepared from number) = number
-cell_handover (Forwarding to number) = number
-cell_handover _ = 0
+abbrev pub handover_in_cell : Cell → ℕ
+handover_in_cell (Prepared from number) = number
+handover_in_cell (Forwarding to number) = number
+handover_in_cell _ = 0

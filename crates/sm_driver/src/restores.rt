@@ -5,7 +5,7 @@ ghost use Rattle.sm_protocol.specs.State.{numbers_end};
 ghost use Rattle.sm_network.specs.Net.{cell_above};
 ghost use Rattle.sm_machine.specs.State.{state_of};
 ghost use Rattle.sm_driver.specs.Orders.{bases_end};
-ghost use Rattle.sm_driver.specs.Restores.{cells_told, cell_handover, restore_at, was_told};
+ghost use Rattle.sm_driver.specs.Restores.{cells_told, handover_in_cell, restore_at, was_told};
 
 use sm_machine::Machine;
 use sm_reservation::StreamId;
@@ -136,7 +136,7 @@ impl Restores {
 /// Returns a cell with the base added to its handover number, if it has one.
 fn cell_above(base: u64, cell: Cell) -> Cell
     requires base { base < bases_end }
-    requires number { cell_handover cell ≤ numbers_end }
+    requires number { handover_in_cell cell ≤ numbers_end }
     ensures { result ≡ cell_above base cell }
 {
     match cell {
