@@ -44,7 +44,7 @@ fn first_words<'a>(alloc: Global) -> Result<Parser<'a>, AllocError>
     Parser::new(alloc, "smplan")
         .bin_name("smplan")?
         .about(
-            "Reads a JSON document of a placement on standard input (smplan COMMAND < FILE), and prints a report of it",
+            "smplan 1.0 reads a JSON document of a placement on standard input (smplan COMMAND < FILE), and prints a report of it. docs/FORMATS.md of its repository describes documents, and examples/ has some",
         )
         .no_binary_name(true)
         .subcommand_required(true)
