@@ -1,10 +1,13 @@
 """What the servers did, told by their own histories, and by the journal's orders if they are given. Nothing that a
 client saw is looked at.
 
-`python3 -m cluster.checkers.servers --history FILE.. [--orders FILE --answered FILE] [--expected FILE] [--wants FILE]`.
+`python3 -m cluster.checkers.servers --history FILE.. [--orders FILE --answered FILE] [--expected FILE] [--wants FILE]
+[--permits FILE]`.
 Histories are those of `python3 -m cluster.servers.history`. Orders are lines of orders as they were sent, answered are
 lines of the journal with `"do":"answered"`, expected is `{"s":{"a":"primary",..},..}` at the end, wants is
-`{"s":FLOOR,..}`, the fewest replicas that a shard may have. Exit status 1 if anything is wrong.
+`{"s":FLOOR,..}`, the fewest replicas that a shard may have, and permits are lines
+`{"server":"a","t":T,"kind":"permit","down":true}` of restarts that were approved (at the latest then) or ended (at the
+earliest then). Exit status 1 if anything is wrong.
 """
 from __future__ import annotations
 
@@ -49,6 +52,7 @@ class Host:
     base: int = 0
     is_known: bool = False
     is_fenced: bool = False
+    is_down: bool = False
     nonce: str | None = None
     settled: set[int] = field(default_factory=set)
     shards: dict[str, At] = field(default_factory=lambda: defaultdict(At))
@@ -179,7 +183,8 @@ class Checker:
             at.tenure += 1
         at.state, at.last, at.position = event["state"], number, event["position"]
         self.look_at_primaries(event, [shard])
-        self.look_at_floor(event)
+        if event["state"] == "absent":
+            self.look_at_floor(event, shard)
 
     def on_order_refused(self, host: Host, event: dict) -> None:
         """An order fits nothing that the server has; one that is late would be old."""
@@ -201,11 +206,17 @@ class Checker:
             if len(primaries) > 1:
                 self.fault(event, f"{shard} has the primaries {' and '.join(sorted(primaries))}")
 
-    def look_at_floor(self, event: dict) -> None:
-        """No shard has fewer replicas than it may have."""
-        shard = event["shard"]
-        count = sum(it.shards[shard].state in ("primary", "secondary", "forwarding") for it in self.hosts.values())
-        if event["state"] == "absent" and count < self.wants.get(shard, 0):
+    def on_permit(self, host: Host, event: dict) -> None:
+        """It may be down from now on, or no longer."""
+        host.is_down = event["down"]
+        for shard in [name for name, at in host.shards.items() if at.state != "absent"]:
+            self.look_at_floor(event, shard)
+
+    def look_at_floor(self, event: dict, shard: str) -> None:
+        """No shard has fewer replicas at servers that may not be down than it may have."""
+        up = [it for it in self.hosts.values() if not it.is_down]
+        count = sum(it.shards[shard].state in ("primary", "secondary", "forwarding") for it in up)
+        if count < self.wants.get(shard, 0):
             self.fault(event, f"{shard} has {count} replicas")
 
     # -- requests
@@ -289,11 +300,12 @@ def main() -> int:
     parser.add_argument("--answered")
     parser.add_argument("--expected")
     parser.add_argument("--wants")
+    parser.add_argument("--permits")
     told = parser.parse_args()
     checker = Checker(json.load(open(told.wants, encoding="utf-8")) if told.wants else {})
     lines = list(lines_of(told.history))
     data = [it for it in lines if it["kind"] == "data"]
-    checker.walk(lines)
+    checker.walk([*lines, *(lines_of([told.permits]) if told.permits else ())])
     checker.look_at_data(data)
     if told.orders and told.answered:
         answered = (it for it in lines_of([told.answered]) if it.get("do", "answered") == "answered")

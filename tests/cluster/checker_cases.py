@@ -133,6 +133,7 @@ RIGHT_SERVERS = {
         fenced(it.write("a").order("b", "prepare_add", "prepared").order("a", "prepare_drop", "forwarding").write("b", passed="a")),
         {"s": ["primary", 1]}, {}).write("a", 2).found(),
     "answers": lambda it: it.order("b", "prepare_add", "prepared").found(orders=[order_line("b", 1)], answered=ANSWERED),
+    "a restart of a server that has nothing": lambda it: it.add("b", "permit", down=True).add("b", "permit", down=False).found(),
     "a restore": lambda it: it.add("b", "forget", before=STEP, nonce="k").add("b", "restore", base=STEP + 1, slots={}, nonce="k").found(),
 }
 WRONG_SERVERS = {
@@ -145,6 +146,7 @@ WRONG_SERVERS = {
     "with 0 writes of 1": lambda it: it.write("a").order("b", "prepare_add", "prepared", position=0).found(),
     "has the primaries": lambda it: it.order("b", "prepare_add", "prepared").order("b", "add", "primary").found(),
     "has 0 replicas": lambda it: it.order("a", "drop", "absent").found(),
+    "s has 0 replicas": lambda it: it.add("a", "permit", down=True).found(),
     "by a server that is absent": lambda it: it.write("b").found(),
     "by a server that is prepared": lambda it: it.order("b", "prepare_add", "prepared").write("b").found(),
     "by a server that is forwarding": lambda it: it.order("b", "prepare_add", "prepared").order("a", "prepare_drop", "forwarding").write("a").found(),
