@@ -213,9 +213,9 @@ class Checker:
             self.look_at_floor(event, shard)
 
     def look_at_floor(self, event: dict, shard: str) -> None:
-        """No shard has fewer replicas at servers that may not be down than it may have."""
-        up = [it for it in self.hosts.values() if not it.is_down]
-        count = sum(it.shards[shard].state in ("primary", "secondary", "forwarding") for it in up)
+        """No shard has fewer replicas at servers that may not be down than it may have. The two of a handover are one."""
+        states = Counter(it.shards[shard].state for it in self.hosts.values() if not it.is_down)
+        count = states["secondary"] + (states["primary"] or states["forwarding"])
         if count < self.wants.get(shard, 0):
             self.fault(event, f"{shard} has {count} replicas")
 
