@@ -11,7 +11,6 @@ from pathlib import Path
 
 from cluster.controllers.bugs import BUGS as CONTROLLER_BUGS
 from cluster.launch.cluster import program_of
-from cluster.launch.operator import NoLeader
 from cluster.launch.processes import NotReady
 from cluster.launch.shape import Shape
 from cluster.run import Run, Settings, default_program
@@ -22,15 +21,10 @@ PARTS = (
     (0.05, "restart_server"), (0.15, "kill_leader"), (0.3, "restart_server"), (0.4, "crash_server"), (0.5, "freeze_leader"), (0.55, "restart_server"),
     (0.7, "lose_server"),
 )
-NO_RUN = "no run"
 PARTS_OF = {"new-journal-without-reopening": ((0.5, "open_anew"),)}
 
 
-class NoRun(Exception):
-    """The cluster did not start, which says nothing of the bug."""
-
-
-async def first_violation(bug: str, seed: int, told: argparse.Namespace) -> str | None:
+async def is_caught(bug: str, seed: int, told: argparse.Namespace) -> str | None:
     """Runs once with a bug, and returns the first violation."""
     directory = Path(tempfile.mkdtemp(prefix=f"catch-{bug}-", dir="/dev/shm" if os.access("/dev/shm", os.W_OK) else None))
     shape = Shape(servers=told.servers, shards=told.shards, clients=told.clients, seed=seed)
@@ -38,20 +32,10 @@ async def first_violation(bug: str, seed: int, told: argparse.Namespace) -> str 
     try:
         result = await Run(settings).run()
         return result.verdict.faults[0] if result.verdict.faults else None
-    except (NotReady, OSError, TimeoutError, NoLeader) as why:
-        raise NoRun(f"{type(why).__name__} {why}") from why
+    except (NotReady, OSError, TimeoutError) as why:
+        return f"the run did not come to its end: {type(why).__name__} {why}"
     finally:
         shutil.rmtree(directory, ignore_errors=True)
-
-
-def violation(bug: str, seed: int, told: argparse.Namespace) -> str | None:
-    """Runs until a run comes about, at most twice."""
-    for _ in range(2):
-        try:
-            return asyncio.run(first_violation(bug, seed, told))
-        except NoRun as why:
-            print(f"{bug}: no run: {why}", flush=True)
-    return NO_RUN
 
 
 def main() -> int:
@@ -67,9 +51,9 @@ def main() -> int:
     told = parser.parse_args()
     missed = []
     for bug in told.bugs or [*CONTROLLER_BUGS, *SERVER_BUGS]:
-        found = [it for seed in range(1, told.runs + 1) if (it := violation(bug, seed, told)) is not NO_RUN]
+        found = [asyncio.run(is_caught(bug, seed, told)) for seed in range(1, told.runs + 1)]
         caught = [it for it in found if it]
-        print(f"{bug}: found in {len(caught)} of {len(found)} runs{': ' + caught[0][:200] if caught else ''}", flush=True)
+        print(f"{bug}: found in {len(caught)} of {told.runs} runs{': ' + caught[0][:200] if caught else ''}", flush=True)
         missed += [] if caught else [bug]
     return 1 if missed else 0
 

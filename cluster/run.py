@@ -81,7 +81,6 @@ class Run:
         # Spans of time, by what went on in them.
         self.spans: dict[str, list[tuple[int, int]]] = {"at rest": [], "while a server is drained": []}
         self.moved_for = 0.0
-        self.unread = False
 
     def tell(self, text: str) -> None:
         """Tells what happens, above the live line."""
@@ -97,7 +96,6 @@ class Run:
             journal = os.urandom(JOURNAL_BITS // 8).hex().lstrip("0") or "1"
             await self.story.reopen(document_of(self.settings.shape), [], "the first opening", journal=journal, epoch=1)
             await self.cluster.processes.start("clients")
-            await self.wait_for_clients()
             await self.harm()
             counts = (await self.cluster.tell_proxies(counts=True))["counts"]
             await self.calm_down()
@@ -108,12 +106,6 @@ class Run:
             return self.result(counts)
         finally:
             await self.cluster.end()
-
-    async def wait_for_clients(self) -> None:
-        """Waits until the clients have begun."""
-        while not (self.settings.directory / "clients.jsonl").exists():
-            await asyncio.sleep(0.1)
-        await asyncio.sleep(0.5)
 
     async def harm(self) -> None:
         """Moves replicas, and does harm at the times of the story. Before that nothing is moved for a while."""
@@ -166,11 +158,7 @@ class Run:
         """Lets messages through again, and ends the clients, which read everything at the end."""
         await self.cluster.tell_proxies(rates={"drop": 0.0, "repeat": 0.0, "delay": 0.0})
         await asyncio.sleep(1.0)
-        try:
-            await self.cluster.processes["clients"].end_input(60.0)
-        except TimeoutError:
-            self.unread = True
-            await self.cluster.processes["clients"].kill()
+        await self.cluster.processes["clients"].end_input(120.0)
         await asyncio.sleep(1.0)
 
     async def show(self) -> None:
@@ -194,8 +182,6 @@ class Run:
         by_span = {name: rate_of(asked, spans) for name, spans in self.spans.items() if spans}
         histories = lines_of(where / "histories.jsonl")
         situations = situations_of(histories, self.verdict.replies, self.verdict.counts + self.story.counts)
-        if self.unread:
-            self.verdict.faults.append("the clients could not read every list in the end")
         if clients.get("failures") and not self.story.lost:
             self.verdict.faults.append(f"{clients['failures']} requests were not acknowledged within 10 s")
         orders = self.verdict.counts["orders"] / self.moved_for if self.moved_for else 0.0

@@ -37,7 +37,7 @@ class Process:
         """Whether it was started and has not ended."""
         return self.running is not None and self.running.returncode is None
 
-    async def start(self, *more: str, timeout: float = 60.0) -> None:
+    async def start(self, *more: str, timeout: float = 30.0) -> None:
         """Starts it, and waits until it says `ready`."""
         self.starts += 1
         with self.log.open("ab") as log:
