@@ -41,7 +41,11 @@ class Pair:
             command = replace(command, document=with_own_cells(command.document))
             if has_two_primaries(command.document):
                 return
+        versions = self.model.record.versions if self.model.record else []
         outcome = self.model.apply(command)
+        if isinstance(command, commands.NewEpoch) and outcome.has_changed:
+            # (there versions go on)
+            self.model.record.versions = versions
         line = command_json(command)
         if isinstance(command, commands.Restarted):
             line["permit"] = self.permits.get(command.permit, command.permit)

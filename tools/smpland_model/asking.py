@@ -71,12 +71,22 @@ class Asking:
 
     def map(self, _command: Json) -> Json:
         """Tells the published map as it is recorded."""
-        record, base = self.record, self.controller.base
-        shards = enumerate(zip(record.listed, record.versions))
+        record, writer = self.record, self.writer
         return {"map": [
-            {"shard": self.writer.shard(it), "to": self.writer.server(to), "version": base + version}
-            for it, (to, version) in shards if it < len(self.controller.document.shards)
+            {
+                "shard": writer.shard(it), "to": writer.server(record.listed[it]),
+                "version": self.controller.base + record.versions[it],
+            }
+            for it in self.shards()
         ]}
+
+    def shards(self) -> list[int]:
+        """Returns the numbers of the recorded shards, in the order of the document in force."""
+        return [self.controller.numbering.shard_numbers[it] for it in self.controller.document.shards]
+
+    def servers(self) -> list[int]:
+        """Returns the numbers of the recorded servers, in the order of the document in force."""
+        return [self.controller.numbering.server_numbers[it] for it in self.controller.document.servers]
 
     def state(self, command: Json) -> Json:
         """Tells all that is recorded, or one shard, or one plan."""
@@ -101,8 +111,8 @@ class Asking:
             free = record.free_places()
             told |= {
                 "limit": record.limit, "log": {"places": log, "used": record.log, "free": free},
-                "servers": [self.server(it) for it in sorted(record.document.servers)],
-                "shards": [self.shard(it) for it in range(len(controller.document.shards))],
+                "servers": [self.server(it) for it in self.servers()],
+                "shards": [self.shard(it) for it in self.shards()],
                 "plans": [self.plan(it, plan) for it, plan in enumerate(record.plans)],
             }
         if controller.reopening:
@@ -143,7 +153,7 @@ class Asking:
             "shard": self.writer.shard(number), "load": record.document.loads[number], "live": record.live(number),
             "floor": record.floors[number], "listed": self.writer.server(record.listed[number]),
             "version": self.controller.base + record.versions[number],
-            "cells": self.writer.row(self.controller.cell(number, it) for it in range(len(record.cells[number]))),
+            "cells": self.writer.row({it: self.controller.cell(number, it) for it in self.servers()}),
         }
 
     def plan(self, number: int, plan: PlanState) -> Json:

@@ -231,6 +231,15 @@ class NamedController(Controller):
         rest += f" shard {self.shard_name(why.shard)}" if why.kind == "ShardCap" else ""
         return f"denied {number} {why.kind}{rest}"
 
+    # Epochs.
+
+    def new_epoch(self, command: commands.NewEpoch) -> Outcome:
+        """Opens the next epoch at rest. Versions of the map go on, as the driver has it."""
+        versions = self.record.versions if self.record else []
+        outcome = super().new_epoch(command)
+        self.record.versions = versions
+        return outcome
+
     # Reopening.
 
     def begin_reopening(self, command: Reopened) -> Outcome:

@@ -26,8 +26,9 @@ class History:
         self.place += 1
         if isinstance(outcome.reply, replies.Opened):
             self.ordered, self.ended = {}, {}
-            if self.controller.numbering.shards and not self.is_same_map():
+            if not self.is_same_map():
                 self.published = {name: self.place for name in self.controller.document.shards}
+                self.changed, self.cells = {}, []
             self.keep_versions()
         for order in outcome.orders:
             self.ordered[order.plan, order.stream] = self.place

@@ -107,10 +107,10 @@ class Writer:
 
     # Placements.
 
-    def row(self, row: Iterable[Cell]) -> list[Json]:
+    def row(self, row: dict[int, Cell]) -> list[Json]:
         """Returns the cells of a shard that are not absent, by their servers."""
         found = []
-        for server, cell in enumerate(row):
+        for server, cell in row.items():
             if cell.kind is not Kind.ABSENT:
                 party = {"party": self.server(cell.party), "handover": cell.handover} if cell.is_in_handover else {}
                 found.append({"server": self.server(server), "state": cell.kind.value} | party)
@@ -118,7 +118,7 @@ class Writer:
 
     def cells(self, cells: Cells) -> list[Json]:
         """Returns the cells of all shards."""
-        return [{"shard": self.shard(it), "cells": self.row(row)} for it, row in enumerate(cells)]
+        return [{"shard": self.shard(it), "cells": self.row(dict(enumerate(row)))} for it, row in enumerate(cells)]
 
     def proposal(self, proposal: Proposal) -> Json:
         """Returns what may be confirmed."""
