@@ -1,7 +1,13 @@
-//! Tests of drivers, in a crate of their own: nothing here is part of the product.
+//! Tests of drivers and names, in a crate of their own: nothing here is part of the product.
 #![tactic(auto)]
 
 #[cfg(test)]
 mod answers;
+#[cfg(test)]
+mod epochs;
+#[cfg(test)]
+mod names;
+#[cfg(test)]
+mod restarts;
 #[cfg(test)]
 mod stand;

@@ -1,9 +1,10 @@
 //! Drivers over the worked placements, and what they are asked.
-use sm_driver::{AnswerEffect, Driver, StreamOrder, StreamPublication};
+use sm_driver::{AnswerEffect, Driver, RestoreFault, StreamOrder, StreamPublication};
 use sm_fixtures::{S_TO_B, World, handover_plan, is_for, signalled_plan};
 use sm_machine::make_ready;
 use sm_reservation::StreamId;
 use sm_server::ServerId;
+use sm_task_controller::Denied;
 use sm_verifier::Checked;
 use std::alloc::Global;
 use std::process::Abort;
@@ -18,16 +19,46 @@ pub(crate) const fn stream(number: u32) -> StreamId {
 
 /// Opens a driver over a worked placement, with room for 100 events, in an epoch of journal 7.
 pub(crate) fn must_open(rt: &impl Abort, alloc: Global, world: World, epoch: u32) -> Driver {
-    match world.placement(alloc, &[]) {
+    must_open_with(rt, alloc, world, &[], 100, epoch)
+}
+
+/// Opens a driver over a worked placement at which these servers are down, with room for so many events, in an epoch of journal 7.
+pub(crate) fn must_open_with(
+    rt: &impl Abort,
+    alloc: Global,
+    world: World,
+    down: &[ServerId],
+    room: u32,
+    epoch: u32,
+) -> Driver {
+    match world.placement(alloc, down) {
         Err(_) => panic!(rt; "there is no memory for a placement"),
         Ok(placement) => {
             assert!(rt; placement.settled());
-            match Driver::open(alloc, placement, 100, 7, epoch) {
+            match Driver::open(alloc, placement, room, 7, epoch) {
                 Ok(driver) => driver,
                 Err(_) => panic!(rt; "there is no memory for a driver"),
             }
         }
     }
+}
+
+/// Asks for the restart of a server.
+pub(crate) fn approve(rt: &impl Abort, driver: &mut Driver, number: u32) -> Result<u64, Denied> {
+    assert!(rt; number < driver.machine().config().server_count());
+    driver.approve(ServerId::new(number))
+}
+
+/// Restores a server that asks under a nonce.
+pub(crate) fn restore(
+    rt: &impl Abort,
+    alloc: Global,
+    driver: &mut Driver,
+    number: u32,
+    nonce: u64,
+) -> Result<bool, RestoreFault> {
+    assert!(rt; number < driver.machine().config().server_count());
+    driver.restore(alloc, ServerId::new(number), nonce)
 }
 
 /// Begins a checked plan, which is the first.
