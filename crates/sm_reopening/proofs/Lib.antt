@@ -1,0 +1,6 @@
+mod Confirming
+mod Firsts
+mod Heirs
+mod Standings
+mod Taking
+mod Updates

@@ -1,0 +1,4 @@
+pub mod States
+pub mod Ongoing
+pub mod Settles
+pub mod Survivors

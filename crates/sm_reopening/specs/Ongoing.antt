@@ -1,0 +1,90 @@
+-- A reopening under way, as contracts see it.
+-- `is_missing` is for those who confirm: no public contract comes to it yet, and whoever reads them need not read it.
+use Rattle.std.specs.Prelude.{◌≡◌, ℕ, ◌&&◌, ◌==◌, Bool, not, Option, Some, None, is_none, is_some, if◌then◌else◌}
+use Rattle.sm_placement.specs.Layout.{place_of}
+use Rattle.sm_placement.specs.Opening.{first_below}
+use Rattle.sm_placement.specs.Place.{Place}
+use Rattle.sm_placement.specs.Setup.{Setup, sizes_of}
+use Rattle.sm_protocol.specs.State.{State, opened}
+use Rattle.sm_network.specs.Reopening.{Inventory, MapOwner, Party, Reopening, Server, Slots, is_asked, is_first}
+use Rattle.sm_network.specs.ReopeningLaws.{is_carried}
+use Rattle.sm_reopening.specs.declared.ongoing.OngoingReopening.{OngoingReopening}
+use Rattle.sm_reopening.specs.declared.party.FoundSlot.{FoundSlot}
+use Rattle.sm_reopening.specs.declared.party.Inventory.{Inventory as Told}
+use Rattle.sm_reopening.specs.States.{left_out_by, position_by, reopening_by, told_position}
+
+-- the reopening of which the network's laws speak
+abbrev pub net_reopening : OngoingReopening → Reopening
+net_reopening x = reopening_by x.base x.servers.items x.map_told x.map_settled x.confirmed
+
+-- by shard and server, the position that was told
+abbrev pub told_positions : OngoingReopening → ℕ → ℕ → ℕ
+told_positions x = position_by x.servers.items
+
+-- who is left out of the document
+abbrev pub left_out_of : OngoingReopening → ℕ → Bool
+left_out_of x = left_out_by x.servers.items
+
+-- the configuration and the placement that are recorded of the epoch before
+abbrev pub recorded_setup : OngoingReopening → Setup
+recorded_setup x = x.past.setup
+
+-- the placement
+abbrev pub recorded_place : OngoingReopening → Place
+recorded_place x = place_of x.past
+
+-- how many numbers of shards there are
+abbrev pub shards_of : OngoingReopening → ℕ
+shards_of x = x.shards
+
+-- ---- what is known of a server
+
+-- what is recorded, as a state of which the network's laws speak
+abbrev pub past_state : OngoingReopening → State
+past_state x = opened (sizes_of (recorded_setup x)) (recorded_place x) 0
+
+-- a server that has not answered may be carried over as it is recorded, unless the document leaves it out
+abbrev pub may_carry : OngoingReopening → ℕ → Bool
+may_carry x v = is_carried (net_reopening x) (past_state x) v && not (left_out_of x v)
+
+-- the server has to answer the fence before anything can be confirmed
+abbrev pub is_waited_for : OngoingReopening → ℕ → Bool
+is_waited_for x v = is_asked (net_reopening x) (Server v) && not (is_some ((net_reopening x).told (Server v))) && not (may_carry x v)
+
+-- the party has to answer the fence before anything can be confirmed
+abbrev pub is_missing : OngoingReopening → Party → Bool
+is_missing x (Server v) = is_waited_for x v
+is_missing x MapOwner = not (is_some ((net_reopening x).told MapOwner))
+
+-- the lowest server that has to answer
+abbrev pub first_awaited : OngoingReopening → Option ℕ
+first_awaited x = first_below (net_reopening x).servers (is_waited_for x)
+
+-- all have answered that have to
+abbrev pub is_complete : OngoingReopening → Bool
+is_complete x = is_some ((net_reopening x).told MapOwner) && is_none (first_awaited x)
+
+-- what an inventory tells of a shard, if it has slots
+abbrev pub inventory_slot : Option Inventory → ℕ → ℕ → Option FoundSlot
+inventory_slot (Some (Slots cells reached)) position s = Some (record { cell = cells s; position = position; reached = reached s })
+inventory_slot _ position s = None
+
+-- what a server has told of a shard, unless it is Unknown
+abbrev pub told_slot : OngoingReopening → ℕ → ℕ → Option FoundSlot
+told_slot x s v = inventory_slot ((net_reopening x).told (Server v)) (told_positions x s v) s
+
+-- the positions with what a server has told
+abbrev pub put_position : (ℕ → ℕ → ℕ) → ℕ → Told → ℕ → ℕ → ℕ
+put_position f v inventory s u = if u == v then told_position (Some inventory) s else f s u
+
+-- the positions once a server has told what it has, if that counts
+abbrev pub position_after : OngoingReopening → ℕ → ℕ → Told → ℕ → ℕ → ℕ
+position_after x v base inventory =
+    if is_first (net_reopening x) (Server v) base then put_position (told_positions x) v inventory else told_positions x
+
+-- nothing else has changed than what was told
+pub record IsSameButTold (old new : OngoingReopening) : Type 0 where
+  pub left_out : left_out_of new ≡ left_out_of old
+  pub setup : recorded_setup new ≡ recorded_setup old
+  pub place : recorded_place new ≡ recorded_place old
+  pub shards : shards_of new ≡ shards_of old

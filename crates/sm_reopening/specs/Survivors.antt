@@ -1,0 +1,32 @@
+-- Who may inherit a shard: the survivors, by what they told or are recorded to have.
+-- `slot_claim` is for private functions' contracts: whoever reads public contracts need not read it.
+use Rattle.std.specs.Prelude.{◌≡◌, ◌<◌, ℕ, ◌&&◌, ◌||◌, ◌==◌, Bool, true, false, Option, Some, None, nat_lt}
+use Rattle.sm_network.specs.ReopeningLaws.{claim, claim_of}
+use Rattle.sm_reopening.specs.declared.ongoing.OngoingReopening.{OngoingReopening}
+use Rattle.sm_reopening.specs.declared.survivors.Standing.{Standing}
+use Rattle.sm_reopening.specs.Ongoing.{told_positions, past_state, net_reopening}
+use Rattle.sm_reopening.specs.declared.party.FoundSlot.{FoundSlot}
+
+-- The first stands above the second: it has a better claim, or an equal one with more of the shard's writes.
+abbrev pub stands_above : Standing → Standing → Bool
+stands_above a b = nat_lt b.claim a.claim || ((a.claim == b.claim) && nat_lt b.position a.position)
+
+-- the claim that what was told of a shard gives
+abbrev pub slot_claim : Option FoundSlot → ℕ
+slot_claim (Some slot) = claim slot.cell slot.reached
+slot_claim None = 0
+
+-- The standing of a server for a shard. Of one that is carried over no position is known.
+abbrev pub standing_of : OngoingReopening → ℕ → ℕ → Standing
+standing_of x s v = record { claim = claim_of (net_reopening x) (past_state x) s v; position = told_positions x s v }
+
+-- The server inherits the shard: it has a claim, nobody stands above it, and it is the lowest of those that stand as high.
+pub record IsHeirOf (x : OngoingReopening) (s u : ℕ) : Type 0 where
+  pub known : u < (net_reopening x).servers
+  pub claims : 0 < (standing_of x s u).claim
+  pub best : (v : ℕ) → stands_above (standing_of x s v) (standing_of x s u) ≡ false
+  pub first : (v : ℕ) → v < u → stands_above (standing_of x s u) (standing_of x s v) ≡ true
+
+-- nobody has a claim to the shard
+abbrev pub HasNoSurvivor : OngoingReopening → ℕ → Type 0
+HasNoSurvivor x s = (v : ℕ) → (standing_of x s v).claim ≡ 0

@@ -1,0 +1,17 @@
+//! A reopening under way: a controller fences the servers and the owner of the published map, takes what each of them tells, proposes what
+//! may be settled, and settles all of them anew. It has no text and no handle.
+#![tactic(auto)]
+
+mod fencing;
+mod ongoing;
+mod party;
+mod settling;
+mod state;
+mod states;
+mod survivors;
+
+pub use fencing::FencedEffect;
+pub use ongoing::OngoingReopening;
+pub use party::{FoundSlot, Inventory, Membership, Party};
+pub use settling::{Settle, SettledEffect};
+pub use survivors::Standing;

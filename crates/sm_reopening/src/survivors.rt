@@ -1,0 +1,136 @@
+//! Who inherits a shard.
+ghost use Rattle.std.specs.Prelude.{◌≡◌, ◌<◌, ◌^◌, ◌↔◌, IfSome};
+ghost use Rattle.sm_network.specs.ReopeningLaws.{claim};
+ghost use Rattle.sm_reopening.specs.States.{slot_in};
+ghost use Rattle.sm_reopening.specs.Ongoing.{told_positions, recorded_place, told_slot};
+ghost use Rattle.sm_reopening.specs.Survivors.{HasNoSurvivor, IsHeirOf, slot_claim, standing_of, stands_above};
+
+use crate::ongoing::OngoingReopening;
+use crate::party::{FoundSlot, Inventory};
+use sm_server::{Cell, ServerId, ShardId};
+
+/// How well a server may inherit a shard.
+#[derive(Clone, Copy, Debug, PartialEq, Eq)]
+pub struct Standing {
+    /// How good its claim is, 0 for none.
+    pub claim: u8,
+    /// Of equal claims, how far it has the shard's writes.
+    pub position: u64,
+}
+
+impl Standing {
+    /// Returns whether this one stands above another one.
+    pub(crate) fn is_above(&self, other: &Standing) -> bool
+        ensures { result ≡ stands_above self.now other.now }
+    {
+        self.claim > other.claim || (self.claim == other.claim && self.position > other.position)
+    }
+}
+
+/// Returns how good a claim to a shard a cell gives.
+fn claim(cell: &Cell, reached: bool) -> u8
+    ensures { result ≡ claim cell.now reached }
+{
+    match cell {
+        Cell::Absent => 0,
+        Cell::Prepared { .. } => if reached { 3 } else { 1 },
+        Cell::Secondary => 2,
+        Cell::Forwarding { .. } => 3,
+        Cell::Primary => 4,
+    }
+}
+
+/// Returns what is told of a shard.
+fn slot_in(slots: &[FoundSlot], shard: ShardId) -> FoundSlot
+    ensures { result ≡ slot_in slots.now shard }
+{
+    match slots.get(shard.number() as usize) {
+        Some(slot) => *slot,
+        None => FoundSlot {
+            cell: Cell::Absent,
+            position: 0,
+            reached: false,
+        },
+    }
+}
+
+/// Returns how good a claim what a server has told gives.
+fn claim_of_slot(slot: Option<FoundSlot>) -> u8
+    ensures { result ≡ slot_claim slot }
+{
+    match slot {
+        Some(slot) => claim(&slot.cell, slot.reached),
+        None => 0,
+    }
+}
+
+impl OngoingReopening {
+    /// Returns what a server has told of a shard; nothing if it has not answered, or is Unknown.
+    pub fn slot(&self, shard: ShardId, server: ServerId) -> Option<FoundSlot>
+        ensures { result ≡ told_slot self.now shard server }
+    {
+        let state = self.servers.get(server.number() as usize)?;
+        match &state.told {
+            Some(Inventory::Slots(slots)) => Some(slot_in(slots, shard)),
+            _ => None,
+        }
+    }
+
+    /// Returns what is recorded of a server and a shard.
+    pub fn recorded_cell(&self, shard: ShardId, server: ServerId) -> Cell
+        ensures { result ≡ (recorded_place self.now).cells shard server }
+    {
+        let config = self.past.config();
+        if shard.number() >= config.shard_count() || server.number() >= config.server_count() {
+            return Cell::Absent;
+        }
+        self.past.cell(shard, server)
+    }
+
+    /// Returns how far a server has told that it has the writes of a shard.
+    fn position(&self, shard: ShardId, server: ServerId) -> u64
+        ensures { result ≡ told_positions self.now shard server }
+    {
+        match self.slot(shard, server) {
+            Some(slot) => slot.position,
+            None => 0,
+        }
+    }
+
+    /// Returns how well a server may inherit a shard.
+    pub fn standing(&self, shard: ShardId, server: ServerId) -> Standing
+        ensures standing { result ≡ standing_of self.now shard server }
+        ensures small { result.position < 2 ^ 64 }
+    {
+        let claim = if self.is_carried(server) {
+            claim(&self.recorded_cell(shard, server), false)
+        } else {
+            claim_of_slot(self.slot(shard, server))
+        };
+        Standing {
+            claim,
+            position: self.position(shard, server),
+        }
+    }
+
+    /// Returns who inherits a shard, if there is a survivor.
+    pub fn heir(&self, shard: ShardId) -> Option<ServerId>
+        ensures heir { IfSome result (IsHeirOf self.now shard) }
+        ensures none { (result ≡ None) ↔ HasNoSurvivor self.now shard }
+    {
+        let mut heir = None;
+        let mut best = Standing {
+            claim: 0,
+            position: u64::MAX,
+        };
+        for number in 0..self.server_count() {
+            let server = ServerId::new(number);
+            let standing = self.standing(shard, server);
+            if standing.is_above(&best) {
+                heir = Some(server);
+                best = standing;
+            }
+        }
+        heir
+    }
+}
