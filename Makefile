@@ -18,9 +18,11 @@ run: ## shows how a server is emptied: the plan, and what the check says (the fi
 try: ## builds build/smplan-unproved without any proof, in two minutes: a slow program, for small documents
 	@scripts/build-unproved
 
-build: ## proves and builds build/smplan, in up to an hour
+build: ## proves and builds build/smplan and build/smpland, in up to an hour
 	@mkdir -p build
 	p=$$(scripts/build-smplan) && cp "$$p" build/smplan
+	cd crates/smpland && rt run -- --help >../../build/smpland.log </dev/null
+	cp crates/smpland/out/smpland build/smpland
 	@scripts/keep-verdict build/rt.log
 
 install: ## installs build/smplan, the tools and the docs below PREFIX (/usr/local), in the folder DESTDIR if it is given
@@ -57,6 +59,7 @@ test: ## the gate, in more than an hour: all proofs from nothing, all tests, wro
 	scripts/make-audit --check
 	rt ci 2>&1 | tee build/rt.log
 	cp crates/smplan/out/smplan build/smplan
+	cp crates/smpland/out/smpland build/smpland
 	scripts/keep-verdict build/rt.log
 	$(MAKE) --jobs=2 --output-sync=line check-caught check-program check-tests
 	scripts/check-try-edits
@@ -72,8 +75,9 @@ check-program:
 	scripts/check-plans
 	scripts/check-readme
 	scripts/check-driving-model
-	scripts/check-smpland-model build/smplan
+	SMPLAND_DOES="open begin answered orders hello map check moves drain" scripts/check-smpland-model build/smplan build/smpland -
 	scripts/check-driver-example
+	scripts/check-smpland
 	scripts/check-documents
 	scripts/check-reports
 	scripts/check-faults

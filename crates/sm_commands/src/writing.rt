@@ -1,0 +1,35 @@
+//! Members of replies.
+
+use crate::command::Id;
+use json::Writer;
+use std::alloc::AllocError;
+
+/// Writes a member that is a text.
+pub fn write_text(writer: &mut Writer, name: &str, text: &str) -> Result<(), AllocError> {
+    writer.key(name)?;
+    writer.string(text)
+}
+
+/// Writes a member that is a whole number.
+pub fn write_number(writer: &mut Writer, name: &str, number: u64) -> Result<(), AllocError> {
+    writer.key(name)?;
+    writer.u64(number)
+}
+
+/// Writes a member that is a name, or null for none.
+pub fn write_name(writer: &mut Writer, name: &str, found: Option<&str>) -> Result<(), AllocError> {
+    writer.key(name)?;
+    match found {
+        Some(text) => writer.string(text),
+        None => writer.null(),
+    }
+}
+
+/// Writes by what a line is told, as a member of its reply.
+pub fn write_id(writer: &mut Writer, id: Option<Id<'_>>) -> Result<(), AllocError> {
+    match id {
+        Some(Id::Text(text)) => write_text(writer, "id", text),
+        Some(Id::Number(number)) => write_number(writer, "id", number),
+        None => Ok(()),
+    }
+}

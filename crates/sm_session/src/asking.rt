@@ -1,0 +1,221 @@
+//! Lines that ask, and change nothing.
+ghost use Rattle.std.specs.Prelude.{◌≡◌, IfOk, length};
+ghost use Rattle.sm_plan_code.specs.Plan.{IsKnownPlan};
+
+use crate::beginning::read_plan;
+use crate::opened::{Opened, calls_of};
+use json::{Reader, Scratch, Token, Writer};
+use json_tree::Tree;
+use sm_commands::{
+    BadLine, CommandMember, Field, read_moves_in, refuse_begin, refuse_check, server_name,
+    shard_name, write_bad, write_name, write_number, write_refusal, write_text,
+};
+use sm_machine::Machine;
+use sm_placement::Config;
+use sm_plan_code::{MOST_PLANS, Plan, is_call};
+use sm_plan_text::write_plan;
+use sm_planner::{NoPlan, drain, moves};
+use sm_protocol::BeginFault;
+use sm_server::ShardId;
+use sm_verifier::{Checked, Fault, admit, check};
+use std::alloc::{AllocError, Global};
+
+/// Writes, as a member of a reply, the published map.
+pub fn write_map(opened: &Opened, writer: &mut Writer) -> Result<(), AllocError> {
+    let machine = opened.driver.machine();
+    let placement = machine.placement();
+    let config = placement.config();
+    let base = opened.driver.base();
+    writer.key("map")?;
+    writer.begin_array()?;
+    for number in 0..config.shard_count() {
+        let shard = ShardId::new(number);
+        let entry = placement.entry(shard);
+        writer.begin_object()?;
+        write_text(writer, "shard", shard_name(config, shard))?;
+        match entry.server {
+            Some(server) => write_text(writer, "to", server_name(config, server))?,
+            None => write_name(writer, "to", None)?,
+        }
+        write_number(writer, "version", base.saturating_add(entry.version))?;
+        writer.end_object()?;
+    }
+    writer.end_array()
+}
+
+/// Writes the tokens of a text of JSON.
+fn copy_text(alloc: Global, writer: &mut Writer, text: &[u8]) -> Result<(), AllocError> {
+    let mut scratch = Scratch::new(alloc);
+    let Ok(text) = str::from_utf8(text) else {
+        return Ok(());
+    };
+    let mut reader = Reader::new(text, &mut scratch)?;
+    for _ in 0..text.len() {
+        match reader.next() {
+            Some(Token::Bad) | None => break,
+            Some(token) => writer.token(token)?,
+        }
+    }
+    Ok(())
+}
+
+/// Writes, as a member of a reply, a plan.
+fn write_made(
+    alloc: Global,
+    writer: &mut Writer,
+    config: &Config,
+    plan: &Plan,
+) -> Result<(), AllocError>
+    requires { IsKnownPlan (length config.now.shards) (length config.now.servers) plan.now }
+{
+    let text = write_plan(alloc, config, plan)?;
+    writer.key("plan")?;
+    copy_text(alloc, writer, text.as_slice())
+}
+
+/// Writes why there is no plan.
+fn refuse_plan(
+    alloc: Global,
+    writer: &mut Writer,
+    config: &Config,
+    why: NoPlan,
+) -> Result<(), AllocError> {
+    let front = "no plan: ";
+    match why {
+        NoPlan::NoMemory => Err(AllocError),
+        NoPlan::NotThere { shard, server } => {
+            let shard = Field::Name("shard", shard_name(config, shard));
+            let server = Field::Name("server", server_name(config, server));
+            write_refusal(writer, alloc, front, 2, "NotThere", &[shard, server])
+        }
+        NoPlan::Held { shard, server } => {
+            let shard = Field::Name("shard", shard_name(config, shard));
+            let server = Field::Name("server", server_name(config, server));
+            write_refusal(writer, alloc, front, 3, "Held", &[shard, server])
+        }
+        NoPlan::ServerDown { server } => {
+            let server = Field::Name("server", server_name(config, server));
+            write_refusal(writer, alloc, front, 4, "ServerDown", &[server])
+        }
+        NoPlan::NoRoom { server } => {
+            let server = Field::Name("server", server_name(config, server));
+            write_refusal(writer, alloc, front, 5, "NoRoom", &[server])
+        }
+        NoPlan::NoPlace { shard } => {
+            let shard = Field::Name("shard", shard_name(config, shard));
+            write_refusal(writer, alloc, front, 6, "NoPlace", &[shard])
+        }
+        NoPlan::Spread { shard } => {
+            let shard = Field::Name("shard", shard_name(config, shard));
+            write_refusal(writer, alloc, front, 7, "Spread", &[shard])
+        }
+        NoPlan::TooMany => write_refusal(writer, alloc, front, 8, "TooMany", &[]),
+    }
+}
+
+/// Writes what a planner has answered.
+fn write_answer(
+    alloc: Global,
+    writer: &mut Writer,
+    config: &Config,
+    answer: Result<Checked, NoPlan>,
+) -> Result<(), AllocError>
+    requires { IfOk answer (λ checked. checked.setup ≡ config.now) }
+{
+    match answer {
+        Ok(checked) => write_made(alloc, writer, config, checked.plan()),
+        Err(why) => refuse_plan(alloc, writer, config, why),
+    }
+}
+
+/// Writes a plan of moves, or why there is none.
+pub fn write_moves(
+    opened: &Opened,
+    alloc: Global,
+    writer: &mut Writer,
+    entries: &[Tree<'_>],
+) -> Result<(), AllocError> {
+    let machine = opened.driver.machine();
+    match read_moves_in(alloc, machine.config(), entries)? {
+        Ok(list) => {
+            let answer = moves(alloc, machine, list.as_slice());
+            write_answer(alloc, writer, machine.config(), answer)
+        }
+        Err(bad) => write_bad(writer, alloc, bad),
+    }
+}
+
+/// Writes a plan that empties a server, or why there is none.
+pub fn write_drain(
+    opened: &Opened,
+    alloc: Global,
+    writer: &mut Writer,
+    name: &str,
+) -> Result<(), AllocError> {
+    let machine = opened.driver.machine();
+    match machine.config().server_named(name) {
+        Some(server) => {
+            let answer = drain(alloc, machine, server);
+            write_answer(alloc, writer, machine.config(), answer)
+        }
+        None => write_bad(writer, alloc, BadLine::UnknownName(CommandMember::Server)),
+    }
+}
+
+/// Writes that a plan is accepted.
+fn write_accepted(writer: &mut Writer, plan: &Plan) -> Result<(), AllocError> {
+    let calls = calls_of(plan.streams());
+    writer.key("accepted")?;
+    writer.begin_object()?;
+    write_number(writer, "calls", calls as u64)?;
+    write_number(writer, "streams", plan.streams().len() as u64)?;
+    writer.end_object()
+}
+
+/// Returns how many places of the log a plan takes.
+fn places_of(plan: &Plan) -> u64 {
+    let mut places: u64 = 0;
+    for stream in plan.streams() {
+        let others = stream.code.iter().filter(|instr| !is_call(instr)).count() as u64;
+        let own = u64::from(stream.budget) + u64::from(stream.retries);
+        places = places.saturating_add(own.saturating_add(others).saturating_add(1));
+    }
+    places
+}
+
+/// Returns why a plan that passed the check would not begin now.
+fn begin_fault(machine: &Machine, checked: &Checked) -> Option<BeginFault>
+    requires { checked.now.setup ≡ machine.now.placement.setup }
+{
+    if let Err(holding) = admit(checked, machine.pool(), machine.placement()) {
+        return Some(BeginFault::Holding(holding));
+    }
+    if machine.free_places() < places_of(checked.plan()) {
+        return Some(BeginFault::LogFull);
+    }
+    if machine.unfinished().len() >= MOST_PLANS {
+        return Some(BeginFault::TooManyPlans);
+    }
+    None
+}
+
+/// Writes whether a plan would begin now.
+pub fn write_check(
+    opened: &Opened,
+    alloc: Global,
+    writer: &mut Writer,
+    value: &Tree<'_>,
+) -> Result<(), AllocError> {
+    let Some(plan) = read_plan(opened, alloc, writer, value)? else {
+        return Ok(());
+    };
+    let machine = opened.driver.machine();
+    match check(alloc, machine.config(), plan) {
+        Ok(checked) => match begin_fault(machine, &checked) {
+            Some(fault) => refuse_begin(writer, alloc, machine.config(), fault),
+            None => write_accepted(writer, checked.plan()),
+        },
+        Err((_, Fault::NoMemory)) => Err(AllocError),
+        Err((_, fault)) => refuse_check(writer, alloc, &fault),
+    }
+}

@@ -1,0 +1,91 @@
+//! The program: a controller in a process, one JSON object a line.
+#![tactic(auto)]
+
+mod command_line;
+mod served;
+mod status;
+
+use command_line::{Asked, LineFault, asked_for};
+use served::serve;
+use sm_session::Session;
+use status::Status;
+use std::alloc::{AllocError, Global};
+use std::io::ErrorKind;
+use std::process::ExitCode;
+use std::{env, io};
+
+/// Returns the words behind the program's name.
+fn words_of(rt: &HostRuntime) -> io::Result<Vec<String>> {
+    let mut words = Vec::new(rt.alloc());
+    for word in env::args(rt)?.skip(1) {
+        words.push(word)?;
+    }
+    Ok(words)
+}
+
+/// Returns the texts of words.
+fn texts_of<'a>(alloc: Global, words: &'a [String]) -> Result<Vec<&'a str>, AllocError> {
+    let mut texts = Vec::new(alloc);
+    for word in words {
+        texts.push(word.as_str())?;
+    }
+    Ok(texts)
+}
+
+/// Tells what is said of words that ask for nothing, and returns how the program ends.
+fn told(rt: &HostRuntime, fault: LineFault) -> Status {
+    match fault {
+        LineFault::NoMemory => Status::NoMemory,
+        LineFault::Told { text } => match rt.print(text.as_str()) {
+            Ok(()) => Status::Done,
+            Err(_) => Status::Failed,
+        },
+        LineFault::Bad { text } => {
+            let _ = rt.eprint(text.as_str());
+            Status::BadWords
+        }
+    }
+}
+
+/// Serves each line of standard input, which is the journal.
+fn serve_input(rt: &HostRuntime) -> Status {
+    let mut session = Session::new();
+    let status = serve(
+        rt.alloc(),
+        &mut session,
+        &mut rt.reader(),
+        &mut io::writer(rt),
+    );
+    session.close();
+    status
+}
+
+/// Serves what the words ask for, and returns how the program ends.
+fn serve_words(rt: &HostRuntime, words: &[String]) -> Status {
+    let Ok(texts) = texts_of(rt.alloc(), words) else {
+        return Status::NoMemory;
+    };
+    match asked_for(rt.alloc(), texts.as_slice()) {
+        Ok(Asked::Input) => serve_input(rt),
+        Ok(Asked::Journal(_)) => {
+            let _ = rt.eprintln("error: this build keeps no journal: give -");
+            Status::BadWords
+        }
+        Err(fault) => told(rt, fault),
+    }
+}
+
+fn main(rt: HostRuntime) -> ExitCode {
+    let status = match words_of(&rt) {
+        Ok(words) => serve_words(&rt, words.as_slice()),
+        Err(fault) if fault.kind() == ErrorKind::OutOfMemory => Status::NoMemory,
+        Err(_) => {
+            let _ = rt.eprintln("error: a word of the command line is not UTF-8");
+            Status::BadWords
+        }
+    };
+    if status == Status::NoMemory {
+        let _ = rt.eprintln("error: out of memory");
+    }
+    ExitCode::from(status.code())
+}
