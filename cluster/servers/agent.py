@@ -1,6 +1,8 @@
-"""The agent: the proved library if `make agent` has built it (build/libsm_agent.so), otherwise its port to Python."""
+"""The agent: the proved library that the environment's SM_AGENT names (build/libsm_agent.so, by `make agent`), otherwise
+its port to Python."""
 from __future__ import annotations
 
+import os
 from pathlib import Path
 
 from smplan import agent as port
@@ -8,14 +10,14 @@ from smplan.agent import VACANT
 
 from .native import Agent
 
-LIBRARY = Path(__file__).resolve().parents[2] / "build/libsm_agent.so"
-IS_NATIVE = LIBRARY.exists()
-chosen = Agent(LIBRARY) if IS_NATIVE else port
+LIBRARY = os.environ.get("SM_AGENT")
+chosen = Agent(Path(LIBRARY).resolve()) if LIBRARY else port
 
-judge, begin, abandon, commit, seal, place = chosen.judge, chosen.begin, chosen.abandon, chosen.commit, chosen.seal, chosen.place
+judge, begin, abandon, commit, seal, place = (
+    chosen.judge, chosen.begin, chosen.abandon, chosen.commit, chosen.seal, chosen.place)
 has_reached_cut, route, fence, settle, restore, heed = (
     chosen.has_reached_cut, chosen.route, chosen.fence, chosen.settle, chosen.restore, chosen.heed)
 forget = port.forget
 
-__all__ = ["VACANT", "IS_NATIVE", "judge", "begin", "abandon", "commit", "seal", "place", "has_reached_cut", "route", "fence", "settle", "restore",
+__all__ = ["VACANT", "judge", "begin", "abandon", "commit", "seal", "place", "has_reached_cut", "route", "fence", "settle", "restore",
            "heed", "forget"]

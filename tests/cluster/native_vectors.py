@@ -9,13 +9,12 @@ ROOT = Path(__file__).resolve().parents[2]
 sys.path[:0] = [str(ROOT), str(ROOT / "python"), str(ROOT / "tests/agent")]
 from vectors import TAKES, numbers_of, values_of  # noqa: E402  (the paths come first)
 
-from cluster.servers.agent import LIBRARY  # noqa: E402
 from cluster.servers.native import Agent  # noqa: E402
 
 
 def main() -> int:
     """Compares all lines but those of `publish`, which no server needs."""
-    agent, count = Agent(LIBRARY), 0
+    agent, count = Agent(ROOT / "build/libsm_agent.so"), 0
     for line in sys.stdin:
         before, after = line.split(" =")
         name, *words = before.split()
