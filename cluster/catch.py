@@ -15,6 +15,7 @@ from cluster.launch.processes import NotReady
 from cluster.launch.shape import Shape
 from cluster.run import Run, Settings, default_program
 from cluster.servers.bugs import BUGS as SERVER_BUGS
+from cluster.wire import Failed
 
 # What happens in a run, by the share of it: everything that some bug needs to do harm.
 PARTS = (

@@ -102,7 +102,7 @@ class Run:
             self.tell("everything has come to rest; now the checkers look at it")
             program = shlex.split(self.cluster.program)
             floors = {it["name"]: 0 if self.story.lost else it["want"] - it["cap"] for it in document_of(self.settings.shape)["shards"]}
-            self.verdict = await judge(self.cluster, self.operator, program, self.story.alive, floors)
+            self.verdict = await judge(self.cluster, self.operator, program, self.story.alive, floors, self.story.permits)
             return self.result(counts)
         finally:
             await self.cluster.end()

@@ -14,10 +14,12 @@ from dataclasses import dataclass, field
 from pathlib import Path
 
 from cluster.launch.cluster import program_of
+from cluster.launch.operator import NoLeader
 from cluster.launch.processes import NotReady
 from cluster.launch.shape import Shape
 from cluster.launch.situations import SITUATIONS
 from cluster.run import Result, Run, Settings, default_program, in_words
+from cluster.wire import Failed
 
 # What may happen in a run, and how often.
 HARM = (("kill_leader", 1), ("freeze_leader", 1), ("kill_member", 1), ("crash_server", 2), ("restart_server", 4), ("drain", 1))
@@ -78,7 +80,7 @@ class Storm:
         settings = Settings(directory, shape, program_of(told.program), told.seconds, not told.calm, parts_of(seed, seed % 2 == 0), tuple(told.bug), is_quiet=True)
         try:
             result = await Run(settings).run()
-        except (NotReady, OSError, TimeoutError) as why:
+        except (NotReady, OSError, TimeoutError, NoLeader, Failed) as why:
             self.sums.failed.append(f"seed {seed}: {type(why).__name__} {why}")
             print(f"seed {seed}: {why}", flush=True)
             return

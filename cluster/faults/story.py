@@ -28,6 +28,8 @@ class Story:
         self.counts: Counter[str] = Counter()
         self.failovers: list[float] = []
         self.lost: set[str] = set()
+        # When servers went down under a permit and came up, for the checkers.
+        self.permits: list[Line] = []
         self.restarting = asyncio.Lock()
         self.names = 0
         self.document = document_of(cluster.shape)
@@ -113,6 +115,7 @@ class Story:
                 return False
             lose = self.dice.random() < 0.5 if lose_slots is None else lose_slots
             self.tell(f"restart {name} under permit {permit}{', which loses its slots' if lose else ''}")
+            self.note_permit(name, True)
             await self.cluster.processes[name].kill()
             await asyncio.sleep(self.dice.uniform(0.2, 0.8))
             await self.cluster.processes[name].start(*(["--lose-slots"] if lose else []))
@@ -120,8 +123,13 @@ class Story:
                 await asyncio.sleep(1.5)
             for _ in range(self.dice.randint(1, 2)):
                 await self.operator.do({"do": "restarted", "permit": permit})
+            self.note_permit(name, False)
             self.counts["restarts"] += 1
             return True
+
+    def note_permit(self, name: str, is_down: bool) -> None:
+        """Notes that a server goes down under its permit, or is up again."""
+        self.permits.append({"server": name, "t": time.monotonic_ns(), "kind": "permit", "down": is_down})
 
     async def approved(self, name: str, by: str, tries: int = 10) -> int | None:
         """Asks for leave until it is given; None if it is not."""

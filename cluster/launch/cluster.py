@@ -8,7 +8,7 @@ from dataclasses import dataclass, field
 from pathlib import Path
 
 from cluster.servers.bugs import BUGS as SERVER_BUGS
-from cluster.wire import Address, Channel, Message
+from cluster.wire import Address, Channel, Failed, Message
 
 from .etcd import add_etcd
 from .processes import Processes, free_ports
@@ -131,8 +131,14 @@ class LocalCluster:
         await self.processes.end()
 
     async def tell_proxies(self, **message: object) -> Message:
-        """Changes what befalls messages, or asks for the counts."""
-        return await self.faults.ask(5.0, **message)
+        """Changes what befalls messages, or asks for the counts. What is told twice does the same."""
+        for left in (2, 1, 0):
+            try:
+                return await self.faults.ask(10.0, **message)
+            except Failed:
+                if not left:
+                    raise
+        raise AssertionError("there is a last try")
 
 
 def program_of(text: str) -> str:

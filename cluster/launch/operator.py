@@ -28,7 +28,7 @@ class Operator:
         except Failure:
             return None
 
-    async def do(self, line: Line, patience: float = 30.0) -> Line:
+    async def do(self, line: Line, patience: float = 90.0) -> Line:
         """Has the leader store and feed a line, and returns the reply."""
         try:
             async with asyncio.timeout(patience):

@@ -2,12 +2,22 @@
 from __future__ import annotations
 
 import asyncio
+import ctypes
 import os
 import secrets
 import signal
 import socket
 from dataclasses import dataclass, field
 from pathlib import Path
+
+
+LIBC = ctypes.CDLL(None)
+PR_SET_PDEATHSIG = 1
+
+
+def die_with_parent() -> None:
+    """Has the kernel end this process with the one that started it, however that ends."""
+    LIBC.prctl(PR_SET_PDEATHSIG, signal.SIGKILL)
 
 
 class NotReady(Exception):
@@ -44,7 +54,7 @@ class Process:
             begin = log.tell()
             self.running = await asyncio.create_subprocess_exec(
                 *self.command, *more, stdin=asyncio.subprocess.PIPE if self.has_input else asyncio.subprocess.DEVNULL, stdout=log, stderr=log,
-                env={**os.environ, **self.environment}, start_new_session=True,
+                env={**os.environ, **self.environment}, start_new_session=True, preexec_fn=die_with_parent,
             )
         if self.says_ready:
             await self.wait_ready(begin, timeout)

@@ -170,7 +170,7 @@ async def histories_of(cluster: LocalCluster) -> Path:
     return path
 
 
-async def judge(cluster: LocalCluster, operator: Operator, program: list[str], alive: list[str], floors: dict[str, int]) -> Verdict:
+async def judge(cluster: LocalCluster, operator: Operator, program: list[str], alive: list[str], floors: dict[str, int], permits: list[Line]) -> Verdict:
     """Looks at everything. Ends the cluster's processes in between."""
     verdict = Verdict()
     audits = await audits_of(cluster, alive)
@@ -192,8 +192,9 @@ async def judge(cluster: LocalCluster, operator: Operator, program: list[str], a
     (where / "floors.json").write_text(json.dumps(floors))
     answered = write_lines(where / "answered.jsonl", [it for it in lines if json.loads(it)["do"] == "answered"])
     orders = write_lines(where / "orders.jsonl", [json.dumps(it) for it in journal.orders])
+    down = write_lines(where / "permits.jsonl", [json.dumps(it) for it in permits])
     histories = await histories_of(cluster)
     await run_checker(verdict, "cluster.checkers.servers", where, "--history", str(histories), "--orders", str(orders), "--answered", str(answered),
-                      "--expected", str(where / "expected.json"), "--wants", str(where / "floors.json"))
+                      "--expected", str(where / "expected.json"), "--wants", str(where / "floors.json"), "--permits", str(down))
     await run_checker(verdict, "cluster.checkers.clients", where, str(where / "clients.jsonl"))
     return verdict
