@@ -221,12 +221,12 @@ def default_program() -> str:
 def arguments() -> argparse.Namespace:
     """Reads the command line."""
     parser = argparse.ArgumentParser(prog="cluster.run", description="Runs a cluster under load, moves it and harms it, and checks what came of it.")
-    parser.add_argument("--program", default=default_program(), help="the session's command line")
-    parser.add_argument("--seconds", type=float, default=60.0)
-    parser.add_argument("--servers", type=int, default=8)
-    parser.add_argument("--shards", type=int, default=64)
-    parser.add_argument("--clients", type=int, default=16)
-    parser.add_argument("--seed", type=int, default=1)
+    parser.add_argument("--program", default=default_program(), help="the session's command line (%(default)s)")
+    parser.add_argument("--seconds", type=float, default=60.0, help="how long things are moved and harmed (%(default)s); start, rest and checks come on top")
+    parser.add_argument("--servers", type=int, default=8, help="how many servers (%(default)s)")
+    parser.add_argument("--shards", type=int, default=64, help="how many shards (%(default)s)")
+    parser.add_argument("--clients", type=int, default=16, help="how many clients (%(default)s)")
+    parser.add_argument("--seed", type=int, default=1, help="what the harm is drawn by (%(default)s)")
     parser.add_argument("--calm", action="store_true", help="no message is harmed")
     parser.add_argument("--parts", help="what happens, as drain,kill_leader; everything if it is missing")
     parser.add_argument("--bug", action="append", default=[], help="plant a bug, which the checkers are to find")

@@ -2,6 +2,9 @@
 
     python3 examples/driver.py [DOCUMENT [PROGRAM..]]
 
+DOCUMENT has a `plan`, or a server to `drain`: for that the session asks smplan, which has to be built (`make try`). PROGRAM is the session's command
+line, tools/smpland_model.py if none is named.
+
 The servers keep slots and data in dictionaries, and the journal is a list. Servers that keep them for good, and messages that get lost, late and
 repeated, are in cluster/.
 """
@@ -66,10 +69,22 @@ class Servers:
         return DONE
 
 
+def done(reply, word):
+    """Returns what a reply says was done; ends the program with the reply if it was not."""
+    if word not in reply:
+        sys.exit(f"driver.py: no {word}: {json.dumps(reply)}")
+    return reply[word]
+
+
 async def main(path, program):
-    with open(path, encoding="utf-8") as file:
-        document = json.load(file)
+    try:
+        with open(path, encoding="utf-8") as file:
+            document = json.load(file)
+    except (OSError, ValueError) as why:
+        sys.exit(f"driver.py: {path} cannot be read: {why}")
     plan, drained = document.pop("plan", None), document.pop("drain", None)
+    if plan is None and drained is None:
+        sys.exit(f"driver.py: {path} has neither a plan nor a server to drain")
     servers, journal = Servers(document), []
 
     async def store(lines):
@@ -79,11 +94,11 @@ async def main(path, program):
     session = await Session.start(program)
     controller = Controller(session, servers, store)
     await controller.lead()
-    await controller.do({"do": "open", "document": document, "journal": secrets.token_hex(8), "epoch": 0})
+    done(await controller.do({"do": "open", "document": document, "journal": secrets.token_hex(8), "epoch": 0}), "opened")
     for name in servers.numbers:
         await controller.do({"do": "restore", "server": name, "nonce": f"{servers.bases[name].nonce:x}"})
-    plan = plan or (await controller.ask({"do": "drain", "server": drained}))["plan"]
-    await controller.do({"do": "begin", "plan": plan, "name": "first"})
+    plan = plan or done(await controller.ask({"do": "drain", "server": drained}), "plan")
+    done(await controller.do({"do": "begin", "plan": plan, "name": "first"}), "begun")
     while controller.outgoing:
         await asyncio.sleep(0.01)
     await controller.rest()
@@ -96,4 +111,6 @@ async def main(path, program):
 
 
 if __name__ == "__main__":
+    if sys.argv[1:2] in (["-h"], ["--help"]):
+        sys.exit(__doc__)
     asyncio.run(main(sys.argv[1] if len(sys.argv) > 1 else DOCUMENT, sys.argv[2:] or PROGRAM))

@@ -74,6 +74,8 @@ def fetch(url: str, line: Optional[Dict[str, Any]] = None, timeout: float = 30.0
     except HTTPError as why:
         told = why.read().decode(errors="replace").strip()
         raise Failure(f"{url}: {told or why.reason}", 3) from None
+    except ValueError:
+        raise Failure(f"{url}: a controller is named as http://HOST:PORT") from None
     except (URLError, OSError) as why:
         raise Failure(f"{url}: {getattr(why, 'reason', why)}", 3) from None
     try:
