@@ -86,7 +86,7 @@ check-program:
 	scripts/check-python
 	scripts/check-dist
 	scripts/page-test --or-leave-out
-	scripts/check-cluster
+	python3 tests/cluster/checker_cases.py
 	scripts/check-memory
 	scripts/check-threads
 	scripts/storm 20
