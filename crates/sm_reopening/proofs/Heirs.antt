@@ -103,3 +103,13 @@ none_better x s v none u = elim (cases_lt u (length x.servers.items)) [
       let position : (standing_of x s u).position ≡ 0 = ap (λ (t : ServerState). told_position t.told s) (get_or_past x.servers.items u (fresh_state Member) l) in
       not_above (standing_of x s u) (standing_of x s v) (omega arith) (λ q. omega arith)
 ]
+
+-- one server inherits at most
+pub one_inherits : (x : OngoingReopening) (s u v : ℕ) → IsHeirOf x s u → IsHeirOf x s v → u ≡ v
+one_inherits x s u v a b = elim (cases_lt u v) [
+  | inl l ↦ absurd (let above = b.first u l in let below = a.best v in let z = sym above ∙ below in cc)
+  | inr l ↦ elim (cases_lt v u) [
+    | inl m ↦ absurd (let above = a.first v m in let below = b.best u in let z = sym above ∙ below in cc)
+    | inr m ↦ omega arith
+  ]
+]

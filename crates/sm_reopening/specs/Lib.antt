@@ -2,3 +2,4 @@ pub mod States
 pub mod Ongoing
 pub mod Settles
 pub mod Survivors
+pub mod Proposal

@@ -1,5 +1,4 @@
 -- Settles and the answers to them, as the network's laws speak of them.
--- `nonce_of` is for a private function's contract: whoever reads public contracts need not read it.
 use Rattle.std.specs.Prelude.{◌≡◌, ℕ, ◌&&◌, ◌==◌, Bool, true, false, not, Option, Some, None, List, [], ◌∷◌, is_some}
 use Rattle.sm_placement.specs.Layout.{PlacementModel, place_of}
 use Rattle.sm_placement.specs.Opening.{first_below}

@@ -5,6 +5,7 @@
 mod fencing;
 mod ongoing;
 mod party;
+mod proposal;
 mod settling;
 mod state;
 mod states;
