@@ -15,6 +15,7 @@ from smpland_model.session import Session
 
 from random_lines import as_bytes, sessions, spoilt
 from session_files import FOLDER, Program, exchanges
+from test_planning import service
 
 Json = dict[str, Any]
 PROGRAM = os.environ.get("SMPLAND", "").split()
@@ -30,6 +31,37 @@ def is_known(line: bytes) -> bool:
         return True
     do = value.get("do") if isinstance(value, dict) else None
     return not DOES or do in DOES or not isinstance(do, str)
+
+
+def planning_lines() -> Iterator[Json]:
+    """Yields the lines of a session that asks for plans."""
+    moves = [dict(zip(("shard", "from", "to"), it.split())) for it in ("s0 v0 v2", "s0 v1 v2", "s1 v2 v3", "s4 v0 v3")]
+    asked: list[Json] = [{"do": "drain", "server": "v0"}, {"do": "drain", "server": "v3"}]
+    asked += [{"do": "moves", "moves": [it]} for it in moves] + [{"do": "moves", "moves": moves[2:]}]
+    yield {"do": "open", "document": service(), "journal": "1", "epoch": 0}
+    yield from asked
+    yield {"do": "begin", "plan": handover("s0", "v0", "v2"), "name": "p"}
+    for number in range(1, 6):
+        yield from asked
+        yield {"do": "answered", "plan": 0, "stream": 0, "number": number}
+    yield from asked
+
+
+def handover(shard: str, owner: str, taker: str) -> Json:
+    """Returns a plan that hands a shard of load 2 over."""
+    holds = {
+        "cells": [{"shard": shard, "server": taker, "state": "absent"}],
+        "crowns": [{"shard": shard, "lead": "at", "server": owner, "listed": owner}],
+        "room": [{"server": taker, "amount": 2}],
+    }
+    code = [
+        {"do": "prepare_add", "shard": shard, "server": taker, "other": owner},
+        {"do": "prepare_drop", "shard": shard, "server": owner, "other": taker},
+        {"do": "add", "shard": shard, "server": taker, "role": "primary"},
+        {"do": "publish", "shard": shard},
+        {"do": "drop", "shard": shard, "server": owner},
+    ]
+    return {"budget": 4, "streams": [{"budget": 4, "holds": holds, "code": code}]}
 
 
 def comparable(reply: Json) -> Json:
@@ -57,6 +89,10 @@ class Comparison(unittest.TestCase):
         for path in sorted(FOLDER.glob("*.session")):
             with self.subTest(path.name):
                 self.compare(path.name, (it.line for it in exchanges(path)))
+
+    def test_plans(self) -> None:
+        """Drains and moves at rest, and at each step of a handover."""
+        self.compare("plans", map(as_bytes, planning_lines()))
 
     def test_random_sessions(self) -> None:
         """Some lines go to both spoilt before they go as they are."""
