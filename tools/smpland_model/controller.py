@@ -1,6 +1,6 @@
 """The controller of `driving_model` over documents with names, each of which may have other servers and shards.
 
-What the model leaves open is closed here as the proved crates have it: the words of a plan that does not begin, an
+What the model leaves open is closed here as the crates have it: the words of a plan that does not begin, an
 answer that comes too soon, and cells that `confirm` may not make.
 """
 from __future__ import annotations

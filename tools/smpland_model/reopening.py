@@ -1,4 +1,4 @@
-"""A reopening as the proved crate has it: who inherits a shard, what is proposed, and why cells may not be settled.
+"""A reopening as the crate sm_reopening has it: who inherits a shard, what is proposed, and why cells may not be settled.
 
 Over the model's it has two things more. A shard whose primary is lost goes to a secondary even if the document names no
 primary for it. And no replica comes or goes by a reopening, but at servers that are Unknown.
