@@ -101,6 +101,7 @@ class Checker:
         """It has started: with its slots, or Unknown."""
         self.counts["start again with slots"] += event["known"]
         self.counts["start after a crash at work"] += event["at_work"] > 0
+        self.counts["start with the proved library"] += event.get("library", False)
         if event["loses_slots"]:
             self.clear(host)
         host.nonce = event["nonce"]

@@ -53,7 +53,7 @@ class Server:
             shard.slot = agent.abandon(shard.slot)
             commands += self.store.slot_commands(shard.name, shard.slot)
         await self.store.save(commands, "start", server=self.name, loses_slots=loses_slots, known=bool(self.store.base.known),
-                              at_work=len(at_work), nonce=hexadecimal(self.store.base.nonce))
+                              at_work=len(at_work), library=bool(agent.LIBRARY), nonce=hexadecimal(self.store.base.nonce))
         self.begin(self.sources.probe())
         self.begin(self.keep_notes())
         self.resume()
