@@ -201,6 +201,10 @@ class Orders:
             empty = slot.cell == Cell.ABSENT or (slot.cell == Cell.PRIMARY and before.cell == Cell.ABSENT)
             commands = await self.store.delete_commands(shard.name) if empty else []
             told, order = work.told, work.order
+            # (who becomes primary by a change of roles waits for every replica, also for the former primary, which has yet to come)
+            if slot.cell == Cell.PRIMARY and before.cell == Cell.SECONDARY:
+                shard.members = (shard.members | set(told.get("replicas") or ())) - {self.server.name}
+                commands += self.store.member_commands(shard.name, shard.members)
             await self.store.save(
                 self.slot_commands(shard, slot) + commands, "commit", shard=shard.name, number=order.number, call=told["call"],
                 plan=told["plan"], stream=told["stream"], epoch=told.get("epoch"), journal=told["journal"], before=STATES[Cell(before.cell)],
