@@ -1,5 +1,5 @@
 -- An append, call by call.
-use Rattle.std.proofs.Common.{◌≡◌, ◌⊎◌, inl, inr, ⊎_elim, ℕ, ◌+◌, ◌-◌, ◌≤◌, ◌<◌, List, [], ◌∷◌, ◌++◌, length, take, drop, map, refl, sym, ◌∙◌, ap, subst, arith, length-append}
+use Rattle.std.proofs.Common.{◌≡◌, ◌⊎◌, inl, inr, ⊎_elim, ℕ, ◌-◌, ◌≤◌, List, [], ◌∷◌, ◌++◌, length, take, drop, map, refl, sym, ◌∙◌, ap, subst, arith, length-append}
 use Rattle.std.specs.List.{All}
 use Rattle.std.proofs.lemmas.Bool.{cases_lt}
 use Rattle.std.proofs.lemmas.List.{append-nil, map-append, take_rest}
@@ -34,6 +34,10 @@ module _ {D : Type 0} (moment : D → ℕ) (written_at : D → ℕ → List ℕ)
   -- the journal with that line
   pub longer : journal_of batches ++ appended_text ≡ journal_of (batches ++ commands ∷ [])
   longer = ap (λ (a : List ℕ). journal_of batches ++ (journal_line a (listed commands) ++ 10 ∷ [])) rest.sum ∙ sym (journal_push batches commands)
+
+  -- what is written with the text that is appended
+  pub grows_by : (text : List ℕ) → text ≡ appended_text → written_now moment written_at journal.store ++ text ≡ journal_of (batches ++ commands ∷ [])
+  grows_by text is = ap (λ (l : List ℕ). l ++ text) rest.written ∙ ap (λ (l : List ℕ). journal_of batches ++ l) is ∙ longer
 
   torn_recovers : (text : List ℕ) → text ≡ appended_text → (content : List ℕ) → StepsTo (MayLeave moment left_at journal.store) (IsTorn text) content → RecoversToOneOf batches commands content
   torn_recovers text is content (before, left, (torn, short, whole)) honest =
@@ -84,6 +88,45 @@ module _ {D : Type 0} (moment : D → ℕ) (written_at : D → ℕ → List ℕ)
     synced = synced;
     sum = sum ∙ ap (λ (a : List ℕ). sum_of a (listed commands)) rest.sum ∙ sym (last_sum-push no_sum (map listed batches) (listed commands))
         ∙ ap (last_sum no_sum) (sym (map-append listed batches (commands ∷ [])));
+  }
+
+module _ {D : Type 0} (moment : D → ℕ) (written_at : D → ℕ → List ℕ) (left_at : D → ℕ → List ℕ → Type 0) where
+  -- where nothing was called, no time went on
+  pub passes_not : (store : D) (text : List ℕ) (told : List ℕ → Type 0) → Passes moment written_at left_at store store text told
+  passes_not store text told = record {
+    later = omega arith;
+    texts = λ n past. refl;
+    before = λ n content past left. left;
+    kept = λ n content past left. left;
+    written = λ n after until. absurd (omega (arith, after, until));
+    each = λ n content after until left. absurd (omega (arith, after, until));
+  }
+
+  -- one call, with what is told of each moment
+  pub passes_once : (old new : D) (text text' : List ℕ) (told told' : List ℕ → Type 0) → Passes moment written_at left_at old new text' told' → text' ≡ text
+      → EachLeft moment left_at old new told → Passes moment written_at left_at old new text told
+  passes_once old new text text' told told' first is each = record {
+    later = first.later;
+    texts = first.texts;
+    before = first.before;
+    kept = first.kept;
+    written = λ n after until. first.written n after until ∙ is;
+    each = λ n content after until left. each n content (omega (arith, after)) until left;
+  }
+
+  -- two calls, one behind the other, after each of which the same text was written
+  pub passes_twice : (old mid new : D) (text text' text'' : List ℕ) (told told' told'' : List ℕ → Type 0) → Passes moment written_at left_at old mid text' told'
+      → Passes moment written_at left_at mid new text'' told'' → text' ≡ text → text'' ≡ text → EachLeft moment left_at old new told → Passes moment written_at left_at old new text told
+  passes_twice old mid new text text' text'' told told' told'' first second is also each = record {
+    later = omega (arith, first.later, second.later);
+    texts = λ n past. second.texts n (omega (arith, past, first.later)) ∙ first.texts n past;
+    before = λ n content past left. first.before n content past (second.before n content (omega (arith, past, first.later)) left);
+    kept = λ n content past left. second.kept n content (omega (arith, past, first.later)) (first.kept n content past left);
+    written = λ n after until. ⊎_elim
+        (λ later. second.written n later until ∙ also)
+        (λ past. second.texts n past ∙ first.written n after past ∙ is)
+        (cases_lt (moment mid) n);
+    each = λ n content after until left. each n content (omega (arith, after)) until left;
   }
 
 -- no command stands behind no comma

@@ -1,5 +1,5 @@
 -- A crash at any moment of a call, and what it leaves.
-use Rattle.std.specs.Prelude.{◌≡◌, ◌≤◌, ◌⊎◌, ℕ, List, [], ◌∷◌, ◌++◌}
+use Rattle.std.specs.Prelude.{◌≤◌, ◌⊎◌, ℕ, List, [], ◌∷◌, ◌++◌}
 use Rattle.journal_lines.specs.Journal.{journal_of, HasBatches, HasNoForged}
 
 -- what a crash leaves at any moment of a call, from the moment before it on, has P

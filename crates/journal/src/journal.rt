@@ -15,8 +15,20 @@ pub struct Journal<S: Store> {
 
 impl<S: Store> Journal<S> {
     ghost use Rattle.journal_lines.specs.Objects.{IsBatch, IsObject, behind_commas, listed};
+    ghost use Rattle.journal_lines.specs.Journal.{journal_of};
+    ghost use Rattle.journal_store.specs.Store.{Passes};
     ghost use Rattle.journal.specs.Moments.{EachLeft, RecoversToOneOf, RecoversToGrown, grown};
     ghost use Rattle.journal.specs.Journal.{IsOnDisk};
+
+    /// Takes a store in which a journal may stand. It has to be recovered before anything is appended.
+    pub fn new(store: S) -> Journal<S>
+        ensures { result.store ≡ store }
+    {
+        Journal {
+            store,
+            sum: Sum::none(),
+        }
+    }
 
     /// Appends the commands of one batch, and returns once they are on the disk. After an error nothing more is to be asked of it.
     pub fn append(&mut self, alloc: Global, body: &[u8]) -> Result<(), StoreFault>
@@ -28,6 +40,10 @@ impl<S: Store> Journal<S> {
         ensures any_moment { S.keeps_word self.old.store → (batches : List (List (List ℕ))) (commands : List (List ℕ))
             → IsOnDisk S.moment S.written_at S.left_at self.old batches → IsBatch commands → body.now ≡ listed commands
             → EachLeft S.moment S.left_at self.old.store self.new.store (RecoversToOneOf batches commands) }
+        // What was before stays as it was.
+        ensures time { S.keeps_word self.old.store → (batches : List (List (List ℕ))) (commands : List (List ℕ))
+            → IsOnDisk S.moment S.written_at S.left_at self.old batches → IsBatch commands → body.now ≡ listed commands
+            → Passes S.moment S.written_at S.left_at self.old.store self.new.store (journal_of (batches ++ commands ∷ [])) (RecoversToOneOf batches commands) }
     {
         let line = write_line(alloc, &self.sum, body)?;
         let mut text = line.text;
@@ -47,6 +63,9 @@ impl<S: Store> Journal<S> {
         ensures any_moment { S.keeps_word self.old.store → (batches : List (List (List ℕ))) (changed : List (List ℕ))
             → IsOnDisk S.moment S.written_at S.left_at self.old batches → All IsObject changed → commands.now ≡ behind_commas changed
             → EachLeft S.moment S.left_at self.old.store self.new.store (RecoversToGrown batches changed) }
+        ensures time { S.keeps_word self.old.store → (batches : List (List (List ℕ))) (changed : List (List ℕ))
+            → IsOnDisk S.moment S.written_at S.left_at self.old batches → All IsObject changed → commands.now ≡ behind_commas changed
+            → Passes S.moment S.written_at S.left_at self.old.store self.new.store (journal_of (grown batches changed)) (RecoversToGrown batches changed) }
     {
         if commands.is_empty() {
             return Ok(());

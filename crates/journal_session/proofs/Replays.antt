@@ -1,0 +1,103 @@
+-- The commands of a journal, one behind the other, and its lines.
+use Rattle.std.proofs.Common.{◌≡◌, ℕ, ◌+◌, ◌-◌, ◌≤◌, ◌<◌, List, [], ◌∷◌, ◌++◌, length, take, drop, Some, refl, sym, ◌∙◌, ap, arith, append_assoc, length-append}
+use Rattle.std.specs.List.{All}
+use Rattle.std.proofs.lemmas.List.{append-nil, take_at, drop_at, take_all, drop-drop, length-drop, take_rest}
+use Rattle.std.proofs.lemmas.List.Concat.{flat_map-append}
+use Rattle.std.proofs.lemmas.List.Elements.{All-head, All-tail}
+use Rattle.std.proofs.lemmas.Option.{same_Some}
+use Rattle.journal_lines.specs.Objects.{object_length, IsObject, behind_commas, listed, IsBatch}
+use Rattle.journal_lines.specs.Lines.{head}
+use Rattle.journal_lines.proofs.ObjectTexts.{object_length-append}
+use Rattle.journal_session.specs.Pieces.{EndsLine}
+use Rattle.journal_session.specs.Session.{commands_of}
+
+-- one batch more
+pub commands_push : (batches : List (List (List ℕ))) (commands : List (List ℕ)) → commands_of (batches ++ commands ∷ []) ≡ commands_of batches ++ commands
+commands_push batches commands =
+    flat_map-append (λ (batch : List (List ℕ)). batch) batches (commands ∷ []) ∙ ap (λ (l : List (List ℕ)). commands_of batches ++ l) (append-nil commands)
+
+-- the text of these commands begins with the first of them
+pub record Begins (text : List ℕ) (n : ℕ) (commands : List (List ℕ)) : Type 0 where
+  pub first : List ℕ
+  pub others : List (List ℕ)
+  pub are : commands ≡ first ∷ others
+  pub front : take n text ≡ first
+  pub behind : drop n text ≡ behind_commas others
+  pub objects : All IsObject others
+
+-- a batch begins with a command
+pub batch_begins : (text : List ℕ) (n : ℕ) (commands : List (List ℕ)) → object_length text ≡ Some n → IsBatch commands → text ≡ listed commands → Begins text n commands
+batch_begins text n [] found batch is = absurd (batch.some refl)
+batch_begins text n (c ∷ cs) found batch is =
+    let same : n ≡ length c = same_Some n (length c) (sym found ∙ ap object_length is ∙ object_length-append c (behind_commas cs) (length c) (All-head IsObject c cs batch.objects)) in
+    record {
+      first = c;
+      others = cs;
+      are = refl;
+      front = ap (take n) is ∙ take_at c (behind_commas cs) n (sym same);
+      behind = ap (drop n) is ∙ drop_at c (behind_commas cs) n (sym same);
+      objects = All-tail IsObject c cs batch.objects;
+    }
+
+-- where nothing stands behind it, it is the only one
+pub begins_last : (text : List ℕ) (n : ℕ) (commands : List (List ℕ)) → (b : Begins text n commands) → n ≡ length text → b.others ≡ []
+begins_last text n commands b whole = none b.others (sym b.behind ∙ (drop_none text n whole))
+  where
+    drop_none : (xs : List ℕ) (n : ℕ) → n ≡ length xs → drop n xs ≡ []
+    drop_none xs n is = ap (λ (l : List ℕ). drop n l) (sym (append-nil xs)) ∙ drop_at xs [] n (sym is)
+
+    none : (others : List (List ℕ)) → behind_commas others ≡ [] → others ≡ []
+    none [] is = refl
+    none (c ∷ cs) is = absurd (cc)
+
+-- otherwise the others are a batch behind a comma
+pub begins_more : (text : List ℕ) (n : ℕ) (commands : List (List ℕ)) → (b : Begins text n commands) → n < length text
+    → IsBatch b.others × (take (length text - (n + 1)) (drop (n + 1) text) ≡ listed b.others)
+begins_more text n commands b within =
+    (record { some = λ none. some b.others b.behind none; objects = b.objects }, take_rest text (n + 1) ∙ sym (drop-drop 1 n text) ∙ ap (drop 1) b.behind)
+  where
+    some : (others : List (List ℕ)) → drop n text ≡ behind_commas others → others ≡ [] → ⊥
+    some others is none = absurd (omega (arith, within, ap length (is ∙ ap behind_commas none), length-drop n text))
+
+-- one command more
+pub applied_more : (entries done : List (List ℕ)) (text : List ℕ) (n : ℕ) (next : List (List ℕ)) → (b : Begins text n next) → entries ++ done ++ take n text ∷ [] ≡ entries ++ (done ++ b.first ∷ [])
+applied_more entries done text n next b =
+    append_assoc entries done (take n text ∷ []) ∙ ap (λ (l : List ℕ). entries ++ (done ++ l ∷ [])) b.front
+
+-- the last command
+pub applied_last : (entries done commands : List (List ℕ)) (text : List ℕ) (n : ℕ) (next : List (List ℕ)) → (b : Begins text n next) → commands ≡ done ++ next → n ≡ length text
+    → entries ++ done ++ take n text ∷ [] ≡ entries ++ commands
+applied_last entries done commands text n next b is whole =
+    applied_more entries done text n next b ∙ ap (λ (l : List (List ℕ)). entries ++ l) (ap (λ (others : List (List ℕ)). done ++ b.first ∷ others) (sym (begins_last text n next b whole))
+    ∙ ap (λ (l : List (List ℕ)). done ++ l) (sym b.are) ∙ sym is)
+
+-- the commands that are left
+pub left_more : (done commands : List (List ℕ)) (text : List ℕ) (n : ℕ) (next : List (List ℕ)) → (b : Begins text n next) → commands ≡ done ++ next → commands ≡ done ++ b.first ∷ [] ++ b.others
+left_more done commands text n next b is = is ∙ ap (λ (l : List (List ℕ)). done ++ l) b.are ∙ sym (append_assoc done (b.first ∷ []) b.others)
+
+-- a line that was taken whole
+pub taken_whole : (most : ℕ) (old part new : List ℕ) → ((raw : List ℕ) → old ≡ take most raw → new ≡ take most (raw ++ part)) → length old + length part ≤ most → new ≡ old ++ part
+taken_whole most old part new grows within =
+    grows old (sym (take_all most old (omega (arith, within)))) ∙ take_all most (old ++ part) (omega (arith, within, length-append old part))
+
+-- the text, where a line ends
+pub text_replayed : (text held piece read now rest part : List ℕ) (used : ℕ) → text ++ (held ++ piece) ≡ read ++ (now ++ rest) → EndsLine rest part used
+    → text ++ (held ++ piece) ≡ (read ++ (now ++ part) ++ 10 ∷ []) ++ take (length rest - used) (drop used rest)
+text_replayed text held piece read now rest part used is ends =
+    is ∙ ap (λ (l : List ℕ). read ++ (now ++ l)) ends.is ∙ regroup read now part (10 ∷ []) (drop used rest)
+    ∙ ap (λ (l : List ℕ). (read ++ (now ++ part) ++ 10 ∷ []) ++ l) (sym (take_rest rest used))
+  where
+    regroup : (a b c d e : List ℕ) → a ++ (b ++ (c ++ (d ++ e))) ≡ (a ++ (b ++ c) ++ d) ++ e
+    regroup a b c d e = simp append_assoc
+
+-- the content, where a line ends
+pub content_replayed : (text held piece more read now rest part : List ℕ) (used : ℕ) → text ++ (held ++ piece) ≡ read ++ (now ++ rest) → EndsLine rest part used
+    → head ++ (read ++ (now ++ part) ++ 10 ∷ (drop used rest ++ more)) ≡ head ++ (text ++ (held ++ piece ++ more))
+content_replayed text held piece more read now rest part used is ends =
+    ap (λ (l : List ℕ). head ++ l) (regroup read now part (10 ∷ []) (drop used rest) more ∙ ap (λ (l : List ℕ). read ++ (now ++ l) ++ more) (sym ends.is) ∙ ap (λ (l : List ℕ). l ++ more) (sym is) ∙ behind text held piece more)
+  where
+    regroup : (a b c d e f : List ℕ) → a ++ (b ++ c) ++ (d ++ (e ++ f)) ≡ a ++ (b ++ (c ++ (d ++ e))) ++ f
+    regroup a b c d e f = simp append_assoc
+
+    behind : (a b c d : List ℕ) → a ++ (b ++ c) ++ d ≡ a ++ (b ++ c ++ d)
+    behind a b c d = simp append_assoc

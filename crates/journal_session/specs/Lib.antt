@@ -1,0 +1,5 @@
+pub mod Commands
+pub mod Faults
+pub mod Pieces
+pub mod Turn
+pub mod Session

@@ -1,0 +1,16 @@
+//! A session over a journal: each line that comes is applied, and what changed something is on the disk before its reply is written.
+#![tactic(auto)]
+
+mod applies;
+mod fault;
+mod pending;
+mod recovery;
+mod replay;
+mod session;
+mod turn;
+mod writing;
+
+pub use applies::{Applied, Applies};
+pub use fault::{RecoverFault, ServeFault};
+pub use recovery::recover;
+pub use session::{serve, serve_unkept};

@@ -1,0 +1,106 @@
+//! What one read brought, applied.
+ghost use Rattle.std.specs.Prelude.{◌≡◌, ℕ, List, [], ◌∷◌, ◌++◌, OnOk};
+ghost use Rattle.journal_session.specs.Pieces.{IsOneLine};
+ghost use Rattle.journal_session.specs.Commands.{entries_behind, changing};
+ghost use Rattle.journal_session.specs.Turn.{kept_line, lines_taken, Took, TookText};
+
+use crate::applies::{Applied, Applies};
+use crate::pending::Pending;
+use std::alloc::{AllocError, Global};
+
+/// How many bytes of a line are kept. A longer one is told by its length.
+pub const LONGEST: usize = 67_108_865;
+
+/// The commands of one read that changed something, each behind a comma, and the replies to all of its lines.
+#[derive(Drop)]
+pub struct Turn {
+    pub changed: Vec<u8>,
+    pub replies: Vec<u8>,
+}
+
+impl Turn {
+    /// Begins a turn.
+    pub fn new(alloc: Global) -> Turn
+        ensures changed { result.changed.items ≡ [] }
+        ensures replies { result.replies.items ≡ [] }
+    {
+        Turn {
+            changed: Vec::new(alloc),
+            replies: Vec::new(alloc),
+        }
+    }
+
+    /// Begins the next turn.
+    pub fn clear(&mut self)
+        ensures changed { self.new.changed.items ≡ [] }
+        ensures replies { self.new.replies.items ≡ [] }
+    {
+        self.changed.clear();
+        self.replies.clear();
+    }
+
+    /// Applies a line.
+    fn take_line<A: Applies>(
+        &mut self,
+        alloc: Global,
+        state: &mut A,
+        line: &[u8],
+    ) -> Result<(), AllocError>
+        ensures state { (entries : List (List ℕ)) → A.is_after state.old entries
+            → OnOk result (A.is_after state.new (entries_behind entries line.now (A.effect_of entries line.now))) }
+        ensures took { (entries : List (List ℕ)) → A.is_after state.old entries
+            → OnOk result (Took A.effect_of A.reply_to entries (line.now ∷ []) self.old self.new) }
+    {
+        let applied = state.apply(alloc, line, &mut self.replies)?;
+        self.replies.push(b'\n')?;
+        match applied {
+            Applied::Unchanged => Ok(()),
+            Applied::Changed => {
+                self.changed.push(b',')?;
+                self.changed.extend_from_slice(line)?;
+                Ok(())
+            }
+        }
+    }
+
+    /// Applies each line that ends in a piece.
+    pub fn take_piece<A: Applies>(
+        &mut self,
+        alloc: Global,
+        state: &mut A,
+        pending: &mut Pending,
+        piece: &[u8],
+    ) -> Result<(), AllocError>
+        ensures { (entries : List (List ℕ)) (raw : List ℕ) → A.is_after state.old entries → IsOneLine raw → pending.old.text.items ≡ kept_line raw
+            → OnOk result ((lines : List (List ℕ)) × (open_line : List ℕ)
+            × TookText A.is_after A.effect_of A.reply_to entries (raw ++ piece.now) lines open_line pending.new state.new self.old self.new) }
+    {
+        let mut rest = piece;
+        while let Some(used) = pending.take(rest, LONGEST)? {
+            self.take_line(alloc, state, &pending.text)?;
+            pending.clear();
+            rest = &rest[used..];
+        }
+        Ok(())
+    }
+
+    /// Applies the last line, if no line feed ends it.
+    pub fn take_last<A: Applies>(
+        &mut self,
+        alloc: Global,
+        state: &mut A,
+        pending: &Pending,
+    ) -> Result<(), AllocError>
+        ensures state { (entries : List (List ℕ)) (raw : List ℕ) → A.is_after state.old entries → IsOneLine raw → pending.now.text.items ≡ kept_line raw
+            → OnOk result (A.is_after state.new (entries ++ changing A.effect_of entries (lines_taken raw))) }
+        ensures took { (entries : List (List ℕ)) (raw : List ℕ) → A.is_after state.old entries → IsOneLine raw → pending.now.text.items ≡ kept_line raw
+            → OnOk result (Took A.effect_of A.reply_to entries (lines_taken raw) self.old self.new) }
+    {
+        let text = pending.text.as_slice();
+        if text.is_empty() {
+            return Ok(());
+        }
+        self.take_line(alloc, state, text)?;
+        Ok(())
+    }
+}
