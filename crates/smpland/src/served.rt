@@ -52,17 +52,25 @@ impl Lines {
 
     /// Writes the replies, and tells whether all were written.
     fn write<W: Write>(&mut self, writer: &mut W) -> bool {
-        let mut at = 0;
-        while at < self.replies.len() {
-            match writer.write(&self.replies.as_slice()[at..]) {
-                Ok(0) => return false,
-                Ok(n) => at += n,
-                Err(_) => return false,
-            }
+        if !deliver(writer, self.replies.as_slice()) {
+            return false;
         }
         self.replies.clear();
         writer.flush().is_ok()
     }
+}
+
+/// Writes the bytes, and tells whether all were written.
+fn deliver<W: Write>(writer: &mut W, bytes: &[u8]) -> bool {
+    let mut at = 0;
+    while at < bytes.len() {
+        match writer.write(&bytes[at..]) {
+            Ok(0) => return false,
+            Ok(n) => at += n,
+            Err(_) => return false,
+        }
+    }
+    true
 }
 
 /// Serves each line of the reader: one reply for each, in their order. All lines of one read are applied before their replies are written.
