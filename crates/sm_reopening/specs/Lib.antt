@@ -3,3 +3,4 @@ pub mod Ongoing
 pub mod Settles
 pub mod Survivors
 pub mod Proposal
+pub mod Faults

@@ -1,5 +1,4 @@
 -- A reopening under way, as contracts see it.
--- `is_missing` is for those who confirm: no public contract comes to it yet, and whoever reads them need not read it.
 use Rattle.std.specs.Prelude.{◌≡◌, ℕ, ◌&&◌, ◌==◌, Bool, not, Option, Some, None, is_none, is_some, if◌then◌else◌}
 use Rattle.sm_placement.specs.Layout.{place_of}
 use Rattle.sm_placement.specs.Opening.{first_below}

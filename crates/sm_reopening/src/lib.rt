@@ -2,6 +2,7 @@
 //! may be settled, and settles all of them anew. It has no text and no handle.
 #![tactic(auto)]
 
+mod faults;
 mod fencing;
 mod ongoing;
 mod party;
@@ -11,6 +12,7 @@ mod state;
 mod states;
 mod survivors;
 
+pub use faults::ConfirmFault;
 pub use fencing::FencedEffect;
 pub use ongoing::OngoingReopening;
 pub use party::{FoundSlot, Inventory, Membership, Party};

@@ -63,7 +63,7 @@ fn role_at(documented: &[Option<Role>], place: usize) -> Option<Role>
 
 impl OngoingReopening {
     /// Returns whether a server is lost.
-    fn is_lost(&self, server: ServerId) -> bool
+    pub(crate) fn is_lost(&self, server: ServerId) -> bool
         ensures { result ≡ (net_reopening self.now).lost server }
     {
         match self.servers.get(server.number() as usize) {
