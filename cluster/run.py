@@ -50,6 +50,8 @@ class Settings:
     moves: int = 4
     pause: float = 0.01
     is_quiet: bool = False
+    # The machine has other work: waits are longer, and a request that takes more than 10 seconds is no violation.
+    is_busy: bool = False
 
 
 @dataclass
@@ -74,7 +76,7 @@ class Run:
         self.settings = settings
         self.begun = time.monotonic()
         self.cluster = LocalCluster(settings.directory, settings.shape, settings.program, ROUGH if settings.is_rough else CALM, settings.bugs, pause=settings.pause)
-        self.operator = Operator(self.cluster.pages)
+        self.operator = Operator(self.cluster.pages, 240.0 if settings.is_busy else 90.0)
         self.story = Story(self.cluster, self.operator, settings.shape.seed, self.tell)
         self.mover = Mover(self.operator, settings.shape.seed)
         self.verdict: Verdict | None = None
@@ -121,7 +123,7 @@ class Run:
         self.moved_for = time.monotonic() - start
         self.mover.stopped.set()
         try:
-            await asyncio.wait_for(moving, 30)
+            await asyncio.wait_for(moving, 180 if self.settings.is_busy else 30)
         except TimeoutError:
             orders = (await self.operator.state()).get("orders", [])
             self.tell("plans do not come to their end: " + "; ".join(f"{it['what']} to {it['to']}, {it['said']}" for it in orders))
@@ -182,7 +184,7 @@ class Run:
         by_span = {name: rate_of(asked, spans) for name, spans in self.spans.items() if spans}
         histories = lines_of(where / "histories.jsonl")
         situations = situations_of(histories, self.verdict.replies, self.verdict.counts + self.story.counts)
-        if clients.get("failures") and not self.story.lost:
+        if clients.get("failures") and not self.story.lost and not self.settings.is_busy:
             self.verdict.faults.append(f"{clients['failures']} requests were not acknowledged within 10 s")
         orders = self.verdict.counts["orders"] / self.moved_for if self.moved_for else 0.0
         return Result(self.verdict, clients, counts, self.story.failovers, request_waits(asked), handover_waits(histories), situations, by_span, orders)
@@ -228,6 +230,7 @@ def arguments() -> argparse.Namespace:
     parser.add_argument("--clients", type=int, default=16, help="how many clients (%(default)s)")
     parser.add_argument("--seed", type=int, default=1, help="what the harm is drawn by (%(default)s)")
     parser.add_argument("--calm", action="store_true", help="no message is harmed")
+    parser.add_argument("--busy", action="store_true", help="the machine has other work: waits are longer, and slow requests are no violations")
     parser.add_argument("--parts", help="what happens, as drain,kill_leader; everything if it is missing")
     parser.add_argument("--bug", action="append", default=[], help="plant a bug, which the checkers are to find")
     parser.add_argument("--keep", type=Path, metavar="DIR", help="keep logs and histories there")
@@ -245,7 +248,7 @@ def main() -> int:
     told = arguments()
     directory = Path(tempfile.mkdtemp(prefix="cluster-", dir="/dev/shm" if os.access("/dev/shm", os.W_OK) else None))
     shape = Shape(servers=told.servers, shards=told.shards, clients=told.clients, seed=told.seed)
-    settings = Settings(directory, shape, program_of(told.program), told.seconds, not told.calm, parts_of(told.parts), tuple(told.bug))
+    settings = Settings(directory, shape, program_of(told.program), told.seconds, not told.calm, parts_of(told.parts), tuple(told.bug), is_busy=told.busy)
     try:
         result = asyncio.run(Run(settings).run())
         print(report(result))

@@ -153,7 +153,7 @@ class Story:
             return False
         base = reply["fence"][0]["base"]
         begun = time.monotonic()
-        while time.monotonic() - begun < 30:
+        while time.monotonic() - begun < self.operator.patience:
             state = (await self.operator.ask({"do": "state"})).get("state", {})
             if state.get("is") == "open" and state.get("fence") == base:
                 self.counts["reopenings"] += 1

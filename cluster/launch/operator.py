@@ -17,8 +17,8 @@ class NoLeader(Exception):
 class Operator:
     """Speaks with the controllers' HTTP ports. All its lines may be sent again: they have names, or say the same twice."""
 
-    def __init__(self, pages: Mapping[str, int]) -> None:
-        self.pages = dict(pages)
+    def __init__(self, pages: Mapping[str, int], patience: float = 90.0) -> None:
+        self.pages, self.patience = dict(pages), patience
         self.leader = next(iter(pages))
 
     async def post(self, name: str, path: str, line: Line | None, timeout: float = 2.5) -> Any:
@@ -28,10 +28,10 @@ class Operator:
         except Failure:
             return None
 
-    async def do(self, line: Line, patience: float = 90.0) -> Line:
+    async def do(self, line: Line) -> Line:
         """Has the leader store and feed a line, and returns the reply."""
         try:
-            async with asyncio.timeout(patience):
+            async with asyncio.timeout(self.patience):
                 while True:
                     reply = await self.post(self.leader, "/do", line)
                     if reply is not None:
@@ -39,7 +39,7 @@ class Operator:
                     self.turn()
                     await asyncio.sleep(0.05)
         except TimeoutError:
-            raise NoLeader(f"no controller took the line {line.get('do')} within {patience} s") from None
+            raise NoLeader(f"no controller took the line {line.get('do')} within {self.patience:g} s") from None
 
     async def ask(self, line: Line) -> Line:
         """Asks the controller that led last, or any that answers."""
