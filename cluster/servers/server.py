@@ -167,7 +167,7 @@ class Server:
 
     def think(self, shard: Shard, how: Request) -> float:
         """How long a request runs before it changes anything. With some bugs it takes long enough to see them."""
-        slow = {"drop-while-writing": 0.1, "change-while-writing": 0.1, "fence-while-passed": how.is_passed and 1.5}
+        slow = {"drop-while-writing": 0.1, "change-while-writing": 0.1, "fence-while-passed": how.is_passed and 0.6}
         longest = self.longest_think or slow.get(self.bug, 0)
         return random.random() * longest if longest else 0
 

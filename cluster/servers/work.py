@@ -116,8 +116,7 @@ class Orders:
         """Does the work, and commits it; if it takes too long it is given up, and the order comes again."""
         try:
             await self.prepare(shard, work)
-            if self.server.bug == "commit-after-fence":  # (work that takes long enough to see it)
-                await asyncio.sleep(random.random() * 1.5)
+            await asyncio.sleep(self.slowness(shard, work.order))
             committed = await self.commit(shard, work)
         except Failed as failed:
             committed, why = False, failed.why
@@ -128,6 +127,12 @@ class Orders:
             why = "thrown away"
         if not committed:
             await self.give_up(shard, work, why)
+
+    def slowness(self, shard: Shard, order: Order) -> float:
+        """With some bugs work takes long enough to see them."""
+        takes_over = order.call == Call.ADD and shard.slot.cell == Cell.PREPARED
+        is_slow = self.server.bug == "commit-after-fence" or (self.server.bug == "fence-while-passed" and takes_over)
+        return random.random() * 1.5 if is_slow else 0
 
     async def give_up(self, shard: Shard, work: Work, why: str) -> None:
         """Abandons work that is still at work."""
