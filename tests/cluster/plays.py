@@ -122,7 +122,9 @@ async def fence_amid_passing(it: Scripted) -> None:
     await it.send(orders[0])
     await it.send(orders[1])
     await asyncio.sleep(0.5)
-    await it.settle(await it.fence(), CELLS)
+    fenced = await it.fence()
+    await asyncio.sleep(1)
+    await it.settle(fenced, CELLS)
     await asyncio.sleep(0.5)
 
 
@@ -184,7 +186,7 @@ PLAYS = {
     "commit-after-fence": Play(fence_at_work, think=0.6),
     "settle-twice": Play(late_settle),
     "add-without-cut": Play(early_add, lag=1.0),
-    "fence-while-passed": Play(fence_amid_passing, think=0.4),
+    "fence-while-passed": Play(fence_amid_passing, Load(("s", "t"), clients=16), think=0.7),
     "cut-unheeded": Play(late_seal, Load(("s", "t"), clients=0), lag=2.0),
     "change-while-writing": Play(change, think=0.1),
 }
