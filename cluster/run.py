@@ -7,6 +7,7 @@ import json
 import os
 import shlex
 import shutil
+import subprocess
 import sys
 import tempfile
 import time
@@ -212,10 +213,25 @@ def report(result: Result) -> str:
     return "\n".join([*lines, *(f"  {it}" for it in verdict.faults[:20])])
 
 
+# The lines without which a session runs no cluster.
+NEEDED = ("state", "restore", "reopen", "approve")
+
+
+def knows_all(program: Path) -> bool:
+    """Whether a program is a session that knows the lines which a cluster needs."""
+    lines = "".join(f'{{"do":"{it}"}}\n' for it in NEEDED)
+    try:
+        done = subprocess.run([str(program), "-"], input=lines.encode(), stdout=subprocess.PIPE, stderr=subprocess.DEVNULL, timeout=20, check=False)
+        replies = [json.loads(it) for it in done.stdout.splitlines()]
+    except (OSError, ValueError, subprocess.TimeoutExpired):
+        return False
+    return len(replies) == len(NEEDED) and all(it.get("bad", {}).get("at") != "$.do" for it in replies)
+
+
 def default_program() -> str:
-    """The session that is used if none is named: smpland if it is built, otherwise its reference in Python."""
+    """The session that is used if none is named: smpland if it is built and knows all lines, otherwise its reference in Python."""
     for path in (ROOT / "build" / "smpland", ROOT / "build" / "smpland-unproved"):
-        if path.exists():
+        if path.exists() and knows_all(path):
             return f"{path} -"
     return f"{sys.executable} {ROOT / 'tools' / 'smpland_model.py'} -"
 
