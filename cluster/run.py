@@ -213,25 +213,16 @@ def report(result: Result) -> str:
     return "\n".join([*lines, *(f"  {it}" for it in verdict.faults[:20])])
 
 
-# The lines without which a session runs no cluster.
-NEEDED = ("state", "restore", "reopen", "approve")
-
-
-def knows_all(program: Path) -> bool:
-    """Whether a program is a session that knows the lines which a cluster needs."""
-    lines = "".join(f'{{"do":"{it}"}}\n' for it in NEEDED)
-    try:
-        done = subprocess.run([str(program), "-"], input=lines.encode(), stdout=subprocess.PIPE, stderr=subprocess.DEVNULL, timeout=20, check=False)
-        replies = [json.loads(it) for it in done.stdout.splitlines()]
-    except (OSError, ValueError, subprocess.TimeoutExpired):
-        return False
-    return len(replies) == len(NEEDED) and all(it.get("bad", {}).get("at") != "$.do" for it in replies)
+def knows_reopenings(path: Path) -> bool:
+    """Returns whether a built smpland has the lines with which a cluster begins."""
+    replies = subprocess.run([path, "-"], input=b'{"do":"reopen"}\n', stdout=subprocess.PIPE, check=False, timeout=10).stdout
+    return b'"$.do"' not in replies
 
 
 def default_program() -> str:
-    """The session that is used if none is named: smpland if it is built and knows all lines, otherwise its reference in Python."""
+    """The session that is used if none is named: smpland if it is built and knows reopenings, otherwise its reference in Python."""
     for path in (ROOT / "build" / "smpland", ROOT / "build" / "smpland-unproved"):
-        if path.exists() and knows_all(path):
+        if path.exists() and knows_reopenings(path):
             return f"{path} -"
     return f"{sys.executable} {ROOT / 'tools' / 'smpland_model.py'} -"
 
