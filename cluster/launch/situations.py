@@ -35,19 +35,19 @@ def at_work(events: Iterable[dict]) -> Counter[str]:
 def answered_again(events: list[dict]) -> int:
     """How many orders came again after their streams had gone on."""
     streams: dict[tuple[int, int, int], list[float]] = defaultdict(list)
-    of_order: dict[tuple[str, int], tuple[int, int, int]] = {}
+    done: dict[tuple[str, str, int], tuple[tuple[int, int, int], float]] = {}
     for event in events:
         if event["kind"] == "commit":
             stream = (event["number"] >> 21, event["plan"], event["stream"])
-            of_order[event["shard"], event["number"]] = stream
+            # (orders of two streams may have one number, but not at one server for one shard)
+            done.setdefault((event["server"], event["shard"], event["number"]), (stream, event["t"]))
             streams[stream].append(event["t"])
     found = 0
     for event in events:
-        stream = of_order.get((event.get("shard", ""), event.get("number", 0)))
-        if event["kind"] == "order-again" and stream is not None:
-            times = streams[stream]
-            own = next(it["t"] for it in events if it["kind"] == "commit" and (it["shard"], it["number"]) == (event["shard"], event["number"]))
-            found += bisect_left(times, event["t"]) > times.index(own) + 1
+        key = (event["server"], event.get("shard", ""), event.get("number", 0))
+        if event["kind"] == "order-again" and key in done:
+            stream, own = done[key]
+            found += bisect_left(streams[stream], event["t"]) > streams[stream].index(own) + 1
     return found
 
 
