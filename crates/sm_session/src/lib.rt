@@ -8,4 +8,4 @@ mod messages;
 mod opened;
 mod session;
 
-pub use session::{Applied, Session};
+pub use session::{LineEffect, Session};

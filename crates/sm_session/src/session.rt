@@ -3,7 +3,7 @@ ghost use Rattle.std.specs.Prelude.{◌≡◌, IfOk, IfSome, false};
 ghost use Rattle.sm_placement.specs.Setup.{sizes_of};
 ghost use Rattle.sm_placement.specs.Layout.{place_of};
 ghost use Rattle.sm_placement.specs.Lead.{IsSettled};
-ghost use Rattle.sm_session.specs.declared.session.Applied.TheVariants as did;
+ghost use Rattle.sm_session.specs.declared.session.LineEffect.TheVariants as did;
 
 use crate::asking::{write_check, write_drain, write_map, write_moves};
 use crate::beginning::begin;
@@ -28,7 +28,7 @@ const MOST_BYTES: usize = 67_108_864;
 
 /// What a line did.
 #[derive(Clone, Copy, Debug, PartialEq, Eq)]
-pub enum Applied {
+pub enum LineEffect {
     Changed,
     Unchanged,
 }
@@ -67,7 +67,7 @@ impl Session {
         alloc: Global,
         line: &[u8],
         reply: &mut Vec<u8>,
-    ) -> Result<Applied, AllocError>
+    ) -> Result<LineEffect, AllocError>
         ensures changed { IfOk result (λ applied. applied ≡ did.Changed → HasChanged (driver_of self.old.opened) (driver_of self.new.opened)) }
         ensures unchanged { IfOk result (λ applied. applied ≡ did.Unchanged → self.new ≡ self.old) }
     {
@@ -77,10 +77,10 @@ impl Session {
         writer.end_object()?;
         let _ = mem::replace(reply, writer.into_inner());
         if !changed {
-            return Ok(Applied::Unchanged);
+            return Ok(LineEffect::Unchanged);
         }
         self.place = self.place.saturating_add(1);
-        Ok(Applied::Changed)
+        Ok(LineEffect::Changed)
     }
 
     /// Applies a line, writes the members of its reply, and tells whether something has changed.

@@ -2,12 +2,12 @@
 #![tactic(auto)]
 
 mod command_line;
+mod keeper;
 mod served;
 mod status;
 
 use command_line::{Asked, LineFault, asked_for};
-use served::serve;
-use sm_session::Session;
+use served::{serve_input, serve_journal};
 use status::Status;
 use std::alloc::{AllocError, Global};
 use std::io::ErrorKind;
@@ -47,19 +47,6 @@ fn told(rt: &HostRuntime, fault: LineFault) -> Status {
     }
 }
 
-/// Serves each line of standard input, which is the journal.
-fn serve_input(rt: &HostRuntime) -> Status {
-    let mut session = Session::new();
-    let status = serve(
-        rt.alloc(),
-        &mut session,
-        &mut rt.reader(),
-        &mut io::writer(rt),
-    );
-    session.close();
-    status
-}
-
 /// Serves what the words ask for, and returns how the program ends.
 fn serve_words(rt: &HostRuntime, words: &[String]) -> Status {
     let Ok(texts) = texts_of(rt.alloc(), words) else {
@@ -67,10 +54,7 @@ fn serve_words(rt: &HostRuntime, words: &[String]) -> Status {
     };
     match asked_for(rt.alloc(), texts.as_slice()) {
         Ok(Asked::Input) => serve_input(rt),
-        Ok(Asked::Journal(_)) => {
-            let _ = rt.eprintln("error: this build keeps no journal: give -");
-            Status::BadWords
-        }
+        Ok(Asked::Journal(path)) => serve_journal(rt, path),
         Err(fault) => told(rt, fault),
     }
 }
