@@ -16,6 +16,8 @@ from cluster.launch.operator import Operator
 from cluster.launch.plans import move_stream, plan_of, promote_stream
 from cluster.launch.shape import document_of
 
+from cluster.wire import Address, Channel, Failed
+
 from smplan.control import Line
 
 
@@ -119,13 +121,25 @@ class Story:
             await self.cluster.processes[name].kill()
             await asyncio.sleep(self.dice.uniform(0.2, 0.8))
             await self.cluster.processes[name].start(*(["--lose-slots"] if lose else []))
-            if lose:
-                await asyncio.sleep(1.5)
+            await self.wait_until_known(name)
             for _ in range(self.dice.randint(1, 2)):
                 await self.operator.do({"do": "restarted", "permit": permit})
             self.note_permit(name, False)
             self.counts["restarts"] += 1
             return True
+
+    async def wait_until_known(self, name: str) -> None:
+        """Waits until a server has its slots. Before that it is not told to be up: a plan that names it would keep it from being restored."""
+        channel = Channel(Address("127.0.0.1", self.cluster.ports[name].control))
+        until = time.monotonic() + self.operator.patience
+        while time.monotonic() < until:
+            try:
+                if (await channel.ask(5.0, audit={}))["audit"]["known"]:
+                    break
+            except Failed:
+                pass
+            await asyncio.sleep(0.2)
+        channel.close()
 
     def note_permit(self, name: str, is_down: bool) -> None:
         """Notes that a server goes down under its permit, or is up again."""
