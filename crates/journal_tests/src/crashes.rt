@@ -1,0 +1,87 @@
+//! Each call of a store fails in turn, and a crash comes behind each.
+use super::stand::{reopen, run};
+use journal_store::MemoryStore;
+use std::alloc::{AllocError, Global};
+use std::test::Fail;
+
+const INPUT: &[u8] = b"{\"a\":1}\n{\"ask\":2}\n\n{\"b\":\"}\"}\nno object\n{\"c\":[3,{}]}";
+
+const REPLIES: &[u8] = b"yes\nno\nno\nyes\nno\nyes\n";
+
+const ENTRIES: [&[u8]; 3] = [b"{\"a\":1}", b"{\"b\":\"}\"}", b"{\"c\":[3,{}]}"];
+
+/// How many parts of what is not synced are lost or kept.
+const PARTS: usize = 4;
+
+/// Returns the bytes, of which a part is lost where the mask has no bit for it.
+fn torn(alloc: Global, bytes: &[u8], mask: u32) -> Result<Vec<u8>, AllocError> {
+    let size = bytes.len() / PARTS + 1;
+    let mut torn = Vec::new(alloc);
+    let mut rest_of_mask = mask;
+    for part in bytes.chunks(size) {
+        for byte in part {
+            torn.push(if rest_of_mask % 2 == 1 { *byte } else { b'#' })?;
+        }
+        rest_of_mask /= 2;
+    }
+    Ok(torn)
+}
+
+fn count(bytes: &[u8], byte: u8) -> usize {
+    bytes.iter().filter(|b| **b == byte).count()
+}
+
+/// Each call fails in turn. Whatever part of what was not synced a crash then loses, the store recovers to a beginning of the
+/// commands, and to no fewer than were told.
+#[test]
+fn nothing_told_is_lost(rt: HostRuntime) -> Result<(), Fail> {
+    let alloc = rt.alloc();
+    let mut seen = 0u64;
+    for left in 0..14 {
+        for size in [9, 400] {
+            let store = MemoryStore::new(alloc, b"", left)?;
+            let end = run(alloc, store, INPUT, size);
+            let told = count(end.written.as_slice(), b'y');
+            assert!(rt; REPLIES.starts_with(end.written.as_slice()));
+            let store = &end.journal.store;
+            let written = store.written();
+            let loose = store.unsynced().min(written.len());
+            let synced = written.len() - loose;
+            for mask in 0..16 {
+                let appended = torn(alloc, &written[synced..], mask)?;
+                for kept in [appended.len(), appended.len() / 2] {
+                    let Some(content) = store.crash(alloc, synced, &appended[..kept])? else {
+                        continue;
+                    };
+                    let again = reopen(alloc, content.as_slice())?;
+                    assert!(rt; again.recovered.is_ok());
+                    assert!(rt; again.lines.len() >= told && again.lines.len() <= ENTRIES.len());
+                    for (line, entry) in again.lines.iter().zip(ENTRIES) {
+                        assert!(rt; line.as_slice() == entry);
+                    }
+                    seen = seen.saturating_add(1);
+                }
+            }
+        }
+    }
+    assert!(rt; seen > 500);
+    Ok(())
+}
+
+/// However the lines come in pieces, the replies are the same, and so are the commands.
+#[test]
+fn pieces_change_nothing(rt: HostRuntime) -> Result<(), Fail> {
+    let alloc = rt.alloc();
+    for size in 1..60 {
+        let store = MemoryStore::new(alloc, b"", 1000)?;
+        let end = run(alloc, store, INPUT, size);
+        assert!(rt; end.served.is_ok());
+        assert_eq!(rt; end.written.as_slice(), REPLIES);
+        let again = reopen(alloc, end.journal.store.written())?;
+        assert_eq!(rt; again.lines.len(), ENTRIES.len());
+        for (line, entry) in again.lines.iter().zip(ENTRIES) {
+            assert!(rt; line.as_slice() == entry);
+        }
+    }
+    Ok(())
+}

@@ -1,0 +1,109 @@
+//! What the tests stand on.
+ghost use Rattle.std.specs.Prelude.{[]};
+ghost use Rattle.journal_session.specs.declared.applies.Applied.TheVariants.{Unchanged};
+
+use journal::Journal;
+use journal_lines::is_object;
+use journal_session::{Applied, Applies, RecoverFault, ServeFault, recover, serve};
+use journal_store::MemoryStore;
+use std::alloc::{AllocError, Global};
+use std::io::{self, Read};
+
+/// Keeps each object that comes, but one that asks.
+#[derive(Drop)]
+pub struct Notes {
+    pub lines: Vec<Vec<u8>>,
+}
+
+impl Applies for Notes {
+    ghost is_after = { λ _ _. ⊥ };
+
+    ghost effect_of = { λ _ _. Unchanged };
+
+    ghost reply_to = { λ _ _. [] };
+
+    fn apply(
+        &mut self,
+        alloc: Global,
+        line: &[u8],
+        reply: &mut Vec<u8>,
+    ) -> Result<Applied, AllocError> {
+        if !is_object(line) || line.starts_with(b"{\"ask\"") {
+            reply.extend_from_slice(b"no")?;
+            return Ok(Applied::Unchanged);
+        }
+        let line = line.to_vec(alloc)?;
+        self.lines.push(line)?;
+        reply.extend_from_slice(b"yes")?;
+        Ok(Applied::Changed)
+    }
+}
+
+/// A text that comes in pieces of this size.
+#[derive(Drop)]
+pub struct Pieces<'a> {
+    pub rest: &'a [u8],
+    pub size: usize,
+}
+
+impl Read for Pieces<'_> {
+    fn read(&mut self, buf: &mut [u8]) -> io::Result<usize> {
+        let count = buf.len().min(self.size).min(self.rest.len());
+        buf[..count].copy_from_slice(&self.rest[..count]);
+        self.rest = &self.rest[count..];
+        Ok(count)
+    }
+}
+
+/// What a session left.
+#[derive(Drop)]
+pub struct Outcome {
+    pub journal: Journal<MemoryStore>,
+    pub notes: Notes,
+    pub written: Vec<u8>,
+    pub recovered: Result<(), RecoverFault>,
+    pub served: Result<(), ServeFault>,
+}
+
+/// Recovers what a store has, and serves an input that comes in pieces of this size.
+pub fn run(alloc: Global, store: MemoryStore, input: &[u8], size: usize) -> Outcome {
+    let mut journal = Journal::new(store);
+    let mut notes = Notes {
+        lines: Vec::new(alloc),
+    };
+    let mut written = Vec::new(alloc);
+    let mut reader = Pieces { rest: input, size };
+    let recovered = recover(alloc, &mut journal, &mut notes);
+    let mut served = Ok(());
+    if recovered.is_ok() {
+        served = serve(alloc, &mut journal, &mut notes, &mut reader, &mut written);
+    }
+    Outcome {
+        journal,
+        notes,
+        written,
+        recovered,
+        served,
+    }
+}
+
+/// A content that was recovered.
+#[derive(Drop)]
+pub struct Reopened {
+    pub lines: Vec<Vec<u8>>,
+    pub recovered: Result<(), RecoverFault>,
+}
+
+/// Recovers a content, over a store that does not fail.
+pub fn reopen(alloc: Global, content: &[u8]) -> Result<Reopened, AllocError> {
+    let store = MemoryStore::new(alloc, content, u64::MAX)?;
+    let mut journal = Journal::new(store);
+    let mut notes = Notes {
+        lines: Vec::new(alloc),
+    };
+    let recovered = recover(alloc, &mut journal, &mut notes);
+    Ok(Reopened {
+        lines: notes.lines,
+        recovered,
+    })
+}
