@@ -79,6 +79,19 @@ NOTES = {
     "read_line": MEMORY,
     "one_recovery": "anything about files",
     "torn_append_recovers": "that a file keeps its word; anything if a line is forged",
+    "serve": "that a file keeps its word; that the journal was recovered; anything if a line is forged",
+    "serve_unkept": "that the host stores a line before it feeds it",
+    "Driver::order": "when it is sent",
+    "Driver::publication": "when it is sent",
+    "Driver::begin": MEMORY,
+    "Driver::answered": "that the server has done what it answers",
+    "Driver::approve": "that the server goes down",
+    "Driver::restarted": "that the server is up",
+    "Driver::restore": "that what it tells is sent",
+    "Driver::new_epoch": MEMORY,
+    "OngoingReopening::fenced": "that the party is fenced",
+    "OngoingReopening::confirm": "that it is settled",
+    "Session::apply": "how a line is read, and which text a reply is",
 }
 
 WRONG = {
@@ -97,4 +110,11 @@ WRONG = {
     "commits_once": "sm_agent/judge_by_slot_does_a_repetition_again",
     "fenced_commits_nothing": "sm_agent/may_commit_after_a_fence",
     "executes_at_owner": "sm_agent/receive_before_the_cut",
+    "serve": "journal_session/end_turn_writes_before_it_keeps",
+    "Driver::order": "sm_driver/order_under_a_number_of_its_own",
+    "Driver::begin": "sm_driver/advance_without_an_answer_to_a_publication",
+    "Driver::answered": "sm_driver/answered_takes_an_answer_twice",
+    "Driver::restarted": "sm_driver/restarted_by_an_old_permit",
+    "Driver::new_epoch": "sm_driver/new_epoch_while_a_plan_runs",
+    "OngoingReopening::confirm": "sm_reopening/primary_moved",
 }
