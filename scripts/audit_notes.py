@@ -116,5 +116,6 @@ WRONG = {
     "Driver::answered": "sm_driver/answered_takes_an_answer_twice",
     "Driver::restarted": "sm_driver/restarted_by_an_old_permit",
     "Driver::new_epoch": "sm_driver/new_epoch_while_a_plan_runs",
+    "OngoingReopening::fenced": "sm_reopening/earlier_inventory_taken",
     "OngoingReopening::confirm": "sm_reopening/primary_moved",
 }
