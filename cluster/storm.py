@@ -64,16 +64,16 @@ class Storm:
         self.seeds = iter(range(told.seed, told.seed + told.runs))
 
     async def run(self) -> None:
-        """Runs all, so many at a time."""
+        """Makes all runs, as many side by side as there are jobs."""
         await asyncio.gather(*(self.work() for _ in range(self.told.jobs)))
 
     async def work(self) -> None:
-        """One run after the other."""
+        """Makes one run after the other, until no seed is left."""
         for seed in self.seeds:
             await self.run_once(seed)
 
     async def run_once(self, seed: int) -> None:
-        """One run, whose folder is kept if something was wrong."""
+        """Makes one run, and keeps its folder if something was wrong."""
         told, begun = self.told, time.monotonic()
         directory = Path(tempfile.mkdtemp(prefix=f"storm-{seed}-", dir="/dev/shm" if os.access("/dev/shm", os.W_OK) else None))
         shape = Shape(servers=told.servers, shards=told.shards, clients=told.clients, seed=seed)

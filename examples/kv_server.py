@@ -90,7 +90,7 @@ class Server:
         return verdict
 
     def work(self, shard, order):
-        """Does an order's work and commits it in one transaction with the slot. Only if this is true the order is answered."""
+        """Does an order's work, commits it in one transaction with the slot, and returns whether it did. Otherwise the order is not answered."""
         copy = self.copy_for(shard, order)
         with self.db:
             after = agent.commit(self.base(), self.slot(shard), order, self.applied(shard))

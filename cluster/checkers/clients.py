@@ -78,7 +78,7 @@ def lost(pushes: Iterable[Asked], final: tuple[str, ...], places: dict[str, int]
 
 
 def out_of_time(final: tuple[str, ...], pushes: dict[str, Asked], reads: list[Asked]) -> list[str]:
-    """Requests of which one ended before the other began, and which saw it the other way round."""
+    """Returns what is out of the order of time: a request ended before another one began, and the list has them the other way round."""
     found, earliest_end = [], NEVER
     for value in reversed(final):
         push = pushes[value]

@@ -24,7 +24,7 @@ STEP = 1 << 21
 REFUSALS = ("order-already-held", "order-not-held", "order-wrong-role", "order-no-room")
 HELD = ("secondary", "primary", "forwarding", "prepared")
 
-# What each call makes of which cell.
+# The cells that a call leads to, by the call and the cell that it meets.
 LEADS = {
     ("add", "absent"): {"primary", "secondary"}, ("add", "prepared"): {"primary"},
     ("drop", "prepared"): {"absent"}, ("drop", "secondary"): {"absent"},

@@ -43,7 +43,7 @@ class Fleet:
             return {"said": str(failed)}
 
     async def order(self, order: Line) -> str:
-        """Sends an order. It is answered once the server names this very order."""
+        """Sends an order. Returns DONE if the server names this very order, and otherwise what it said."""
         reply = await self.ask(order["server"], order=order)
         told = reply.get("answered")
         if told is None:

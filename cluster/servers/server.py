@@ -195,7 +195,7 @@ class Server:
                 await self.forget()
 
     async def notice(self, told: Message) -> Message:
-        """Is told of the last reopening."""
+        """Takes a word about the last reopening: a server that was left behind it turns Unknown."""
         await self.heed(int(told["journal"], 16), told["fence"])
         return {"noticed": {"known": bool(self.store.base.known)}}
 

@@ -103,7 +103,7 @@ class Store:
         return [(flat[it].decode("latin-1"), flat[it + 1]) for it in range(0, len(flat), 2)]
 
     def shard(self, name: str) -> Shard:
-        """A shard; one of which the server has never had anything is vacant."""
+        """Returns a shard. It is vacant if the server has never had anything of it."""
         if name not in self.shards:
             self.shards[name] = Shard(name, agent.VACANT if self.base.known else Slot())
         return self.shards[name]

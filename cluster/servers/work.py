@@ -196,7 +196,7 @@ class Orders:
     # -- the commit
 
     async def commit(self, shard: Shard, work: Work) -> bool:
-        """Commits the work with its data in one transaction. Only if this is true the order is answered."""
+        """Commits the work with its data in one transaction, and returns whether it did. Otherwise the order is not answered."""
         async with shard.lock:
             if shard.work is not work or (self.holds(work.order) and shard.running):
                 return False

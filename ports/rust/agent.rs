@@ -50,7 +50,7 @@ pub struct Slot {
     pub cut: Option<u64>,
 }
 
-/// The slot of a shard of which the server has never had anything.
+/// The slot of a shard that the server has never had.
 pub const VACANT: Slot = Slot { cell: Cell::Absent, last: 0, at_work: None, load: 0, cut: None };
 
 #[derive(Clone, Copy, Debug)]

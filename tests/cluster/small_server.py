@@ -93,7 +93,7 @@ class SmallServer:
         return {"restored": {"server": self.name, "nonce": told["nonce"]}}
 
     def notice(self, told: dict[str, Any]) -> Message:
-        """Is told of the last reopening."""
+        """Takes a word about the last reopening: a server that was left behind it turns Unknown."""
         self.heed(told["journal"], told["fence"])
         return {"noticed": {"known": bool(self.base.known)}}
 

@@ -281,6 +281,6 @@ class Server:
         return True
 
     def notice(self, notice: Notice) -> None:
-        """Is told of the last reopening."""
+        """Takes a word about the last reopening: a server that was left behind it turns Unknown."""
         if self.is_known and self.journal == notice.journal:
             self.turns_unknown(notice.fence)
