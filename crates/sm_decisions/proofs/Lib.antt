@@ -1,0 +1,4 @@
+pub mod Alike
+pub mod Effects
+pub mod Decided
+pub mod Told
