@@ -24,7 +24,8 @@ use Rattle.sm_protocol.specs.Happens.{Approve, Begin, Done, Step, approved, begu
 use Rattle.sm_protocol.proofs.Cases.{of_known_step}
 use Rattle.sm_protocol.proofs.LogRoom.{of_call}
 use Rattle.sm_driver.specs.Advance.{IsAdvanced, next_free}
-use Rattle.sm_driver.specs.Permits.{ArePermitsOfDown, denied_by}
+use Rattle.sm_driver.specs.Carried.{AreCarriedDown}
+use Rattle.sm_driver.specs.Permits.{ArePermitsOfDown}
 use Rattle.sm_driver.proofs.FreeSteps.{told}
 
 -- the configuration's numbers, who is down, and the log's room
@@ -86,6 +87,13 @@ permits_stay w new permits same p = record {
   down = λ v l. p.down v (subst (λ c. v < c.servers) same.sizes l) ∙ ap (λ f. f v) (sym same.down);
 }
 
+-- carried servers are down, as long as those that are down stay so
+pub carried_stay : (w new : State) (carried : List Bool) → IsBeside w new → AreCarriedDown w carried → AreCarriedDown new carried
+carried_stay w new carried same x = record {
+  servers = x.servers ∙ ap (λ c. c.servers) (sym same.sizes);
+  down = λ v l marked. ap (λ f. f v) same.down ∙ x.down v (subst (λ c. v < c.servers) same.sizes l) marked;
+}
+
 -- ---- restarts
 
 none_of_entry : (w : State) (place : Place) (log : List Logged) (o : Option Instr) → is_none (entry_by (record w { place = place; log = log }) o) ≡ is_none (entry_by w o)
@@ -106,32 +114,13 @@ same_free w place log =
     ap (λ (free : StreamId → Bool). first_from 0 (length w.plans) (λ k. first_from 0 (stream_count w k) (λ i. if free (stream_id k i) then Some (stream_id k i) else None)))
     (fun_ext (λ id. ap (λ b. ((is_running w id && is_none (next_call_of w id)) && b) && is_none (blocked_on w id)) (none_of_entry w place log (instruction_before w id))))
 
--- why the approval of a restart was denied, if it was
+-- an approval takes the server down
 pub approval_is : (w new : State) (v : ℕ) → happens w (Approve v) ≡ (Answered played.Approved, new) → new ≡ record w { place = set_down w.place v true; log = logged w (event.Approve v) played.Approved }
 approval_is w new v = go (denial w.sizes w.place (pool w) (engaged w v) (free_places w) v)
   where
     go : (o : Option Denied) → approved w v o ≡ (Answered played.Approved, new) → new ≡ record w { place = set_down w.place v true; log = logged w (event.Approve v) played.Approved }
     go None e = sym (ap (λ o. o.1) e)
     go (Some why) e = absurd (let f = ap (λ (o : Outcome × State). o.0) e in cc)
-
--- an approval that is not denied is one
-pub approval_answer : (w new : State) (v : ℕ) (answer : Played) → happens w (Approve v) ≡ (Answered answer, new) → denied_by answer ≡ None → answer ≡ played.Approved
-approval_answer w new v answer = go (denial w.sizes w.place (pool w) (engaged w v) (free_places w) v)
-  where
-    go : (o : Option Denied) → approved w v o ≡ (Answered answer, new) → denied_by answer ≡ None → answer ≡ played.Approved
-    go None e n = sym (ap (λ (o : Outcome × State). told o.0) e)
-    go (Some why) e n = absurd (let f : played.Denied why ≡ answer = ap (λ (o : Outcome × State). told o.0) e in let g = ap denied_by f in cc)
-
--- one that is denied changes nothing
-pub denied_is : (w new : State) (v : ℕ) (answer : Played) (why : Denied) → happens w (Approve v) ≡ (Answered answer, new) → denied_by answer ≡ Some why → (answer ≡ played.Denied why) × (new ≡ w)
-denied_is w new v answer why = go (denial w.sizes w.place (pool w) (engaged w v) (free_places w) v)
-  where
-    go : (o : Option Denied) → approved w v o ≡ (Answered answer, new) → denied_by answer ≡ Some why → (answer ≡ played.Denied why) × (new ≡ w)
-    go None e n = absurd (let f : played.Approved ≡ answer = ap (λ (o : Outcome × State). told o.0) e in let g = ap denied_by f in cc)
-    go (Some other) e n =
-        let f : played.Denied other ≡ answer = ap (λ (o : Outcome × State). told o.0) e in
-        let g : Some other ≡ Some why = ap denied_by f ∙ n in
-        (sym f ∙ ap played.Denied (cc), sym (ap (λ (o : Outcome × State). o.1) e))
 
 -- a server that is down comes up
 pub restart_is : (w new : State) (v : ℕ) (answer : Played) → happens w (Done v) ≡ (Answered answer, new) → w.place.down v ≡ true →

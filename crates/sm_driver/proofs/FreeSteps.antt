@@ -1,5 +1,5 @@
 -- A step that needs nobody is recorded.
-use Rattle.std.proofs.Common.{◌≡◌, ◌≢◌, ◌∙◌, ◌+◌, ◌++◌, ◌∷◌, [], Bool, true, false, not, Option, Some, None, List, length, map, refl, sym, ap, subst, arith}
+use Rattle.std.proofs.Common.{◌-◌, ◌<◌, ◌≤◌, ◌≡◌, ◌≢◌, ◌∙◌, ◌+◌, ◌++◌, ◌∷◌, [], Bool, true, false, not, Option, Some, None, List, length, map, refl, sym, ap, subst, arith}
 use Rattle.std.specs.Prelude.{◌&&◌, is_none, if◌then◌else◌}
 use Rattle.std.proofs.lemmas.Bool.{and_parts, not-true}
 use Rattle.sm_reservation.specs.declared.stream_id.StreamId.{StreamId}
@@ -12,6 +12,9 @@ use Rattle.sm_protocol.specs.Steps.{Answered, Outcome, Refused, made, unchanged}
 use Rattle.sm_protocol.specs.declared.event.Passage.TheVariants as passage
 use Rattle.sm_protocol.specs.Next.{blocked_on, call_under, entry_by, instruction_before, next_call_of, next_entry_of, unposted}
 use Rattle.sm_protocol.specs.Happens.{Step, happens, run}
+use Rattle.sm_placement.specs.Setup.{Setup}
+use Rattle.sm_protocol.specs.Laws.{IsReached}
+use Rattle.sm_protocol.proofs.SmallNumbers.{numbers_stay_small}
 use Rattle.sm_protocol.proofs.Starts.{length_push}
 use Rattle.sm_protocol.specs.declared.event.Played.{Played}
 use Rattle.sm_driver.specs.Advance.{AreNextFree, IsAdvanced, is_free, next_free}
@@ -82,3 +85,18 @@ none_after (id ∷ ids) w free = none_after ids (happens w (Step id)).1 free.1
 -- once every step that needs nobody is made, no stream is free
 pub none_is_left : (w new : State) → IsAdvanced w new → next_free new ≡ None
 none_is_left w new x = ap next_free x.state ∙ none_after x.streams w x.free
+
+-- where none is left there is nothing to make
+pub none_to_make : (w : State) → next_free w ≡ None → IsAdvanced w w
+none_to_make w none = record { streams = []; free = none; state = refl }
+
+-- a free stream's step leaves one place less in the log
+pub one_less : (setup : Setup) (w new : State) (id : StreamId) (answer : Played) → happens w (Step id) ≡ (Answered answer, new) → answer ≢ played.Halted → is_free w id ≡ true → IsReached setup new →
+    new.room - length new.log < w.room - length w.log
+one_less setup w new id answer e runs free reached =
+    let step : (happens w (Step id)).1 ≡ new = ap (λ o. o.1) e in
+    let more = free_is_recorded w id (not_halted w new id answer e runs) free in
+    let log : length new.log ≡ length w.log + 1 = ap (λ s. length s.log) (sym step) ∙ more.more in
+    let room : new.room ≡ w.room = ap (λ s. s.room) (sym step) ∙ more.room in
+    let bound : length new.log ≤ new.room = (numbers_stay_small setup new reached).log in
+    omega arith

@@ -2,8 +2,11 @@ mod AtRest
 mod Beside
 mod Driving
 mod FreeSteps
+mod Given
 mod Lists
+mod OwnSteps
 mod PermitLookups
+mod Recorded
 mod Searches
 mod SmallCalls
 mod SmallCells

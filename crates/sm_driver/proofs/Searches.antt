@@ -1,13 +1,11 @@
 -- The search for a free stream.
-use Rattle.std.proofs.Common.{◌≡◌, ◌∙◌, ◌+◌, ◌∷◌, [], ℕ, zero, suc, Bool, true, false, not, Option, Some, None, List, length, get_or, refl, sym, ap, arith, ◌<◌, subst}
-use Rattle.std.specs.Prelude.{◌&&◌, is_none, if◌then◌else◌}
+use Rattle.std.proofs.Common.{◌≡◌, ◌∙◌, ◌+◌, ◌∷◌, ℕ, zero, suc, Bool, true, false, Option, Some, None, List, length, get_or, refl, sym, arith, ◌<◌, subst}
+use Rattle.std.specs.Prelude.{if◌then◌else◌}
 use Rattle.std.specs.List.{filter, range_with_len}
 use Rattle.sm_placement.specs.Sums.{first_from}
-use Rattle.sm_placement.proofs.Searches.{any_none}
 use Rattle.sm_reservation.specs.declared.stream_id.StreamId.{StreamId}
-use Rattle.sm_protocol.specs.State.{State, is_begun, is_running, is_unfinished, stream_count, stream_id}
-use Rattle.sm_protocol.specs.Next.{blocked_on, next_call_of, next_entry_of, unfinished_plans}
-use Rattle.sm_machine.proofs.Unfinished.{first_in}
+use Rattle.sm_protocol.specs.State.{State, is_unfinished, stream_count, stream_id}
+use Rattle.sm_protocol.specs.Next.{unfinished_plans}
 use Rattle.sm_driver.specs.Advance.{is_free, next_free}
 
 -- the stream of a plan, if it is free
@@ -18,58 +16,18 @@ free_at w k i = if is_free w (stream_id k i) then Some (stream_id k i) else None
 abbrev pub free_of : State → ℕ → Option StreamId
 free_of w k = first_from 0 (stream_count w k) (free_at w k)
 
--- a search over the numbers that pass finds what one over all does, if nothing is found at the others
-pub first_in_filtered : {A : Type 0} (f : ℕ → Option A) (t : ℕ → Bool) (ks : List ℕ) → ((k : ℕ) → t k ≡ false → f k ≡ None) → first_in f (filter t ks) ≡ first_in f ks
-first_in_filtered f t [] none = refl
-first_in_filtered {A = A} f t (k ∷ ks) none = go (first_in_filtered f t ks none) (t k) refl
-  where
-    found : first_in f (filter t ks) ≡ first_in f ks → (o : Option A) → f k ≡ o → first_in f (k ∷ filter t ks) ≡ first_in f (k ∷ ks)
-    found rest None e = rw e rest
-    found rest (Some x) e = rw e refl
-
-    go : first_in f (filter t ks) ≡ first_in f ks → (b : Bool) → t k ≡ b → first_in f (filter t (k ∷ ks)) ≡ first_in f (k ∷ ks)
-    go rest true e = rw e (found rest (f k) refl)
-    go rest false e = rw (e, none k e) rest
-
-step_none : {A : Type 0} (f : ℕ → Option A) (a n : ℕ) → f a ≡ None → first_from a (suc n) f ≡ first_from (a + 1) n f
+-- a search past a number that has no answer
+pub step_none : {A : Type 0} (f : ℕ → Option A) (a n : ℕ) → f a ≡ None → first_from a (suc n) f ≡ first_from (a + 1) n f
 step_none f a n e = rw e refl
 
-step_some : {A : Type 0} (f : ℕ → Option A) (a n : ℕ) (x : A) → f a ≡ Some x → first_from a (suc n) f ≡ Some x
+-- a search that stands at a number with an answer
+pub step_some : {A : Type 0} (f : ℕ → Option A) (a n : ℕ) (x : A) → f a ≡ Some x → first_from a (suc n) f ≡ Some x
 step_some f a n x e = rw e refl
 
--- a search over a list of numbers in turn is one over the numbers
-pub first_in_range : {A : Type 0} (f : ℕ → Option A) (a n : ℕ) → first_in f (range_with_len a n) ≡ first_from a n f
-first_in_range f a zero = refl
-first_in_range {A = A} f a (suc n) = go (first_in_range f (a + 1) n) (f a) refl
-  where
-    go : first_in f (range_with_len (a + 1) n) ≡ first_from (a + 1) n f → (o : Option A) → f a ≡ o → first_in f (range_with_len a (suc n)) ≡ first_from a (suc n) f
-    go rest None e = rw e rest
-    go rest (Some x) e = rw e refl
-
-none_from : {A : Type 0} (f : ℕ → Option A) (a n : ℕ) → ((k : ℕ) → k < a + n → f k ≡ None) → first_from a n f ≡ None
+-- a search over numbers that have no answer
+pub none_from : {A : Type 0} (f : ℕ → Option A) (a n : ℕ) → ((k : ℕ) → k < a + n → f k ≡ None) → first_from a n f ≡ None
 none_from f a zero none = refl
 none_from f a (suc n) none = step_none f a n (none a (omega arith)) ∙ none_from f (a + 1) n (λ k l. none k (omega arith))
-
--- no stream that has made its end is free
-ended_is_not_free : (w : State) (k i : ℕ) → not (w.progress k i).done ≡ false → free_at w k i ≡ None
-ended_is_not_free w k i e =
-    let running : is_running w (stream_id k i) ≡ false = ap (λ b. is_begun w (stream_id k i) && b) e ∙ and_false (is_begun w (stream_id k i)) in
-    ap (λ b. if ((b && is_none (next_call_of w (stream_id k i))) && is_none (next_entry_of w (stream_id k i))) && is_none (blocked_on w (stream_id k i)) then Some (stream_id k i) else None) running
-  where
-    and_false : (b : Bool) → (b && false) ≡ false
-    and_false true = refl
-    and_false false = refl
-
--- a plan that is finished has no free stream
-pub finished_has_none : (w : State) (k : ℕ) → is_unfinished w k ≡ false → free_of w k ≡ None
-finished_has_none w k e =
-    none_from (free_at w k) 0 (stream_count w k) (λ i l. ended_is_not_free w k i (any_none (stream_count w k) (λ j. not (w.progress k j).done) e i (omega arith)))
-
--- the lowest free stream is found in the unfinished plans
-pub next_in_unfinished : (w : State) → first_in (free_of w) (unfinished_plans w) ≡ next_free w
-next_in_unfinished w =
-    first_in_filtered (free_of w) (is_unfinished w) (range_with_len 0 (length w.plans)) (finished_has_none w)
-    ∙ first_in_range (free_of w) 0 (length w.plans)
 
 -- each number of the list of unfinished plans is one of a plan
 pub unfinished_is_known : (t : ℕ → Bool) (a n i : ℕ) → i < length (filter t (range_with_len a n)) → get_or (filter t (range_with_len a n)) i 0 < a + n

@@ -1,7 +1,10 @@
 -- Steps that need nobody: signals, waits for posted signals, and ends of streams. The driver makes them by itself, each time that of
 -- the lowest stream of the lowest plan that can make one.
-use Rattle.std.specs.Prelude.{◌≡◌, ◌&&◌, Bool, Option, Some, None, List, [], ◌∷◌, is_none, length, map, if◌then◌else◌}
+-- `IsFreeIn`, `IsFreeAlone` and `posts_signal` are for private functions' contracts: whoever reads public contracts need not read them.
+use Rattle.std.specs.Prelude.{◌≡◌, ◌&&◌, ℕ, Bool, true, false, Option, Some, None, List, [], ◌∷◌, is_none, length, map, if◌then◌else◌}
 use Rattle.sm_reservation.specs.declared.stream_id.StreamId.{StreamId}
+use Rattle.sm_plan_code.specs.declared.instruction.Instr.{Instr}
+use Rattle.sm_plan_code.specs.declared.instruction.Instr.TheVariants as instr
 use Rattle.sm_protocol.specs.Words.{first_from}
 use Rattle.sm_protocol.specs.State.{State, is_running, stream_count, stream_id}
 use Rattle.sm_protocol.specs.Next.{blocked_on, next_call_of, next_entry_of}
@@ -16,6 +19,19 @@ abbrev pub next_free : State → Option StreamId
 next_free w =
     first_from 0 (length w.plans) (λ k.
     first_from 0 (stream_count w k) (λ i. if is_free w (stream_id k i) then Some (stream_id k i) else None))
+
+-- only streams of this plan are free
+abbrev pub IsFreeIn : State → ℕ → Type 0
+IsFreeIn w k = (id : StreamId) → is_free w id ≡ true → id.plan ≡ k
+
+-- only this stream is free
+abbrev pub IsFreeAlone : State → StreamId → Type 0
+IsFreeAlone w id = (other : StreamId) → is_free w other ≡ true → other ≡ id
+
+-- the instruction posts a signal
+abbrev pub posts_signal : Option Instr → Bool
+posts_signal (Some (instr.Signal q)) = true
+posts_signal _ = false
 
 -- each of these streams is the next free one when its turn comes, and at the end no stream is free
 abbrev pub AreNextFree : List StreamId → State → Type 0

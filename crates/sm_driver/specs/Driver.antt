@@ -1,18 +1,22 @@
 -- A driver, and what its commands make of what is recorded.
--- `IsDriving` is the driver's own: whoever reads public contracts need not read it.
-use Rattle.std.specs.Prelude.{◌≡◌, ℕ, ◌+◌, ◌==◌, ◌||◌, Bool, List, Option, Some, None, length, nat_lt, slice_set, ◌&&◌}
+-- `IsDriving` and `HasLostNone` are the driver's own: whoever reads public contracts need not read them.
+use Rattle.std.specs.Prelude.{◌≡◌, ℕ, ◌+◌, ◌==◌, ◌||◌, Bool, false, List, Option, Some, None, length, nat_lt, slice_set, ◌&&◌}
 use Rattle.sm_reservation.specs.declared.stream_id.StreamId.{StreamId}
 use Rattle.sm_plan_code.specs.Plan.{PlanModel}
 use Rattle.sm_protocol.specs.declared.event.Played.TheVariants as played
 use Rattle.sm_protocol.specs.State.{State, is_begun, progress_of}
 use Rattle.sm_protocol.specs.Steps.{Answered}
 use Rattle.sm_protocol.specs.Next.{since_of}
+use Rattle.sm_protocol.specs.Laws.{HasLost}
 use Rattle.sm_protocol.specs.Happens.{Approve, Begin, Done, Step, engaged, happens}
 use Rattle.sm_machine.specs.Machine.{MachineModel}
 use Rattle.sm_machine.specs.State.{state_of}
 use Rattle.sm_driver.specs.Advance.{IsAdvanced, next_free}
+use Rattle.sm_driver.specs.Carried.{AreCarriedDown}
 use Rattle.sm_driver.specs.Orders.{awaits, epoch_base}
-use Rattle.sm_driver.specs.Permits.{ArePermitsOfDown}
+use Rattle.sm_driver.specs.Permits.{AreGivenPermits, ArePermitsOfDown}
+use Rattle.sm_driver.specs.declared.restart.RestartEffect.{RestartEffect}
+use Rattle.sm_driver.specs.declared.restart.RestartEffect.TheVariants.{Old, Unsettled, Up}
 use Rattle.sm_driver.specs.Restores.{RestoreModel, restore_now}
 
 -- A driver, as contracts see it: a machine, whose state is what is recorded, the journal that it belongs to, and its epoch there.
@@ -20,8 +24,12 @@ pub record DriverModel : Type 0 where
   pub machine : MachineModel
   pub journal : ℕ
   pub epoch : ℕ
-  -- by the servers' numbers: of each that is down the permit of its restart, and what each was told last after it had lost all it had
+  -- the base of the journal's last reopening, 0 before any
+  pub fence : ℕ
+  -- by the servers' numbers: of each that is down the permit of its restart, and whether it was carried over and took no settle since;
+  -- what each was told last after it had lost all it had
   pub permits : List (Option ℕ)
+  pub carried : List Bool
   pub restores : List (Option RestoreModel)
 
 -- what is recorded
@@ -48,18 +56,27 @@ is_due d id number = awaits_answer d id && (number == order_number d id)
 abbrev pub is_past : DriverModel → StreamId → ℕ → Bool
 is_past d id number = is_begun (record_of d) id && ((progress_of (record_of d) id).done || nat_lt number (order_number d id))
 
--- journal, epoch, configuration and restores stay
+-- journal, epoch, fence, configuration, carried servers and restores stay
 pub record IsOfJournal (old new : DriverModel) : Type 0 where
   pub journal : new.journal ≡ old.journal
   pub epoch : new.epoch ≡ old.epoch
+  pub fence : new.fence ≡ old.fence
   pub setup : new.machine.placement.setup ≡ old.machine.placement.setup
+  pub carried : new.carried ≡ old.carried
   pub restores : new.restores ≡ old.restores
 
--- What holds of every driver whose log has so many places: no stream stands before a step that needs nobody, and the permits are those of
--- the servers that are down.
+-- no call was lost: each that is recorded was answered
+abbrev pub HasLostNone : State → Type 0
+HasLostNone w = (id : StreamId) → ¬ HasLost w id
+
+-- What holds of every driver whose log has so many places: no stream stands before a step that needs nobody, no call was lost, the
+-- permits are those of the servers that are down, no two alike, and carried servers are down.
 pub record IsDriving (places : ℕ) (d : DriverModel) : Type 0 where
   pub free : next_free (record_of d) ≡ None
+  pub unlost : HasLostNone (record_of d)
   pub permits : ArePermitsOfDown (record_of d) d.permits
+  pub given : AreGivenPermits (base d) (length (record_of d).log) d.permits
+  pub carried : AreCarriedDown (record_of d) d.carried
   pub restores : length d.restores ≡ (record_of d).sizes.servers
   pub room : (record_of d).room ≡ places
 
@@ -71,10 +88,11 @@ pub record HasBegunPlan (plan : PlanModel) (number : ℕ) (old new : DriverModel
   pub permits : new.permits ≡ old.permits
   pub journal : IsOfJournal old new
 
--- The stream makes the step whose answer has come, and every step that needs nobody is made.
+-- The stream makes the step whose answer has come, for which it always has a try and the log a place, and every step that needs nobody
+-- is made.
 pub record HasTakenStep (id : StreamId) (old new : DriverModel) : Type 0 where
   pub between : State
-  pub step : (happens (record_of old) (Step id)).1 ≡ between
+  pub step : happens (record_of old) (Step id) ≡ (Answered played.Moved, between)
   pub advanced : IsAdvanced between (record_of new)
   pub permits : new.permits ≡ old.permits
   pub journal : IsOfJournal old new
@@ -92,13 +110,16 @@ pub record HasEndedRestart (v : ℕ) (old new : DriverModel) : Type 0 where
   pub permits : new.permits ≡ slice_set old.permits v None
   pub journal : IsOfJournal old new
 
--- A server is restored that no unfinished stream names.
+-- What the end of a restart comes to: the server's restart has ended, or all is as it was.
+abbrev pub HasCome : RestartEffect → DriverModel → DriverModel → Type 0
+HasCome (Up v) old new = HasEndedRestart v old new
+HasCome (Unsettled v) old new = new ≡ old
+HasCome Old old new = new ≡ old
+
+-- A server is restored that no unfinished stream names. It is no longer carried over.
 pub record HasRestored (v nonce : ℕ) (old new : DriverModel) : Type 0 where
   pub disengaged : engaged (record_of old) v ≡ None
-  pub told : new ≡ record old { restores = slice_set old.restores v (Some (restore_now (base old) (record_of old) v nonce)) }
-
--- The same is recorded, and all else is as it was.
-pub record IsAsBefore (old new : DriverModel) : Type 0 where
-  pub recorded : record_of new ≡ record_of old
-  pub permits : new.permits ≡ old.permits
-  pub journal : IsOfJournal old new
+  pub told : new ≡ record old {
+    carried = slice_set old.carried v false;
+    restores = slice_set old.restores v (Some (restore_now (base old) (record_of old) v nonce));
+  }

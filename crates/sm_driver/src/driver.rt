@@ -1,41 +1,40 @@
 //! Drivers.
-ghost use Rattle.std.specs.Prelude.{◌≡◌, ◌≢◌, ◌≤◌, ◌<◌, ◌↔◌, ◌⊎◌, IfOk, OnOk, IfErr, OnErr, IfSome, IfNone, Some, None, option_map, length, not, replicate, slice_get, true, false};
+ghost use Rattle.std.specs.Prelude.{◌≡◌, ◌≢◌, ◌<◌, ◌↔◌, ◌⊎◌, ◌+◌, IfOk, OnOk, IfErr, OnErr, Some, None, option_map, not, slice_get, true, false};
 ghost use Rattle.std.specs.Option.{option_copied};
-ghost use Rattle.sm_placement.specs.Setup.{sizes_of};
-ghost use Rattle.sm_placement.specs.Place.{down_count};
 ghost use Rattle.sm_placement.specs.Layout.{place_of};
-ghost use Rattle.sm_placement.specs.Lead.{IsSettled};
-ghost use Rattle.sm_plan_code.specs.declared.limits.TheConstants.{MOST_PLACES};
 ghost use Rattle.sm_protocol.specs.declared.event.Played.TheVariants as played;
-ghost use Rattle.sm_protocol.specs.State.{is_begun, opened};
+ghost use Rattle.sm_protocol.specs.State.{free_places, is_begun, pool};
 ghost use Rattle.sm_protocol.specs.Next.{unfinished_plans};
 ghost use Rattle.sm_protocol.specs.Steps.{Answered};
 ghost use Rattle.sm_protocol.specs.Happens.{Approve, engaged, happens};
+ghost use Rattle.sm_task_controller.specs.Decision.{denial};
 ghost use Rattle.sm_network.specs.Net.{order_of};
 ghost use Rattle.sm_network.specs.World.{publication_of};
-ghost use Rattle.sm_machine.specs.declared.open_fault.OpenFault.TheVariants.{LogFull};
-ghost use Rattle.sm_driver.specs.Orders.{awaiting_of, bases_end, message_of, net_message, net_order, net_publication};
-ghost use Rattle.sm_driver.specs.Permits.{ArePermitsOfDown, denied_by, opening_permits, restart_effect, server_permitted};
+ghost use Rattle.sm_driver.specs.Orders.{awaiting_of, bases_end, epoch_base, message_of, net_message, net_order, net_publication};
+ghost use Rattle.sm_driver.specs.Carried.{AreCarriedDown};
+ghost use Rattle.sm_driver.specs.Permits.{AreEarlierPermits, ArePermitsOfDown, restart_effect, server_permitted};
 ghost use Rattle.sm_driver.specs.Epochs.{HasOpenedEpoch, epoch_fault};
 ghost use Rattle.sm_driver.specs.Restores.{restore_at, was_told};
-ghost use Rattle.sm_driver.specs.Driver.{HasRestored, HasApproved, IsAsBefore, HasBegunPlan, HasEndedRestart, HasTakenStep, base, is_due, is_past, awaits_answer, order_number, record_of};
+ghost use Rattle.sm_driver.specs.Driver.{HasRestored, HasApproved, HasCome, HasBegunPlan, HasTakenStep, base, is_due, is_past, awaits_answer, order_number, record_of};
 ghost use Rattle.sm_driver.specs.declared.driver.AnswerEffect.TheVariants as answer;
 ghost use Rattle.sm_driver.specs.declared.epoch.EpochFault.TheVariants as refusal;
 ghost use Rattle.sm_driver.specs.declared.restores.RestoreFault.TheVariants as fault;
 
+mod opening;
+
+use crate::carried::CarriedServers;
 use crate::epoch::{EpochFault, epoch_after, fault_by, shard_spent};
 use crate::order::{StreamMessage, StreamOrder, StreamPublication};
 use crate::ordering::{awaiting, message_of, order_of, publication_of};
-use crate::own_steps::advance;
+use crate::own_steps::{advance, advance_plan};
 use crate::permits::Permits;
 use crate::restart::RestartEffect;
 use crate::restores::{RestoreFault, Restores, ServerRestore, cells_told};
-use sm_machine::{BeginFault, Director, Event, Machine, OpenFault, Played, ReadyPlan};
+use sm_machine::{BeginFault, Director, Event, Machine, ReadyPlan};
 use sm_placement::Placement;
-use sm_plan_code::MOST_PLACES;
 use sm_reservation::StreamId;
 use sm_server::ServerId;
-use sm_task_controller::Denied;
+use sm_task_controller::{Denied, decide};
 use std::alloc::{AllocError, Global};
 use std::marker::Model;
 
@@ -59,7 +58,9 @@ pub struct Driver {
     room: u32,
     journal: u64,
     epoch: u32,
+    fence: u64,
     permits: Permits,
+    carried: CarriedServers,
     restores: Restores,
 }
 
@@ -70,62 +71,12 @@ impl Model for Driver {
 
     ghost Value = { DriverModel };
 
-    ghost view = { λ d. record { machine = d.director; journal = d.journal; epoch = d.epoch; permits = d.permits; restores = d.restores } };
+    ghost view = { λ d. record { machine = d.director; journal = d.journal; epoch = d.epoch; fence = d.fence; permits = d.permits; carried = d.carried; restores = d.restores } };
 
-    ghost invariant = { λ d. IsDriving d.room (record { machine = d.director; journal = d.journal; epoch = d.epoch; permits = d.permits; restores = d.restores }) };
-}
-
-/// Returns why a restart was denied, by the answer to the question.
-fn denied_by(answer: Played) -> Option<Denied>
-    ensures { result ≡ denied_by answer }
-{
-    match answer {
-        Played::Denied(why) => Some(why),
-        _ => None,
-    }
+    ghost invariant = { λ d. IsDriving d.room (record { machine = d.director; journal = d.journal; epoch = d.epoch; fence = d.fence; permits = d.permits; carried = d.carried; restores = d.restores }) };
 }
 
 impl Driver {
-    /// Opens a driver over a settled placement, for a journal and one of its epochs, as `Director::open` does. Each server that is
-    /// down has a permit.
-    pub fn open(
-        alloc: Global,
-        placement: Placement,
-        log_room: u32,
-        journal: u64,
-        epoch: u32,
-    ) -> Result<Driver, (Placement, OpenFault)>
-        requires { IsSettled (sizes_of placement.setup) (place_of placement) }
-        ensures state { IfOk result (λ d. record_of d ≡ opened (sizes_of placement.setup) (place_of placement) log_room) }
-        ensures setup { IfOk result (λ d. d.machine.placement.setup ≡ placement.setup) }
-        ensures journal { IfOk result (λ d. d.journal ≡ journal) }
-        ensures epoch { IfOk result (λ d. d.epoch ≡ epoch) }
-        ensures restores { IfOk result (λ d. d.restores ≡ replicate (length placement.setup.servers) None) }
-        ensures permits { IfOk result (λ d. d.permits ≡ opening_permits (base d) (length placement.setup.servers) (place_of placement).down) }
-        ensures back { IfErr result (λ e. e.0 ≡ placement) }
-        ensures full { IfErr result (λ e. (e.1 ≡ LogFull) ↔ ((MOST_PLACES < log_room) ⊎ (log_room < down_count (sizes_of placement.setup) (place_of placement)))) }
-    {
-        if log_room > MOST_PLACES || log_room < placement.down_count() {
-            return Err((placement, OpenFault::LogFull));
-        }
-        let base = epoch as u64 * EPOCH_STEP;
-        let Ok(permits) = Permits::at_opening(alloc, &placement, base) else {
-            return Err((placement, OpenFault::NoMemory));
-        };
-        let Ok(restores) = Restores::none(alloc, placement.config().server_count()) else {
-            return Err((placement, OpenFault::NoMemory));
-        };
-        let director = Director::open(alloc, placement, log_room)?;
-        Ok(Driver {
-            director,
-            room: log_room,
-            journal,
-            epoch,
-            permits,
-            restores,
-        })
-    }
-
     /// Returns the machine, whose state is what is recorded.
     pub fn machine(&self) -> &Machine
         ensures { result.now ≡ self.now.machine }
@@ -153,6 +104,13 @@ impl Driver {
         ensures small { result < bases_end }
     {
         self.epoch as u64 * EPOCH_STEP
+    }
+
+    /// Returns the base of the journal's last reopening, 0 before any.
+    pub fn fence(&self) -> u64
+        ensures { result ≡ self.now.fence }
+    {
+        self.fence
     }
 
     /// Returns the order of a running stream that stands before a call.
@@ -192,7 +150,7 @@ impl Driver {
         ensures unchanged { OnErr result (self.new ≡ self.old) }
     {
         let number = self.director.start(ready)?;
-        advance(&mut self.director);
+        advance_plan(&mut self.director, number);
         Ok(number)
     }
 
@@ -222,7 +180,7 @@ impl Driver {
     }
 
     /// Takes the answer to an order or a publication of a stream. If the stream waits for it, it makes its step, and every step that
-    /// needs nobody is made. Otherwise nothing changes.
+    /// needs nobody is made: neither the log's room nor the stream's allowance is in the way. Otherwise nothing changes.
     pub fn answered(&mut self, id: StreamId, number: u64) -> AnswerEffect
         ensures taken { (result ≡ answer.Moved) ↔ (is_due self.old id number ≡ true) }
         ensures moved { result ≡ answer.Moved → HasTakenStep id self.old self.new }
@@ -230,8 +188,9 @@ impl Driver {
         ensures old { is_due self.old id number ≡ false → (result ≡ answer.Old) ↔ (is_past self.old id number ≡ true) }
     {
         if self.is_due(id, number) {
+            self.machine().is_reached();
             let _ = self.director.play(Event::Step { stream: id });
-            advance(&mut self.director);
+            advance(&mut self.director, id);
             return AnswerEffect::Moved;
         }
         if self.is_past(id, number) {
@@ -245,45 +204,71 @@ impl Driver {
     pub fn permits(&self) -> &[Option<u64>]
         ensures permits { result.now ≡ self.now.permits }
         ensures down { ArePermitsOfDown (record_of self.now) self.now.permits }
+        ensures apart { AreEarlierPermits (epoch_base (self.now.epoch + 1)) self.now.permits }
     {
+        self.machine().is_reached();
         self.permits.as_slice()
     }
 
-    /// Approves the restart of a server, if nothing is against it, and returns its permit. The server is down then.
+    /// Returns which servers a reopening has carried over, by the servers' numbers: such a server is down, did not answer the reopening,
+    /// and has been told nothing since.
+    pub fn carried(&self) -> &[bool]
+        ensures carried { result.now ≡ self.now.carried }
+        ensures down { AreCarriedDown (record_of self.now) self.now.carried }
+    {
+        self.carried.as_slice()
+    }
+
+    /// Returns why the restart of a server is not approved now.
+    fn denial(&self, server: ServerId) -> Option<Denied>
+        requires { server < (record_of self.now).sizes.servers }
+        ensures { result ≡ denial (record_of self.now).sizes (record_of self.now).place (pool (record_of self.now)) (engaged (record_of self.now) server) (free_places (record_of self.now)) server }
+    {
+        let machine = self.machine();
+        machine.is_reached();
+        let free = machine.free_places() as u32;
+        let engaged = machine.engaged(server);
+        decide(machine.placement(), machine.pool(), engaged, free, server).err()
+    }
+
+    /// Approves the restart of a server, if nothing is against it, and returns its permit. The server is down then. Otherwise nothing
+    /// changes.
     pub fn approve(&mut self, server: ServerId) -> Result<u64, Denied>
         requires { server < (record_of self.old).sizes.servers }
         ensures approved { IfOk result (λ permit. HasApproved server permit self.old self.new) }
         ensures denied { IfErr result (λ why. (happens (record_of self.old) (Approve server)).0 ≡ Answered (played.Denied why)) }
-        ensures unchanged { OnErr result (IsAsBefore self.old self.new) }
+        ensures unchanged { OnErr result (self.new ≡ self.old) }
     {
-        let permit = self.base() + self.machine().log().len() as u64 + 1;
-        let answer = self.director.play(Event::Approve { server });
-        if let Some(why) = denied_by(answer) {
+        if let Some(why) = self.denial(server) {
             return Err(why);
         }
+        let permit = self.base() + self.machine().log().len() as u64 + 1;
+        let _ = self.director.play(Event::Approve { server });
+        self.director.machine().is_reached();
         self.permits.set(server, Some(permit));
         Ok(permit)
     }
 
-    /// Ends the restart that has this permit: the server is up. No other permit ends anything. A full log is no hindrance.
+    /// Ends the restart that has this permit: the server is up. No other permit ends anything, nor does that of a carried server. A full
+    /// log is no hindrance.
     pub fn restarted(&mut self, permit: u64) -> RestartEffect
-        ensures effect { result ≡ restart_effect (server_permitted self.old.permits permit) }
-        ensures up { IfSome (server_permitted self.old.permits permit) (λ server. HasEndedRestart server self.old self.new) }
-        ensures unchanged { IfNone (server_permitted self.old.permits permit) (self.new ≡ self.old) }
+        ensures effect { result ≡ restart_effect self.old.carried (server_permitted self.old.permits permit) }
+        ensures come { HasCome result self.old self.new }
     {
         let servers = self.machine().config().server_count();
-        match self.permits.server(servers, permit) {
-            None => RestartEffect::Old,
-            Some(server) => {
-                let _ = self.director.play(Event::Done { server });
-                self.permits.set(server, None);
-                RestartEffect::Up(server)
-            }
+        let Some(server) = self.permits.server(servers, permit) else {
+            return RestartEffect::Old;
+        };
+        if self.carried.has(server) {
+            return RestartEffect::Unsettled(server);
         }
+        let _ = self.director.play(Event::Done { server });
+        self.permits.set(server, None);
+        RestartEffect::Up(server)
     }
 
-    /// Restores a server that has lost all it had, and asks under a nonce: keeps what it is told, and returns true. If it was told
-    /// under this nonce last, returns false, and nothing changes.
+    /// Restores a server that has lost all it had, and asks under a nonce: keeps what it is told, and returns true. The server is no
+    /// longer carried over. If it was told under this nonce last, returns false, and nothing changes.
     pub fn restore(
         &mut self,
         alloc: Global,
@@ -310,6 +295,7 @@ impl Driver {
         };
         self.restores
             .set(server, ServerRestore::new(nonce, number, cells));
+        self.carried.clear(server);
         Ok(true)
     }
 
@@ -340,8 +326,8 @@ impl Driver {
         )
     }
 
-    /// Opens the next epoch over the placement as it is recorded, if no plan is unfinished: the log is empty again. Permits and
-    /// restores stay.
+    /// Opens the next epoch over the placement as it is recorded, if no plan is unfinished: the log is empty again. Fence, permits,
+    /// carried servers and restores stay.
     pub fn new_epoch(&mut self, alloc: Global) -> Result<(), EpochFault>
         ensures opened { OnOk result (HasOpenedEpoch self.old self.new) }
         ensures fits { OnOk result (epoch_fault self.old ≡ None) }
@@ -382,10 +368,13 @@ impl Driver {
             room: _,
             journal: _,
             epoch: _,
+            fence: _,
             permits,
+            carried,
             restores,
         } = self;
         drop(permits);
+        drop(carried);
         drop(restores);
         director.give_up()
     }

@@ -2,6 +2,7 @@
 //! no file and writes none.
 #![tactic(auto)]
 
+mod carried;
 mod driver;
 mod epoch;
 mod order;
@@ -15,6 +16,7 @@ pub use driver::{AnswerEffect, Driver};
 pub use epoch::EpochFault;
 pub use order::{StreamMessage, StreamOrder, StreamPublication};
 pub use ordering::{awaiting, awaits, message_of, order_of, publication_of};
-pub use own_steps::{advance, is_free};
+pub use own_steps::is_free;
+pub use permits::are_earlier_permits;
 pub use restart::RestartEffect;
 pub use restores::{RestoreFault, ServerRestore};

@@ -8,4 +8,6 @@ pub enum RestartEffect {
     Up(ServerId),
     /// The restart of this permit has ended before, or there was none.
     Old,
+    /// The server was carried over a reopening, and stays down until it is restored or settled.
+    Unsettled(ServerId),
 }

@@ -1,6 +1,6 @@
 //! Restarts and their permits.
-use super::stand::{approve, must_open, must_open_with};
-use sm_driver::RestartEffect;
+use super::stand::{approve, must_open, must_open_with, must_reopen, restore};
+use sm_driver::{RestartEffect, are_earlier_permits};
 use sm_fixtures::World;
 use sm_server::ServerId;
 use sm_task_controller::Denied;
@@ -33,6 +33,7 @@ fn an_opening_gives_permits(rt: HostRuntime) {
     let permit = 2 * 2_097_152 + 1_048_577 + 2;
     let mut driver = must_open_with(&rt, rt.alloc(), World::Base, &[c()], 10, 2);
     assert!(&rt; driver.permits() == [None, None, Some(permit)].as_slice());
+    assert!(&rt; driver.fence() == 0 && driver.carried() == [false, false, false].as_slice());
     assert!(&rt; driver.new_epoch(rt.alloc()) == Ok(()));
     assert!(&rt; driver.permits() == [None, None, Some(permit)].as_slice());
     assert!(&rt; driver.restarted(permit) == RestartEffect::Up(c()));
@@ -49,4 +50,43 @@ fn a_full_log_denies_approvals(rt: HostRuntime) {
     assert!(&rt; driver.new_epoch(rt.alloc()) == Ok(()));
     assert!(&rt; approve(&rt, &mut driver, 2) == Ok(2_097_153));
     let _placement = driver.give_up();
+}
+
+/// A carried server's restart does not end until the server is told what it has to have. A new epoch does not change that.
+#[test]
+fn a_carried_server_stays_down(rt: HostRuntime) {
+    let base = 5 * 2_097_152;
+    let permits = [Some(8), None, Some(9)];
+    let mut driver = must_reopen(&rt, rt.alloc(), &permits, &[true, false, true]);
+    assert!(&rt; driver.fence() == base && driver.base() == base && driver.epoch() == 5);
+    assert!(&rt; driver.permits() == [None, None, Some(9)].as_slice());
+    assert!(&rt; driver.carried() == [false, false, true].as_slice());
+    assert!(&rt; driver.restarted(9) == RestartEffect::Unsettled(c()));
+    assert!(&rt; driver.new_epoch(rt.alloc()) == Ok(()));
+    assert!(&rt; driver.fence() == base && driver.base() == base + 2_097_152);
+    assert!(&rt; driver.restarted(9) == RestartEffect::Unsettled(c()));
+    assert!(&rt; driver.restarted(8) == RestartEffect::Old);
+    assert!(&rt; restore(&rt, rt.alloc(), &mut driver, 2, 77) == Ok(true));
+    assert!(&rt; driver.carried() == [false, false, false].as_slice());
+    assert!(&rt; driver.restarted(9) == RestartEffect::Up(c()));
+    let _placement = driver.give_up();
+}
+
+/// A server that is down at a reopening has a new permit where it had none, and one that is not carried over comes up.
+#[test]
+fn a_reopening_gives_permits(rt: HostRuntime) {
+    let permit = 5 * 2_097_152 + 1_048_577 + 2;
+    let mut driver = must_reopen(&rt, rt.alloc(), &[], &[]);
+    assert!(&rt; driver.permits() == [None, None, Some(permit)].as_slice());
+    assert!(&rt; driver.carried() == [false, false, false].as_slice());
+    assert!(&rt; driver.restarted(permit) == RestartEffect::Up(c()));
+    let _placement = driver.give_up();
+}
+
+/// Permits of earlier epochs are at or below the base, and no two are alike.
+#[test]
+fn earlier_permits_are_known(rt: HostRuntime) {
+    assert!(&rt; are_earlier_permits(&[Some(8), None, Some(9)], 9));
+    assert!(&rt; !are_earlier_permits(&[Some(8), None, Some(9)], 8));
+    assert!(&rt; !are_earlier_permits(&[Some(8), None, Some(8)], 9));
 }

@@ -1,5 +1,7 @@
 //! Drivers over the worked placements, and what they are asked.
-use sm_driver::{AnswerEffect, Driver, RestoreFault, StreamOrder, StreamPublication};
+use sm_driver::{
+    AnswerEffect, Driver, RestoreFault, StreamOrder, StreamPublication, are_earlier_permits,
+};
 use sm_fixtures::{S_TO_B, World, handover_plan, is_for, signalled_plan};
 use sm_machine::make_ready;
 use sm_reservation::StreamId;
@@ -36,6 +38,27 @@ pub(crate) fn must_open_with(
         Ok(placement) => {
             assert!(rt; placement.settled());
             match Driver::open(alloc, placement, room, 7, epoch) {
+                Ok(driver) => driver,
+                Err(_) => panic!(rt; "there is no memory for a driver"),
+            }
+        }
+    }
+}
+
+/// Opens a driver, as a reopening comes to it, over a worked placement at which server c is down: in epoch 5 of journal 7, with room for
+/// 100 events.
+pub(crate) fn must_reopen(
+    rt: &impl Abort,
+    alloc: Global,
+    permits: &[Option<u64>],
+    carried: &[bool],
+) -> Driver {
+    match World::Base.placement(alloc, &[ServerId::new(2)]) {
+        Err(_) => panic!(rt; "there is no memory for a placement"),
+        Ok(placement) => {
+            assert!(rt; placement.settled());
+            assert!(rt; are_earlier_permits(permits, 5 * 2_097_152));
+            match Driver::reopen(alloc, placement, 100, 7, 5, permits, carried) {
                 Ok(driver) => driver,
                 Err(_) => panic!(rt; "there is no memory for a driver"),
             }

@@ -1,32 +1,39 @@
--- Every step that needs nobody.
-use Rattle.std.proofs.Common.{◌≡◌, ◌≤◌, ◌+◌, ◌∙◌, Some, length, sym, ap, subst, arith}
-use Rattle.sm_protocol.specs.State.{State}
+-- Every step that needs nobody, where one stream is free.
+use Rattle.std.proofs.Common.{◌≡◌, ◌∙◌, true, false, sym, ap, subst}
+use Rattle.sm_protocol.specs.State.{State, next_instruction}
 use Rattle.sm_protocol.specs.Happens.{Step, happens}
-use Rattle.sm_protocol.proofs.SmallNumbers.{numbers_stay_small}
+use Rattle.sm_protocol.specs.Laws.{IsReached}
+use Rattle.sm_machine.specs.Machine.{MachineModel}
 use Rattle.sm_machine.specs.State.{state_of}
-use Rattle.sm_driver.specs.Advance.{IsAdvanced, next_free}
-use Rattle.sm_driver.proofs.Searches.{next_is_free}
-use Rattle.sm_driver.proofs.FreeSteps.{advanced_before, free_is_recorded, not_halted}
+use Rattle.sm_driver.specs.Advance.{IsAdvanced, IsFreeAlone, is_free, posts_signal}
+use Rattle.sm_driver.proofs.FreeSteps.{advanced_before, none_to_make, one_less}
+use Rattle.sm_driver.proofs.OwnSteps.{free_alone_after, next_alone, none_alone}
 use Rattle.sm_driver.proofs.own_steps.advance.Goals as goal
 
 pub loop-id-smaller : goal.loop-id-smaller
 loop-id-smaller c =
     let w : State = state_of c.loop-id.director in
     let new : State = state_of c.play.new.self in
-    let free : next_free w ≡ Some c.in-Some.id = ap (λ m. next_free (state_of m)) (sym c.machine.ensures) ∙ sym c.next_free.ensures ∙ c.in-Some.is in
-    let step : (happens w (Step c.in-Some.id)).1 ≡ new = ap (λ o. o.1) c.play.ensures.event in
-    let more = free_is_recorded w c.in-Some.id (not_halted w new c.in-Some.id c.play.result c.play.ensures.event c.play.ensures.running) (next_is_free w c.in-Some.id free) in
-    let log : length new.log ≡ length w.log + 1 = ap (λ s. length s.log) (sym step) ∙ more.more in
-    let room : new.room ≡ w.room = ap (λ s. s.room) (sym step) ∙ more.room in
-    let small = (numbers_stay_small _ (state_of c.machine-in-Some.result.now) c.is_reached.ensures).log in
-    let bound : length new.log ≤ new.room = subst (λ m. length (state_of m).log ≤ (state_of m).room) c.machine-in-Some.ensures small in
-    omega arith
+    let free : is_free w c.args.id ≡ true = ap (λ (m : MachineModel). is_free (state_of m) c.args.id) (sym c.machine.ensures) ∙ sym c.is_free.ensures ∙ c.loop-id-test.true in
+    let reached : IsReached c.play.new.self.placement.setup new = subst (λ (m : MachineModel). IsReached m.placement.setup (state_of m)) c.machine-in-loop-id-2.ensures c.is_reached.ensures in
+    one_less _ w new c.args.id c.play.result c.play.ensures.event c.play.ensures.running free reached
 
 pub loop-id-preserved : goal.loop-id-preserved
 loop-id-preserved c =
     let w : State = state_of c.loop-id.director in
-    let free : next_free w ≡ Some c.in-Some.id = ap (λ m. next_free (state_of m)) (sym c.machine.ensures) ∙ sym c.next_free.ensures ∙ c.in-Some.is in
-    let step : (happens w (Step c.in-Some.id)).1 ≡ state_of c.play.new.self = ap (λ o. o.1) c.play.ensures.event in (
-      (λ new x. c.loop-id.invariant.0 new (advanced_before w new c.in-Some.id free (subst (λ s. IsAdvanced s new) (sym step) x))),
-      (c.play.ensures.setup ∙ c.loop-id.invariant.1),
-    )
+    let alone = c.loop-id.invariant.alone in
+    let free : is_free w c.args.id ≡ true = ap (λ (m : MachineModel). is_free (state_of m) c.args.id) (sym c.machine.ensures) ∙ sym c.is_free.ensures ∙ c.loop-id-test.true in
+    let quiet : posts_signal (next_instruction w c.args.id) ≡ false =
+    ap (λ (m : MachineModel). posts_signal (next_instruction (state_of m) c.args.id)) (sym c.machine-in-loop-id.ensures) ∙ sym c.posts.ensures ∙ c.if-posts.false in
+    let step : (happens w (Step c.args.id)).1 ≡ state_of c.play.new.self = ap (λ o. o.1) c.play.ensures.event in
+    record {
+      advanced = λ last x. c.loop-id.invariant.advanced last (advanced_before w last c.args.id (next_alone w c.args.id alone free) (subst (λ s. IsAdvanced s last) (sym step) x));
+      setup = c.play.ensures.setup ∙ c.loop-id.invariant.setup;
+      alone = subst (λ (s : State). IsFreeAlone s c.args.id) step (free_alone_after w c.args.id alone quiet);
+    }
+
+pub returns-clause-advanced : goal.returns-clause-advanced
+returns-clause-advanced c =
+    let w : State = state_of c.loop-id.director in
+    let bound : is_free w c.args.id ≡ false = ap (λ (m : MachineModel). is_free (state_of m) c.args.id) (sym c.machine.ensures) ∙ sym c.is_free.ensures ∙ c.loop-id-test.false in
+    c.loop-id.invariant.advanced w (none_to_make w (none_alone w c.args.id c.loop-id.invariant.alone bound))

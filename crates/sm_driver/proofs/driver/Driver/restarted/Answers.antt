@@ -1,13 +1,11 @@
 -- The end of a restart.
-use Rattle.std.proofs.Common.{◌≡◌, ◌∙◌, ◌<◌, ℕ, List, Option, Some, sym, ap, subst, refl}
-use Rattle.std.specs.Prelude.{IfSome}
+use Rattle.std.proofs.Common.{◌∙◌, ◌<◌, ℕ, List, Option, sym, ap, subst, refl}
 use Rattle.sm_placement.specs.Setup.{Sizes}
 use Rattle.sm_protocol.specs.State.{State}
 use Rattle.sm_protocol.specs.Steps.{Answered}
 use Rattle.sm_machine.specs.Machine.{MachineModel}
 use Rattle.sm_machine.specs.State.{state_of}
 use Rattle.sm_driver.specs.Driver.{DriverModel, HasEndedRestart, IsDriving}
-use Rattle.sm_driver.specs.Permits.{server_permitted}
 use Rattle.sm_driver.proofs.Beside.{restart_is}
 use Rattle.sm_driver.proofs.Driving.{restarted_driving}
 use Rattle.sm_driver.proofs.PermitLookups.{permitted_is_down}
@@ -18,6 +16,11 @@ server-requires c =
     c.self.invariant.permits.servers
     ∙ sym (c.server_count-servers.ensures.count ∙ ap (λ (s : Sizes). s.servers) c.config.ensures.sizes
     ∙ ap (λ (m : MachineModel). (state_of m).sizes.servers) (c.machine.ensures ∙ ap (λ (d : DriverModel). d.machine) (sym c.self.view_is)))
+
+pub has-requires : goal.has-requires
+has-requires c =
+    subst (λ n. c.in-Some.server < n) (sym c.self.invariant.carried.servers)
+    (permitted_is_down (state_of c.self.inside.director) c.self.inside.permits c.args.permit c.in-Some.server c.self.invariant.permits (sym c.server.ensures ∙ c.in-Some.is)).0
 
 pub play-requires : goal.play-requires
 play-requires c =
@@ -32,22 +35,20 @@ pub invariant_of-self : goal.invariant_of-self
 invariant_of-self c =
     let inside = c.self.inside in
     let known = permitted_is_down (state_of inside.director) inside.permits c.args.permit c.in-Some.server c.self.invariant.permits (sym c.server.ensures ∙ c.in-Some.is) in
-    subst (λ (permits : List (Option ℕ)). IsDriving inside.room (record { machine = c.play.new.self; journal = inside.journal; epoch = inside.epoch; permits = permits; restores = inside.restores }))
-    (sym c.set.ensures) (restarted_driving inside.room _ c.in-Some.server c.play.result c.play.new.self c.play.ensures.event known.0 known.1 c.self.invariant)
+    subst (λ (permits : List (Option ℕ)). IsDriving inside.room (record { machine = c.play.new.self; journal = inside.journal; epoch = inside.epoch; fence = inside.fence; permits = permits; carried = inside.carried; restores = inside.restores }))
+    (sym c.set.ensures)
+    (restarted_driving inside.room _ c.in-Some.server c.play.result c.play.new.self c.play.ensures.event known.0 known.1 (sym c.has.ensures ∙ c.if-has.false) c.self.invariant)
 
-pub returns-in-Some-clause-up : goal.returns-in-Some-clause-up
-returns-in-Some-clause-up c =
+pub returns-clause-come : goal.returns-clause-come
+returns-clause-come c =
     let inside = c.self.inside in
     let w : State = state_of inside.director in
     let next : State = state_of c.play.new.self in
-    let named : server_permitted inside.permits c.args.permit ≡ Some c.in-Some.server = sym c.server.ensures ∙ c.in-Some.is in
-    let known = permitted_is_down w inside.permits c.args.permit c.in-Some.server c.self.invariant.permits named in
+    let known = permitted_is_down w inside.permits c.args.permit c.in-Some.server c.self.invariant.permits (sym c.server.ensures ∙ c.in-Some.is) in
     let up = (restart_is w next c.in-Some.server c.play.result c.play.ensures.event known.1).0 in
-    let view : DriverModel = record { machine = inside.director; journal = inside.journal; epoch = inside.epoch; permits = inside.permits; restores = inside.restores } in
-    let new : DriverModel = record { machine = c.play.new.self; journal = inside.journal; epoch = inside.epoch; permits = c.set.new.self; restores = inside.restores } in
-    subst (λ (old : DriverModel). IfSome (server_permitted old.permits c.args.permit) (λ server. HasEndedRestart server old new)) c.self.view_is
-    (subst (λ (o : Option ℕ). IfSome o (λ server. HasEndedRestart server view new)) (sym named) (record {
+    let new : DriverModel = record { machine = c.play.new.self; journal = inside.journal; epoch = inside.epoch; fence = inside.fence; permits = c.set.new.self; carried = inside.carried; restores = inside.restores } in
+    subst (λ (old : DriverModel). HasEndedRestart c.in-Some.server old new) c.self.view_is (record {
       event = c.play.ensures.event ∙ ap (λ a. (Answered a, next)) up;
       permits = c.set.ensures;
-      journal = record { journal = refl; epoch = refl; setup = c.play.ensures.setup; restores = refl };
-    }))
+      journal = record { journal = refl; epoch = refl; fence = refl; setup = c.play.ensures.setup; carried = refl; restores = refl };
+    })

@@ -6,4 +6,4 @@ use Rattle.sm_driver.proofs.permits.Permits.at_opening.Given as goal
 
 -- the servers so far have their permits
 abbrev pub invariant-loop-number : goal.invariant-loop-number
-invariant-loop-number l = l.given.items ≡ map (opening_permit l.base (place_of l.placement).down) (range_with_len 0 l.number)
+invariant-loop-number l = l.given.items ≡ map (opening_permit l.base l.before (place_of l.placement).down) (range_with_len 0 l.number)
