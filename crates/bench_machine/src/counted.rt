@@ -1,7 +1,7 @@
 //! Machines whose events are counted, and how long they take.
 ghost use Rattle.std.specs.Prelude.{◌≡◌, ◌≤◌, ◌+◌, IsTrue, vec_len, vec_capacity};
 
-use crate::setting::{Setting, config_of, home_of, placement_of, plan_of};
+use crate::setting::{Codes, Setting, config_of, home_of, placement_of, plan_of};
 use sm_machine::{Answer, Machine, Permit, Step, StreamToken, Ticket};
 use sm_placement::{Config, Placement};
 use sm_plan_code::MOST_PLACES;
@@ -20,7 +20,7 @@ pub(crate) struct Counted {
     pub time: Duration,
 }
 
-const NOTHING: Counted = Counted {
+pub(crate) const NOTHING: Counted = Counted {
     events: 0,
     ended: 0,
     time: Duration::ZERO,
@@ -38,7 +38,7 @@ struct Run {
 }
 
 /// The plan was checked for the machine's configuration.
-fn is_for(machine: &Machine, checked: &Checked) -> bool
+pub(crate) fn is_for(machine: &Machine, checked: &Checked) -> bool
     ensures { IsTrue result → checked.now.setup ≡ machine.now.placement.setup }
 {
     checked.config() == machine.config()
@@ -84,7 +84,7 @@ impl Run {
         config: &Config,
         setting: &Setting,
     ) -> Result<usize, AllocError> {
-        let checked = plan_of(alloc, config, setting)?;
+        let checked = plan_of(alloc, config, setting, Codes::Calls, 0)?;
         let first = self.tokens.len();
         let streams = checked.plan().streams().len();
         self.tokens.reserve(streams)?;

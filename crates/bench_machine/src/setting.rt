@@ -40,8 +40,28 @@ pub(crate) const CHECKED: Setting = Setting {
     length: 8,
 };
 
+/// As large as a driver is, with plans of as many streams as a plan may have.
+pub(crate) const DRIVEN: Setting = Setting {
+    servers: 1_024,
+    shards: 4_096,
+    streams: MOST_STREAMS as u32,
+    length: 64,
+};
+
 /// How many shards the streams touch, whatever their number is.
 const TOUCHED: u32 = 4;
+
+/// How many calls a stream makes from one signal to the next, where it has any.
+const EVERY: u32 = 8;
+
+/// What stands in the codes of a plan's streams.
+#[derive(Clone, Copy, PartialEq, Eq)]
+pub(crate) enum Codes {
+    /// Calls alone.
+    Calls,
+    /// Calls, with signals from each even stream to the odd one behind it.
+    Signals,
+}
 
 /// The servers and shards: each shard has one replica of load 1.
 pub(crate) fn config_of(alloc: Global, setting: &Setting) -> Result<Config, AllocError> {
@@ -103,12 +123,50 @@ fn holds_of(alloc: Global, shard: ShardId, server: ServerId) -> Result<Parcel, A
     Parcel::new(alloc, lists).map_err(|_| AllocError)
 }
 
+/// The shard and the server that a stream of this number has to itself, among all streams of all plans.
+fn cell_of(number: u32) -> (ShardId, ServerId) {
+    let shard = (number % TOUCHED) ^ ((number / 1_000) % TOUCHED);
+    (
+        ShardId::new(shard),
+        ServerId::new((number % 1_000) + TOUCHED),
+    )
+}
+
+/// How many signals go from an even stream of so many calls to the odd one behind it.
+const fn signals_between(length: u32) -> u32 {
+    length.div_ceil(EVERY)
+}
+
+/// The signal that stands before this call of a stream, if one does: from each even stream to the odd one behind it.
+fn signal_before(stream: u32, at: u32, length: u32) -> Option<Instr> {
+    if at % EVERY != 0 {
+        return None;
+    }
+    let pair = (stream / 2).saturating_mul(signals_between(length));
+    let signal = pair.saturating_add(at / EVERY);
+    Some(if stream % 2 == 0 {
+        Instr::Signal { signal }
+    } else {
+        Instr::Wait { signal }
+    })
+}
+
 /// A stream that adds a replica and drops it again, so many times.
-fn stream_of(alloc: Global, stream: u32, length: u32) -> Result<Stream, AllocError> {
-    let shard = ShardId::new(stream % TOUCHED);
-    let server = ServerId::new((stream % 1_000) + TOUCHED);
+fn stream_of(
+    alloc: Global,
+    codes: Codes,
+    first: u32,
+    stream: u32,
+    length: u32,
+) -> Result<Stream, AllocError> {
+    let (shard, server) = cell_of(first.saturating_add(stream));
     let mut code = Vec::with_capacity(alloc, length as usize)?;
     for at in 0..length {
+        if codes == Codes::Signals
+            && let Some(instr) = signal_before(stream, at, length)
+        {
+            code.push(instr)?;
+        }
         code.push(if at % 2 == 0 {
             Instr::Add {
                 shard,
@@ -127,20 +185,41 @@ fn stream_of(alloc: Global, stream: u32, length: u32) -> Result<Stream, AllocErr
     })
 }
 
-/// The plan of a setting, which passes its check.
+/// The parcels of a plan's signals, which carry nothing.
+fn signals_of(alloc: Global, codes: Codes, setting: &Setting) -> Result<Vec<Parcel>, AllocError> {
+    let mut signals = Vec::new(alloc);
+    let count = match codes {
+        Codes::Calls => 0,
+        Codes::Signals => (setting.streams / 2).saturating_mul(signals_between(setting.length)),
+    };
+    for _ in 0..count {
+        let lists = Lists {
+            cells: Vec::new(alloc),
+            crowns: Vec::new(alloc),
+            room: Vec::new(alloc),
+            spare: Vec::new(alloc),
+        };
+        signals.push(Parcel::new(alloc, lists).map_err(|_| AllocError)?)?;
+    }
+    Ok(signals)
+}
+
+/// The plan of a setting, which passes its check. Its streams have numbers from the first one on among all streams.
 pub(crate) fn plan_of(
     alloc: Global,
     config: &Config,
     setting: &Setting,
+    codes: Codes,
+    first: u32,
 ) -> Result<Checked, AllocError> {
     let mut streams = Vec::new(alloc);
     for stream in 0..setting.streams {
-        streams.push(stream_of(alloc, stream, setting.length)?)?;
+        streams.push(stream_of(alloc, codes, first, stream, setting.length)?)?;
     }
     let parts = Parts {
         budget: setting.streams.wrapping_mul(setting.length),
         streams,
-        signals: Vec::new(alloc),
+        signals: signals_of(alloc, codes, setting)?,
     };
     let plan = Plan::new(parts).map_err(|_| AllocError)?;
     if !plan.fits(config) {
