@@ -1,0 +1,4 @@
+pub mod Choices
+pub mod Commands
+pub mod Reading
+pub mod Slots

@@ -1,6 +1,7 @@
 //! Lines that are no commands.
 
 use crate::command_member::CommandMember;
+use crate::line_part::LinePart;
 use crate::writing::write_text;
 use json::Writer;
 use sm_plan_text::{Member, TextFault};
@@ -13,24 +14,18 @@ pub enum BadLine {
     NotJson,
     /// The line is longer than any may be.
     TooLong,
-    /// The member is missing.
-    Missing(CommandMember),
-    /// The member is not in its form. Of the whole line: it is no object, or has a member that its command does not know.
-    Shape(CommandMember),
-    /// The member names what is not in the document in force.
-    UnknownName(CommandMember),
-    /// The member is not a whole number within its limit.
-    Number(CommandMember),
-    /// The list has too many entries.
-    TooMany(CommandMember),
-    /// The entry of the moves at this place is no object, or has a member that moves have not.
-    Move(usize),
-    /// The move at this place lacks the member.
-    MissingInMove(usize, CommandMember),
-    /// The member of the move at this place is no text.
-    ShapeInMove(usize, CommandMember),
-    /// The member of the move at this place names what is not in the document in force.
-    UnknownInMove(usize, CommandMember),
+    /// The part is no object, has a member that is not known there, or is an entry that may not stand in its list.
+    Malformed(LinePart),
+    /// The part lacks the member.
+    Missing(LinePart, CommandMember),
+    /// The part's member is not in its form.
+    Shape(LinePart, CommandMember),
+    /// The part's member names what is not in the document.
+    UnknownName(LinePart, CommandMember),
+    /// The part's member is a list of too many entries, or a text that is too long.
+    TooMany(LinePart, CommandMember),
+    /// The part's member is not a whole number within its limit.
+    Number(LinePart, CommandMember),
     /// What stands in the member is no document, or no plan.
     Within(CommandMember, TextFault),
 }
@@ -66,11 +61,10 @@ impl BadLine {
     pub fn kind(self) -> &'static str {
         match self {
             BadLine::NotJson => "NotJson",
-            BadLine::Missing(_) | BadLine::Shape(_) => "Shape",
-            BadLine::Move(_) | BadLine::MissingInMove(..) | BadLine::ShapeInMove(..) => "Shape",
-            BadLine::UnknownName(_) | BadLine::UnknownInMove(..) => "UnknownName",
-            BadLine::TooMany(_) => "TooMany",
-            BadLine::Number(_) => "Number",
+            BadLine::Malformed(_) | BadLine::Missing(..) | BadLine::Shape(..) => "Shape",
+            BadLine::UnknownName(..) => "UnknownName",
+            BadLine::TooMany(..) => "TooMany",
+            BadLine::Number(..) => "Number",
             BadLine::Within(_, fault) => text_kind(fault),
             BadLine::TooLong => "TooLong",
         }
@@ -80,11 +74,10 @@ impl BadLine {
     pub fn number(self) -> u8 {
         match self {
             BadLine::NotJson => 2,
-            BadLine::Missing(_) | BadLine::Shape(_) => 3,
-            BadLine::Move(_) | BadLine::MissingInMove(..) | BadLine::ShapeInMove(..) => 3,
-            BadLine::UnknownName(_) | BadLine::UnknownInMove(..) => 4,
-            BadLine::TooMany(_) => 5,
-            BadLine::Number(_) => 6,
+            BadLine::Malformed(_) | BadLine::Missing(..) | BadLine::Shape(..) => 3,
+            BadLine::UnknownName(..) => 4,
+            BadLine::TooMany(..) => 5,
+            BadLine::Number(..) => 6,
             BadLine::Within(_, fault) => fault.number(),
             BadLine::TooLong => 7,
         }
@@ -94,15 +87,12 @@ impl BadLine {
     pub fn member(self) -> Option<&'static str> {
         match self {
             BadLine::NotJson | BadLine::TooLong => None,
-            BadLine::Missing(member)
-            | BadLine::Shape(member)
-            | BadLine::UnknownName(member)
-            | BadLine::TooMany(member)
-            | BadLine::Number(member)
-            | BadLine::MissingInMove(_, member)
-            | BadLine::ShapeInMove(_, member)
-            | BadLine::UnknownInMove(_, member) => Some(member.text()),
-            BadLine::Move(_) => Some(CommandMember::Moves.text()),
+            BadLine::Malformed(part) => Some(part.member().text()),
+            BadLine::Missing(_, member)
+            | BadLine::Shape(_, member)
+            | BadLine::UnknownName(_, member)
+            | BadLine::TooMany(_, member)
+            | BadLine::Number(_, member) => Some(member.text()),
             BadLine::Within(member, fault) => match inner_member(fault) {
                 Some(inner) => Some(inner),
                 None => Some(member.text()),
@@ -113,18 +103,14 @@ impl BadLine {
     /// Adds where the fault lies, as a path: a member that is missing lies in its object.
     pub fn push_path(self, out: &mut String) -> Result<(), AllocError> {
         match self {
-            BadLine::NotJson | BadLine::TooLong | BadLine::Missing(_) => write!(out, "$"),
-            BadLine::Shape(member)
-            | BadLine::UnknownName(member)
-            | BadLine::TooMany(member)
-            | BadLine::Number(member) => push_member(out, member),
-            BadLine::Move(at) | BadLine::MissingInMove(at, _) => write!(out, "$.moves[{at}]"),
-            BadLine::ShapeInMove(at, member) | BadLine::UnknownInMove(at, member) => {
-                let name = member.text();
-                write!(out, "$.moves[{at}].{name}")
-            }
+            BadLine::NotJson | BadLine::TooLong => write!(out, "$"),
+            BadLine::Malformed(part) | BadLine::Missing(part, _) => part.push_path(out),
+            BadLine::Shape(part, member)
+            | BadLine::UnknownName(part, member)
+            | BadLine::TooMany(part, member)
+            | BadLine::Number(part, member) => push_member(out, part, member),
             BadLine::Within(member, fault) => {
-                push_member(out, member)?;
+                push_member(out, LinePart::Line, member)?;
                 push_inner(out, inner_member(fault))
             }
         }
@@ -142,15 +128,11 @@ impl BadLine {
     }
 }
 
-/// Adds the path of a member of a command.
-fn push_member(out: &mut String, member: CommandMember) -> Result<(), AllocError> {
-    match member {
-        CommandMember::Command => write!(out, "$"),
-        _ => {
-            let name = member.text();
-            write!(out, "$.{name}")
-        }
-    }
+/// Adds the path of a member of a part.
+fn push_member(out: &mut String, part: LinePart, member: CommandMember) -> Result<(), AllocError> {
+    let name = member.text();
+    part.push_path(out)?;
+    write!(out, ".{name}")
 }
 
 /// Adds behind the path of a document or a plan that a member stands somewhere below.

@@ -9,6 +9,34 @@ pub enum Id<'a> {
     Number(u64),
 }
 
+/// What a server, or the map's owner, tells once it is fenced.
+#[derive(Clone, Copy)]
+pub enum ToldText<'t, 'a> {
+    /// The map's owner tells that it is fenced, and no more.
+    Map,
+    /// The server has these slots.
+    Slots(&'t [Tree<'a>]),
+    /// The server has lost its slots, and asks for them under this nonce.
+    Unknown { nonce: u64 },
+}
+
+/// What the state is asked of.
+#[derive(Clone, Copy)]
+pub enum StateOf<'a> {
+    Whole,
+    Shard(&'a str),
+    Plan(u32),
+}
+
+/// What a server has said to a present order in place of an answer.
+#[derive(Clone, Copy, Debug, PartialEq, Eq)]
+pub enum FailedAnswer {
+    Old,
+    Refused,
+    Foreign,
+    NotReady,
+}
+
 /// What a line asks for.
 #[derive(Clone, Copy)]
 pub enum LineCommand<'t, 'a> {
@@ -29,6 +57,45 @@ pub enum LineCommand<'t, 'a> {
         stream: u32,
         number: u64,
     },
+    /// To give leave to restart a server, for whom it names.
+    Approve {
+        server: &'a str,
+        by: &'a str,
+    },
+    /// To take the end of the restart that has this permit.
+    Restarted {
+        permit: u64,
+    },
+    /// To give a server that has lost its slots what is recorded of them.
+    Restore {
+        server: &'a str,
+        nonce: u64,
+    },
+    /// To open the next epoch.
+    NewEpoch,
+    /// To begin a reopening over a document. Servers that are lost are given as texts that are names.
+    Reopen {
+        document: &'t Tree<'a>,
+        lost: &'t [Tree<'a>],
+        journal: Option<u64>,
+        epoch: Option<u32>,
+    },
+    /// To take what a server tells, or the map's owner, which is no server.
+    Fenced {
+        server: Option<&'a str>,
+        base: u64,
+        told: ToldText<'t, 'a>,
+    },
+    /// To confirm a proposal, but for the shards whose cells are given.
+    Confirm {
+        base: u64,
+        cells: &'t [Tree<'a>],
+    },
+    /// To take the answer to a settle from a server, or from the map's owner, which is no server.
+    Settled {
+        server: Option<&'a str>,
+        base: u64,
+    },
     /// To tell whether a plan would begin now.
     Check {
         plan: &'t Tree<'a>,
@@ -47,4 +114,25 @@ pub enum LineCommand<'t, 'a> {
     Orders,
     /// To tell what the program is, and where its journal stands.
     Hello,
+    /// To tell all that is recorded, or what is recorded of one shard or plan.
+    State {
+        of: StateOf<'a>,
+    },
+    /// To tell what has come up since a place.
+    Since {
+        place: u64,
+    },
+    /// To compare the slots of a server, read at a place, with the record.
+    Audit {
+        server: &'a str,
+        place: u64,
+        slots: &'t [Tree<'a>],
+    },
+    /// To tell what to do about an order that has failed.
+    Failed {
+        plan: u32,
+        stream: u32,
+        number: u64,
+        answer: FailedAnswer,
+    },
 }

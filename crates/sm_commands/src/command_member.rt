@@ -1,6 +1,6 @@
 //! The members of commands.
 
-/// A member of a command, or the whole line, where that is no object or has a member that its command does not know.
+/// A member of a command, or of an entry of its lists; or the whole line.
 #[derive(Clone, Copy, Debug, PartialEq, Eq)]
 pub enum CommandMember {
     Command,
@@ -18,12 +18,34 @@ pub enum CommandMember {
     Moves,
     From,
     To,
+    By,
+    Permit,
+    Nonce,
+    Lost,
+    Why,
+    Base,
+    Slots,
+    Unknown,
+    Cells,
+    Place,
+    Answer,
+    Cell,
+    Party,
+    Handover,
+    Last,
+    Load,
+    Cut,
+    Position,
+    Reached,
+    State,
 }
 
 /// How the members are written, in their order.
-const TEXTS: [&str; 15] = [
+const TEXTS: [&str; 35] = [
     "command", "do", "id", "document", "journal", "epoch", "plan", "name", "stream", "number",
-    "server", "shard", "moves", "from", "to",
+    "server", "shard", "moves", "from", "to", "by", "permit", "nonce", "lost", "why", "base",
+    "slots", "unknown", "cells", "place", "answer", "cell", "party", "handover", "last", "load",
+    "cut", "position", "reached", "state",
 ];
 
 impl CommandMember {

@@ -1,23 +1,35 @@
 //! The commands of `smpland`, one JSON object a line: what a line asks for, and what is said of one that is no command or is refused.
 #![tactic(auto)]
 
+mod asking_lines;
 mod bad_line;
+mod changing_lines;
+mod choices;
 mod command;
 mod command_member;
+mod faults;
 mod field;
+mod form;
 mod line;
+mod line_part;
 mod moves;
 mod reader;
 mod refusals;
 mod refused_plans;
+mod reopening_lines;
+mod row;
+mod slots;
 mod writing;
 
 pub use bad_line::{BadLine, write_bad};
-pub use command::{Id, LineCommand};
+pub use choices::{CellChoice, ShardChoice, read_choices};
+pub use command::{FailedAnswer, Id, LineCommand, StateOf, ToldText};
 pub use command_member::CommandMember;
 pub use field::{Field, refuse, write_refusal};
 pub use line::{id_of, parse_line, read_command};
+pub use line_part::LinePart;
 pub use moves::read_moves_in;
 pub use refusals::{refuse_log, refuse_open, server_name, shard_name};
 pub use refused_plans::{refuse_begin, refuse_check};
+pub use slots::{CellKind, PartyText, SlotNeeds, SlotText, read_slots};
 pub use writing::{write_id, write_name, write_number, write_text};

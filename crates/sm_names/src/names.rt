@@ -1,5 +1,6 @@
 //! Names of two epochs.
-ghost use Rattle.std.specs.Prelude.{◌≡◌, IfOk, OnOk, OnErr, Some, None};
+ghost use Rattle.std.specs.Prelude.{◌≡◌, IfOk, OnOk, OnErr, Some, None, option_map, slice_get};
+ghost use Rattle.std.specs.Option.{option_copied};
 ghost use Rattle.sm_names.specs.Names.{no_names, value_of, with_name, turned};
 
 use indexmap::IndexMap;
@@ -42,6 +43,16 @@ impl<V: Copy> Names<V> {
         let present = self.present.get(name).copied();
         let before = self.before.get(name).copied();
         present.or(before)
+    }
+
+    /// Returns the name of the present epoch that came after so many others.
+    pub fn present_at(&self, index: usize) -> Option<&str>
+        ensures { option_copied result ≡ option_map (λ e. e.0) (slice_get self.now.present index) }
+    {
+        match self.present.get_index(index) {
+            Some((name, _)) => Some(name.as_str()),
+            None => None,
+        }
     }
 
     /// Lets a name of the present epoch that stands for nothing yet stand for a value. At want of memory nothing changes.

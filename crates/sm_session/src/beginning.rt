@@ -1,36 +1,19 @@
 //! The begin of a plan.
-ghost use Rattle.std.specs.Prelude.{◌≡◌, IfOk, IfSome, length, false, true};
-ghost use Rattle.sm_session.specs.Changes.{BeginsPlan};
+ghost use Rattle.std.specs.Prelude.{◌≡◌, IfOk, IfSome, None, length, false, true};
+ghost use Rattle.sm_names.specs.Names.{value_of};
 ghost use Rattle.sm_plan_code.specs.Plan.{IsKnownPlan};
+ghost use Rattle.sm_session.specs.Changes.{BeginsPlan};
 
-use crate::opened::Opened;
+use crate::planning::read_plan;
+use crate::standing::Standing;
 use json::Writer;
 use json_tree::Tree;
-use sm_commands::{BadLine, CommandMember, refuse_begin, refuse_check, write_bad};
+use sm_commands::{refuse, refuse_begin, refuse_check};
 use sm_machine::{ReadyPlan, make_ready};
+use sm_open_journal::{Opened, note_begun};
 use sm_plan_code::Plan;
-use sm_plan_text::{TextFault, read_plan_value};
 use sm_verifier::{Fault, check};
 use std::alloc::{AllocError, Global};
-
-/// Returns the plan that a value says over the names of a journal's servers and shards; where it says none, writes what is wrong with it.
-pub fn read_plan(
-    opened: &Opened,
-    alloc: Global,
-    writer: &mut Writer,
-    value: &Tree<'_>,
-) -> Result<Option<Plan>, AllocError>
-    ensures { IfOk result (λ found. IfSome found (IsKnownPlan (length opened.now.driver.machine.placement.setup.shards) (length opened.now.driver.machine.placement.setup.servers))) }
-{
-    match read_plan_value(alloc, opened.driver.machine().config(), value) {
-        Ok(plan) => Ok(Some(plan)),
-        Err(TextFault::NoMemory) => Err(AllocError),
-        Err(fault) => {
-            write_bad(writer, alloc, BadLine::Within(CommandMember::Plan, fault))?;
-            Ok(None)
-        }
-    }
-}
 
 /// Returns a plan that is ready to begin; where it does not pass the check, writes why.
 fn ready(
@@ -55,22 +38,42 @@ fn ready(
     }
 }
 
-/// Begins a plan that is ready, writes the reply, and tells whether it has begun.
+/// Gives a plan that has begun at a place its name, and writes the reply.
+fn name_plan(
+    opened: &mut Opened,
+    place: u64,
+    writer: &mut Writer,
+    number: u32,
+    name: &str,
+) -> Result<(), AllocError>
+    requires { value_of opened.old.plans name.now ≡ None }
+    ensures { opened.new.driver ≡ opened.old.driver }
+{
+    let Some(plan) = opened.begun_plan(number) else {
+        return Ok(());
+    };
+    opened.plans.insert(name, plan)?;
+    note_begun(&mut opened.history, &opened.driver, place, plan)?;
+    opened.write_begun(writer, plan)
+}
+
+/// Begins a plan that is ready at a place, writes the reply, and tells whether it has begun.
 fn start(
     opened: &mut Opened,
+    place: u64,
     alloc: Global,
     writer: &mut Writer,
     ready: ReadyPlan,
-    name: String,
+    name: &str,
 ) -> Result<bool, AllocError>
-    requires { ready.setup ≡ opened.old.driver.machine.placement.setup }
+    requires setup { ready.setup ≡ opened.old.driver.machine.placement.setup }
+    requires new { value_of opened.old.plans name.now ≡ None }
     ensures begun { IfOk result (λ begun. begun ≡ true → BeginsPlan opened.old.driver opened.new.driver) }
     ensures unchanged { IfOk result (λ begun. begun ≡ false → opened.new ≡ opened.old) }
 {
     match opened.driver.begin(ready) {
         Ok(number) => {
-            opened.names.insert(name, number)?;
-            opened.write_begun(writer, number, false)?;
+            name_plan(opened, place, writer, number, name)?;
             Ok(true)
         }
         Err((ready, fault)) => {
@@ -81,9 +84,11 @@ fn start(
     }
 }
 
-/// Begins the plan of a command, unless one has begun under its name, writes the reply, and tells whether it has begun now.
+/// Begins the plan of a command, unless one has begun under its name or a reopening is under way, writes the reply, and tells whether it
+/// has begun now.
 pub fn begin(
     opened: &mut Opened,
+    at: Standing,
     alloc: Global,
     writer: &mut Writer,
     value: &Tree<'_>,
@@ -92,16 +97,19 @@ pub fn begin(
     ensures begun { IfOk result (λ begun. begun ≡ true → BeginsPlan opened.old.driver opened.new.driver) }
     ensures unchanged { IfOk result (λ begun. begun ≡ false → opened.new ≡ opened.old) }
 {
-    if let Some(number) = opened.names.find(name) {
-        opened.write_begun(writer, number, true)?;
+    if let Some(plan) = opened.plans.get(name) {
+        opened.write_begun_again(writer, plan, !at.is_reopening)?;
+        return Ok(false);
+    }
+    if at.is_reopening {
+        refuse(writer, alloc, "Reopening", &[])?;
         return Ok(false);
     }
     let Some(plan) = read_plan(opened, alloc, writer, value)? else {
         return Ok(false);
     };
-    let name = String::from_str(alloc, name)?;
     match ready(opened, alloc, writer, plan)? {
-        Some(ready) => start(opened, alloc, writer, ready, name),
+        Some(ready) => start(opened, at.place, alloc, writer, ready, name),
         None => Ok(false),
     }
 }

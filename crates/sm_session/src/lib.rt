@@ -1,11 +1,17 @@
 //! The session of `smpland`: a driver under commands that are lines of JSON, each of which has one reply.
 #![tactic(auto)]
 
-mod asking;
+mod answering;
+mod approving;
 mod beginning;
-mod begun_names;
-mod messages;
-mod opened;
+mod changing;
+mod next_epoch;
+mod opening;
+mod planning;
+mod restarting;
+mod restoring;
 mod session;
+mod standing;
+mod telling;
 
 pub use session::{LineEffect, Session};

@@ -3,7 +3,7 @@
 use crate::keeper::Keeper;
 use crate::status::Status;
 use journal::Journal;
-use journal_session::{RecoverFault, ServeFault, recover, serve, serve_unkept};
+use journal_session::{RecoverFault, ResumeFault, ServeFault, resume, serve_unkept};
 use journal_store::{FileStore, OpenFailure};
 use std::io;
 
@@ -19,15 +19,17 @@ fn ending(rt: &HostRuntime, served: Result<(), ServeFault>) -> Status {
     }
 }
 
-/// Returns how the program ends when a journal was not recovered.
-fn unrecovered(fault: RecoverFault) -> Status {
-    match fault {
-        RecoverFault::NoMemory => Status::NoMemory,
+/// Returns how the program ends when a journal was not recovered, and tells why.
+fn unrecovered(rt: &HostRuntime, fault: RecoverFault) -> Status {
+    let status = match fault {
+        RecoverFault::NoMemory => return Status::NoMemory,
         RecoverFault::Failed => Status::Failed,
         RecoverFault::Foreign | RecoverFault::Damaged(_) | RecoverFault::Unfit(_) => {
             Status::Damaged
         }
-    }
+    };
+    let _ = eprintln!(rt; "error: {fault}");
+    status
 }
 
 /// Serves each line of standard input, which is the journal.
@@ -47,26 +49,19 @@ pub fn serve_input(rt: &HostRuntime) -> Status {
 fn serve_store(rt: &HostRuntime, store: FileStore) -> Status {
     let mut session = Keeper::new();
     let mut journal = Journal::new(store);
-    let status = match recover(rt.alloc(), &mut journal, &mut session) {
-        Ok(()) => {
-            let served = serve(
-                rt.alloc(),
-                &mut journal,
-                &mut session,
-                &mut rt.reader(),
-                &mut io::writer(rt),
-            );
-            ending(rt, served)
-        }
-        Err(fault) => {
-            if fault != RecoverFault::NoMemory {
-                let _ = eprintln!(rt; "error: {fault}");
-            }
-            unrecovered(fault)
-        }
-    };
+    let resumed = resume(
+        rt.alloc(),
+        &mut journal,
+        &mut session,
+        &mut rt.reader(),
+        &mut io::writer(rt),
+    );
     session.close();
-    status
+    match resumed {
+        Ok(()) => Status::Done,
+        Err(ResumeFault::Unserved(fault)) => ending(rt, Err(fault)),
+        Err(ResumeFault::Unrecovered(fault)) => unrecovered(rt, fault),
+    }
 }
 
 /// Serves each line of standard input, and keeps those that change something in a file.

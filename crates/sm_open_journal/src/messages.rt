@@ -6,6 +6,7 @@ ghost use Rattle.sm_driver.specs.Driver.{record_of};
 use json::Writer;
 use sm_commands::{server_name, shard_name, write_name, write_number, write_text};
 use sm_driver::{Driver, StreamOrder, StreamPublication};
+use sm_machine::Machine;
 use sm_placement::{Config, Lead, Placement};
 use sm_plan_code::MOST_STREAMS;
 use sm_reservation::StreamId;
@@ -18,7 +19,6 @@ pub struct Messages<'d> {
     pub driver: &'d Driver,
     /// The journal, in hexadecimal digits.
     pub journal: &'d str,
-    pub epoch: u32,
 }
 
 /// Returns the word for a call.
@@ -99,15 +99,16 @@ fn write_owner(writer: &mut Writer, placement: &Placement, shard: ShardId) -> Re
     }
 }
 
-/// Writes the server that the map is to name, or that it is to name none.
-fn write_listed(
+/// Writes, as a member, the server that the map names, or that it names none.
+pub fn write_listed(
     writer: &mut Writer,
     config: &Config,
+    name: &str,
     listed: Option<ServerId>,
 ) -> Result<(), AllocError> {
     match listed {
-        Some(server) => write_text(writer, "to", server_name(config, server)),
-        None => write_name(writer, "to", None),
+        Some(server) => write_text(writer, name, server_name(config, server)),
+        None => write_name(writer, name, None),
     }
 }
 
@@ -131,6 +132,11 @@ fn write_replicas(
     writer.end_array()
 }
 
+/// Returns whether a stream has begun, and does not stand where it stood.
+pub fn has_gone_on(machine: &Machine, id: StreamId, since: Option<u32>) -> bool {
+    machine.is_begun(id) && since != Some(machine.since(id))
+}
+
 impl Messages<'_> {
     /// Writes of which stream a message is, and its number.
     fn write_head(
@@ -140,8 +146,8 @@ impl Messages<'_> {
         number: u64,
     ) -> Result<(), AllocError> {
         write_text(writer, "journal", self.journal)?;
-        write_number(writer, "epoch", u64::from(self.epoch))?;
-        write_number(writer, "fence", 0)?;
+        write_number(writer, "epoch", u64::from(self.driver.epoch()))?;
+        write_number(writer, "fence", self.driver.fence())?;
         write_number(writer, "plan", u64::from(stream.plan))?;
         write_number(writer, "stream", u64::from(stream.stream))?;
         write_number(writer, "number", number)
@@ -186,7 +192,7 @@ impl Messages<'_> {
         write_name(writer, "server", None)?;
         write_text(writer, "call", "publish")?;
         write_text(writer, "shard", shard_name(config, publication.shard))?;
-        write_listed(writer, config, publication.entry.server)?;
+        write_listed(writer, config, "to", publication.entry.server)?;
         write_number(writer, "version", publication.entry.version)?;
         writer.end_object()
     }
@@ -202,7 +208,7 @@ impl Messages<'_> {
     }
 
     /// Writes the order or the publication that a stream stands before, if it stands before one.
-    fn write_of(&self, writer: &mut Writer, stream: StreamId) -> Result<(), AllocError> {
+    pub fn write_of(&self, writer: &mut Writer, stream: StreamId) -> Result<(), AllocError> {
         if let Some(order) = self.driver.order(stream) {
             return self.write_if_known(writer, &order);
         }
@@ -265,17 +271,11 @@ impl Messages<'_> {
                 plan,
                 stream: stream as u32,
             };
-            if self.has_gone_on(id, sinces.get(stream).copied()) {
+            if has_gone_on(self.driver.machine(), id, sinces.get(stream).copied()) {
                 self.write_of(writer, id)?;
             }
         }
         writer.end_array()
-    }
-
-    /// Tells whether a stream has begun, and does not stand where it stood.
-    fn has_gone_on(&self, id: StreamId, since: Option<u32>) -> bool {
-        let machine = self.driver.machine();
-        machine.is_begun(id) && since != Some(machine.since(id))
     }
 
     /// Writes, as a member, all messages.

@@ -1,7 +1,7 @@
 use Rattle.std.proofs.Common.{◌≡◌, ◌≤◌, ◌*◌}
 use Rattle.std.specs.Prelude.{take, sum_by, count_by}
 use Rattle.sm_plan_code.specs.Instr.{is_call}
-use Rattle.sm_session.proofs.opened.calls_of.Given as goal
+use Rattle.sm_open_journal.proofs.streams.calls_of.Given as goal
 
 abbrev pub invariant-loop-stream : goal.invariant-loop-stream
 invariant-loop-stream l = record {

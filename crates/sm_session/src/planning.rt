@@ -1,62 +1,40 @@
-//! Lines that ask, and change nothing.
-ghost use Rattle.std.specs.Prelude.{◌≡◌, IfOk, length};
+//! Plans that are not begun: whether one would begin now, and plans that are made.
+ghost use Rattle.std.specs.Prelude.{◌≡◌, IfOk, IfSome, length};
 ghost use Rattle.sm_plan_code.specs.Plan.{IsKnownPlan};
 
-use crate::beginning::read_plan;
-use crate::opened::{Opened, calls_of};
-use json::{Reader, Scratch, Token, Writer};
+use json::Writer;
 use json_tree::Tree;
 use sm_commands::{
-    BadLine, CommandMember, Field, read_moves_in, refuse_begin, refuse_check, server_name,
-    shard_name, write_bad, write_name, write_number, write_refusal, write_text,
+    BadLine, CommandMember, Field, LinePart, read_moves_in, refuse_begin, refuse_check,
+    server_name, shard_name, write_bad, write_number, write_refusal,
 };
 use sm_machine::Machine;
+use sm_open_journal::{Opened, calls_of, copy_text};
 use sm_placement::Config;
 use sm_plan_code::{MOST_PLANS, Plan, is_call};
-use sm_plan_text::write_plan;
+use sm_plan_text::{TextFault, read_plan_value, write_plan};
 use sm_planner::{NoPlan, drain, moves};
 use sm_protocol::BeginFault;
-use sm_server::ShardId;
 use sm_verifier::{Checked, Fault, admit, check};
 use std::alloc::{AllocError, Global};
 
-/// Writes, as a member of a reply, the published map.
-pub fn write_map(opened: &Opened, writer: &mut Writer) -> Result<(), AllocError> {
-    let machine = opened.driver.machine();
-    let placement = machine.placement();
-    let config = placement.config();
-    let base = opened.driver.base();
-    writer.key("map")?;
-    writer.begin_array()?;
-    for number in 0..config.shard_count() {
-        let shard = ShardId::new(number);
-        let entry = placement.entry(shard);
-        writer.begin_object()?;
-        write_text(writer, "shard", shard_name(config, shard))?;
-        match entry.server {
-            Some(server) => write_text(writer, "to", server_name(config, server))?,
-            None => write_name(writer, "to", None)?,
-        }
-        write_number(writer, "version", base.saturating_add(entry.version))?;
-        writer.end_object()?;
-    }
-    writer.end_array()
-}
-
-/// Writes the tokens of a text of JSON.
-fn copy_text(alloc: Global, writer: &mut Writer, text: &[u8]) -> Result<(), AllocError> {
-    let mut scratch = Scratch::new(alloc);
-    let Ok(text) = str::from_utf8(text) else {
-        return Ok(());
-    };
-    let mut reader = Reader::new(text, &mut scratch)?;
-    for _ in 0..text.len() {
-        match reader.next() {
-            Some(Token::Bad) | None => break,
-            Some(token) => writer.token(token)?,
+/// Returns the plan that a value says over the names of a journal's servers and shards; where it says none, writes what is wrong with it.
+pub fn read_plan(
+    opened: &Opened,
+    alloc: Global,
+    writer: &mut Writer,
+    value: &Tree<'_>,
+) -> Result<Option<Plan>, AllocError>
+    ensures { IfOk result (λ found. IfSome found (IsKnownPlan (length opened.now.driver.machine.placement.setup.shards) (length opened.now.driver.machine.placement.setup.servers))) }
+{
+    match read_plan_value(alloc, opened.driver.machine().config(), value) {
+        Ok(plan) => Ok(Some(plan)),
+        Err(TextFault::NoMemory) => Err(AllocError),
+        Err(fault) => {
+            write_bad(writer, alloc, BadLine::Within(CommandMember::Plan, fault))?;
+            Ok(None)
         }
     }
-    Ok(())
 }
 
 /// Writes, as a member of a reply, a plan.
@@ -158,7 +136,11 @@ pub fn write_drain(
             let answer = drain(alloc, machine, server);
             write_answer(alloc, writer, machine.config(), answer)
         }
-        None => write_bad(writer, alloc, BadLine::UnknownName(CommandMember::Server)),
+        None => write_bad(
+            writer,
+            alloc,
+            BadLine::UnknownName(LinePart::Line, CommandMember::Server),
+        ),
     }
 }
 

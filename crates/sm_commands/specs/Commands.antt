@@ -1,0 +1,63 @@
+-- What is known of a command that was read over the names of a configuration, or over any names if there is none.
+-- `IsKnownAnywhere` is a step of the code's own way, which private functions' contracts cite: whoever reads the public ones need not
+-- read it.
+use Rattle.std.specs.Prelude.{◌≢◌, ◌≤◌, ℕ, List, Option, Some, None, IsSome, IfSome, length}
+use Rattle.std.specs.Borrow.{Bor}
+use Rattle.sm_placement.specs.Setup.{Setup, server_named, shard_named}
+use Rattle.sm_placement.specs.declared.limits.TheConstants.{MOST_SERVERS}
+use Rattle.sm_plan_code.specs.declared.limits.TheConstants.{MOST_MOVES, MOST_RIGHTS}
+use Rattle.sm_commands.specs.declared.form.TheConstants.{MOST_EXACT}
+use Rattle.sm_commands.specs.declared.command.StateOf.{StateOf}
+use Rattle.sm_commands.specs.declared.command.StateOf.TheVariants.{Whole, Shard, Plan}
+use Rattle.sm_commands.specs.declared.command.ToldText.{ToldText}
+use Rattle.sm_commands.specs.declared.command.ToldText.TheVariants as told
+use Rattle.sm_commands.specs.declared.command.LineCommand.{LineCommand}
+use Rattle.sm_commands.specs.declared.command.LineCommand.TheVariants as line
+
+-- the name is that of a server
+abbrev pub IsServerOf : Option (Bor Setup) → List ℕ → Type 0
+IsServerOf (Some config) name = IsSome (server_named config.now name)
+IsServerOf None _ = Unit {0}
+
+-- the name is that of a shard
+abbrev pub IsShardOf : Option (Bor Setup) → List ℕ → Type 0
+IsShardOf (Some config) name = IsSome (shard_named config.now name)
+IsShardOf None _ = Unit {0}
+
+-- what the state is asked of has a name that is known
+abbrev pub IsKnownState : Option (Bor Setup) → StateOf → Type 0
+IsKnownState config (Shard name) = IsShardOf config name.now
+IsKnownState _ Whole = Unit {0}
+IsKnownState _ (Plan _) = Unit {0}
+
+-- the map's owner tells no slots and no nonce, and a server one of them
+abbrev pub IsToldBy : Option (Bor (List ℕ)) → ToldText → Type 0
+IsToldBy None told.Map = Unit {0}
+IsToldBy (Some _) (told.Slots slots) = length slots.now ≤ MOST_RIGHTS
+IsToldBy (Some _) (told.Unknown nonce) = nonce ≢ 0
+IsToldBy _ _ = ⊥
+
+-- names are known, lists and numbers are below their limits, and random bits are not 0
+abbrev pub IsKnownCommand : Option (Bor Setup) → LineCommand → Type 0
+IsKnownCommand _ (line.Open _ journal _) = journal ≢ 0
+IsKnownCommand _ (line.Answered _ _ number) = number ≤ MOST_EXACT
+IsKnownCommand config (line.Approve server _) = IsServerOf config server.now
+IsKnownCommand _ (line.Restarted permit) = permit ≤ MOST_EXACT
+IsKnownCommand config (line.Restore server nonce) = IsServerOf config server.now × (nonce ≢ 0)
+IsKnownCommand _ (line.Reopen _ lost journal epoch) =
+    (length lost.now ≤ MOST_SERVERS) × IfSome journal (λ bits. bits ≢ 0) × IfSome epoch (λ number. number ≢ 0)
+IsKnownCommand _ (line.Fenced server base told) = (base ≤ MOST_EXACT) × IsToldBy server told
+IsKnownCommand _ (line.Confirm base cells) = (base ≤ MOST_EXACT) × (length cells.now ≤ MOST_RIGHTS)
+IsKnownCommand _ (line.Settled _ base) = base ≤ MOST_EXACT
+IsKnownCommand _ (line.Moves moves) = length moves.now ≤ MOST_MOVES
+IsKnownCommand config (line.Drain server) = IsServerOf config server.now
+IsKnownCommand config (line.State of) = IsKnownState config of
+IsKnownCommand _ (line.Since place) = place ≤ MOST_EXACT
+IsKnownCommand config (line.Audit server place slots) =
+    IsServerOf config server.now × (place ≤ MOST_EXACT) × (length slots.now ≤ MOST_RIGHTS)
+IsKnownCommand _ (line.Failed _ _ number _) = number ≤ MOST_EXACT
+IsKnownCommand _ _ = Unit {0}
+
+-- all that is known of the command has nothing to do with names
+abbrev pub IsKnownAnywhere : LineCommand → Type 0
+IsKnownAnywhere command = (config : Option (Bor Setup)) → IsKnownCommand config command

@@ -1,0 +1,166 @@
+//! Lines that ask, and change nothing.
+ghost use Rattle.std.specs.Prelude.{◌≡◌, IfOk};
+ghost use Rattle.sm_commands.specs.Commands.{IsKnownAnywhere, IsKnownCommand};
+
+use crate::bad_line::BadLine;
+use crate::command::{FailedAnswer, LineCommand, StateOf};
+use crate::command_member::CommandMember;
+use crate::form::MOST_EXACT;
+use crate::reader::Reader;
+use crate::row::Row;
+use json_tree::Tree;
+use sm_placement::Config;
+use sm_plan_code::MOST_MOVES;
+use std::alloc::{AllocError, Global};
+
+/// Reads a line that has no members of its own, and asks for this.
+pub fn read_plain<'t, 'a>(
+    line: &'t Tree<'a>,
+    command: LineCommand<'t, 'a>,
+) -> Result<LineCommand<'t, 'a>, BadLine>
+    ensures { IfOk result (λ read. read ≡ command.entry) }
+{
+    Reader::of_line(line, &[]).finish(command)
+}
+
+/// Reads the question whether a plan would begin.
+pub fn read_check<'t, 'a>(line: &'t Tree<'a>) -> Result<LineCommand<'t, 'a>, BadLine>
+    ensures { IfOk result IsKnownAnywhere }
+{
+    let mut reader = Reader::of_line(line, &[CommandMember::Plan]);
+    let plan = reader.object(Row::One(CommandMember::Plan));
+    match plan {
+        Some(plan) => reader.finish(LineCommand::Check { plan }),
+        None => Err(reader.fault()),
+    }
+}
+
+/// Reads the question for a plan of moves.
+pub fn read_moves<'t, 'a>(line: &'t Tree<'a>) -> Result<LineCommand<'t, 'a>, BadLine>
+    ensures { IfOk result IsKnownAnywhere }
+{
+    let mut reader = Reader::of_line(line, &[CommandMember::Moves]);
+    let moves = reader.list(Row::One(CommandMember::Moves), MOST_MOVES);
+    match moves {
+        Some(moves) => reader.finish(LineCommand::Moves { moves }),
+        None => Err(reader.fault()),
+    }
+}
+
+/// Reads the question for a plan that empties a server.
+pub fn read_drain<'t, 'a>(
+    line: &'t Tree<'a>,
+    config: Option<&Config>,
+) -> Result<LineCommand<'t, 'a>, BadLine>
+    ensures { IfOk result (IsKnownCommand config.entry) }
+{
+    let mut reader = Reader::of_line(line, &[CommandMember::Server]);
+    let server = reader.server_name(Row::One(CommandMember::Server), config);
+    match server {
+        Some(server) => reader.finish(LineCommand::Drain { server }),
+        None => Err(reader.fault()),
+    }
+}
+
+/// Reads the question for the state: of a shard rather than a plan, if both are named.
+pub fn read_state<'t, 'a>(
+    line: &'t Tree<'a>,
+    config: Option<&Config>,
+) -> Result<LineCommand<'t, 'a>, BadLine>
+    ensures { IfOk result (IsKnownCommand config.entry) }
+{
+    let mut reader = Reader::of_line(line, &[CommandMember::Shard, CommandMember::Plan]);
+    let shard = reader.shard_name(Row::Maybe(CommandMember::Shard), config);
+    let plan = reader.small(Row::Maybe(CommandMember::Plan));
+    let of = match (shard, plan) {
+        (Some(shard), _) => StateOf::Shard(shard),
+        (None, Some(plan)) => StateOf::Plan(plan),
+        (None, None) => StateOf::Whole,
+    };
+    reader.finish(LineCommand::State { of })
+}
+
+/// Reads the question for what has come up since a place.
+pub fn read_since<'t, 'a>(line: &'t Tree<'a>) -> Result<LineCommand<'t, 'a>, BadLine>
+    ensures { IfOk result IsKnownAnywhere }
+{
+    let mut reader = Reader::of_line(line, &[CommandMember::Place]);
+    let place = reader.number(Row::One(CommandMember::Place), MOST_EXACT);
+    match place {
+        Some(place) => reader.finish(LineCommand::Since { place }),
+        None => Err(reader.fault()),
+    }
+}
+
+/// Reads the slots of a server that are to be compared with the record.
+pub fn read_audit<'t, 'a>(
+    alloc: Global,
+    line: &'t Tree<'a>,
+    config: Option<&Config>,
+) -> Result<Result<LineCommand<'t, 'a>, BadLine>, AllocError>
+    ensures { IfOk result (λ read. IfOk read (IsKnownCommand config.entry)) }
+{
+    let names = &[
+        CommandMember::Server,
+        CommandMember::Place,
+        CommandMember::Slots,
+    ];
+    let mut reader = Reader::of_line(line, names);
+    let server = reader.server_name(Row::One(CommandMember::Server), config);
+    let place = reader.number(Row::One(CommandMember::Place), MOST_EXACT);
+    let slots = reader.keyed(alloc, Row::One(CommandMember::Slots), CommandMember::Shard)?;
+    match (server, place, slots) {
+        (Some(server), Some(place), Some(slots)) => Ok(reader.finish(LineCommand::Audit {
+            server,
+            place,
+            slots,
+        })),
+        _ => Ok(Err(reader.fault())),
+    }
+}
+
+/// Returns the answer that a word names.
+fn failed_answer(word: &str) -> Option<FailedAnswer> {
+    match word {
+        "old" => Some(FailedAnswer::Old),
+        "refused" => Some(FailedAnswer::Refused),
+        "foreign" => Some(FailedAnswer::Foreign),
+        "not_ready" => Some(FailedAnswer::NotReady),
+        _ => None,
+    }
+}
+
+/// Returns the answer that a line has to name.
+fn answer_in(reader: &mut Reader<'_, '_>) -> Option<FailedAnswer> {
+    let row = Row::One(CommandMember::Answer);
+    let value = reader.value(row)?;
+    reader.shaped(row, value.as_str().and_then(failed_answer))
+}
+
+/// Reads the question what to do about an order that has failed.
+pub fn read_failed<'t, 'a>(line: &'t Tree<'a>) -> Result<LineCommand<'t, 'a>, BadLine>
+    ensures { IfOk result IsKnownAnywhere }
+{
+    let names = &[
+        CommandMember::Plan,
+        CommandMember::Stream,
+        CommandMember::Number,
+        CommandMember::Answer,
+    ];
+    let mut reader = Reader::of_line(line, names);
+    let plan = reader.small(Row::One(CommandMember::Plan));
+    let stream = reader.small(Row::One(CommandMember::Stream));
+    let number = reader.number(Row::One(CommandMember::Number), MOST_EXACT);
+    let answer = answer_in(&mut reader);
+    match (plan, stream, number, answer) {
+        (Some(plan), Some(stream), Some(number), Some(answer)) => reader.finish(
+            LineCommand::Failed {
+                plan,
+                stream,
+                number,
+                answer,
+            },
+        ),
+        _ => Err(reader.fault()),
+    }
+}

@@ -1,0 +1,121 @@
+//! The cells that a confirmation chooses, over the names of a configuration.
+ghost use Rattle.std.specs.Prelude.{All, IfOk};
+ghost use Rattle.sm_commands.specs.Choices.{HasKnownServer, IsKnownChoice};
+
+use crate::bad_line::BadLine;
+use crate::command_member::CommandMember;
+use crate::faults::Faults;
+use crate::line_part::LinePart;
+use crate::reader::Reader;
+use crate::row::Row;
+use json_tree::Tree;
+use sm_placement::Config;
+use sm_server::{Role, ServerId, ShardId};
+use std::alloc::{AllocError, Global};
+
+/// The replica that a server is to have.
+#[derive(Clone, Copy, Debug, PartialEq, Eq)]
+pub struct CellChoice {
+    pub server: ServerId,
+    pub role: Role,
+}
+
+/// All replicas that there are to be of a shard.
+#[derive(Debug, Drop)]
+pub struct ShardChoice {
+    pub shard: ShardId,
+    pub cells: Vec<CellChoice>,
+}
+
+/// Returns the role that a word names.
+fn role_named(word: &str) -> Option<Role> {
+    match word {
+        "primary" => Some(Role::Primary),
+        "secondary" => Some(Role::Secondary),
+        _ => None,
+    }
+}
+
+/// Returns the role that a cell has to tell.
+fn role_in(reader: &mut Reader<'_, '_>) -> Option<Role> {
+    let row = Row::One(CommandMember::State);
+    let value = reader.value(row)?;
+    reader.shaped(row, value.as_str().and_then(role_named))
+}
+
+/// Returns the replica that an entry is.
+fn read_cell(config: &Config, entry: &Tree<'_>, part: LinePart) -> Result<CellChoice, BadLine>
+    ensures { IfOk result (HasKnownServer config.now) }
+{
+    let names = &[CommandMember::Server, CommandMember::State];
+    let mut reader = Reader::new(entry, part, names);
+    let server = reader.server(Row::One(CommandMember::Server), config);
+    let role = role_in(&mut reader);
+    match (server, role) {
+        (Some(server), Some(role)) => reader.finish(CellChoice { server, role }),
+        _ => Err(reader.fault()),
+    }
+}
+
+/// Returns the replicas that the entries of a shard's list are, and notes what is wrong with them.
+fn read_cells(
+    alloc: Global,
+    config: &Config,
+    entries: &[Tree<'_>],
+    part: LinePart,
+    faults: &mut Faults,
+) -> Result<Vec<CellChoice>, AllocError>
+    ensures { IfOk result (λ cells. All (HasKnownServer config.now) cells.items) }
+{
+    let mut cells = Vec::with_capacity(alloc, entries.len())?;
+    for at in 0..entries.len() {
+        match read_cell(config, &entries[at], part.entry(CommandMember::Cells, at)) {
+            Ok(found) => cells.push(found)?,
+            Err(fault) => faults.note(fault),
+        }
+    }
+    Ok(cells)
+}
+
+/// Returns the choice that an entry is.
+fn read_choice(
+    alloc: Global,
+    config: &Config,
+    entry: &Tree<'_>,
+    part: LinePart,
+) -> Result<Result<ShardChoice, BadLine>, AllocError>
+    ensures { IfOk result (λ read. IfOk read (IsKnownChoice config.now)) }
+{
+    let names = &[CommandMember::Shard, CommandMember::Cells];
+    let mut reader = Reader::new(entry, part, names);
+    let shard = reader.shard(Row::One(CommandMember::Shard), config);
+    let _listed = reader.keyed(alloc, Row::One(CommandMember::Cells), CommandMember::Server)?;
+    let cells = match reader.find(CommandMember::Cells).and_then(Tree::as_array) {
+        Some(entries) => read_cells(alloc, config, entries, part, &mut reader.faults)?,
+        None => Vec::new(alloc),
+    };
+    match shard {
+        Some(shard) => Ok(reader.finish(ShardChoice { shard, cells })),
+        None => Ok(Err(reader.fault())),
+    }
+}
+
+/// Returns the choices of a list, or what is wrong with it.
+pub fn read_choices(
+    alloc: Global,
+    config: &Config,
+    entries: &[Tree<'_>],
+) -> Result<Result<Vec<ShardChoice>, BadLine>, AllocError>
+    ensures { IfOk result (λ read. IfOk read (λ choices. All (IsKnownChoice config.now) choices.items)) }
+{
+    let mut faults = Faults::new();
+    let mut choices = Vec::with_capacity(alloc, entries.len())?;
+    for at in 0..entries.len() {
+        let part = LinePart::Entry(CommandMember::Cells, at);
+        match read_choice(alloc, config, &entries[at], part)? {
+            Ok(found) => choices.push(found)?,
+            Err(fault) => faults.note(fault),
+        }
+    }
+    Ok(faults.finish(choices))
+}

@@ -1,0 +1,67 @@
+//! The forms of values in lines.
+ghost use Rattle.std.specs.Prelude.{◌≢◌, IfSome};
+
+use crate::command::Id;
+use json_tree::Tree;
+
+/// The greatest number in a line, so that a float of 64 bits holds each.
+pub const MOST_EXACT: u64 = 9_007_199_254_740_991;
+
+/// How many bytes a label has at most.
+const MOST_LABEL: usize = 64;
+
+/// The byte may stand in a label.
+fn is_label_byte(byte: u8) -> bool {
+    matches!(byte, b'A'..=b'Z' | b'a'..=b'z' | b'0'..=b'9' | b'.' | b'_' | b'-')
+}
+
+/// The text is a label: 1 to 64 letters, digits, dots, underscores and dashes.
+pub fn is_label(text: &str) -> bool {
+    let bytes = text.as_bytes();
+    !bytes.is_empty() && bytes.len() <= MOST_LABEL && bytes.iter().all(|&byte| is_label_byte(byte))
+}
+
+/// Returns what a value tells a line by, if it is a label or a whole number.
+pub fn id_in<'a>(value: &Tree<'a>) -> Option<Id<'a>> {
+    match value.as_str() {
+        Some(text) if is_label(text) => Some(Id::Text(text)),
+        Some(_) => None,
+        None => match value.as_u64() {
+            Some(number) if number <= MOST_EXACT => Some(Id::Number(number)),
+            _ => None,
+        },
+    }
+}
+
+/// Returns the value of a hexadecimal digit.
+fn digit(byte: u8) -> Option<u64> {
+    match byte {
+        b'0'..=b'9' => Some(u64::from(byte - b'0')),
+        b'a'..=b'f' => Some(u64::from(byte - b'a') + 10),
+        _ => None,
+    }
+}
+
+/// Returns the number that 1 to 16 hexadecimal digits write.
+fn hexadecimal(text: &str) -> Option<u64> {
+    let bytes = text.as_bytes();
+    if bytes.is_empty() || bytes.len() > 16 {
+        return None;
+    }
+    let mut number: u64 = 0;
+    for byte in bytes {
+        let digit = digit(*byte)?;
+        number = (number << 4) | digit;
+    }
+    Some(number)
+}
+
+/// Returns the number, not 0, that 1 to 16 hexadecimal digits write.
+pub fn random_bits(text: &str) -> Option<u64>
+    ensures { IfSome result (λ bits. bits ≢ 0) }
+{
+    match hexadecimal(text) {
+        Some(0) | None => None,
+        found => found,
+    }
+}

@@ -1,0 +1,131 @@
+//! What happened at which place. A place counts the commands that changed something.
+
+use indexmap::IndexMap;
+use sm_reservation::StreamId;
+use sm_server::{ServerId, ShardId};
+use std::alloc::{AllocError, Global};
+
+/// What a server has of a shard.
+#[derive(Clone, Copy, Debug, PartialEq, Eq, Hash)]
+struct CellAt {
+    shard: ShardId,
+    server: ServerId,
+}
+
+/// A plan: where the present order of each of its streams came up, and where the plan has ended.
+#[derive(Drop)]
+struct PlanPlaces {
+    ordered: Vec<u64>,
+    ended: Option<u64>,
+}
+
+/// Where present orders came up, where entries of the map and cells changed, and where plans of the epoch ended.
+#[derive(Drop)]
+pub struct History {
+    alloc: Global,
+    /// Where the map and all cells were recorded anew: the opening of the document in force.
+    mapped: u64,
+    /// Where each entry of the map changed last, by the shards' numbers.
+    published: Vec<u64>,
+    /// Where cells were recorded last that have changed since.
+    recorded: IndexMap<CellAt, u64>,
+    plans: Vec<PlanPlaces>,
+}
+
+impl History {
+    /// Returns the history of a journal that is opened over so many shards at a place.
+    pub fn new(alloc: Global, shards: u32, place: u64) -> Result<Self, AllocError> {
+        let mut published = Vec::new(alloc);
+        for _ in 0..shards {
+            published.push(place)?;
+        }
+        Ok(History {
+            alloc,
+            mapped: place,
+            published,
+            recorded: IndexMap::new(alloc),
+            plans: Vec::new(alloc),
+        })
+    }
+
+    /// Turns to the next epoch, which has no plans yet.
+    pub fn turn(&mut self) {
+        self.plans.clear();
+    }
+
+    /// Notes that the next plan has begun at a place, with so many streams.
+    pub fn note_begun(&mut self, place: u64, streams: u64) -> Result<(), AllocError> {
+        let mut ordered = Vec::new(self.alloc);
+        for _ in 0..streams {
+            ordered.push(place)?;
+        }
+        self.plans.push(PlanPlaces {
+            ordered,
+            ended: None,
+        })?;
+        Ok(())
+    }
+
+    /// Notes that a stream has come to where it stands at a place.
+    pub fn note_moved(&mut self, place: u64, id: StreamId) {
+        if let Some(plan) = self.plans.get_mut(id.plan as usize) {
+            if let Some(ordered) = plan.ordered.get_mut(id.stream as usize) {
+                *ordered = place;
+            }
+        }
+    }
+
+    /// Notes that a plan has ended at a place.
+    pub fn note_ended(&mut self, place: u64, number: u32) {
+        if let Some(plan) = self.plans.get_mut(number as usize) {
+            plan.ended = Some(place);
+        }
+    }
+
+    /// Notes that a shard's entry of the map has changed at a place.
+    pub fn note_published(&mut self, place: u64, shard: ShardId) {
+        if let Some(published) = self.published.get_mut(shard.number() as usize) {
+            *published = place;
+        }
+    }
+
+    /// Notes that what a server has of a shard has changed at a place.
+    pub fn note_recorded(
+        &mut self,
+        place: u64,
+        shard: ShardId,
+        server: ServerId,
+    ) -> Result<(), AllocError> {
+        let _ = self.recorded.insert(CellAt { shard, server }, place)?;
+        Ok(())
+    }
+
+    /// Returns where the present order of a stream came up, 0 if nothing is known of it.
+    pub fn ordered(&self, id: StreamId) -> u64 {
+        match self.plans.get(id.plan as usize) {
+            Some(plan) => plan.ordered.get(id.stream as usize).copied().unwrap_or(0),
+            None => 0,
+        }
+    }
+
+    /// Returns where a plan has ended, if it has.
+    pub fn ended(&self, number: u32) -> Option<u64> {
+        self.plans.get(number as usize)?.ended
+    }
+
+    /// Returns where a shard's entry of the map changed last, 0 if nothing is known of it.
+    pub fn published(&self, shard: ShardId) -> u64 {
+        self.published
+            .get(shard.number() as usize)
+            .copied()
+            .unwrap_or(0)
+    }
+
+    /// Returns where it was recorded last what a server has of a shard.
+    pub fn recorded(&self, shard: ShardId, server: ServerId) -> u64 {
+        match self.recorded.get(&CellAt { shard, server }) {
+            Some(place) => *place,
+            None => self.mapped,
+        }
+    }
+}

@@ -1,0 +1,35 @@
+//! A journal that is open: its driver, with what a session keeps beside it, and the lines that ask what is recorded.
+#![tactic(auto)]
+
+mod audit;
+mod begun_plan;
+mod cells;
+mod copying;
+mod failed;
+mod given_permits;
+mod history;
+mod messages;
+mod notices;
+mod noting;
+mod opened;
+mod published;
+mod restored;
+mod since;
+mod state;
+mod streams;
+
+pub use audit::{write_audit, write_audited};
+pub use begun_plan::BegunPlan;
+pub use copying::copy_text;
+pub use failed::write_failed;
+pub use given_permits::{GivenAt, GivenPermit, GivenPermits};
+pub use history::History;
+pub use messages::Messages;
+pub use notices::write_notices;
+pub use noting::{note_answered, note_begun};
+pub use opened::Opened;
+pub use published::write_map;
+pub use restored::ToldRestore;
+pub use since::write_since;
+pub use state::{write_plan_of, write_recorded, write_shard_of};
+pub use streams::calls_of;

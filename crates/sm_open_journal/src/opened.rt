@@ -1,0 +1,288 @@
+//! A journal that is open.
+ghost use Rattle.std.specs.Prelude.{◌≡◌, IfOk};
+
+use crate::begun_plan::BegunPlan;
+use crate::given_permits::{GivenAt, GivenPermits};
+use crate::history::History;
+use crate::messages::Messages;
+use crate::restored::{ToldRestore, told_last, told_restores};
+use crate::streams::calls_of;
+use json::Writer;
+use sm_commands::{server_name, write_number, write_text};
+use sm_driver::Driver;
+use sm_names::Names;
+use sm_server::ServerId;
+use std::alloc::{AllocError, Global};
+
+/// A journal that is open: its driver, and what was given names.
+pub struct Opened {
+    pub driver: Driver,
+    /// The journal, in hexadecimal digits.
+    pub journal: String,
+    /// How many places the log has.
+    pub log_room: u32,
+    /// The plans that have begun, each under its name.
+    pub plans: Names<BegunPlan>,
+    /// The approvals of restarts, each under its name.
+    pub approvals: Names<GivenAt>,
+    pub permits: GivenPermits,
+    pub history: History,
+    /// What servers were told in earlier epochs, if that was the last that they were told then.
+    pub told: Vec<ToldRestore>,
+}
+
+/// What is kept of a journal that is opened anew.
+#[derive(Drop)]
+struct Kept {
+    plans: Names<BegunPlan>,
+    approvals: Names<GivenAt>,
+    permits: GivenPermits,
+    told: Vec<ToldRestore>,
+}
+
+/// Writes, as members of a reply, that no orders came up and no plan has ended.
+fn write_nothing_new(writer: &mut Writer) -> Result<(), AllocError> {
+    writer.key("orders")?;
+    writer.begin_array()?;
+    writer.end_array()?;
+    writer.key("ended")?;
+    writer.begin_array()?;
+    writer.end_array()
+}
+
+impl Opened {
+    /// Returns a journal that opens with a driver at a place: nothing was given a name yet.
+    pub fn new(
+        alloc: Global,
+        driver: Driver,
+        journal: String,
+        log_room: u32,
+        place: u64,
+    ) -> Result<Opened, AllocError>
+        ensures { IfOk result (λ opened. opened.driver ≡ driver) }
+    {
+        let kept = Kept {
+            plans: Names::new(alloc),
+            approvals: Names::new(alloc),
+            permits: GivenPermits::new(alloc, driver.epoch()),
+            told: Vec::new(alloc),
+        };
+        Opened::with_kept(alloc, driver, journal, log_room, kept, place)
+    }
+
+    /// Returns a journal that is opened anew with a driver at a place. What was given a name in the epoch before is still known.
+    pub fn reopened(
+        alloc: Global,
+        before: Option<Opened>,
+        driver: Driver,
+        journal: String,
+        log_room: u32,
+        place: u64,
+    ) -> Result<Opened, AllocError>
+        ensures { IfOk result (λ opened. opened.driver ≡ driver) }
+    {
+        let Some(before) = before else {
+            return Opened::new(alloc, driver, journal, log_room, place);
+        };
+        let Ok(mut kept) = before.into_kept(alloc) else {
+            let _ = driver.give_up();
+            return Err(AllocError);
+        };
+        kept.plans.turn();
+        kept.approvals.turn();
+        kept.permits.turn(driver.epoch());
+        Opened::with_kept(alloc, driver, journal, log_room, kept, place)
+    }
+
+    /// Returns a journal that opens with a driver at a place, with what is kept of it.
+    fn with_kept(
+        alloc: Global,
+        driver: Driver,
+        journal: String,
+        log_room: u32,
+        kept: Kept,
+        place: u64,
+    ) -> Result<Opened, AllocError>
+        ensures { IfOk result (λ opened. opened.driver ≡ driver) }
+    {
+        let shards = driver.machine().config().shard_count();
+        let Ok(history) = History::new(alloc, shards, place) else {
+            let _ = driver.give_up();
+            return Err(AllocError);
+        };
+        let Kept {
+            plans,
+            approvals,
+            permits,
+            told,
+        } = kept;
+        Ok(Opened {
+            driver,
+            journal,
+            log_room,
+            plans,
+            approvals,
+            permits,
+            history,
+            told,
+        })
+    }
+
+    /// Ends the driver, and returns what is kept when the journal is opened anew.
+    fn into_kept(self, alloc: Global) -> Result<Kept, AllocError> {
+        let told_now = told_restores(&self, alloc);
+        let Opened {
+            driver,
+            journal: _journal,
+            log_room: _,
+            plans,
+            approvals,
+            permits,
+            history: _history,
+            told,
+        } = self;
+        let _ = driver.give_up();
+        let told = told_last(told_now?, told)?;
+        Ok(Kept {
+            plans,
+            approvals,
+            permits,
+            told,
+        })
+    }
+
+    /// Turns to the next epoch, which the driver has opened.
+    pub fn turn(&mut self)
+        ensures { self.new.driver ≡ self.old.driver }
+    {
+        self.plans.turn();
+        self.approvals.turn();
+        self.permits.turn(self.driver.epoch());
+        self.history.turn();
+    }
+
+    /// Ends the driver.
+    pub fn close(self) {
+        let Opened {
+            driver,
+            journal: _journal,
+            log_room: _,
+            plans: _plans,
+            approvals: _approvals,
+            permits: _permits,
+            history: _history,
+            told: _told,
+        } = self;
+        let _ = driver.give_up();
+    }
+
+    /// Returns who writes the driver's messages.
+    pub fn messages(&self) -> Messages<'_>
+        ensures { result.driver.now ≡ self.now.driver }
+    {
+        Messages {
+            driver: &self.driver,
+            journal: self.journal.as_str(),
+        }
+    }
+
+    /// Returns whether a server is down under this permit.
+    pub fn has_permit(&self, server: &str, permit: u64) -> bool {
+        let Some(server) = self.driver.machine().config().server_named(server) else {
+            return false;
+        };
+        let given = self.driver.permits().get(server.number() as usize);
+        given == Some(&Some(permit))
+    }
+
+    /// Writes, as a member, the permits of the servers that are down.
+    fn write_permits(&self, writer: &mut Writer) -> Result<(), AllocError> {
+        let config = self.driver.machine().config();
+        let mut number = 0;
+        writer.key("permits")?;
+        writer.begin_array()?;
+        for permit in self.driver.permits() {
+            if let Some(permit) = permit {
+                writer.begin_object()?;
+                write_text(writer, "server", server_name(config, ServerId::new(number)))?;
+                write_number(writer, "permit", *permit)?;
+                writer.end_object()?;
+            }
+            number = number.saturating_add(1);
+        }
+        writer.end_array()
+    }
+
+    /// Writes, as a member of a reply, that the journal is open.
+    pub fn write_opened(&self, writer: &mut Writer) -> Result<(), AllocError> {
+        writer.key("opened")?;
+        writer.begin_object()?;
+        write_text(writer, "journal", self.journal.as_str())?;
+        write_number(writer, "epoch", u64::from(self.driver.epoch()))?;
+        self.write_permits(writer)?;
+        writer.end_object()
+    }
+
+    /// Returns how many plans have begun in the present epoch.
+    pub fn plan_count(&self) -> u32 {
+        let count = self.driver.machine().plan_count();
+        u32::try_from(count).unwrap_or(u32::MAX)
+    }
+
+    /// Returns a plan of the present epoch that has begun.
+    pub fn begun_plan(&self, number: u32) -> Option<BegunPlan> {
+        let machine = self.driver.machine();
+        if u64::from(number) >= machine.plan_count() {
+            return None;
+        }
+        let streams = machine.plan(number).streams();
+        Some(BegunPlan {
+            epoch: self.driver.epoch(),
+            number,
+            calls: calls_of(streams) as u64,
+            streams: streams.len() as u64,
+        })
+    }
+
+    /// Writes, as members of a reply, the orders that a plan has now, and whether it has ended.
+    fn write_plan_now(&self, writer: &mut Writer, number: u32) -> Result<(), AllocError> {
+        let messages = self.messages();
+        messages.write_new(writer, number, &[])?;
+        messages.write_ended(writer, number)
+    }
+
+    /// Writes, as members of a reply, that a plan has begun, with its orders.
+    pub fn write_begun(&self, writer: &mut Writer, plan: BegunPlan) -> Result<(), AllocError> {
+        write_begun_plan(writer, plan)?;
+        self.write_plan_now(writer, plan.number)
+    }
+
+    /// Writes, as members of a reply, that a plan has begun before. If it is one of the present epoch, and that goes on, its orders are told
+    /// as they are now.
+    pub fn write_begun_again(
+        &self,
+        writer: &mut Writer,
+        plan: BegunPlan,
+        goes_on: bool,
+    ) -> Result<(), AllocError> {
+        write_begun_plan(writer, plan)?;
+        writer.key("again")?;
+        writer.boolean(true)?;
+        if goes_on && plan.epoch == self.driver.epoch() {
+            self.write_plan_now(writer, plan.number)
+        } else {
+            write_nothing_new(writer)
+        }
+    }
+}
+
+/// Writes, as a member of a reply, a plan that has begun.
+fn write_begun_plan(writer: &mut Writer, plan: BegunPlan) -> Result<(), AllocError> {
+    writer.key("begun")?;
+    writer.begin_object()?;
+    write_number(writer, "plan", u64::from(plan.number))?;
+    write_number(writer, "calls", plan.calls)?;
+    write_number(writer, "streams", plan.streams)?;
+    write_number(writer, "epoch", u64::from(plan.epoch))?;
+    writer.end_object()
+}

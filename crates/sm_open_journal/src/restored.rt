@@ -1,0 +1,144 @@
+//! Restores, as they are told.
+ghost use Rattle.std.specs.Prelude.{◌<◌};
+ghost use Rattle.sm_driver.specs.Driver.{record_of};
+
+use crate::cells::write_slots;
+use crate::copying::copy_text;
+use crate::opened::Opened;
+use json::Writer;
+use sm_commands::{server_name, write_number, write_text};
+use sm_driver::ServerRestore;
+use sm_server::ServerId;
+use std::alloc::{AllocError, Global};
+
+/// Writes, as a member, 64 bits in hexadecimal digits.
+pub fn write_bits(
+    writer: &mut Writer,
+    alloc: Global,
+    name: &str,
+    bits: u64,
+) -> Result<(), AllocError> {
+    let text = format!(in alloc; "{bits:x}")?;
+    write_text(writer, name, text.as_str())
+}
+
+/// Writes what a server is told that has lost all it had.
+fn write_restore(
+    opened: &Opened,
+    alloc: Global,
+    writer: &mut Writer,
+    server: ServerId,
+    restore: &ServerRestore,
+) -> Result<(), AllocError> {
+    let config = opened.driver.machine().config();
+    writer.begin_object()?;
+    write_text(writer, "server", server_name(config, server))?;
+    write_bits(writer, alloc, "nonce", restore.nonce())?;
+    write_text(writer, "journal", opened.journal.as_str())?;
+    write_number(writer, "fence", opened.driver.fence())?;
+    write_number(writer, "base", restore.number())?;
+    write_slots(writer, config, restore.cells())?;
+    writer.end_object()
+}
+
+/// What a server was told last in an earlier epoch.
+#[derive(Drop)]
+pub struct ToldRestore {
+    server: String,
+    nonce: u64,
+    /// The restore as it was told, in JSON.
+    text: Vec<u8>,
+}
+
+/// Returns a restore as it is told.
+fn told_restore(
+    opened: &Opened,
+    alloc: Global,
+    server: ServerId,
+    restore: &ServerRestore,
+) -> Result<ToldRestore, AllocError> {
+    let config = opened.driver.machine().config();
+    let mut writer = Writer::new(Vec::new(alloc));
+    write_restore(opened, alloc, &mut writer, server, restore)?;
+    Ok(ToldRestore {
+        server: String::from_str(alloc, server_name(config, server))?,
+        nonce: restore.nonce(),
+        text: writer.into_inner(),
+    })
+}
+
+/// Returns what servers were told last in the present epoch of a journal.
+pub fn told_restores(opened: &Opened, alloc: Global) -> Result<Vec<ToldRestore>, AllocError> {
+    let mut told = Vec::new(alloc);
+    for number in 0..opened.driver.machine().config().server_count() {
+        let server = ServerId::new(number);
+        if let Some(restore) = opened.driver.restored(server) {
+            told.push(told_restore(opened, alloc, server, restore)?)?;
+        }
+    }
+    Ok(told)
+}
+
+/// Returns what servers were told last: what they are told now, and what those were told before that are told nothing now.
+pub fn told_last(
+    now: Vec<ToldRestore>,
+    before: Vec<ToldRestore>,
+) -> Result<Vec<ToldRestore>, AllocError> {
+    let mut told = now;
+    let count = told.len();
+    for earlier in before {
+        let is_later = told
+            .iter()
+            .take(count)
+            .any(|later| later.server.as_str() == earlier.server.as_str());
+        if !is_later {
+            told.push(earlier)?;
+        }
+    }
+    Ok(told)
+}
+
+impl Opened {
+    /// Returns what a server was told last under this nonce, if that was in an earlier epoch.
+    fn told_before(&self, server: ServerId, nonce: u64) -> Option<&ToldRestore>
+        requires { server < (record_of self.now.driver).sizes.servers }
+    {
+        if self.driver.restored(server).is_some() {
+            return None;
+        }
+        let name = server_name(self.driver.machine().config(), server);
+        self.told
+            .iter()
+            .find(|told| told.server.as_str() == name && told.nonce == nonce)
+    }
+
+    /// Returns whether a server was told under this nonce last.
+    pub fn was_told(&self, server: ServerId, nonce: u64) -> bool
+        requires { server < (record_of self.now.driver).sizes.servers }
+    {
+        match self.driver.restored(server) {
+            Some(restore) => restore.nonce() == nonce,
+            None => self.told_before(server, nonce).is_some(),
+        }
+    }
+
+    /// Writes, as a member of a reply, what a server was told last under this nonce.
+    pub fn write_told(
+        &self,
+        alloc: Global,
+        writer: &mut Writer,
+        server: ServerId,
+        nonce: u64,
+    ) -> Result<(), AllocError>
+        requires { server < (record_of self.now.driver).sizes.servers }
+    {
+        writer.key("restore")?;
+        match self.driver.restored(server) {
+            Some(restore) => write_restore(self, alloc, writer, server, restore),
+            None => match self.told_before(server, nonce) {
+                Some(told) => copy_text(alloc, writer, told.text.as_slice()),
+                None => writer.null(),
+            },
+        }
+    }
+}

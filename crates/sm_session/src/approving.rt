@@ -1,0 +1,140 @@
+//! Approvals of restarts.
+ghost use Rattle.std.specs.Prelude.{◌≡◌, ◌<◌, IfOk, None, false, true};
+ghost use Rattle.sm_driver.specs.Driver.{record_of};
+ghost use Rattle.sm_names.specs.Names.{value_of};
+ghost use Rattle.sm_session.specs.Changes.{ApprovesRestart};
+
+use crate::standing::Standing;
+use json::Writer;
+use sm_commands::{
+    BadLine, CommandMember, Field, LinePart, refuse, server_name, shard_name, write_bad,
+    write_number, write_refusal, write_text,
+};
+use sm_open_journal::{GivenAt, Opened};
+use sm_placement::Config;
+use sm_server::ServerId;
+use sm_task_controller::Denied;
+use std::alloc::{AllocError, Global};
+
+/// Writes, as a member of a reply, a permit of a server.
+fn write_permit(
+    writer: &mut Writer,
+    word: &str,
+    server: &str,
+    permit: u64,
+) -> Result<(), AllocError> {
+    writer.key(word)?;
+    writer.begin_object()?;
+    write_text(writer, "server", server)?;
+    write_number(writer, "permit", permit)?;
+    writer.end_object()
+}
+
+/// Writes why a restart is denied.
+fn write_denied(
+    writer: &mut Writer,
+    alloc: Global,
+    config: &Config,
+    why: Denied,
+) -> Result<(), AllocError> {
+    let front = "denied ";
+    match why {
+        Denied::AlreadyDown => write_refusal(writer, alloc, front, 1, "AlreadyDown", &[]),
+        Denied::Engaged { stream } => {
+            let plan = Field::Number("plan", u64::from(stream.plan));
+            let number = Field::Number("stream", u64::from(stream.stream));
+            write_refusal(writer, alloc, front, 2, "Engaged", &[plan, number])
+        }
+        Denied::GlobalCap => write_refusal(writer, alloc, front, 3, "GlobalCap", &[]),
+        Denied::ShardCap { shard } => {
+            let shard = Field::Name("shard", shard_name(config, shard));
+            write_refusal(writer, alloc, front, 4, "ShardCap", &[shard])
+        }
+        Denied::LogFull => write_refusal(writer, alloc, front, 5, "LogFull", &[]),
+    }
+}
+
+/// Writes what came of a permit that was given under a name before: it is told again, or has ended since.
+fn write_given(
+    opened: &Opened,
+    alloc: Global,
+    writer: &mut Writer,
+    given: GivenAt,
+    server: &str,
+) -> Result<(), AllocError> {
+    let Some(given) = opened.permits.get(given) else {
+        return Ok(());
+    };
+    if given.server.as_str() != server {
+        let other = Field::Name("server", given.server.as_str());
+        return refuse(writer, alloc, "OtherServer", &[other]);
+    }
+    let word = if opened.has_permit(server, given.permit) {
+        "approved"
+    } else {
+        "ended"
+    };
+    write_permit(writer, word, server, given.permit)
+}
+
+/// Approves the restart of a server, and notes the permit under a name, or writes why it is denied. Tells whether it is approved.
+fn approve_now(
+    opened: &mut Opened,
+    alloc: Global,
+    writer: &mut Writer,
+    server: ServerId,
+    by: &str,
+) -> Result<bool, AllocError>
+    requires known { server < (record_of opened.old.driver).sizes.servers }
+    requires new { value_of opened.old.approvals by.now ≡ None }
+    ensures approved { IfOk result (λ approved. approved ≡ true → ApprovesRestart opened.old.driver opened.new.driver) }
+    ensures unchanged { IfOk result (λ approved. approved ≡ false → opened.new ≡ opened.old) }
+{
+    match opened.driver.approve(server) {
+        Ok(permit) => {
+            let name = server_name(opened.driver.machine().config(), server);
+            let given = opened.permits.push(name, permit)?;
+            opened.approvals.insert(by, given)?;
+            write_permit(writer, "approved", name, permit)?;
+            Ok(true)
+        }
+        Err(why) => {
+            write_denied(writer, alloc, opened.driver.machine().config(), why)?;
+            Ok(false)
+        }
+    }
+}
+
+/// Approves the restart of a server under a name, unless one was approved under it or a reopening is under way, writes the reply, and tells
+/// whether it is approved now.
+pub fn approve(
+    opened: &mut Opened,
+    at: Standing,
+    alloc: Global,
+    writer: &mut Writer,
+    server: &str,
+    by: &str,
+) -> Result<bool, AllocError>
+    ensures approved { IfOk result (λ approved. approved ≡ true → ApprovesRestart opened.old.driver opened.new.driver) }
+    ensures unchanged { IfOk result (λ approved. approved ≡ false → opened.new ≡ opened.old) }
+{
+    if let Some(given) = opened.approvals.get(by) {
+        write_given(opened, alloc, writer, given, server)?;
+        return Ok(false);
+    }
+    if at.is_reopening {
+        refuse(writer, alloc, "Reopening", &[])?;
+        return Ok(false);
+    }
+    match opened.driver.machine().config().server_named(server) {
+        Some(server) => approve_now(opened, alloc, writer, server, by),
+        None => {
+            write_bad(
+                writer,
+                alloc,
+                BadLine::UnknownName(LinePart::Line, CommandMember::Server),
+            )?;
+            Ok(false)
+        }
+    }
+}

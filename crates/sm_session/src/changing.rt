@@ -1,0 +1,57 @@
+//! Commands that change a journal that is open.
+ghost use Rattle.std.specs.Prelude.{◌≡◌, IfOk, false, true};
+ghost use Rattle.sm_session.specs.Changes.{Changes};
+
+use crate::answering::{answered, write_ignored};
+use crate::approving::approve;
+use crate::beginning::begin;
+use crate::next_epoch::open_next;
+use crate::restarting::restarted;
+use crate::restoring::restore;
+use crate::standing::Standing;
+use json::Writer;
+use sm_commands::{LineCommand, refuse};
+use sm_open_journal::Opened;
+use sm_reservation::StreamId;
+use std::alloc::{AllocError, Global};
+
+/// Carries out a command on a journal that is open, writes the reply, and tells whether something has changed.
+pub fn change(
+    opened: &mut Opened,
+    at: Standing,
+    alloc: Global,
+    writer: &mut Writer,
+    command: LineCommand<'_, '_>,
+) -> Result<bool, AllocError>
+    ensures changed { IfOk result (λ changed. changed ≡ true → Changes opened.old.driver opened.new.driver) }
+    ensures unchanged { IfOk result (λ changed. changed ≡ false → opened.new ≡ opened.old) }
+{
+    match command {
+        LineCommand::Begin { plan, name } => begin(opened, at, alloc, writer, plan, name),
+        LineCommand::Answered {
+            plan,
+            stream,
+            number,
+        } => answered(opened, at, alloc, writer, StreamId { plan, stream }, number),
+        LineCommand::Approve { server, by } => approve(opened, at, alloc, writer, server, by),
+        LineCommand::Restarted { permit } => restarted(opened, at, alloc, writer, permit),
+        LineCommand::Restore { server, nonce } => restore(opened, at, alloc, writer, server, nonce),
+        LineCommand::NewEpoch => open_next(opened, at, alloc, writer),
+        _ => Ok(false),
+    }
+}
+
+/// Replies to a command that changes a journal, as long as none is open. Nothing changes.
+pub fn change_nothing(
+    alloc: Global,
+    writer: &mut Writer,
+    command: LineCommand<'_, '_>,
+) -> Result<bool, AllocError>
+    ensures { IfOk result (λ changed. changed ≡ false) }
+{
+    match command {
+        LineCommand::Restarted { .. } => write_ignored(writer, "old")?,
+        _ => refuse(writer, alloc, "NotOpened", &[])?,
+    }
+    Ok(false)
+}

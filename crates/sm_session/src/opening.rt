@@ -1,0 +1,118 @@
+//! The first opening of a journal.
+ghost use Rattle.std.specs.Prelude.{◌≡◌, IfOk, IfSome, OnOk, Some, false, true};
+ghost use Rattle.sm_placement.specs.Setup.{sizes_of};
+ghost use Rattle.sm_placement.specs.Layout.{place_of};
+ghost use Rattle.sm_placement.specs.Lead.{IsSettled};
+ghost use Rattle.sm_session.specs.Changes.{HasChanged, driver_of};
+
+use crate::standing::Standing;
+use json::Writer;
+use json_tree::Tree;
+use sm_commands::{BadLine, CommandMember, refuse, refuse_log, refuse_open, write_bad};
+use sm_driver::Driver;
+use sm_open_journal::Opened;
+use sm_placement::{OpenFault, Placement};
+use sm_plan_text::{Document, TextFault, read_document_value};
+use std::alloc::{AllocError, Global};
+
+/// Returns the document that a value is; where it is none, writes what is wrong with it.
+fn read_document(
+    alloc: Global,
+    value: &Tree<'_>,
+    writer: &mut Writer,
+) -> Result<Option<Document>, AllocError> {
+    match read_document_value(alloc, value) {
+        Ok(document) => Ok(Some(document)),
+        Err(TextFault::NoMemory) => Err(AllocError),
+        Err(fault) => {
+            write_bad(
+                writer,
+                alloc,
+                BadLine::Within(CommandMember::Document, fault),
+            )?;
+            Ok(None)
+        }
+    }
+}
+
+/// Returns the placement that a document names; where it is not opened, writes why.
+fn read_placement(
+    alloc: Global,
+    document: &Document,
+    writer: &mut Writer,
+) -> Result<Option<Placement>, AllocError>
+    ensures { IfOk result (λ found. IfSome found (λ placement. IsSettled (sizes_of placement.setup) (place_of placement))) }
+{
+    match document.open(alloc) {
+        Ok(placement) => Ok(Some(placement)),
+        Err(OpenFault::NoMemory) => Err(AllocError),
+        Err(fault) => {
+            refuse_open(writer, alloc, &document.config, fault)?;
+            Ok(None)
+        }
+    }
+}
+
+/// Takes a driver that is open, and writes the reply.
+fn take(
+    opened: &mut Option<Opened>,
+    place: u64,
+    alloc: Global,
+    writer: &mut Writer,
+    driver: Driver,
+    log_room: u32,
+) -> Result<(), AllocError>
+    ensures { OnOk result (driver_of opened.new ≡ Some driver) }
+{
+    let journal = driver.journal();
+    let text = match format!(in alloc; "{journal:x}") {
+        Ok(text) => text,
+        Err(_) => {
+            let _ = driver.give_up();
+            return Err(AllocError);
+        }
+    };
+    let taken = Opened::new(alloc, driver, text, log_room, place)?;
+    let written = taken.write_opened(writer);
+    match opened.replace(taken) {
+        Some(before) => before.close(),
+        None => {}
+    }
+    written
+}
+
+/// Opens a journal over the placement of a document, unless one is open, writes the reply, and tells whether it is open now.
+pub fn open(
+    opened: &mut Option<Opened>,
+    at: Standing,
+    alloc: Global,
+    writer: &mut Writer,
+    document: &Tree<'_>,
+    journal: u64,
+    epoch: u32,
+) -> Result<bool, AllocError>
+    ensures changed { IfOk result (λ changed. changed ≡ true → HasChanged (driver_of opened.old) (driver_of opened.new)) }
+    ensures unchanged { IfOk result (λ changed. changed ≡ false → opened.new ≡ opened.old) }
+{
+    if opened.is_some() || at.is_reopening {
+        refuse(writer, alloc, "AlreadyOpened", &[])?;
+        return Ok(false);
+    }
+    let Some(document) = read_document(alloc, document, writer)? else {
+        return Ok(false);
+    };
+    let Some(placement) = read_placement(alloc, &document, writer)? else {
+        return Ok(false);
+    };
+    match Driver::open(alloc, placement, document.log, journal, epoch) {
+        Ok(driver) => {
+            take(opened, at.place, alloc, writer, driver, document.log)?;
+            Ok(true)
+        }
+        Err((_, sm_machine::OpenFault::NoMemory)) => Err(AllocError),
+        Err((_, sm_machine::OpenFault::LogFull)) => {
+            refuse_log(writer, alloc)?;
+            Ok(false)
+        }
+    }
+}

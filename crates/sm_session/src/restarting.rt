@@ -1,0 +1,45 @@
+//! Ends of restarts.
+ghost use Rattle.std.specs.Prelude.{◌≡◌, IfOk, false, true};
+ghost use Rattle.sm_session.specs.Changes.{EndsRestart};
+
+use crate::answering::write_ignored;
+use crate::standing::Standing;
+use json::Writer;
+use sm_commands::{Field, refuse, server_name, write_text};
+use sm_driver::RestartEffect;
+use sm_open_journal::Opened;
+use std::alloc::{AllocError, Global};
+
+/// Ends the restart that has this permit, unless a reopening is under way, writes the reply, and tells whether its server is up now.
+pub fn restarted(
+    opened: &mut Opened,
+    at: Standing,
+    alloc: Global,
+    writer: &mut Writer,
+    permit: u64,
+) -> Result<bool, AllocError>
+    ensures ended { IfOk result (λ ended. ended ≡ true → EndsRestart opened.old.driver opened.new.driver) }
+    ensures unchanged { IfOk result (λ ended. ended ≡ false → opened.new ≡ opened.old) }
+{
+    if at.is_reopening && opened.driver.permits().contains(&Some(permit)) {
+        refuse(writer, alloc, "Reopening", &[])?;
+        return Ok(false);
+    }
+    match opened.driver.restarted(permit) {
+        RestartEffect::Up(server) => {
+            let config = opened.driver.machine().config();
+            write_text(writer, "up", server_name(config, server))?;
+            Ok(true)
+        }
+        RestartEffect::Unsettled(server) => {
+            let config = opened.driver.machine().config();
+            let server = Field::Name("server", server_name(config, server));
+            refuse(writer, alloc, "Unsettled", &[server])?;
+            Ok(false)
+        }
+        RestartEffect::Old => {
+            write_ignored(writer, "old")?;
+            Ok(false)
+        }
+    }
+}

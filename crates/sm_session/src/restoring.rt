@@ -1,0 +1,66 @@
+//! Servers that have lost all they had.
+ghost use Rattle.std.specs.Prelude.{◌≡◌, IfOk, false, true};
+ghost use Rattle.sm_session.specs.Changes.{RestoresServer};
+
+use crate::standing::Standing;
+use json::Writer;
+use sm_commands::{BadLine, CommandMember, Field, LinePart, refuse, write_bad};
+use sm_driver::RestoreFault;
+use sm_open_journal::Opened;
+use sm_reservation::StreamId;
+use std::alloc::{AllocError, Global};
+
+/// Writes that a stream engages a server.
+fn refuse_engaged(
+    writer: &mut Writer,
+    alloc: Global,
+    server: &str,
+    stream: StreamId,
+) -> Result<(), AllocError> {
+    let server = Field::Name("server", server);
+    let plan = Field::Number("plan", u64::from(stream.plan));
+    let number = Field::Number("stream", u64::from(stream.stream));
+    refuse(writer, alloc, "Engaged", &[server, plan, number])
+}
+
+/// Restores a server that asks under a nonce, writes the reply, and tells whether it is restored now. While a reopening is under way only
+/// what was told before is told again.
+pub fn restore(
+    opened: &mut Opened,
+    at: Standing,
+    alloc: Global,
+    writer: &mut Writer,
+    name: &str,
+    nonce: u64,
+) -> Result<bool, AllocError>
+    ensures restored { IfOk result (λ restored. restored ≡ true → RestoresServer opened.old.driver opened.new.driver) }
+    ensures unchanged { IfOk result (λ restored. restored ≡ false → opened.new ≡ opened.old) }
+{
+    let Some(server) = opened.driver.machine().config().server_named(name) else {
+        write_bad(
+            writer,
+            alloc,
+            BadLine::UnknownName(LinePart::Line, CommandMember::Server),
+        )?;
+        return Ok(false);
+    };
+    if opened.was_told(server, nonce) {
+        opened.write_told(alloc, writer, server, nonce)?;
+        return Ok(false);
+    }
+    if at.is_reopening {
+        refuse(writer, alloc, "Reopening", &[])?;
+        return Ok(false);
+    }
+    match opened.driver.restore(alloc, server, nonce) {
+        Ok(is_new) => {
+            opened.write_told(alloc, writer, server, nonce)?;
+            Ok(is_new)
+        }
+        Err(RestoreFault::NoMemory) => Err(AllocError),
+        Err(RestoreFault::Engaged { stream }) => {
+            refuse_engaged(writer, alloc, name, stream)?;
+            Ok(false)
+        }
+    }
+}
