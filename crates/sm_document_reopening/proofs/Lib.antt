@@ -1,0 +1,9 @@
+pub mod Numbers
+pub mod Floors
+pub mod Naming
+pub mod Lists
+pub mod Frames
+pub mod Rows
+pub mod Begun
+pub mod Renumbered
+pub mod InForce

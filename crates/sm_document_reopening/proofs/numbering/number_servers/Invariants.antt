@@ -1,0 +1,11 @@
+use Rattle.sm_placement.specs.Config.{server_names}
+use Rattle.sm_placement.specs.Setup.{names_of_servers}
+use Rattle.sm_document_reopening.specs.Numbers.{AreNumberedBelow, KeepsNames}
+use Rattle.sm_document_reopening.proofs.numbering.number_servers.Given as goal
+
+-- what was recorded keeps its numbers, and the document's servers so far have theirs
+abbrev pub invariant-loop-place : goal.invariant-loop-place
+invariant-loop-place l = record {
+  kept : KeepsNames (names_of_servers l.recorded) (server_names l.rows.items);
+  numbered : AreNumberedBelow l.place (server_names l.rows.items) l.numbers.items (names_of_servers l.document);
+}

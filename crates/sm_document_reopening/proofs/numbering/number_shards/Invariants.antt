@@ -1,0 +1,11 @@
+use Rattle.sm_placement.specs.Config.{shard_names}
+use Rattle.sm_placement.specs.Setup.{names_of_shards}
+use Rattle.sm_document_reopening.specs.Numbers.{AreNumberedBelow, KeepsNames}
+use Rattle.sm_document_reopening.proofs.numbering.number_shards.Given as goal
+
+-- what was recorded keeps its numbers, and the document's shards so far have theirs
+abbrev pub invariant-loop-place : goal.invariant-loop-place
+invariant-loop-place l = record {
+  kept : KeepsNames (names_of_shards l.recorded) (shard_names l.rows.items);
+  numbered : AreNumberedBelow l.place (shard_names l.rows.items) l.numbers.items (names_of_shards l.document);
+}

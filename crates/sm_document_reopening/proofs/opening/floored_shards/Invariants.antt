@@ -1,0 +1,12 @@
+use Rattle.std.proofs.Common.{◌≡◌, true, map, take}
+use Rattle.std.specs.List.{list_all}
+use Rattle.sm_placement.specs.Config.{shard_names, shard_row}
+use Rattle.sm_placement.specs.Setup.{is_good_shard, names_of_shards}
+use Rattle.sm_document_reopening.proofs.opening.floored_shards.Given as goal
+
+-- the shards so far have their names, and are good
+abbrev pub invariant-loop-number : goal.invariant-loop-number
+invariant-loop-number l = record {
+  names : shard_names l.rows.items ≡ take l.number (names_of_shards l.config);
+  good : list_all is_good_shard (map shard_row l.rows.items) ≡ true;
+}

@@ -1,0 +1,12 @@
+-- Both placements have the same roles.
+use Rattle.std.proofs.Common.{◌<◌, length, subst, sym}
+use Rattle.sm_document_reopening.proofs.Renumbered.{renumbered}
+use Rattle.sm_document_reopening.specs.Reopening.{IsReopening, ReopeningModel}
+use Rattle.sm_document_reopening.proofs.reopening.DocumentReopening.placements_of.Goals as goal
+
+pub returns-clause-same : goal.returns-clause-same
+returns-clause-same c room =
+    renumbered c.args.self.now c.args.roles.now c.in_ok-down.down.items c.deref.result.now c.deref-2.result.now c.in_ok-settlement.settlement c.in_ok-next.next room
+    (subst IsReopening c.self.view_is c.self.invariant) c.deref.ensures.value c.deref-2.ensures.value c.in_ok-settlement.ensures.cells
+    (λ v h. c.in_ok-settlement.ensures.down v (subst (λ (r : ReopeningModel). v < length r.numbering.servers) (sym c.self.view_is) h))
+    c.in_ok-next.ensures.servers c.in_ok-next.ensures.shards c.in_ok-next.ensures.cells c.in_ok-next.ensures.down

@@ -1,0 +1,219 @@
+//! Confirming what is settled.
+ghost use Rattle.std.specs.Prelude.{◌≡◌, ◌≢◌, ◌≤◌, ◌<◌, ℕ, IfOk, OnErr, OnOk, Some, length, map, slice_index_or, true};
+ghost use Rattle.sm_placement.specs.Layout.{place_of};
+ghost use Rattle.sm_placement.specs.Lead.{IsSettled};
+ghost use Rattle.sm_placement.specs.Setup.{names_of_servers, names_of_shards, sizes_of};
+ghost use Rattle.sm_network.specs.Reopening.{Confirm, Settlement, entered};
+ghost use Rattle.sm_reopening.specs.Faults.{MayConfirm};
+ghost use Rattle.sm_reopening.specs.Ongoing.{net_reopening};
+ghost use Rattle.sm_document_reopening.specs.Reopening.{IsRenumbered, IsUnder};
+ghost use Rattle.sm_document_reopening.specs.RoleGrids.{role_at};
+ghost use Rattle.sm_document_reopening.specs.Roles.{cell_by_role, is_down_in};
+
+use crate::choice::Choice;
+use crate::fault::ConfirmRefusal;
+use crate::opening::{is_down, settled_placement};
+use crate::reopening::DocumentReopening;
+use crate::roles::Roles;
+use sm_placement::{OpenFault, Placement};
+use sm_plan_code::MOST_PLACES;
+use sm_reopening::ConfirmFault;
+use sm_server::ServerId;
+use std::alloc::{AllocError, Global};
+
+impl DocumentReopening {
+    /// Returns whether the document has a server that has a number.
+    fn has_server(&self, server: ServerId) -> bool {
+        self.ongoing.is_asked(server) && !self.ongoing.is_left_out(server)
+    }
+
+    /// Returns by number which servers are recorded down, of those that the document has.
+    fn recorded_down(&self, alloc: Global) -> Result<Vec<bool>, AllocError> {
+        let mut down = Vec::new(alloc);
+        for number in 0..self.ongoing.server_count() {
+            let server = ServerId::new(number);
+            down.push(self.has_server(server) && self.ongoing.is_recorded_down(server))?;
+        }
+        Ok(down)
+    }
+
+    /// Returns by number which servers are down: those that the document calls so, and those that it has and that are recorded so.
+    pub(crate) fn down_servers(&self, alloc: Global) -> Result<Vec<bool>, AllocError> {
+        let mut down = self.recorded_down(alloc)?;
+        for server in &self.document.down {
+            if let Some(number) = self.servers.get(server.number() as usize) {
+                let place = number.number() as usize;
+                if place < down.len() {
+                    down[place] = true;
+                }
+            }
+        }
+        Ok(down)
+    }
+
+    /// Returns the number of a shard of the document.
+    fn shard_number(&self, shard: u32) -> u32
+        ensures { result ≡ slice_index_or self.now.shards shard u32.MAX }
+    {
+        match self.shards.get(shard as usize) {
+            Some(number) => number.number(),
+            None => u32::MAX,
+        }
+    }
+
+    /// Returns the number of a server of the document.
+    fn server_number(&self, server: u32) -> u32
+        ensures { result ≡ slice_index_or self.now.servers server u32.MAX }
+    {
+        match self.servers.get(server as usize) {
+            Some(number) => number.number(),
+            None => u32::MAX,
+        }
+    }
+
+    /// Gives a shard of the document the roles of its number.
+    fn fill_row(&self, roles: &Roles, list: &mut Roles, shard: u32)
+        requires { shard < list.old.shards }
+        ensures row { (v : ℕ) → v < list.old.servers → role_at list.new shard v ≡ role_at roles.now (slice_index_or self.now.shards shard u32.MAX) (slice_index_or self.now.servers v u32.MAX) }
+        ensures others { (t v : ℕ) → t ≢ shard → role_at list.new t v ≡ role_at list.old t v }
+        ensures shards { list.new.shards ≡ list.old.shards }
+        ensures servers { list.new.servers ≡ list.old.servers }
+    {
+        for server in 0..list.servers {
+            let role = roles.get(self.shard_number(shard), self.server_number(server));
+            list.set(shard, server, role);
+        }
+    }
+
+    /// Returns the roles of the document's servers and shards, under its own numbers.
+    fn documents_roles(&self, alloc: Global, roles: &Roles) -> Result<Roles, AllocError>
+        ensures { IfOk result (λ list. (k v : ℕ) → k < length self.now.document.config.shards → v < length self.now.document.config.servers
+            → role_at list k v ≡ role_at roles.now (slice_index_or self.now.shards k u32.MAX) (slice_index_or self.now.servers v u32.MAX)) }
+    {
+        let shards = self.document.config.shard_count();
+        let servers = self.document.config.server_count();
+        let mut list = Roles::none(alloc, shards, servers)?;
+        for shard in 0..shards {
+            self.fill_row(roles, &mut list, shard);
+        }
+        Ok(list)
+    }
+
+    /// Returns which of the document's servers are down, under its own numbers.
+    fn documents_down(&self, alloc: Global, down: &[bool]) -> Result<Vec<bool>, AllocError>
+        ensures { IfOk result (λ list. list.items ≡ map (is_down_in down.now) self.now.servers) }
+    {
+        self.servers
+            .iter()
+            .map(|server| is_down(down, server.number()))
+            .collect(alloc)
+    }
+
+    /// Returns the placement of roles under the document's own numbers.
+    fn next_placement(
+        &self,
+        alloc: Global,
+        roles: &Roles,
+        down: &[bool],
+    ) -> Result<Placement, OpenFault>
+        ensures settled { IfOk result (λ p. IsSettled (sizes_of p.setup) (place_of p)) }
+        ensures servers { IfOk result (λ p. names_of_servers p.setup ≡ names_of_servers self.now.document.config) }
+        ensures shards { IfOk result (λ p. names_of_shards p.setup ≡ names_of_shards self.now.document.config) }
+        ensures cells { IfOk result (λ p. (k v : ℕ) → k < length self.now.document.config.shards → v < length self.now.document.config.servers
+            → (place_of p).cells k v ≡ cell_by_role (role_at roles.now (slice_index_or self.now.shards k u32.MAX) (slice_index_or self.now.servers v u32.MAX))) }
+        ensures down { IfOk result (λ p. (v : ℕ) → v < length self.now.document.config.servers → (place_of p).down v ≡ is_down_in (map (is_down_in down.now) self.now.servers) v) }
+    {
+        let roles = self.documents_roles(alloc, roles)?;
+        let down = self.documents_down(alloc, down)?;
+        let limit = self.document.limit;
+        settled_placement(alloc, &self.document.config, &roles, &down, limit)
+    }
+
+    /// Returns the placement of roles under the numbers of the reopening, and the same under the document's own.
+    fn placements_of(
+        &self,
+        alloc: Global,
+        roles: &Roles,
+    ) -> Result<(Placement, Placement), OpenFault>
+        ensures settled { IfOk result (λ p. IsSettled (sizes_of p.0.setup) (place_of p.0)) }
+        ensures servers { IfOk result (λ p. names_of_servers p.0.setup ≡ names_of_servers self.now.numbering) }
+        ensures shards { IfOk result (λ p. names_of_shards p.0.setup ≡ names_of_shards self.now.numbering) }
+        ensures next_settled { IfOk result (λ p. IsSettled (sizes_of p.1.setup) (place_of p.1)) }
+        ensures same { IfOk result (λ p. (room : ℕ) → IsRenumbered self.now.document.config self.now.shards self.now.servers (record { setup = p.0.setup; place = place_of p.0; room = room }) p.1) }
+    {
+        let down = self.down_servers(alloc)?;
+        let limit = self.document.limit;
+        let settlement = settled_placement(alloc, &self.numbering, roles, &down, limit)?;
+        let next = self.next_placement(alloc, roles, &down)?;
+        Ok((settlement, next))
+    }
+
+    /// Returns the roles that are proposed, but for the shards of which others were chosen.
+    fn chosen_roles(&self, alloc: Global, chosen: &[Choice]) -> Result<Roles, AllocError> {
+        let mut roles = self.proposed_roles(alloc)?;
+        for choice in chosen {
+            roles.choose(choice, &self.shards, &self.servers);
+        }
+        Ok(roles)
+    }
+
+    /// Confirms what is proposed, with other replicas of some shards: settles are to be sent. Otherwise nothing changes.
+    pub fn confirm(&mut self, alloc: Global, chosen: &[Choice]) -> Result<(), ConfirmRefusal>
+        ensures confirmed { OnOk result ((s : Settlement) × MayConfirm self.old.ongoing s × (net_reopening self.new.ongoing ≡ entered (Confirm s) (net_reopening self.old.ongoing))) }
+        ensures under { OnOk result (IsUnder self.old self.new) }
+        ensures unchanged { OnErr result (self.new ≡ self.old) }
+    {
+        if let Some(party) = self.waits_for(alloc)?.first() {
+            return Err(ConfirmRefusal::Missing { party: *party });
+        }
+        let roles = self.chosen_roles(alloc, chosen)?;
+        let (settlement, next) = self.placements_of(alloc, &roles)?;
+        self.confirm_placement(settlement, next)
+    }
+
+    /// Returns why a settlement may not be confirmed as long as servers have shards that nobody knows.
+    fn fault_with_strays(&self, settlement: &Placement) -> ConfirmRefusal
+        requires settled { IsSettled (sizes_of settlement.now.setup) (place_of settlement.now) }
+        requires servers { names_of_servers settlement.now.setup ≡ names_of_servers self.now.numbering }
+        requires shards { names_of_shards settlement.now.setup ≡ names_of_shards self.now.numbering }
+    {
+        match self.ongoing.fault_of(settlement, self.document.log) {
+            Some(fault) => ConfirmRefusal::Cells(fault),
+            None => ConfirmRefusal::Stray,
+        }
+    }
+
+    /// Confirms a settlement, and keeps what the next driver opens with.
+    fn confirm_placement(
+        &mut self,
+        settlement: Placement,
+        next: Placement,
+    ) -> Result<(), ConfirmRefusal>
+        requires settled { IsSettled (sizes_of settlement.setup) (place_of settlement) }
+        requires servers { names_of_servers settlement.setup ≡ names_of_servers self.old.numbering }
+        requires shards { names_of_shards settlement.setup ≡ names_of_shards self.old.numbering }
+        requires next_settled { IsSettled (sizes_of next.setup) (place_of next) }
+        requires same { (room : ℕ) → IsRenumbered self.old.document.config self.old.shards self.old.servers (record { setup = settlement.setup; place = place_of settlement; room = room }) next }
+        ensures confirmed { OnOk result ((s : Settlement) × MayConfirm self.old.ongoing s × (net_reopening self.new.ongoing ≡ entered (Confirm s) (net_reopening self.old.ongoing))) }
+        ensures under { OnOk result (IsUnder self.old self.new) }
+        ensures unchanged { OnErr result (self.new ≡ self.old) }
+    {
+        let log = self.document.log;
+        if !self.strays.is_empty() {
+            return Err(self.fault_with_strays(&settlement));
+        }
+        if log > MOST_PLACES || log < next.down_count() {
+            return Err(ConfirmRefusal::Cells(ConfirmFault::LogFull));
+        }
+        match self.ongoing.confirm(settlement, log) {
+            Ok(()) => {
+                self.next = Some(next);
+                Ok(())
+            }
+            Err((settlement, fault)) => {
+                drop(settlement);
+                Err(ConfirmRefusal::Cells(fault))
+            }
+        }
+    }
+}

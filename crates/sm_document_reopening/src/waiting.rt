@@ -1,0 +1,139 @@
+//! Whose answers are awaited.
+ghost use Rattle.std.specs.Prelude.{◌≡◌, ◌&&◌, not, is_some};
+ghost use Rattle.sm_network.specs.Reopening.{is_asked};
+ghost use Rattle.sm_reopening.specs.Ongoing.{net_reopening};
+ghost use Rattle.sm_reopening.specs.Settles.{net_party};
+
+use crate::reopening::DocumentReopening;
+use sm_reopening::Party;
+use sm_server::{ServerId, ShardId};
+use std::alloc::{AllocError, Global};
+
+/// How far a reopening is.
+#[derive(Clone, Copy, Debug, PartialEq, Eq)]
+pub enum Stage {
+    /// Answers to the fence are awaited.
+    Fence,
+    /// What is proposed may be confirmed.
+    Confirm,
+    /// It is confirmed, and answers to the settles are awaited.
+    Settle,
+}
+
+impl DocumentReopening {
+    /// Returns whether a party is asked, and has not answered the fence.
+    pub fn is_unanswered(&self, party: &Party) -> bool
+        ensures { result ≡ (is_asked (net_reopening self.now.ongoing) (net_party party.now) && not (is_some ((net_reopening self.now.ongoing).told (net_party party.now)))) }
+    {
+        match party {
+            Party::Server(server) => {
+                self.ongoing.is_asked(*server) && !self.ongoing.has_told(*server)
+            }
+            Party::MapOwner => !self.ongoing.has_answered(party),
+        }
+    }
+
+    /// Returns the parties, in their order, that have not answered the fence.
+    pub fn unanswered(&self, alloc: Global) -> Result<Vec<Party>, AllocError> {
+        let mut parties = Vec::new(alloc);
+        if self.is_unanswered(&Party::MapOwner) {
+            parties.push(Party::MapOwner)?;
+        }
+        for number in 0..self.ongoing.server_count() {
+            let party = Party::Server(ServerId::new(number));
+            if self.is_unanswered(&party) {
+                parties.push(party)?;
+            }
+        }
+        Ok(parties)
+    }
+
+    /// Returns the parties, in their order, that have to answer the fence whatever the others tell.
+    fn awaited(&self, alloc: Global) -> Result<Vec<Party>, AllocError> {
+        let mut parties = Vec::new(alloc);
+        if self.is_unanswered(&Party::MapOwner) {
+            parties.push(Party::MapOwner)?;
+        }
+        for number in 0..self.ongoing.server_count() {
+            let server = ServerId::new(number);
+            if self.ongoing.is_awaited(server) {
+                parties.push(Party::Server(server))?;
+            }
+        }
+        Ok(parties)
+    }
+
+    /// Returns whether a shard of the document would have a server as its primary that has not answered, and is not recorded so.
+    fn has_silent_heir(&self, shard: ShardId) -> Option<ServerId> {
+        let heir = self.proposed_primary(shard)?;
+        if self.ongoing.is_silent_heir(shard, heir) {
+            Some(heir)
+        } else {
+            None
+        }
+    }
+
+    /// Returns by number which servers would be primaries, have not answered, and are not recorded so.
+    fn silent_heirs(&self, alloc: Global) -> Result<Vec<bool>, AllocError> {
+        let mut heirs = vec![in alloc; false; self.ongoing.server_count() as usize]?;
+        for shard in &self.shards {
+            if let Some(heir) = self.has_silent_heir(*shard) {
+                let place = heir.number() as usize;
+                if place < heirs.len() {
+                    heirs[place] = true;
+                }
+            }
+        }
+        Ok(heirs)
+    }
+
+    /// Returns the parties, in their order, that have to answer the fence before anything can be confirmed: those that are not carried over,
+    /// or else those that would be primaries and are not recorded so.
+    pub fn waits_for(&self, alloc: Global) -> Result<Vec<Party>, AllocError> {
+        let mut parties = self.awaited(alloc)?;
+        if !parties.is_empty() {
+            return Ok(parties);
+        }
+        let heirs = self.silent_heirs(alloc)?;
+        for number in 0..self.ongoing.server_count() {
+            if heirs.get(number as usize) == Some(&true) {
+                parties.push(Party::Server(ServerId::new(number)))?;
+            }
+        }
+        Ok(parties)
+    }
+
+    /// Returns the parties, in their order, that were sent a settle and have not answered it.
+    pub fn unsettled(&self, alloc: Global) -> Result<Vec<Party>, AllocError> {
+        let mut parties = Vec::new(alloc);
+        if self.ongoing.is_unsettled(&Party::MapOwner) {
+            parties.push(Party::MapOwner)?;
+        }
+        for number in 0..self.ongoing.server_count() {
+            let party = Party::Server(ServerId::new(number));
+            if self.ongoing.is_unsettled(&party) {
+                parties.push(party)?;
+            }
+        }
+        Ok(parties)
+    }
+
+    /// Returns whether a settlement is confirmed.
+    pub fn is_confirmed(&self) -> bool
+        ensures { result ≡ is_some (net_reopening self.now.ongoing).settlement }
+    {
+        self.ongoing.settlement().is_some()
+    }
+
+    /// Returns how far the reopening is.
+    pub fn stage(&self, alloc: Global) -> Result<Stage, AllocError> {
+        if self.is_confirmed() {
+            return Ok(Stage::Settle);
+        }
+        if self.waits_for(alloc)?.is_empty() {
+            Ok(Stage::Confirm)
+        } else {
+            Ok(Stage::Fence)
+        }
+    }
+}

@@ -1,0 +1,169 @@
+//! What is proposed, and how far a reopening is.
+use crate::sent::party_name;
+use json::Writer;
+use sm_commands::{server_name, shard_name, write_number, write_text};
+use sm_document_reopening::{DocumentReopening, Proposal, ShortFloor, Stage};
+use sm_placement::Config;
+use sm_reopening::Party;
+use sm_server::{Role, ServerId, ShardId};
+use std::alloc::{AllocError, Global};
+
+/// Writes, as a member, whose answers are missing; the map's owner is null.
+pub fn write_waiting(
+    writer: &mut Writer,
+    reopening: &DocumentReopening,
+    parties: &[Party],
+) -> Result<(), AllocError> {
+    writer.key("waiting")?;
+    writer.begin_array()?;
+    for party in parties {
+        match party_name(reopening, *party) {
+            Some(name) => writer.string(name)?,
+            None => writer.null()?,
+        }
+    }
+    writer.end_array()
+}
+
+/// Returns the word for a role.
+fn role_word(role: Role) -> &'static str {
+    match role {
+        Role::Primary => "primary",
+        Role::Secondary => "secondary",
+    }
+}
+
+/// Writes the replicas that are proposed for a shard.
+fn write_row(
+    writer: &mut Writer,
+    numbering: &Config,
+    proposal: &Proposal,
+    shard: ShardId,
+) -> Result<(), AllocError> {
+    writer.begin_object()?;
+    write_text(writer, "shard", shard_name(numbering, shard))?;
+    writer.key("cells")?;
+    writer.begin_array()?;
+    for number in 0..numbering.server_count() {
+        let server = ServerId::new(number);
+        if let Some(role) = proposal.role(shard, server) {
+            writer.begin_object()?;
+            write_text(writer, "server", server_name(numbering, server))?;
+            write_text(writer, "state", role_word(role))?;
+            writer.end_object()?;
+        }
+    }
+    writer.end_array()?;
+    writer.end_object()
+}
+
+/// Writes, as a member, shards by their names.
+fn write_shards(
+    writer: &mut Writer,
+    numbering: &Config,
+    member: &str,
+    shards: &[ShardId],
+) -> Result<(), AllocError> {
+    writer.key(member)?;
+    writer.begin_array()?;
+    for shard in shards {
+        writer.string(shard_name(numbering, *shard))?;
+    }
+    writer.end_array()
+}
+
+/// Writes, as a member, the floors that are not met.
+fn write_floors(
+    writer: &mut Writer,
+    numbering: &Config,
+    floors: &[ShortFloor],
+) -> Result<(), AllocError> {
+    writer.key("floors")?;
+    writer.begin_array()?;
+    for floor in floors {
+        writer.begin_object()?;
+        write_text(writer, "shard", shard_name(numbering, floor.shard))?;
+        write_number(writer, "live", u64::from(floor.live))?;
+        write_number(writer, "floor", u64::from(floor.floor))?;
+        writer.end_object()?;
+    }
+    writer.end_array()
+}
+
+/// Writes, as a member, servers by their names.
+fn write_carried(
+    writer: &mut Writer,
+    numbering: &Config,
+    servers: &[ServerId],
+) -> Result<(), AllocError> {
+    writer.key("carried")?;
+    writer.begin_array()?;
+    for server in servers {
+        writer.string(server_name(numbering, *server))?;
+    }
+    writer.end_array()
+}
+
+/// Writes, as a member, the replicas that are proposed.
+fn write_cells(
+    writer: &mut Writer,
+    alloc: Global,
+    reopening: &DocumentReopening,
+    proposal: &Proposal,
+) -> Result<(), AllocError> {
+    writer.key("cells")?;
+    writer.begin_array()?;
+    for shard in reopening.shards_in_order(alloc)? {
+        write_row(writer, reopening.numbering(), proposal, shard)?;
+    }
+    writer.end_array()
+}
+
+/// Writes, as a member, what may be confirmed.
+pub fn write_proposal(
+    writer: &mut Writer,
+    alloc: Global,
+    reopening: &DocumentReopening,
+) -> Result<(), AllocError> {
+    let proposal = reopening.proposal(alloc)?;
+    let numbering = reopening.numbering();
+    writer.key("proposal")?;
+    writer.begin_object()?;
+    write_number(writer, "base", reopening.base())?;
+    write_cells(writer, alloc, reopening, &proposal)?;
+    write_shards(writer, numbering, "lost", &proposal.lost)?;
+    write_floors(writer, numbering, &proposal.floors)?;
+    write_carried(writer, numbering, &proposal.carried)?;
+    writer.end_object()
+}
+
+/// Returns the word for how far a reopening is.
+fn stage_word(stage: Stage) -> &'static str {
+    match stage {
+        Stage::Fence => "fence",
+        Stage::Confirm => "confirm",
+        Stage::Settle => "settle",
+    }
+}
+
+/// Writes, as a member, how far a reopening is.
+pub fn write_state(
+    writer: &mut Writer,
+    alloc: Global,
+    reopening: &DocumentReopening,
+) -> Result<(), AllocError> {
+    let stage = reopening.stage(alloc)?;
+    let parties = match stage {
+        Stage::Settle => reopening.unsettled(alloc)?,
+        _ => reopening.unanswered(alloc)?,
+    };
+    writer.key("reopening")?;
+    writer.begin_object()?;
+    write_number(writer, "base", reopening.base())?;
+    write_text(writer, "is", stage_word(stage))?;
+    write_waiting(writer, reopening, &parties)?;
+    if stage == Stage::Confirm {
+        write_proposal(writer, alloc, reopening)?;
+    }
+    writer.end_object()
+}

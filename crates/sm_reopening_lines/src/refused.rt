@@ -1,0 +1,149 @@
+//! Why a reopening does not begin, and why nothing is confirmed.
+use crate::sent::party_name;
+use json::Writer;
+use sm_commands::{
+    Field, refuse, refuse_log, refuse_open, server_name, shard_name, write_name, write_text,
+};
+use sm_document_reopening::{ConfirmRefusal, DocumentReopening, ReopenFault};
+use sm_placement::{Config, OpenFault};
+use sm_reopening::{ConfirmFault, Party};
+use sm_server::{ServerId, ShardId};
+use std::alloc::{AllocError, Global};
+
+/// Writes why a reopening under a document does not begin.
+pub fn refuse_reopen(
+    writer: &mut Writer,
+    alloc: Global,
+    document: &Config,
+    fault: ReopenFault,
+) -> Result<(), AllocError> {
+    match fault {
+        ReopenFault::NoMemory => Err(AllocError),
+        ReopenFault::DoubleCell { shard, server } => {
+            let fault = OpenFault::DoubleCell { shard, server };
+            refuse_open(writer, alloc, document, fault)
+        }
+        ReopenFault::BadLead { shard } => {
+            refuse_open(writer, alloc, document, OpenFault::BadLead { shard })
+        }
+        ReopenFault::LostServer { server } => {
+            let server = Field::Name("server", server_name(document, server));
+            refuse(writer, alloc, "LostServer", &[server])
+        }
+        ReopenFault::TooMany => refuse(writer, alloc, "TooMany", &[]),
+    }
+}
+
+/// Writes that a party has to answer the fence before.
+fn refuse_missing(
+    writer: &mut Writer,
+    alloc: Global,
+    reopening: &DocumentReopening,
+    party: Party,
+) -> Result<(), AllocError> {
+    match party_name(reopening, party) {
+        Some(name) => refuse(writer, alloc, "Missing", &[Field::Name("server", name)]),
+        None => {
+            writer.key("refused")?;
+            writer.begin_object()?;
+            write_text(writer, "kind", "Missing")?;
+            write_name(writer, "server", None)?;
+            write_text(writer, "text", "refused: Missing map")?;
+            writer.end_object()
+        }
+    }
+}
+
+/// Writes what is wrong with the cell of a shard at a server.
+fn refuse_cell(
+    writer: &mut Writer,
+    alloc: Global,
+    numbering: &Config,
+    kind: &str,
+    shard: ShardId,
+    server: ServerId,
+) -> Result<(), AllocError> {
+    let shard = Field::Name("shard", shard_name(numbering, shard));
+    let server = Field::Name("server", server_name(numbering, server));
+    refuse(writer, alloc, kind, &[shard, server])
+}
+
+/// Writes why cells may not be settled.
+fn refuse_cells(
+    writer: &mut Writer,
+    alloc: Global,
+    reopening: &DocumentReopening,
+    fault: ConfirmFault,
+) -> Result<(), AllocError> {
+    let numbering = reopening.numbering();
+    match fault {
+        ConfirmFault::Confirmed => refuse(writer, alloc, "Confirmed", &[]),
+        ConfirmFault::Missing { party } => refuse_missing(writer, alloc, reopening, party),
+        ConfirmFault::LogFull => refuse_log(writer, alloc),
+        ConfirmFault::CarriedUp { server } => {
+            let server = Field::Name("server", server_name(numbering, server));
+            refuse(writer, alloc, "CarriedUp", &[server])
+        }
+        ConfirmFault::CarriedOver { shard, server } => {
+            refuse_cell(writer, alloc, numbering, "CarriedOver", shard, server)
+        }
+        ConfirmFault::AtLost { shard, server } => {
+            refuse_cell(writer, alloc, numbering, "AtLost", shard, server)
+        }
+        ConfirmFault::StillThere { shard, server } => {
+            refuse_cell(writer, alloc, numbering, "StillThere", shard, server)
+        }
+        ConfirmFault::Primary { shard, server } => {
+            refuse_cell(writer, alloc, numbering, "Primary", shard, server)
+        }
+        ConfirmFault::Moved { shard, server } => {
+            refuse_cell(writer, alloc, numbering, "Moved", shard, server)
+        }
+        ConfirmFault::LowerChoice { shard, server } => {
+            refuse_cell(writer, alloc, numbering, "LowerChoice", shard, server)
+        }
+        ConfirmFault::NoPrimary { shard } => {
+            let shard = Field::Name("shard", shard_name(numbering, shard));
+            refuse(writer, alloc, "NoPrimary", &[shard])
+        }
+    }
+}
+
+/// Writes that a server has a shard that nobody knows.
+fn refuse_stray(
+    writer: &mut Writer,
+    alloc: Global,
+    reopening: &DocumentReopening,
+) -> Result<(), AllocError> {
+    match reopening.first_stray() {
+        Some(stray) => {
+            let shard = Field::Name("shard", stray.shard.as_str());
+            let server = server_name(reopening.numbering(), stray.server);
+            refuse(
+                writer,
+                alloc,
+                "StillThere",
+                &[shard, Field::Name("server", server)],
+            )
+        }
+        None => refuse(writer, alloc, "StillThere", &[]),
+    }
+}
+
+/// Writes why nothing is confirmed.
+pub fn refuse_confirm(
+    writer: &mut Writer,
+    alloc: Global,
+    reopening: &DocumentReopening,
+    refusal: ConfirmRefusal,
+) -> Result<(), AllocError> {
+    match refusal {
+        ConfirmRefusal::NoMemory => Err(AllocError),
+        ConfirmRefusal::Missing { party } => refuse_missing(writer, alloc, reopening, party),
+        ConfirmRefusal::Placement(fault) => {
+            refuse_open(writer, alloc, reopening.numbering(), fault)
+        }
+        ConfirmRefusal::Cells(fault) => refuse_cells(writer, alloc, reopening, fault),
+        ConfirmRefusal::Stray => refuse_stray(writer, alloc, reopening),
+    }
+}
