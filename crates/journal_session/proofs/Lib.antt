@@ -5,3 +5,6 @@ pub mod Sessions
 pub mod Between
 pub mod Exits
 pub mod Replays
+pub mod StoreSteps
+pub mod Fronts
+pub mod Resumes

@@ -1,15 +1,21 @@
 -- The commands of a journal, one behind the other, and its lines.
-use Rattle.std.proofs.Common.{◌≡◌, ℕ, ◌+◌, ◌-◌, ◌≤◌, ◌<◌, List, [], ◌∷◌, ◌++◌, length, take, drop, Some, refl, sym, ◌∙◌, ap, arith, append_assoc, length-append}
+use Rattle.std.proofs.Common.{◌≡◌, ℕ, ◌+◌, ◌-◌, ◌≤◌, ◌<◌, List, [], ◌∷◌, ◌++◌, length, take, drop, map, None, Some, refl, sym, ◌∙◌, ap, arith, append_assoc, length-append}
 use Rattle.std.specs.List.{All}
-use Rattle.std.proofs.lemmas.List.{append-nil, take_at, drop_at, take_all, drop-drop, length-drop, take_rest}
+use Rattle.std.proofs.lemmas.List.{append-nil, length_push, take_at, drop_at, take_all, drop-drop, length-drop, take_rest}
 use Rattle.std.proofs.lemmas.List.Concat.{flat_map-append}
 use Rattle.std.proofs.lemmas.List.Elements.{All-head, All-tail}
 use Rattle.std.proofs.lemmas.Option.{same_Some}
 use Rattle.journal_lines.specs.Objects.{object_length, IsObject, behind_commas, listed, IsBatch}
-use Rattle.journal_lines.specs.Lines.{head}
+use Rattle.journal_lines.specs.declared.reading.Reading.{Reading}
+use Rattle.journal_lines.specs.Lines.{head, no_sum}
+use Rattle.journal_lines.specs.Journal.{chain, journal_of}
+use Rattle.journal_lines.specs.Reading.{Reads}
 use Rattle.journal_lines.proofs.ObjectTexts.{object_length-append}
 use Rattle.journal_session.specs.Pieces.{EndsLine}
+use Rattle.journal_session.specs.declared.applies.Applied.{Applied}
+use Rattle.journal_session.specs.declared.applies.Applied.TheVariants.{Unchanged}
 use Rattle.journal_session.specs.Session.{commands_of}
+use Rattle.journal_session.specs.Recovery.{HasUnchanged, IsUnfit}
 
 -- one batch more
 pub commands_push : (batches : List (List (List ℕ))) (commands : List (List ℕ)) → commands_of (batches ++ commands ∷ []) ≡ commands_of batches ++ commands
@@ -101,3 +107,44 @@ content_replayed text held piece more read now rest part used is ends =
 
     behind : (a b c d : List ℕ) → a ++ (b ++ c) ++ d ≡ a ++ (b ++ c ++ d)
     behind a b c d = simp append_assoc
+
+-- a batch has a command in front
+pub batch_has_object : (text : List ℕ) (commands : List (List ℕ)) → IsBatch commands → text ≡ listed commands → object_length text ≡ None → ⊥
+batch_has_object text [] batch is none = batch.some refl
+batch_has_object text (c ∷ cs) batch is none =
+    absurd (differ (length c) (sym none ∙ ap object_length is ∙ object_length-append c (behind_commas cs) (length c) (All-head IsObject c cs batch.objects)))
+  where
+    differ : (n : ℕ) → None ≡ Some n → ⊥
+    differ n is = cc
+
+-- a command that changed nothing
+pub has_unchanged : (effect_of : List (List ℕ) → List ℕ → Applied) (entries done commands : List (List ℕ)) (text : List ℕ) (n : ℕ) (next : List (List ℕ)) → Begins text n next → commands ≡ done ++ next
+    → effect_of (entries ++ done) (take n text) ≡ Unchanged → HasUnchanged effect_of entries commands
+has_unchanged effect_of entries done commands text n next b is effect = record {
+  front = done;
+  command = b.first;
+  others = b.others;
+  are = is ∙ ap (λ (l : List (List ℕ)). done ++ l) b.are;
+  unchanged = ap (effect_of (entries ++ done)) (sym b.front) ∙ effect;
+}
+
+-- a line with such a command
+pub unfit_line : (effect_of : List (List ℕ) → List ℕ → Applied) (old new : Reading) (text line more : List ℕ) (batches : List (List (List ℕ))) (commands : List (List ℕ)) (number : ℕ)
+    → Reads old text batches → Reads new (text ++ line ++ 10 ∷ []) (batches ++ commands ∷ []) → IsBatch commands → number ≡ new.batches + 1 → HasUnchanged effect_of (commands_of batches) commands
+    → IsUnfit effect_of (head ++ (text ++ line ++ 10 ∷ more)) number
+unfit_line effect_of old new text line more batches commands number before reads batch at one = record {
+  batches = batches;
+  commands = commands;
+  rest = reads.bad ++ more;
+  each = before.each;
+  batch = batch;
+  is = behind head text line (10 ∷ []) more ∙ ap (λ (l : List ℕ). head ++ (l ++ more)) reads.is ∙ regroup head (chain no_sum (map listed (batches ++ commands ∷ []))) reads.bad more;
+  at = omega (arith, at, reads.count, length_push batches commands);
+  one = one;
+}
+  where
+    behind : (h a b c d : List ℕ) → h ++ (a ++ b ++ (c ++ d)) ≡ h ++ (a ++ b ++ c ++ d)
+    behind h a b c d = simp append_assoc
+
+    regroup : (h a b c : List ℕ) → h ++ (a ++ b ++ c) ≡ h ++ a ++ (b ++ c)
+    regroup h a b c = simp append_assoc

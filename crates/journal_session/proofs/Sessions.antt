@@ -56,6 +56,7 @@ module _ {D : Type 0} (keeps_word : D → Type 0) (moment : D → ℕ) (written_
     any_moment = λ n content from until left honest.
         let now : n ≡ moment journal.store = omega (arith, from, until) in
         recovers_at [] all batches content refl (are ∙ sym (append-nil entries)) (left_is journal batches content rest (subst (λ m. left_at journal.store m content) now left));
+    before = λ n content past left. left;
   }
 
   -- the same lines
@@ -75,6 +76,8 @@ module _ {D : Type 0} (keeps_word : D → Type 0) (moment : D → ℕ) (written_
           told = subst (λ (ls : List (List ℕ)). GrowsWithin before after (replies_of effect_of reply_to entries ls)) (sym front) (grows_all before after (replies_of effect_of reply_to entries done) told);
           now = λ content left honest. recovers_at done others kept.batches content is kept.are (left_is journal kept.batches content kept.on_disk left);
           any_moment = kept.any_moment;
+          later = kept.later;
+          past = kept.before;
         }
 
     -- a beginning of the replies to the first lines is one of the replies to all
@@ -109,6 +112,9 @@ module _ {D : Type 0} (keeps_word : D → Type 0) (moment : D → ℕ) (written_
           (λ past. kept.any_moment n content from past (passes.before n content past left) (subst (λ (t : List ℕ). HasNoForged t content) (passes.texts n past) honest))
           (cases_lt (moment journal.store) n)
 
+      before_turn : (n : ℕ) (content : List ℕ) → n ≤ moment old → left_at new.store n content → left_at old n content
+      before_turn n content past left = kept.before n content past (passes.before n content (omega (arith, past, kept.later)) left)
+
       now_has_done : (content : List ℕ) → left_at new.store (moment new.store) content → HasNoForged (written_at new.store (moment new.store)) content
           → RecoversBeyond effect_of entries all (length done) content
       now_has_done content left honest = ⊎_elim
@@ -129,6 +135,7 @@ module _ {D : Type 0} (keeps_word : D → Type 0) (moment : D → ℕ) (written_
         are = grown_are;
         later = omega (arith, kept.later, passes.later);
         any_moment = each_turn;
+        before = before_turn;
       }
 
       -- a turn, however it ends
@@ -146,6 +153,8 @@ module _ {D : Type 0} (keeps_word : D → Type 0) (moment : D → ℕ) (written_
                   (grows_all before after (replies_of effect_of reply_to entries done) (appends_kept before mid after (replies_of effect_of reply_to entries done) told still));
               now = now_has_done;
               any_moment = each_turn;
+              later = omega (arith, kept.later, passes.later);
+              past = before_turn;
             },
           ))
           (λ rest.
@@ -158,6 +167,8 @@ module _ {D : Type 0} (keeps_word : D → Type 0) (moment : D → ℕ) (written_
                   (grows_behind before mid after (replies_of effect_of reply_to entries done) (replies_of effect_of reply_to (entries ++ changing effect_of entries done) more) told more_told));
               now = λ content left honest. recovers_at (done ++ more) others (grown kept.batches changed) content is grown_are (left_is new (grown kept.batches changed) content rest left);
               any_moment = each_turn;
+              later = omega (arith, kept.later, passes.later);
+              past = before_turn;
             },
           ))
           certain

@@ -32,7 +32,7 @@ EachRecovers {D} moment written_at left_at effect_of entries lines old new = (n 
     → left_at new n content → HasNoForged (written_at new n) content → RecoversBeyond effect_of entries lines 0 content
 
 -- The first of these lines, so many, are safe: nothing was written but of their replies, what a crash now leaves has what they changed, and at each moment
--- of the call a crash left what the first of the lines changed, none skipped and none in part.
+-- of the call a crash left what the first of the lines changed, none skipped and none in part. What was before the call is as it was.
 pub record AreSafe {D : Type 0} (moment : D → ℕ) (written_at : D → ℕ → List ℕ) (left_at : D → ℕ → List ℕ → Type 0)
     (effect_of : List (List ℕ) → List ℕ → Applied) (reply_to : List (List ℕ) → List ℕ → List ℕ) (entries lines : List (List ℕ))
     (before after : Option (List ℕ)) (old new : D) (safe : ℕ) : Type 0 where
@@ -40,6 +40,8 @@ pub record AreSafe {D : Type 0} (moment : D → ℕ) (written_at : D → ℕ →
   pub told : GrowsWithin before after (replies_of effect_of reply_to entries (take safe lines))
   pub now : (content : List ℕ) → left_at new (moment new) content → HasNoForged (written_at new (moment new)) content → RecoversBeyond effect_of entries lines safe content
   pub any_moment : EachRecovers moment written_at left_at effect_of entries lines old new
+  pub later : moment old ≤ moment new
+  pub past : (n : ℕ) (content : List ℕ) → n ≤ moment old → left_at new n content → left_at old n content
 
 -- Between two reads of a session, this beginning of its input was read. Its lines were applied, and their replies written.
 pub record IsBetween {A : Type 0} (is_after : A → List (List ℕ) → Type 0) (effect_of : List (List ℕ) → List ℕ → Applied) (reply_to : List (List ℕ) → List ℕ → List ℕ)
@@ -62,3 +64,4 @@ pub record HasChanges {D : Type 0} (keeps_word : D → Type 0) (moment : D → �
   pub are : commands_of batches ≡ entries ++ changing effect_of entries lines
   pub later : moment old ≤ moment journal.store
   pub any_moment : EachRecovers moment written_at left_at effect_of entries all old journal.store
+  pub before : (n : ℕ) (content : List ℕ) → n ≤ moment old → left_at journal.store n content → left_at old n content

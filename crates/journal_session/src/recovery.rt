@@ -1,12 +1,20 @@
 //! A journal that a crash may have left, made ready.
-ghost use Rattle.std.specs.Prelude.{◌≡◌, ◌≤◌, ◌<◌, ◌^◌, IfOk};
+ghost use Rattle.std.specs.Prelude.{◌≡◌, ◌≤◌, ◌<◌, ◌^◌, ℕ, List, [], length, take, Err, IfOk, OnOk};
+ghost use Rattle.journal_lines.specs.Lines.{head};
+ghost use Rattle.journal_lines.specs.Journal.{journal_of, HasBatches, RecoversTo, IsForeign, IsDamaged};
+ghost use Rattle.journal_lines.specs.Reading.{Reads};
+ghost use Rattle.journal_store.specs.Store.{written_now, IsSynced};
+ghost use Rattle.journal.specs.Journal.{IsOnDisk};
+ghost use Rattle.journal_session.specs.Pieces.{IsOneLine};
+ghost use Rattle.journal_session.specs.Session.{commands_of};
+ghost use Rattle.journal_session.specs.Recovery.{KeepsJournal, IsUnfit, StartsAs, ComesNext, IsFront, WasRead, HasReplayed};
 
 use crate::applies::Applies;
 use crate::fault::RecoverFault;
 use crate::pending::Pending;
 use crate::replay::replay_piece;
 use journal::Journal;
-use journal_lines::{Reading, journal_head};
+use journal_lines::{Reading, Sum, journal_head};
 use journal_store::{Store, StoreFault};
 use std::alloc::Global;
 
@@ -25,18 +33,49 @@ enum Beginning {
     NotBegun,
 }
 
-/// Reads how a store begins.
-fn read_head<S: Store>(alloc: Global, store: &mut S) -> Result<Beginning, RecoverFault> {
-    let head = journal_head();
+/// Reads what stands from a place on: nothing only behind the end.
+fn read_at<S: Store>(alloc: Global, store: &mut S, at: u64) -> Result<Vec<u8>, StoreFault>
+    ensures next { S.keeps_word store.old → IfOk result (λ bytes. ComesNext (written_now S.moment S.written_at store.old) at bytes.items) }
+    ensures short { IfOk result (λ bytes. length bytes.items ≤ 65536) }
+    ensures read { S.keeps_word store.old → WasRead S.moment S.written_at S.left_at store.old store.new }
+    ensures word { S.keeps_word store.old → OnOk result (S.keeps_word store.new) }
+{
     let mut piece = vec![in alloc; 0u8; PIECE]?;
+    let count = store.read(at, &mut piece)?;
+    piece.truncate(count);
+    Ok(piece)
+}
+
+/// Reads the front of a store: all that it has, or more bytes than so many.
+fn read_front<S: Store>(alloc: Global, store: &mut S, most: usize) -> Result<Vec<u8>, StoreFault>
+    ensures front { S.keeps_word store.old → IfOk result (λ text. IsFront (written_now S.moment S.written_at store.old) most text.items) }
+    ensures read { S.keeps_word store.old → WasRead S.moment S.written_at S.left_at store.old store.new }
+    ensures word { S.keeps_word store.old → OnOk result (S.keeps_word store.new) }
+{
     let mut text = Vec::new(alloc);
-    for _ in 0..PIECE {
-        let count = store.read(text.len() as u64, &mut piece)?;
-        text.extend_from_slice(&piece[..count])?;
-        if text.len() > head.len() || count == 0 {
-            break;
+    for _ in 0..u64::MAX {
+        let piece = read_at(alloc, store, text.len() as u64)?;
+        let bytes = piece.as_slice();
+        if bytes.is_empty() {
+            return Ok(text);
+        }
+        text.extend_from_slice(bytes)?;
+        if text.len() > most {
+            return Ok(text);
         }
     }
+    Err(StoreFault::Failed)
+}
+
+/// Reads how a store begins.
+fn read_head<S: Store>(alloc: Global, store: &mut S) -> Result<Beginning, StoreFault>
+    ensures begins { S.keeps_word store.old → IfOk result (StartsAs (written_now S.moment S.written_at store.old)) }
+    ensures read { S.keeps_word store.old → WasRead S.moment S.written_at S.left_at store.old store.new }
+    ensures word { S.keeps_word store.old → OnOk result (S.keeps_word store.new) }
+{
+    let head = journal_head();
+    let front = read_front(alloc, store, head.len())?;
+    let text = front.as_slice();
     if text.starts_with(head) {
         return Ok(Beginning::Head);
     }
@@ -47,7 +86,12 @@ fn read_head<S: Store>(alloc: Global, store: &mut S) -> Result<Beginning, Recove
 }
 
 /// Begins a journal in a store that has no more than what a crash left of a head.
-fn begin<S: Store>(store: &mut S) -> Result<(), StoreFault> {
+fn begin<S: Store>(store: &mut S) -> Result<(), StoreFault>
+    ensures keeps { S.keeps_word store.old → IsSynced S.moment S.written_at S.left_at store.old
+        → length (written_now S.moment S.written_at store.old) ≤ length head → KeepsJournal S.moment S.written_at S.left_at store.old store.new }
+    ensures begun { S.keeps_word store.old → OnOk result ((written_now S.moment S.written_at store.new ≡ head) × IsSynced S.moment S.written_at S.left_at store.new) }
+    ensures word { S.keeps_word store.old → OnOk result (S.keeps_word store.new) }
+{
     store.cut(0)?;
     store.sync()?;
     store.append(journal_head())?;
@@ -55,7 +99,14 @@ fn begin<S: Store>(store: &mut S) -> Result<(), StoreFault> {
 }
 
 /// Cuts what stands behind the lines of a journal.
-fn cut_end<S: Store>(store: &mut S, whole: u64) -> Result<(), StoreFault> {
+fn cut_end<S: Store>(store: &mut S, whole: u64) -> Result<(), StoreFault>
+    ensures keeps { S.keeps_word store.old → IsSynced S.moment S.written_at S.left_at store.old
+        → (batches : List (List (List ℕ))) → HasBatches (written_now S.moment S.written_at store.old) batches → whole ≡ length (journal_of batches)
+        → KeepsJournal S.moment S.written_at S.left_at store.old store.new }
+    ensures cut { S.keeps_word store.old → OnOk result ((written_now S.moment S.written_at store.new ≡ take whole (written_now S.moment S.written_at store.old))
+        × IsSynced S.moment S.written_at S.left_at store.new) }
+    ensures word { S.keeps_word store.old → OnOk result (S.keeps_word store.new) }
+{
     store.cut(whole)?;
     store.sync()
 }
@@ -69,48 +120,96 @@ fn replay<S: Store, A: Applies>(
 ) -> Result<u64, RecoverFault>
     requires { reading.old.end ≡ 0 }
     ensures within { IfOk result (λ end. (reading.new.end ≤ end) × (end < 2 ^ 62)) }
+    ensures read { S.keeps_word store.old → WasRead S.moment S.written_at S.left_at store.old store.new }
+    ensures word { S.keeps_word store.old → OnOk result (S.keeps_word store.new) }
+    ensures replayed { S.keeps_word store.old → take (length head) (written_now S.moment S.written_at store.old) ≡ head → Reads reading.old [] []
+        → IfOk result (λ end. (end ≡ length (written_now S.moment S.written_at store.old))
+        × (batches : List (List (List ℕ))) × (open_line : List ℕ) × IsOneLine open_line
+        × HasReplayed (written_now S.moment S.written_at store.old) end reading.new batches open_line
+        × (A.is_after state.old [] → A.is_after state.new (commands_of batches))) }
+    ensures damaged { S.keeps_word store.old → take (length head) (written_now S.moment S.written_at store.old) ≡ head → Reads reading.old [] []
+        → (number : ℕ) → result ≡ Err (RecoverFault.Damaged number) → IsDamaged (written_now S.moment S.written_at store.old) number }
+    ensures unfit { S.keeps_word store.old → take (length head) (written_now S.moment S.written_at store.old) ≡ head → Reads reading.old [] [] → A.is_after state.old []
+        → (number : ℕ) → result ≡ Err (RecoverFault.Unfit number) → IsUnfit A.effect_of (written_now S.moment S.written_at store.old) number }
+    ensures no_other { result ≡ Err RecoverFault.Foreign → ⊥ }
 {
-    let mut piece = vec![in alloc; 0u8; PIECE]?;
     let mut pending = Pending::new(alloc);
     let mut at = journal_head().len() as u64;
     for _ in 0..u64::MAX {
         if at >= LONGEST_JOURNAL {
             return Err(RecoverFault::Failed);
         }
-        let count = store.read(at, &mut piece)?;
-        if count == 0 {
+        let piece = read_at(alloc, store, at)?;
+        let bytes = piece.as_slice();
+        if bytes.is_empty() {
             return Ok(at);
         }
-        replay_piece(alloc, reading, state, &mut pending, &piece[..count])?;
-        at += count as u64;
+        replay_piece(alloc, reading, state, &mut pending, bytes)?;
+        at += bytes.len() as u64;
     }
     Err(RecoverFault::Failed)
 }
 
 #[tactic(auto, unfolding(journal_lines::specs::Lines::head))]
+/// Applies the commands of a journal, all of it on the disk, and cuts a torn end.
+fn recover_lines<S: Store, A: Applies>(
+    alloc: Global,
+    journal: &mut Journal<S>,
+    state: &mut A,
+) -> Result<(), RecoverFault>
+    ensures recovered { S.keeps_word journal.old.store → IsSynced S.moment S.written_at S.left_at journal.old.store
+        → take (length head) (written_now S.moment S.written_at journal.old.store) ≡ head
+        → OnOk result ((batches : List (List (List ℕ))) × HasBatches (written_now S.moment S.written_at journal.old.store) batches
+        × IsOnDisk S.moment S.written_at S.left_at journal.new batches × (A.is_after state.old [] → A.is_after state.new (commands_of batches))) }
+    ensures keeps { S.keeps_word journal.old.store → IsSynced S.moment S.written_at S.left_at journal.old.store
+        → take (length head) (written_now S.moment S.written_at journal.old.store) ≡ head
+        → KeepsJournal S.moment S.written_at S.left_at journal.old.store journal.new.store }
+    ensures word { S.keeps_word journal.old.store → OnOk result (S.keeps_word journal.new.store) }
+    ensures damaged { S.keeps_word journal.old.store → take (length head) (written_now S.moment S.written_at journal.old.store) ≡ head
+        → (number : ℕ) → result ≡ Err (RecoverFault.Damaged number) → IsDamaged (written_now S.moment S.written_at journal.old.store) number }
+    ensures unfit { S.keeps_word journal.old.store → take (length head) (written_now S.moment S.written_at journal.old.store) ≡ head → A.is_after state.old []
+        → (number : ℕ) → result ≡ Err (RecoverFault.Unfit number) → IsUnfit A.effect_of (written_now S.moment S.written_at journal.old.store) number }
+    ensures no_other { result ≡ Err RecoverFault.Foreign → ⊥ }
+{
+    let mut reading = Reading::begin();
+    let end = replay(alloc, &mut journal.store, &mut reading, state)?;
+    journal.sum = reading.sum;
+    let whole = journal_head().len() as u64 + reading.end;
+    if end <= whole {
+        return Ok(());
+    }
+    cut_end(&mut journal.store, whole)?;
+    Ok(())
+}
+
 /// Reads a journal, applies its commands, and cuts a torn end. All of it is on the disk before this returns.
 pub fn recover<S: Store, A: Applies>(
     alloc: Global,
     journal: &mut Journal<S>,
     state: &mut A,
-) -> Result<(), RecoverFault> {
+) -> Result<(), RecoverFault>
+    // What was found is applied, and the journal of just that is on the disk.
+    ensures recovered { S.keeps_word journal.old.store → OnOk result ((batches : List (List (List ℕ)))
+        × RecoversTo (written_now S.moment S.written_at journal.old.store) (commands_of batches)
+        × IsOnDisk S.moment S.written_at S.left_at journal.new batches × (A.is_after state.old [] → A.is_after state.new (commands_of batches))) }
+    // A crash at any moment of the call leaves what it might have left before, or the same journal: the next recovery finds the same. Damage stays as it is.
+    ensures keeps { S.keeps_word journal.old.store → KeepsJournal S.moment S.written_at S.left_at journal.old.store journal.new.store }
+    ensures word { S.keeps_word journal.old.store → OnOk result (S.keeps_word journal.new.store) }
+    ensures damaged { S.keeps_word journal.old.store → (number : ℕ) → result ≡ Err (RecoverFault.Damaged number)
+        → IsDamaged (written_now S.moment S.written_at journal.old.store) number }
+    ensures unfit { S.keeps_word journal.old.store → A.is_after state.old [] → (number : ℕ) → result ≡ Err (RecoverFault.Unfit number)
+        → IsUnfit A.effect_of (written_now S.moment S.written_at journal.old.store) number }
+    ensures foreign { S.keeps_word journal.old.store → result ≡ Err RecoverFault.Foreign → IsForeign (written_now S.moment S.written_at journal.old.store) }
+{
     // What is read may be nowhere but in memory.
     journal.store.sync()?;
-    let mut reading = Reading::begin();
     match read_head(alloc, &mut journal.store)? {
-        Beginning::Head => {}
-        Beginning::Other => return Err(RecoverFault::Foreign),
+        Beginning::Head => recover_lines(alloc, journal, state),
+        Beginning::Other => Err(RecoverFault::Foreign),
         Beginning::NotBegun => {
             begin(&mut journal.store)?;
-            journal.sum = reading.sum;
-            return Ok(());
+            journal.sum = Sum::none();
+            Ok(())
         }
     }
-    let end = replay(alloc, &mut journal.store, &mut reading, state)?;
-    let whole = journal_head().len() as u64 + reading.end;
-    if whole < end {
-        cut_end(&mut journal.store, whole)?;
-    }
-    journal.sum = reading.sum;
-    Ok(())
 }

@@ -5,6 +5,7 @@ ghost use Rattle.journal_lines.specs.Lines.{head};
 ghost use Rattle.journal_lines.specs.Journal.{IsDamaged};
 ghost use Rattle.journal_lines.specs.Reading.{Reads};
 ghost use Rattle.journal_session.specs.Session.{commands_of};
+ghost use Rattle.journal_session.specs.Recovery.{HasUnchanged, IsUnfit};
 
 use crate::applies::{Applied, Applies};
 use crate::fault::RecoverFault;
@@ -22,6 +23,9 @@ fn apply_batch<A: Applies>(
     ensures applied { (commands entries : List (List ℕ)) → IsBatch commands → body.now ≡ listed commands → A.is_after state.old entries
         → OnOk result (A.is_after state.new (entries ++ commands)) }
     ensures undamaged { (other : ℕ) → result ≡ Err (RecoverFault.Damaged other) → ⊥ }
+    ensures unfit { (commands entries : List (List ℕ)) → IsBatch commands → body.now ≡ listed commands → A.is_after state.old entries
+        → (other : ℕ) → result ≡ Err (RecoverFault.Unfit other) → (other ≡ number) × HasUnchanged A.effect_of entries commands }
+    ensures no_other { result ≡ Err RecoverFault.Foreign → ⊥ }
 {
     let mut reply = Vec::new(alloc);
     let mut rest = body;
@@ -54,6 +58,10 @@ fn replay_line<A: Applies>(
         × (A.is_after state.old (commands_of batches) → A.is_after state.new (commands_of next))) }
     ensures damaged { (number : ℕ) → result ≡ Err (RecoverFault.Damaged number) → (text more : List ℕ) (batches : List (List (List ℕ)))
         → Reads reading.old text batches → IsDamaged (head ++ (text ++ line.now ++ 10 ∷ more)) number }
+    ensures unfit { (number : ℕ) → result ≡ Err (RecoverFault.Unfit number) → (text more : List ℕ) (batches : List (List (List ℕ)))
+        → Reads reading.old text batches → A.is_after state.old (commands_of batches)
+        → IsUnfit A.effect_of (head ++ (text ++ line.now ++ 10 ∷ more)) number }
+    ensures no_other { result ≡ Err RecoverFault.Foreign → ⊥ }
 {
     match reading.take(alloc, line) {
         Ok(Some(body)) => {
@@ -83,6 +91,10 @@ pub fn replay_piece<A: Applies>(
         × (A.is_after state.old (commands_of batches) → A.is_after state.new (commands_of next))) }
     ensures damaged { (number : ℕ) → result ≡ Err (RecoverFault.Damaged number) → (text more : List ℕ) (batches : List (List (List ℕ)))
         → Reads reading.old text batches → IsDamaged (head ++ (text ++ (pending.old.text.items ++ piece.now ++ more))) number }
+    ensures unfit { (number : ℕ) → result ≡ Err (RecoverFault.Unfit number) → (text more : List ℕ) (batches : List (List (List ℕ)))
+        → Reads reading.old text batches → A.is_after state.old (commands_of batches)
+        → IsUnfit A.effect_of (head ++ (text ++ (pending.old.text.items ++ piece.now ++ more))) number }
+    ensures no_other { result ≡ Err RecoverFault.Foreign → ⊥ }
 {
     let mut rest = piece;
     while let Some(used) = pending.take(rest, usize::MAX)? {

@@ -4,7 +4,7 @@ ghost use Rattle.journal_session.specs.declared.applies.Applied.TheVariants.{Unc
 
 use journal::Journal;
 use journal_lines::is_object;
-use journal_session::{Applied, Applies, RecoverFault, ServeFault, recover, serve};
+use journal_session::{Applied, Applies, RecoverFault, ResumeFault, ServeFault, recover, resume};
 use journal_store::MemoryStore;
 use std::alloc::{AllocError, Global};
 use std::io::{self, Read};
@@ -73,11 +73,12 @@ pub fn run(alloc: Global, store: MemoryStore, input: &[u8], size: usize) -> Outc
     };
     let mut written = Vec::new(alloc);
     let mut reader = Pieces { rest: input, size };
-    let recovered = recover(alloc, &mut journal, &mut notes);
-    let mut served = Ok(());
-    if recovered.is_ok() {
-        served = serve(alloc, &mut journal, &mut notes, &mut reader, &mut written);
-    }
+    let resumed = resume(alloc, &mut journal, &mut notes, &mut reader, &mut written);
+    let (recovered, served) = match resumed {
+        Ok(()) => (Ok(()), Ok(())),
+        Err(ResumeFault::Unrecovered(fault)) => (Err(fault), Ok(())),
+        Err(ResumeFault::Unserved(fault)) => (Ok(()), Err(fault)),
+    };
     Outcome {
         journal,
         notes,

@@ -3,6 +3,7 @@ use Rattle.std.proofs.lemmas.List.{length-take}
 use Rattle.std.proofs.lemmas.Result.{err_from_is_err_and}
 use Rattle.journal_lines.specs.Lines.{head}
 use Rattle.journal_lines.specs.Journal.{IsDamaged}
+use Rattle.journal_session.specs.Recovery.{IsUnfit}
 use Rattle.journal_session.proofs.Replays.{taken_whole, text_replayed, content_replayed}
 use Rattle.journal_session.proofs.replay.replay_piece.Goals as goal
 
@@ -17,6 +18,18 @@ returns-in_err-replay_line-clause-damaged g c number is text more batches reads 
     subst (λ (l : List ℕ). IsDamaged l number) (content_replayed text c.args.pending.now.text.items c.args.piece.now more so_far.0 c.loop-used.pending.text.items c.loop-used.rest.now found.0 c.in-Some.used so_far.2 found.1)
     (subst (λ (l : List ℕ). IsDamaged (head ++ (so_far.0 ++ l ++ 10 ∷ (drop c.in-Some.used c.loop-used.rest.now ++ more))) number) line
     (c.in_err-replay_line.ensures.damaged number (cc) so_far.0 (drop c.in-Some.used c.loop-used.rest.now ++ more) so_far.1 so_far.3))
+
+pub returns-in_err-replay_line-clause-unfit : goal.returns-in_err-replay_line-clause-unfit
+returns-in_err-replay_line-clause-unfit g c number is text more batches reads after =
+    let so_far = c.loop-used.invariant.1 text batches reads in
+    let found = rw c.in-Some.is at c.in_ok-used.ensures.ended in
+    let line = c.deref.ensures.value ∙ taken_whole 18446744073709551615 c.loop-used.pending.text.items found.0 c.take.new.self.text.items found.2 (omega (arith, c.loop-used.invariant.0, c.requires, found.1.all, found.1.within)) in
+    let p = err_from_is_err_and c.from_residual-in_err-replay_line.result c.from_residual-in_err-replay_line.ensures.1 in
+    let why = p.1 in
+    let same = p.2 in
+    subst (λ (l : List ℕ). IsUnfit g.A.Applies.effect_of l number) (content_replayed text c.args.pending.now.text.items c.args.piece.now more so_far.0 c.loop-used.pending.text.items c.loop-used.rest.now found.0 c.in-Some.used so_far.2 found.1)
+    (subst (λ (l : List ℕ). IsUnfit g.A.Applies.effect_of (head ++ (so_far.0 ++ l ++ 10 ∷ (drop c.in-Some.used c.loop-used.rest.now ++ more))) number) line
+    (c.in_err-replay_line.ensures.unfit number (cc) so_far.0 (drop c.in-Some.used c.loop-used.rest.now ++ more) so_far.1 so_far.3 (so_far.4 after)))
 
 pub loop-used-preserved : goal.loop-used-preserved
 loop-used-preserved g c =

@@ -1,0 +1,34 @@
+use Rattle.std.proofs.Common.{◌≡◌, ◌≤◌, inl, [], List, ℕ, length, take, refl, sym, ◌∙◌, ap, subst, arith}
+use Rattle.std.proofs.lemmas.List.{append-nil}
+use Rattle.std.proofs.lemmas.List.Elements.{All-nil}
+use Rattle.journal_lines.specs.Objects.{IsBatch}
+use Rattle.journal_lines.specs.Lines.{head}
+use Rattle.journal_session.specs.declared.recovery.Beginning.{Beginning}
+use Rattle.journal_session.specs.Recovery.{StartsAs}
+use Rattle.journal_session.proofs.StoreSteps.{keeps_front, keeps_join, synced_read}
+use Rattle.journal_session.proofs.recovery.recover.Goals as goal
+
+pub returns-in_err-begin-in-NotBegun-clause-keeps : goal.returns-in_err-begin-in-NotBegun-clause-keeps
+returns-in_err-begin-in-NotBegun-clause-keeps g c word =
+    let short : length (g.S.Store.written_at c.read_head.new.store (g.S.Store.moment c.read_head.new.store)) ≤ length head = (omega (arith, ap length (c.read_head.ensures.read (c.in_ok-sync.ensures.word word)).same, (subst (λ (b : Beginning). StartsAs (g.S.Store.written_at c.sync.new.self (g.S.Store.moment c.sync.new.self)) b) c.in-NotBegun.is (c.in_ok-read_head.ensures.begins (c.in_ok-sync.ensures.word word))))) in
+    keeps_join g.S.Store.moment g.S.Store.written_at g.S.Store.left_at c.args.journal.now.store c.read_head.new.store c.begin.new.store (keeps_front g.S.Store.moment g.S.Store.written_at g.S.Store.left_at c.args.journal.now.store c.sync.new.self c.read_head.new.store (c.sync.ensures.time word) (c.sync.ensures.written word) (c.in_ok-sync.ensures.synced word) (c.read_head.ensures.read (c.in_ok-sync.ensures.word word))) (c.begin.ensures.keeps (c.in_ok-read_head.ensures.word (c.in_ok-sync.ensures.word word)) (synced_read g.S.Store.moment g.S.Store.written_at g.S.Store.left_at c.sync.new.self c.read_head.new.store (c.read_head.ensures.read (c.in_ok-sync.ensures.word word)) (c.in_ok-sync.ensures.synced word)) short) ((c.read_head.ensures.read (c.in_ok-sync.ensures.word word)).same ∙ c.sync.ensures.written word) (synced_read g.S.Store.moment g.S.Store.written_at g.S.Store.left_at c.sync.new.self c.read_head.new.store (c.read_head.ensures.read (c.in_ok-sync.ensures.word word)) (c.in_ok-sync.ensures.synced word))
+
+pub returns-in-Head-clause-keeps : goal.returns-in-Head-clause-keeps
+returns-in-Head-clause-keeps g c word =
+    let front = ap (take (length head)) (c.read_head.ensures.read (c.in_ok-sync.ensures.word word)).same ∙ (subst (λ (b : Beginning). StartsAs (g.S.Store.written_at c.sync.new.self (g.S.Store.moment c.sync.new.self)) b) c.in-Head.is (c.in_ok-read_head.ensures.begins (c.in_ok-sync.ensures.word word))) in
+    keeps_join g.S.Store.moment g.S.Store.written_at g.S.Store.left_at c.args.journal.now.store c.read_head.new.store c.recover_lines.new.journal.store (keeps_front g.S.Store.moment g.S.Store.written_at g.S.Store.left_at c.args.journal.now.store c.sync.new.self c.read_head.new.store (c.sync.ensures.time word) (c.sync.ensures.written word) (c.in_ok-sync.ensures.synced word) (c.read_head.ensures.read (c.in_ok-sync.ensures.word word))) (c.recover_lines.ensures.keeps (c.in_ok-read_head.ensures.word (c.in_ok-sync.ensures.word word)) (synced_read g.S.Store.moment g.S.Store.written_at g.S.Store.left_at c.sync.new.self c.read_head.new.store (c.read_head.ensures.read (c.in_ok-sync.ensures.word word)) (c.in_ok-sync.ensures.synced word)) front) ((c.read_head.ensures.read (c.in_ok-sync.ensures.word word)).same ∙ c.sync.ensures.written word) (synced_read g.S.Store.moment g.S.Store.written_at g.S.Store.left_at c.sync.new.self c.read_head.new.store (c.read_head.ensures.read (c.in_ok-sync.ensures.word word)) (c.in_ok-sync.ensures.synced word))
+
+pub returns-in_ok-begin-in-NotBegun-clause-recovered : goal.returns-in_ok-begin-in-NotBegun-clause-recovered
+returns-in_ok-begin-in-NotBegun-clause-recovered g c word =
+    let short : length (g.S.Store.written_at c.read_head.new.store (g.S.Store.moment c.read_head.new.store)) ≤ length head = (omega (arith, ap length (c.read_head.ensures.read (c.in_ok-sync.ensures.word word)).same, (subst (λ (b : Beginning). StartsAs (g.S.Store.written_at c.sync.new.self (g.S.Store.moment c.sync.new.self)) b) c.in-NotBegun.is (c.in_ok-read_head.ensures.begins (c.in_ok-sync.ensures.word word))))) in
+    let begun = c.in_ok-begin-in-NotBegun.ensures.begun (c.in_ok-read_head.ensures.word (c.in_ok-sync.ensures.word word)) in (
+      [],
+      inl (omega (arith, short, ap length ((c.read_head.ensures.read (c.in_ok-sync.ensures.word word)).same ∙ c.sync.ensures.written word)), refl),
+      record { each = All-nil IsBatch; written = begun.0 ∙ sym (append-nil head); synced = begun.1; sum = c.none-journal.ensures },
+      λ after. after,
+    )
+
+pub returns-in_ok-begin-in-NotBegun-clause-keeps : goal.returns-in_ok-begin-in-NotBegun-clause-keeps
+returns-in_ok-begin-in-NotBegun-clause-keeps g c word =
+    let short : length (g.S.Store.written_at c.read_head.new.store (g.S.Store.moment c.read_head.new.store)) ≤ length head = (omega (arith, ap length (c.read_head.ensures.read (c.in_ok-sync.ensures.word word)).same, (subst (λ (b : Beginning). StartsAs (g.S.Store.written_at c.sync.new.self (g.S.Store.moment c.sync.new.self)) b) c.in-NotBegun.is (c.in_ok-read_head.ensures.begins (c.in_ok-sync.ensures.word word))))) in
+    keeps_join g.S.Store.moment g.S.Store.written_at g.S.Store.left_at c.args.journal.now.store c.read_head.new.store c.begin.new.store (keeps_front g.S.Store.moment g.S.Store.written_at g.S.Store.left_at c.args.journal.now.store c.sync.new.self c.read_head.new.store (c.sync.ensures.time word) (c.sync.ensures.written word) (c.in_ok-sync.ensures.synced word) (c.read_head.ensures.read (c.in_ok-sync.ensures.word word))) (c.begin.ensures.keeps (c.in_ok-read_head.ensures.word (c.in_ok-sync.ensures.word word)) (synced_read g.S.Store.moment g.S.Store.written_at g.S.Store.left_at c.sync.new.self c.read_head.new.store (c.read_head.ensures.read (c.in_ok-sync.ensures.word word)) (c.in_ok-sync.ensures.synced word)) short) ((c.read_head.ensures.read (c.in_ok-sync.ensures.word word)).same ∙ c.sync.ensures.written word) (synced_read g.S.Store.moment g.S.Store.written_at g.S.Store.left_at c.sync.new.self c.read_head.new.store (c.read_head.ensures.read (c.in_ok-sync.ensures.word word)) (c.in_ok-sync.ensures.synced word))

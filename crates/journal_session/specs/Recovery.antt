@@ -1,0 +1,77 @@
+-- What a recovery makes of a store, and what a crash leaves meanwhile. `StartsAs`, `ComesNext`, `IsFront`, `WasRead` and `HasReplayed` are steps of the code's own way:
+-- whoever reads the public contracts need not read them.
+use Rattle.std.specs.Prelude.{◌≡◌, ◌≤◌, ◌<◌, ◌⊎◌, ◌+◌, ℕ, List, [], ◌∷◌, ◌++◌, length, take, drop, All}
+use Rattle.journal_lines.specs.declared.reading.Reading.{Reading}
+use Rattle.journal_lines.specs.Objects.{IsBatch}
+use Rattle.journal_lines.specs.Lines.{head}
+use Rattle.journal_lines.specs.Journal.{journal_of, RecoversTo, IsForeign}
+use Rattle.journal_lines.specs.Reading.{Reads}
+use Rattle.journal_store.specs.Store.{written_now, MayLeave, Passes}
+use Rattle.journal_session.specs.declared.applies.Applied.{Applied}
+use Rattle.journal_session.specs.declared.applies.Applied.TheVariants.{Unchanged}
+use Rattle.journal_session.specs.declared.recovery.Beginning.{Beginning}
+use Rattle.journal_session.specs.declared.recovery.Beginning.TheVariants.{Head, Other, NotBegun}
+use Rattle.journal_session.specs.Session.{commands_of}
+
+-- the content is this text, or both recover to the same commands
+abbrev pub IsSameJournal : List ℕ → List ℕ → Type 0
+IsSameJournal text content = (content ≡ text) ⊎ ((entries : List (List ℕ)) × RecoversTo text entries × RecoversTo content entries)
+
+-- Time went on in a recovery: what was before is as it was; in each new moment the store has the same journal, and a crash leaves what it might have left
+-- before, or the same journal.
+pub record KeepsJournal {D : Type 0} (moment : D → ℕ) (written_at : D → ℕ → List ℕ) (left_at : D → ℕ → List ℕ → Type 0) (old new : D) : Type 0 where
+  pub later : moment old ≤ moment new
+  pub texts : (n : ℕ) → n ≤ moment old → written_at new n ≡ written_at old n
+  pub before : (n : ℕ) (content : List ℕ) → n ≤ moment old → left_at new n content → left_at old n content
+  pub written : (n : ℕ) → moment old < n → n ≤ moment new → IsSameJournal (written_now moment written_at old) (written_at new n)
+  pub each : (n : ℕ) (content : List ℕ) → moment old < n → n ≤ moment new → left_at new n content
+      → MayLeave moment left_at old content ⊎ IsSameJournal (written_now moment written_at old) content
+
+-- one of these commands does not change the state to which those before it lead
+pub record HasUnchanged (effect_of : List (List ℕ) → List ℕ → Applied) (entries commands : List (List ℕ)) : Type 0 where
+  pub front : List (List ℕ)
+  pub command : List ℕ
+  pub others : List (List ℕ)
+  pub are : commands ≡ front ++ command ∷ others
+  pub unchanged : effect_of (entries ++ front) command ≡ Unchanged
+
+-- The line of this number goes on from those before it, and a command on it does not change the state to which the commands before it lead.
+pub record IsUnfit (effect_of : List (List ℕ) → List ℕ → Applied) (content : List ℕ) (number : ℕ) : Type 0 where
+  pub batches : List (List (List ℕ))
+  pub commands : List (List ℕ)
+  pub rest : List ℕ
+  pub each : All IsBatch batches
+  pub batch : IsBatch commands
+  pub is : content ≡ journal_of (batches ++ commands ∷ []) ++ rest
+  pub at : number ≡ length batches + 2
+  pub one : HasUnchanged effect_of (commands_of batches) commands
+
+-- a text begins like this
+abbrev pub StartsAs : List ℕ → Beginning → Type 0
+StartsAs text Head = take (length head) text ≡ head
+StartsAs text Other = IsForeign text
+StartsAs text NotBegun = length text ≤ length head
+
+-- these bytes of a text stand from a place on; none only behind its end
+pub record ComesNext (text : List ℕ) (at : ℕ) (bytes : List ℕ) : Type 0 where
+  pub is : bytes ≡ take (length bytes) (drop at text)
+  pub within : length bytes ≤ length (drop at text)
+  pub last : length bytes ≡ 0 → length text ≤ at
+
+-- a text begins with this front, which is all of it or has more than so many bytes
+pub record IsFront (text : List ℕ) (most : ℕ) (front : List ℕ) : Type 0 where
+  pub is : front ≡ take (length front) text
+  pub within : length front ≤ length text
+  pub long : (length text ≤ length front) ⊎ (most < length front)
+
+-- a store was read, and is as it was
+pub record WasRead {D : Type 0} (moment : D → ℕ) (written_at : D → ℕ → List ℕ) (left_at : D → ℕ → List ℕ → Type 0) (old new : D) : Type 0 where
+  pub same : written_now moment written_at new ≡ written_now moment written_at old
+  pub time : Passes moment written_at left_at old new (written_now moment written_at old) (MayLeave moment left_at old)
+
+-- so many bytes of a text were read: the head, lines that have these batches, and an open line
+pub record HasReplayed (text : List ℕ) (at : ℕ) (reading : Reading) (batches : List (List (List ℕ))) (open_line : List ℕ) : Type 0 where
+  pub lines : List ℕ
+  pub reads : Reads reading lines batches
+  pub is : take at text ≡ head ++ (lines ++ open_line)
+  pub within : at ≤ length text
