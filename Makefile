@@ -75,9 +75,10 @@ check-program:
 	scripts/check-plans
 	scripts/check-readme
 	scripts/check-driving-model
-	SMPLAND_DOES="open begin answered orders hello map check moves drain" scripts/check-smpland-model build/smplan build/smpland -
+	scripts/check-smpland-model build/smplan build/smpland -
 	scripts/check-driver-example
 	scripts/check-smpland
+	scripts/check-smpland-kills
 	scripts/check-documents
 	scripts/check-reports
 	scripts/check-faults
@@ -112,12 +113,14 @@ page-test: ## loads the tools' pages in Debian's chromium, and writes pictures t
 	scripts/page-test
 
 # (over the program as it is now, and not as the gate may have built it before)
-storm: ## makes 1,000 runs of a plan of 64 streams, beside clients and restarts
+storm: ## makes 1,000 runs of a plan of 64 streams, beside clients and restarts, and kills build/smpland 1,000 times in such plans
 	rm -f crates/board_trials/out/board_trials
 	scripts/storm
+	scripts/check-smpland-kills 1000
 
 bench: build ## measures the proved program on large documents (docs/BENCH.md)
 	scripts/bench
 	scripts/bench-map
 	scripts/bench-machine
 	scripts/bench-board
+	scripts/bench-smpland

@@ -70,7 +70,7 @@ def nudged(value: Any, dice: random.Random) -> Any:
         return value
     if isinstance(value, int):
         return max(0, value + dice.choice([-1, 1, 2]))
-    return value[:-1] + dice.choice("0123") if value[:1] in ("s", "v") else value
+    return value[:-1] + dice.choice("0123") if isinstance(value, str) and value[:1] in ("s", "v") else value
 
 
 def spoilt(line: Json, dice: random.Random) -> bytes:

@@ -13,6 +13,8 @@ from typing import Any
 
 from smpland_model.session import Session
 
+from odd_lines import odd_session, session_of_faults
+from random_client import Client
 from random_lines import as_bytes, sessions, spoilt
 from session_files import FOLDER, Program, exchanges
 from test_planning import service
@@ -94,8 +96,14 @@ class Comparison(unittest.TestCase):
         """Drains and moves at rest, and at each step of a handover."""
         self.compare("plans", map(as_bytes, planning_lines()))
 
-    def test_random_sessions(self) -> None:
-        """Some lines go to both spoilt before they go as they are."""
+    def test_random_clients(self) -> None:
+        """Clients that use all lines, of which some come spoilt before they come as they are."""
+        for seed in SEEDS:
+            with self.subTest(seed=seed):
+                self.compare(f"client {seed}", (line for line, _ in Client(seed, plans_often=0.03).play(300)))
+
+    def test_random_schedules(self) -> None:
+        """Commands of schedules of the model. Some lines go to both spoilt before they go as they are."""
         for seed in SEEDS:
             for lines in sessions(seed, 200):
                 with self.subTest(seed=seed):
@@ -108,6 +116,16 @@ class Comparison(unittest.TestCase):
             if dice.random() < 0.3:
                 yield spoilt(line, dice)
             yield as_bytes(line)
+
+    def test_each_fault(self) -> None:
+        """Lines with one fault, before a journal is open, in it, and in a reopening."""
+        self.compare("lines with one fault", session_of_faults(service()))
+
+    def test_odd_lines(self) -> None:
+        """Lines with several faults, before a journal is open, in it, and at each step of a reopening."""
+        for seed in SEEDS:
+            with self.subTest(seed=seed):
+                self.compare(f"odd lines, seed {seed}", odd_session(service(), seed, 30))
 
     def test_a_difference_is_told(self) -> None:
         """The comparison looks at each member but the version."""

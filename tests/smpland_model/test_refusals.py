@@ -17,7 +17,7 @@ def reply(session: Session, **line: Any) -> Json:
 
 
 def many_shards(count: int) -> Json:
-    """Returns a document with so many shards at one of two servers."""
+    """Returns a document with a given number of shards, all at one of two servers."""
     servers = [{"name": it, "region": "r", "room": 100} for it in "ab"]
     cells = [{"server": "a", "state": "primary"}]
     shards = [{"name": f"s{it}", "load": 1, "want": 1, "cap": 0, "spread": 0, "cells": cells} for it in range(count)]

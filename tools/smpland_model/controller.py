@@ -8,7 +8,7 @@ from __future__ import annotations
 from dataclasses import dataclass, field, replace
 
 from driving_model import commands, replies
-from driving_model.cells import ABSENT, Cell
+from driving_model.cells import Cell
 from driving_model.controller import Answer, Controller, Named
 from driving_model.decisions import MOST_PLANS
 from driving_model.messages import Inventory, MAP, Unknown
@@ -17,7 +17,7 @@ from driving_model.record import Record
 from driving_model.replies import Ignored, Outcome
 from driving_model.reopening import Reopening
 from smpland_model import words
-from smpland_model.numbering import Numbering, moved
+from smpland_model.numbering import Numbering
 from smpland_model.reopening import NamedReopening
 from smplan import model as documents
 from smplan.placement import Placement, double_cells, bad_leads, opening_findings
@@ -103,7 +103,7 @@ class NamedController(Controller):
         refuse_first(opening_findings(document))
         start = Placement(document)
         refuse_first(log_findings(document, start))
-        self.numbering = Numbering().after(document)
+        self.numbering = Numbering().opened(document)
         outcome = self.open(commands.Open(self.numbering.document(document), journal, epoch))
         self.document, self.start = document, start
         self.record.listed = self.numbering.listed(document)
@@ -248,82 +248,27 @@ class NamedController(Controller):
         kept = [it for it in command.document.servers if it in command.lost]
         if kept:
             raise refuse("LostServer", server=kept[0])
-        numbering = self.numbering.after(command.document)
+        numbering = self.numbering.reopened(command.document)
         lost = frozenset(numbering.server_numbers[it] for it in command.lost if it in numbering.server_numbers)
         document = numbering.document(command.document)
-        model = commands.Reopen(document, lost, command.journal, command.epoch)
-        self.note_settles()
+        outcome = self.reopen(commands.Reopen(document, lost, command.journal, command.epoch))
         self.renumber(numbering)
         self.next_document = command.document
-        outcome = self.reopen(model)
-        self.reopening = NamedReopening.of(self.reopening, numbering)
+        self.reopening = NamedReopening.of(self.reopening, numbering, numbering.shards_of(command.document))
         return outcome
 
-    def note_settles(self) -> None:
-        """Notes to whom a reopening that is replaced has sent a settle, before numbers change."""
-        if self.reopening:
-            self.settle_sent |= {it.server for it in self.reopening.settles}
-            self.reopening.settles = ()
-
-    def renumber(self, numbering: Numbering) -> None:
-        """Gives servers and shards the numbers of a new document."""
+    def renumber(self, numbering: Numbering) -> dict[int, int]:
+        """Gives servers other numbers, and returns them by those that they had."""
         old, self.numbering = self.numbering, numbering
-        numbers = {it: numbering.server_numbers[name] for it, name in enumerate(old.servers)}
-        shards = {name: it for it, name in enumerate(old.shards)}
+        numbers = {it: numbering.server_numbers[name] for name, it in old.server_numbers.items()}
         self.carried = {numbers[it] for it in self.carried}
-        self.settle_sent = {MAP if it == MAP else numbers[it] for it in self.settle_sent}
-        self.named = {numbers[it] for it in self.named}
         self.approved = {
             by: Named(it.epoch, replace(it.reply, server=numbers[it.reply.server])) for by, it in self.approved.items()
         }
         self.restores = {
             numbers[it]: replace(restore, server=numbers[it]) for it, restore in self.restores.items()
         }
-        if self.record:
-            self.renumber_record(self.record, numbers, [shards.get(name) for name in numbering.shards])
-
-    def renumber_record(self, record: Record, numbers: dict[int, int], old: list[int | None]) -> None:
-        """Gives the servers and shards of a record their new numbers. Its plans are broken off."""
-        width = len(self.numbering.servers)
-        has = len(record.cells)
-        before = [it if it is not None and it < has else None for it in old]
-        cells = []
-        for shard in before:
-            row = [ABSENT] * width
-            for server, cell in enumerate(record.cells[shard] if shard is not None else []):
-                row[numbers[server]] = moved(cell, numbers)
-            cells.append(row)
-        record.listed = [
-            None if it is None or record.listed[it] is None else numbers[record.listed[it]] for it in before
-        ]
-        record.versions = [0 if it is None else record.versions[it] for it in before]
-        record.handovers = [0 if it is None else record.handovers[it] for it in before]
-        record.floors = [0 if it is None else record.floors[it] for it in before]
-        record.permits = {numbers[it]: permit for it, permit in record.permits.items()}
-        record.cells = cells
-        for plan in record.plans:
-            plan.is_broken_off = True
-        self.renumber_document(record, numbers, before)
-
-    def renumber_document(self, record: Record, numbers: dict[int, int], before: list[int | None]) -> None:
-        """Gives the servers and shards of a record's document their new numbers."""
-        document = record.document
-        rooms = [0] * len(self.numbering.servers)
-        for server, room in enumerate(document.rooms):
-            rooms[numbers[server]] = room
-
-        def of_shards(values: tuple[int, ...]) -> tuple[int, ...]:
-            return tuple(0 if it is None or it >= len(values) else values[it] for it in before)
-
-        record.document = replace(
-            document,
-            servers=frozenset(numbers[it] for it in document.servers),
-            rooms=tuple(rooms),
-            loads=of_shards(document.loads),
-            wants=of_shards(document.wants),
-            caps=of_shards(document.caps),
-            down=frozenset(numbers[it] for it in document.down),
-        )
+        return numbers
 
     def awaits(self, server: int | None, base: int) -> bool:
         """Returns whether this would be the first answer of a server to the fence."""
@@ -354,7 +299,17 @@ class NamedController(Controller):
         return self.confirm(commands.Confirm(base, cells))
 
     def put_in_force(self, reopening: Reopening) -> None:
-        """Opens the epoch of a reopening."""
+        """Opens the epoch of a reopening, in which servers and shards have the numbers of the document's order."""
+        before, numbering = self.numbering, self.numbering.opened(self.next_document)
+        cells = [reopening.cells[before.shard_numbers[it]] for it in numbering.shards]
+        servers = [before.server_numbers[it] for it in numbering.servers]
+        numbers = self.renumber(numbering)
+        reopening.cells = tuple(tuple(row[it] for it in servers) for row in cells)
+        reopening.document = numbering.document(self.next_document)
+        reopening.carried = tuple(numbers[it] for it in reopening.carried)
+        reopening.inventories = {numbers.get(it, MAP): found for it, found in reopening.inventories.items()}
+        if self.record:
+            self.record.permits = {numbers[it]: permit for it, permit in self.record.permits.items()}
         super().put_in_force(reopening)
         self.document, self.next_document = self.next_document, None
         self.start = Placement(self.document)

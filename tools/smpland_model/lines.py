@@ -3,7 +3,7 @@ from __future__ import annotations
 
 import re
 from collections.abc import Iterable, Iterator
-from dataclasses import dataclass, field
+from dataclasses import dataclass, field, replace
 from typing import Any
 
 from driving_model.messages import LAST_EPOCH
@@ -22,9 +22,6 @@ LABEL = re.compile(r"[A-Za-z0-9._-]{1,64}")
 HEX = re.compile(r"(?=.*[1-9a-f])[0-9a-f]{1,16}")
 CELLS = ("absent", "prepared", "secondary", "primary", "forwarding")
 ANSWERS = ("old", "refused", "foreign", "not_ready")
-
-# The entry of a list inside a command, or of a list inside such an entry.
-ENTRY = re.compile(r"\$(\.[a-z]+\[\d+\])+")
 
 
 class BadLine(Exception):
@@ -124,14 +121,20 @@ ASKED = {
 }
 
 
+def at_object(faults: Iterable[Fault], place: str) -> Iterator[Fault]:
+    """Yields the faults of an object itself. A member that it does not know is a fault of the object, not of a place in it."""
+    for fault in faults:
+        yield replace(fault, place=place) if fault.what.startswith("no member is named") else fault
+
+
 def slot_faults(value: Json, place: str, needed: dict[str, tuple[str, ...]]) -> Iterator[Fault]:
     """Yields the faults of the slots of a server."""
     for entry, inner in entries(value, "slots", place):
-        cell = entry.get("cell") if isinstance(entry, dict) else None
-        rows = [Row(it.member, it.test, it.optional and it.member not in needed.get(str(cell), ())) for it in SLOT]
+        cell = str(entry.get("cell")) if isinstance(entry, dict) else ""
+        rows = [Row(it.member, it.test, it.optional and it.member not in needed.get(cell, ())) for it in SLOT]
         if cell in NEEDED:
             rows[2] = one("party", name)
-        yield from own_faults("slots", rows, entry, inner)
+        yield from at_object(own_faults("slots", rows, entry, inner), inner)
 
 
 def chosen_faults(value: Json, place: str, known: Names) -> Iterator[Fault]:
@@ -139,9 +142,9 @@ def chosen_faults(value: Json, place: str, known: Names) -> Iterator[Fault]:
     rows = [one("shard", known.shard), one("cells", keyed("server"))]
     cell_rows = [one("server", known.server), one("state", word("primary", "secondary"))]
     for entry, inner in entries(value, "cells", place):
-        yield from own_faults("cells", rows, entry, inner)
+        yield from at_object(own_faults("cells", rows, entry, inner), inner)
         for cell, at in entries(entry, "cells", inner):
-            yield from own_faults("cells", cell_rows, cell, at)
+            yield from at_object(own_faults("cells", cell_rows, cell, at), at)
 
 
 def inventory_faults(value: Json) -> Iterator[Fault]:
@@ -210,7 +213,7 @@ def inner_faults(value: Json, known: Known) -> Iterator[Fault]:
             yield from below("plan", known.reader.plan("plan", value["plan"], "$.plan"))
         case "moves":
             for entry, inner in entries(value, "moves", "$"):
-                yield from own_faults("moves", known.reader.moves, entry, inner)
+                yield from at_object(own_faults("moves", known.reader.moves, entry, inner), inner)
         case "fenced":
             yield from slot_faults(value, "$", ASKED)
         case "audit":
@@ -224,17 +227,9 @@ def line_faults(value: Any, known: Known) -> Iterator[Fault]:
     if not isinstance(value, dict):
         yield shape("command", "$", f"an object belongs here, not {kind_of(value)}")
         return
-    yield from reading.worded_faults("command", "do", known.tables, value, "$")
+    yield from at_object(reading.worded_faults("command", "do", known.tables, value, "$"), "$")
     if value.get("do") == "fenced":
         yield from inventory_faults(value)
-
-
-def path_of(fault: Fault) -> str:
-    """Returns the path of what a fault is about: of a missing or an unknown member, its object."""
-    if not fault.what.startswith("no member is named"):
-        return fault.place
-    entry = ENTRY.match(fault.place)
-    return entry[0] if entry else "$"
 
 
 def identity_of(value: Any) -> Any:
@@ -247,7 +242,7 @@ def refuse_bad(faults: Iterable[Fault], identity: Any) -> None:
     """Raises `BadLine` for the fault that counts, if there is one."""
     fault = answered(faults)
     if fault:
-        raise BadLine(fault, path_of(fault), identity)
+        raise BadLine(fault, fault.place, identity)
 
 
 def is_bare(line: bytes) -> bool:

@@ -100,7 +100,7 @@ class Writer:
         """Returns a settle, of the map's owner with all entries of the map."""
         told = {"server": self.server(settle.server), "journal": hexadecimal(settle.journal), "base": settle.base}
         if isinstance(settle, SettleMap):
-            entries = [(self.shard(it), self.server(to)) for it, to in enumerate(settle.entries)]
+            entries = [(self.shard(it), self.server(settle.entries[it])) for it in self.controller.reopening.shards]
             return told | {"entries": [{"shard": it, "to": to, "version": settle.base} for it, to in entries]}
         assert isinstance(settle, Settle)
         return told | {"nonce": hexadecimal(settle.nonce), "slots": self.slots(settle.slots)}
@@ -116,15 +116,16 @@ class Writer:
                 found.append({"server": self.server(server), "state": cell.kind.value} | party)
         return found
 
-    def cells(self, cells: Cells) -> list[Json]:
-        """Returns the cells of all shards."""
-        return [{"shard": self.shard(it), "cells": self.row(dict(enumerate(row)))} for it, row in enumerate(cells)]
+    def cells(self, cells: Cells, shards: Iterable[int]) -> list[Json]:
+        """Returns the cells of shards."""
+        return [{"shard": self.shard(it), "cells": self.row(dict(enumerate(cells[it])))} for it in shards]
 
     def proposal(self, proposal: Proposal) -> Json:
         """Returns what may be confirmed."""
-        document = self.controller.reopening.document
+        reopening = self.controller.reopening
+        document = reopening.document
         return {
-            "base": proposal.base, "cells": self.cells(proposal.cells),
+            "base": proposal.base, "cells": self.cells(proposal.cells, reopening.shards),
             "lost": [self.shard(it) for it in proposal.lost],
             "floors": [
                 {"shard": self.shard(it), "live": live, "floor": document.floor(it)} for it, live in proposal.floors

@@ -1,13 +1,14 @@
 """The numbers of servers and shards, and documents, plans and cells in numbers.
 
-The servers and shards of the last document come first, in its order. Those that only documents before it had follow.
+While an opening is in force, the servers and shards of its document have the numbers of its order. In a reopening they
+keep them, those of a reopening that is replaced keep theirs, and what is new in the document follows in its order.
 """
 from __future__ import annotations
 
-from collections.abc import Iterable, Sequence
+from collections.abc import Iterable
 from dataclasses import dataclass, field
 
-from driving_model.cells import ABSENT, Cell, GONE, Kind, Lead, PRIMARY, SECONDARY, Stage, Verb
+from driving_model.cells import ABSENT, GONE, Kind, Lead, PRIMARY, SECONDARY, Stage, Verb
 from driving_model.commands import Cells, Document
 from driving_model.messages import MAP
 from driving_model.plans import (
@@ -24,22 +25,41 @@ def behind(first: Iterable[str], others: Iterable[str]) -> tuple[str, ...]:
     return tuple(dict.fromkeys([*first, *others]))
 
 
+def without(names: Iterable[str], others: Iterable[str]) -> tuple[str, ...]:
+    """Returns the names that are not among the others."""
+    left_out = set(others)
+    return tuple(it for it in names if it not in left_out)
+
+
 @dataclass(frozen=True)
 class Numbering:
     """Servers and shards by their numbers."""
 
     servers: tuple[str, ...] = ()
     shards: tuple[str, ...] = ()
+    # Servers that only documents before have had. They have numbers behind all others, for what is told of them.
+    gone: tuple[str, ...] = ()
     server_numbers: dict[str, int] = field(init=False)
     shard_numbers: dict[str, int] = field(init=False)
 
     def __post_init__(self) -> None:
-        object.__setattr__(self, "server_numbers", {name: it for it, name in enumerate(self.servers)})
+        servers = self.servers + self.gone
+        object.__setattr__(self, "server_numbers", {name: it for it, name in enumerate(servers)})
         object.__setattr__(self, "shard_numbers", {name: it for it, name in enumerate(self.shards)})
 
-    def after(self, document: documents.Document) -> Numbering:
-        """Returns the numbering in which a document's names come first."""
-        return Numbering(behind(document.servers, self.servers), behind(document.shards, self.shards))
+    def opened(self, document: documents.Document) -> Numbering:
+        """Returns the numbering of an opening that is in force: that of its document's order."""
+        servers, shards = tuple(document.servers), tuple(document.shards)
+        return Numbering(servers, shards, without(self.servers + self.gone, servers))
+
+    def reopened(self, document: documents.Document) -> Numbering:
+        """Returns the numbering of a reopening: names that have a number keep it, and the document's new ones follow."""
+        servers = behind(self.servers, document.servers)
+        return Numbering(servers, behind(self.shards, document.shards), without(self.gone, servers))
+
+    def shards_of(self, document: documents.Document) -> tuple[int, ...]:
+        """Returns the numbers of a document's shards, the lowest first."""
+        return tuple(it for it, name in enumerate(self.shards) if name in document.shards)
 
     def server(self, name: str | None) -> int | None:
         """Returns the number of a server, or of the map's owner, if it has one."""
@@ -47,29 +67,30 @@ class Numbering:
 
     def server_name(self, number: int | None) -> str | None:
         """Returns the name of a server; the map's owner has none."""
-        return None if number is None or number == MAP else self.servers[number]
+        return None if number is None or number == MAP else (self.servers + self.gone)[number]
 
     # Documents.
 
-    def cells(self, shards: Sequence[documents.Shard]) -> Cells:
-        """Returns the cells of shards, each as wide as there are servers."""
+    def cells(self, document: documents.Document) -> Cells:
+        """Returns the cells of all shards, each row as wide as there are servers."""
         rows = []
-        for shard in shards:
-            states = {self.server_numbers[it.server]: ROLES[it.state] for it in shard.cells}
+        for name in self.shards:
+            cells = document.shards[name].cells if name in document.shards else ()
+            states = {self.server_numbers[it.server]: ROLES[it.state] for it in cells}
             rows.append(tuple(states.get(it, ABSENT) for it in range(len(self.servers))))
         return tuple(rows)
 
     def document(self, document: documents.Document) -> Document:
-        """Returns a document, whose names come first in this numbering."""
-        servers, shards = document.servers, list(document.shards.values())
+        """Returns a document. Shards that it leaves out have no load there, and no cells."""
+        servers, shards = document.servers, [document.shards.get(it) for it in self.shards]
         return Document(
-            servers=frozenset(range(len(servers))),
+            servers=frozenset(self.server_numbers[it] for it in servers),
             rooms=tuple(servers[it].room if it in servers else 0 for it in self.servers),
-            loads=tuple(it.load for it in shards),
-            wants=tuple(it.want for it in shards),
-            caps=tuple(it.cap for it in shards),
+            loads=tuple(it.load if it else 0 for it in shards),
+            wants=tuple(it.want if it else 0 for it in shards),
+            caps=tuple(it.cap if it else 0 for it in shards),
             limit=document.limit,
-            cells=self.cells(shards),
+            cells=self.cells(document),
             down=frozenset(self.server_numbers[it.name] for it in servers.values() if it.down),
             log=document.log,
         )
@@ -122,8 +143,3 @@ class Numbering:
         if verb is Verb.DROP:
             return drop(shard, server)
         return (add if verb is Verb.ADD else change)(shard, server, Kind(it.role))
-
-
-def moved(cell: Cell, numbers: dict[int, int]) -> Cell:
-    """Returns a cell whose party has another number."""
-    return cell if cell.party is None else Cell(cell.kind, numbers[cell.party], cell.handover)

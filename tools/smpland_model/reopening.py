@@ -40,15 +40,17 @@ def keeps(told: Cell, settled: Cell) -> bool:
 
 @dataclass(slots=True)
 class NamedReopening(Reopening):
-    """A reopening whose servers and shards have names. `strays` are shards that a server told of and nobody knows."""
+    """A reopening whose servers and shards have names. `shards` are those of the document, and `strays` those that a
+    server told of and nobody knows."""
 
     numbering: Numbering = field(default_factory=Numbering)
+    shards: tuple[int, ...] = ()
     strays: dict[int, list[str]] = field(default_factory=dict)
 
     @classmethod
-    def of(cls, reopening: Reopening, numbering: Numbering) -> NamedReopening:
+    def of(cls, reopening: Reopening, numbering: Numbering, shards: tuple[int, ...]) -> NamedReopening:
         """Returns a reopening of the model with names."""
-        return cls(*(getattr(reopening, it.name) for it in fields(Reopening)), numbering=numbering)
+        return cls(*(getattr(reopening, it.name) for it in fields(Reopening)), numbering=numbering, shards=shards)
 
     # Who inherits a shard.
 
@@ -57,15 +59,11 @@ class NamedReopening(Reopening):
         """All servers, those that the document leaves out too."""
         return range(len(self.document.rooms))
 
-    @property
-    def shards(self) -> range:
-        """The document's shards."""
-        return range(len(self.document.loads))
-
     def recorded(self, shard: int, server: int) -> Cell:
         """Returns what is recorded of a shard and a server."""
         cells = self.record.cells if self.record else []
-        return cells[shard][server] if shard < len(cells) else ABSENT
+        row = cells[shard] if shard < len(cells) else []
+        return row[server] if server < len(row) else ABSENT
 
     def told(self, shard: int, server: int) -> SlotFound | None:
         """Returns what a server has told of a shard, if it has its slots."""
@@ -133,9 +131,11 @@ class NamedReopening(Reopening):
         return SECONDARY if any(it in (PRIMARY, SECONDARY) for it in replicas) else ABSENT
 
     def propose(self, choice: int = 0) -> Proposal:
-        """Returns what may be confirmed."""
-        heirs = [self.heir_of(it) for it in self.shards]
-        cells = [tuple(self.proposed(it, server, heirs[it]) for server in self.servers) for it in self.shards]
+        """Returns what may be confirmed. Shards that the document leaves out are to be nowhere."""
+        cells = [(ABSENT,) * len(self.servers)] * len(self.document.loads)
+        for shard in self.shards:
+            heir = self.heir_of(shard)
+            cells[shard] = tuple(self.proposed(shard, it, heir) for it in self.servers)
         lost = tuple(it for it in self.shards if self.is_bare(None, it, None))
         return Proposal(self.base, tuple(cells), lost, self.short_floors(cells), tuple(self.missing))
 
@@ -170,12 +170,10 @@ class NamedReopening(Reopening):
             yield words.reported("log refused: 2 LogFull")
 
     def of_shards(self, cells: Cells) -> Iterator[Json]:
-        """Yields what is wrong with each cell. A shard that the document leaves out is to be nowhere."""
-        nothing = (ABSENT,) * len(self.servers)
+        """Yields what is wrong with each cell."""
         for shard, name in enumerate(self.numbering.shards):
-            row = cells[shard] if shard < len(cells) else nothing
             for server in self.servers:
-                kind = self.of_cell(shard, server, row)
+                kind = self.of_cell(shard, server, cells[shard])
                 if kind == "NoPrimary":
                     yield words.own(kind, shard=name)
                 elif kind:
