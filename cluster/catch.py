@@ -13,23 +13,29 @@ from cluster.controllers.bugs import BUGS as CONTROLLER_BUGS
 from cluster.launch.cluster import program_of
 from cluster.launch.processes import NotReady
 from cluster.launch.shape import Shape
-from cluster.run import Run, Settings, default_program
+from cluster.run import Run, Settings, add_session
 from cluster.servers.bugs import BUGS as SERVER_BUGS
-from cluster.wire import Failed
 
 # What happens in a run, by the share of it: everything that some bug needs to do harm.
 PARTS = (
     (0.05, "restart_server"), (0.15, "kill_leader"), (0.3, "restart_server"), (0.4, "crash_server"), (0.5, "freeze_leader"), (0.55, "restart_server"),
     (0.7, "lose_server"),
 )
-PARTS_OF = {"new-journal-without-reopening": ((0.5, "open_anew"),)}
+PARTS_OF = {
+    "new-journal-without-reopening": ((0.5, "open_anew"),),
+    "restore-without-nonce": ((0.05, "forget_twice"), (0.3, "forget_twice"), (0.6, "forget_twice")),
+    "change-while-writing": ((0.3, "kill_leader"), (0.6, "crash_server")),
+}
+# How many of the moves are changes of roles, if not as many as otherwise.
+SWAPS_OF = {"change-while-writing": 0.9}
 
 
 async def is_caught(bug: str, seed: int, told: argparse.Namespace) -> str | None:
     """Runs once with a bug, and returns the first violation."""
     directory = Path(tempfile.mkdtemp(prefix=f"catch-{bug}-", dir="/dev/shm" if os.access("/dev/shm", os.W_OK) else None))
     shape = Shape(servers=told.servers, shards=told.shards, clients=told.clients, seed=seed)
-    settings = Settings(directory, shape, program_of(told.program), told.seconds, True, PARTS_OF.get(bug, PARTS), (bug,), is_quiet=True)
+    parts, swaps = PARTS_OF.get(bug, PARTS), SWAPS_OF.get(bug, 0.2)
+    settings = Settings(directory, shape, program_of(told.program), told.seconds, True, parts, (bug,), is_quiet=True, swaps=swaps)
     try:
         result = await Run(settings).run()
         return result.verdict.faults[0] if result.verdict.faults else None
@@ -48,7 +54,7 @@ def main() -> int:
     parser.add_argument("--servers", type=int, default=5)
     parser.add_argument("--shards", type=int, default=16)
     parser.add_argument("--clients", type=int, default=8)
-    parser.add_argument("--program", default=default_program())
+    add_session(parser)
     told = parser.parse_args()
     missed = []
     for bug in told.bugs or [*CONTROLLER_BUGS, *SERVER_BUGS]:

@@ -16,7 +16,7 @@ from collections.abc import Awaitable, Callable
 from dataclasses import dataclass, field
 from pathlib import Path
 
-from cluster.faults.story import Story
+from cluster.faults.story import NotOpened, Story
 from cluster.launch.cluster import CALM, ROOT, ROUGH, LocalCluster, program_of
 from cluster.launch.figures import at, handover_waits, in_words, lines_of, rate_of, request_waits
 from cluster.launch.moving import Mover
@@ -51,6 +51,8 @@ class Settings:
     moves: int = 4
     pause: float = 0.01
     is_quiet: bool = False
+    # How many of the moves make a primary and a secondary change roles.
+    swaps: float = 0.2
     # The machine has other work: waits are longer, and a request that takes more than 10 seconds is no violation.
     is_busy: bool = False
 
@@ -79,7 +81,7 @@ class Run:
         self.cluster = LocalCluster(settings.directory, settings.shape, settings.program, ROUGH if settings.is_rough else CALM, settings.bugs, pause=settings.pause)
         self.operator = Operator(self.cluster.pages, 240.0 if settings.is_busy else 90.0)
         self.story = Story(self.cluster, self.operator, settings.shape.seed, self.tell)
-        self.mover = Mover(self.operator, settings.shape.seed)
+        self.mover = Mover(self.operator, settings.shape.seed, settings.swaps)
         self.verdict: Verdict | None = None
         # Spans of time, by what went on in them.
         self.spans: dict[str, list[tuple[int, int]]] = {"at rest": [], "while a server is drained": []}
@@ -97,7 +99,7 @@ class Run:
             self.tell(f"{self.settings.shape.servers} servers, {self.settings.shape.controllers} controllers and {len(self.cluster.members)} members of etcd run; "
                       f"a page is at http://127.0.0.1:{next(iter(self.cluster.pages.values()))}/")
             journal = os.urandom(JOURNAL_BITS // 8).hex().lstrip("0") or "1"
-            await self.story.reopen(document_of(self.settings.shape), [], "the first opening", journal=journal, epoch=1)
+            await self.story.open(journal)
             await self.cluster.processes.start("clients")
             await self.harm()
             counts = (await self.cluster.tell_proxies(counts=True))["counts"]
@@ -133,12 +135,10 @@ class Run:
     async def do_at(self, when: float, name: str) -> None:
         """Does a part of the story at a time."""
         await asyncio.sleep(max(0.0, when - time.monotonic()))
-        part: Callable[[], Awaitable[object]] = self.drain if name == "drain" else getattr(self.story, name)
+        own = {"drain": self.drain, "lose_server": self.lose_server, "forget_twice": self.forget_twice}
+        part: Callable[[], Awaitable[object]] = own.get(name) or getattr(self.story, name)
         try:
-            if name == "lose_server":
-                await self.lose_server()
-            else:
-                await part()
+            await part()
         except (NoLeader, NotReady) as why:
             self.tell(f"{name}: {why}")
 
@@ -156,6 +156,17 @@ class Run:
         """Loses a server in a handover, which nobody else moves meanwhile."""
         await self.story.lose_server()
         self.mover.avoided |= self.story.lost
+
+    async def forget_twice(self) -> None:
+        """Restarts a server twice, without its slots, while copies of messages to it come late: the first restore, too. In between replicas are moved."""
+        server = self.story.dice.choice(self.story.alive)
+        await self.story.copy_late(server, True)
+        for _ in range(2):
+            self.mover.avoided.add(server)
+            await self.story.restart_server(True, server, 40)
+            self.mover.avoided.discard(server)
+            await asyncio.sleep(2.0)
+        await self.story.copy_late(server, False)
 
     async def calm_down(self) -> None:
         """Lets messages through again, and ends the clients, which read everything at the end."""
@@ -185,7 +196,7 @@ class Run:
         by_span = {name: rate_of(asked, spans) for name, spans in self.spans.items() if spans}
         histories = lines_of(where / "histories.jsonl")
         situations = situations_of(histories, self.verdict.replies, self.verdict.counts + self.story.counts)
-        if clients.get("failures") and not self.story.lost and not self.settings.is_busy:
+        if clients.get("failures") and self.story.counts["reopenings"] == 1 and not self.settings.is_busy:
             self.verdict.faults.append(f"{clients['failures']} requests were not acknowledged within 10 s")
         orders = self.verdict.counts["orders"] / self.moved_for if self.moved_for else 0.0
         return Result(self.verdict, clients, counts, self.story.failovers, request_waits(asked), handover_waits(histories), situations, by_span, orders)
@@ -227,10 +238,16 @@ def default_program() -> str:
     return f"{sys.executable} {ROOT / 'tools' / 'smpland_model.py'} -"
 
 
+def add_session(parser: argparse.ArgumentParser) -> None:
+    """Adds the options that say which session decides."""
+    parser.add_argument("--program", default=default_program(), help="the session's command line (%(default)s)")
+    parser.add_argument("--session", dest="program", metavar="PATH", type="{} -".format, default=argparse.SUPPRESS, help="a built smpland, which decides")
+
+
 def arguments() -> argparse.Namespace:
     """Reads the command line."""
     parser = argparse.ArgumentParser(prog="cluster.run", description="Runs a cluster under load, moves it and harms it, and checks what came of it.")
-    parser.add_argument("--program", default=default_program(), help="the session's command line (%(default)s)")
+    add_session(parser)
     parser.add_argument("--seconds", type=float, default=60.0, help="how long things are moved and harmed (%(default)s); start, rest and checks come on top")
     parser.add_argument("--servers", type=int, default=8, help="how many servers (%(default)s)")
     parser.add_argument("--shards", type=int, default=64, help="how many shards (%(default)s)")
@@ -260,6 +277,9 @@ def main() -> int:
         result = asyncio.run(Run(settings).run())
         print(report(result))
         return 1 if result.verdict.faults else 0
+    except NotOpened as why:
+        print(f"cluster: {why}", file=sys.stderr)
+        return 1
     finally:
         if told.keep:
             shutil.copytree(directory, told.keep, dirs_exist_ok=True, ignore=shutil.ignore_patterns("*.sock", "etcd-*", "member"))

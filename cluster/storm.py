@@ -13,12 +13,13 @@ from collections import Counter
 from dataclasses import dataclass, field
 from pathlib import Path
 
+from cluster.faults.story import NotOpened
 from cluster.launch.cluster import program_of
 from cluster.launch.operator import NoLeader
 from cluster.launch.processes import NotReady
 from cluster.launch.shape import Shape
 from cluster.launch.situations import SITUATIONS
-from cluster.run import Result, Run, Settings, default_program, in_words
+from cluster.run import Result, Run, Settings, add_session, in_words
 from cluster.wire import Failed
 
 # What may happen in a run, and how often.
@@ -50,9 +51,12 @@ class Sums:
 
 
 def parts_of(seed: int, loses: bool) -> tuple[tuple[float, str], ...]:
-    """The harm of a run: everything of HARM at times of its own, and at the end perhaps a server that is lost."""
+    """The harm of a run: everything of HARM at times of its own, in each third run a reopening behind a leader that was stopped, and at the end perhaps a
+    server that is lost."""
     dice = random.Random(f"parts {seed}")
     parts = [(dice.uniform(0.05, 0.75), name) for name, count in HARM for _ in range(count)]
+    if seed % 3 == 0:
+        parts = [(when, "reopen_behind_leader" if name == "freeze_leader" else name) for when, name in parts]
     return tuple(sorted([*parts, (0.8, "lose_server")] if loses else parts))
 
 
@@ -77,10 +81,11 @@ class Storm:
         told, begun = self.told, time.monotonic()
         directory = Path(tempfile.mkdtemp(prefix=f"storm-{seed}-", dir="/dev/shm" if os.access("/dev/shm", os.W_OK) else None))
         shape = Shape(servers=told.servers, shards=told.shards, clients=told.clients, seed=seed)
-        settings = Settings(directory, shape, program_of(told.program), told.seconds, not told.calm, parts_of(seed, seed % 2 == 0), tuple(told.bug), is_quiet=True)
+        parts = parts_of(seed, seed % 2 == 0)
+        settings = Settings(directory, shape, program_of(told.program), told.seconds, not told.calm, parts, tuple(told.bug), is_quiet=True, is_busy=told.busy)
         try:
             result = await Run(settings).run()
-        except (NotReady, OSError, TimeoutError, NoLeader, Failed) as why:
+        except (NotReady, NotOpened, OSError, TimeoutError, NoLeader, Failed) as why:
             self.sums.failed.append(f"seed {seed}: {type(why).__name__} {why}")
             print(f"seed {seed}: {why}", flush=True)
             return
@@ -114,12 +119,13 @@ def arguments() -> argparse.Namespace:
     parser.add_argument("runs", type=int, nargs="?", default=200)
     parser.add_argument("--seed", type=int, default=1, help="the first seed")
     parser.add_argument("--jobs", type=int, default=1, help="runs side by side")
-    parser.add_argument("--program", default=default_program())
+    add_session(parser)
     parser.add_argument("--seconds", type=float, default=20.0)
     parser.add_argument("--servers", type=int, default=8)
     parser.add_argument("--shards", type=int, default=64)
     parser.add_argument("--clients", type=int, default=16)
     parser.add_argument("--calm", action="store_true")
+    parser.add_argument("--busy", action="store_true", help="the machine has other work: waits are longer, and slow requests are no violations")
     parser.add_argument("--bug", action="append", default=[])
     parser.add_argument("--keep", type=Path, metavar="DIR", help="keep the folders of runs with violations there")
     return parser.parse_args()

@@ -57,6 +57,7 @@ class MapOwner:
             value = json.dumps({"to": publication["to"], "version": publication["version"]})
             key = self.prefix + publication["shard"]
             guards = [is_unchanged(BASE, revision_of(base)), is_unchanged(key, revision_of(shown))]
+            self.counts["map writes of one that does not lead"] += not self.leads()
             written = await self.etcd.transact(guards, [put(key, value)])
             return DONE if written else "the map has changed"
         except EtcdFault as why:

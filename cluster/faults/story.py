@@ -21,6 +21,10 @@ from cluster.wire import Address, Channel, Failed
 from smplan.control import Line
 
 
+class NotOpened(Exception):
+    """The service was not opened, so that there is nothing to move."""
+
+
 class Story:
     """Does harm to a cluster, by a seed, and what an operator does afterwards."""
 
@@ -34,6 +38,8 @@ class Story:
         self.permits: list[Line] = []
         self.restarting = asyncio.Lock()
         self.names = 0
+        # Why the last reopening was refused.
+        self.refusal: Line | None = None
         self.document = document_of(cluster.shape)
 
     @property
@@ -74,18 +80,39 @@ class Story:
         self.tell(f"{await self.leader()} leads after {self.failovers[-1]:.1f} s")
         await self.cluster.processes[leader].start()
 
-    async def freeze_leader(self, seconds: float = 4.0) -> None:
-        """Stops the leading controller until it is deposed, then lets it go on."""
+    async def freeze_leader(self, seconds: float = 4.0, reopens: bool = False) -> None:
+        """Stops the leading controller, while it writes the map, until it is deposed; then lets it go on. Its messages to etcd are slow meanwhile, so that
+        it is in the middle of a write. If it `reopens`, the next leader does, before that one goes on."""
         leader = await self.leader()
         if leader is None:
             return
-        self.tell(f"stop {leader}, which leads")
-        self.cluster.processes[leader].signal(signal.SIGSTOP)
+        links = [f"etcd {leader} "]
+        await self.cluster.tell_proxies(links=links, rates={"delay": 1.0, "longest": 0.5})
         try:
+            await self.wait_for_publication()
+            self.tell(f"stop {leader}, which leads")
+            self.cluster.processes[leader].signal(signal.SIGSTOP)
             await asyncio.sleep(seconds)
+            if reopens:
+                await self.reopen(without(await self.state(), self.document, self.lost), [], f"{leader} does not answer", replaces=True)
         finally:
             self.cluster.processes[leader].signal(signal.SIGCONT)
+            await asyncio.sleep(1.5)
+            await self.cluster.tell_proxies(links=links, rates=self.cluster.proxies.rates.get("etcd", {"delay": 0.0}))
         self.counts["leaders stopped"] += 1
+
+    async def wait_for_publication(self, seconds: float = 4.0) -> None:
+        """Waits until the leader has a write of the map under way, for some seconds at most."""
+        until = time.monotonic() + seconds
+        while time.monotonic() < until:
+            if any(it["what"].startswith("publish") for it in (await self.operator.state()).get("orders", [])):
+                break
+            await asyncio.sleep(0.02)
+
+    async def reopen_behind_leader(self) -> None:
+        """Stops the leading controller while it writes the map, and reopens before it goes on: what it writes then is of an epoch before."""
+        async with self.restarting:
+            await self.freeze_leader(reopens=True)
 
     async def kill_member(self) -> None:
         """Kills a member of etcd, and starts it again."""
@@ -108,11 +135,18 @@ class Story:
             await asyncio.sleep(self.dice.uniform(0.2, 1.0))
             await self.cluster.processes[name].start()
 
-    async def restart_server(self, lose_slots: bool | None = None) -> bool:
+    async def copy_late(self, name: str, is_late: bool) -> None:
+        """Has a copy of each message to a server come late, or as many as usual."""
+        links = [f"{kind} {it} {name}" for kind in ("order", "ask") for it in self.cluster.shape.controller_names]
+        links.append(f"ask {name} ")
+        usual = self.cluster.proxies.rates.get("order", {"repeat": 0.0, "rare": 0.0})
+        await self.cluster.tell_proxies(links=links, rates={"repeat": 1.0, "rare": 1.0, "longest": 0.5} if is_late else usual)
+
+    async def restart_server(self, lose_slots: bool | None = None, server: str | None = None, tries: int = 10) -> bool:
         """Asks for leave to restart a server, kills it, starts it again with or without its slots, and tells that it is up."""
         async with self.restarting:
-            name, by = self.dice.choice(self.alive), self.name("rollout")
-            permit = await self.approved(name, by)
+            name, by = server or self.dice.choice(self.alive), self.name("rollout")
+            permit = await self.approved(name, by, tries)
             if permit is None:
                 return False
             lose = self.dice.random() < 0.5 if lose_slots is None else lose_slots
@@ -159,13 +193,29 @@ class Story:
 
     # A server that is lost.
 
-    async def reopen(self, document: Line, lost: list[str], why: str, **more: Any) -> bool:
-        """Reopens, until the opening is in force; tells whether it is."""
-        reply = await self.operator.do({"do": "reopen", "document": document, "lost": lost, "why": why, **more})
-        if "fence" not in reply:
-            self.tell(f"reopening refused: {reply}")
+    async def begin_reopening(self, line: Line) -> int | None:
+        """Begins a reopening, and returns its base; none if it is refused."""
+        reply = await self.operator.do(line)
+        if "fence" in reply:
+            return reply["fence"][0]["base"]
+        self.refusal = reply
+        self.tell(f"reopening refused: {reply}")
+        return None
+
+    async def open(self, journal: str) -> None:
+        """Begins a journal over the servers, which have nothing yet; raises NotOpened if that is refused, or does not come to its end."""
+        if not await self.reopen(self.document, [], "the first opening", journal=journal, epoch=1):
+            raise NotOpened(f"the first opening was refused: {self.refusal}" if self.refusal else "the first opening did not come to its end")
+
+    async def reopen(self, document: Line, lost: list[str], why: str, replaces: bool = False, **more: Any) -> bool:
+        """Reopens, until the opening is in force; tells whether it is. If it `replaces`, it begins again in place of the first one while that is under way."""
+        line = {"do": "reopen", "document": document, "lost": lost, "why": why}
+        base = await self.begin_reopening({**line, **more})
+        if base is not None and replaces:
+            await asyncio.sleep(self.dice.uniform(0.0, 0.4))
+            base = await self.begin_reopening(line) or base
+        if base is None:
             return False
-        base = reply["fence"][0]["base"]
         begun = time.monotonic()
         while time.monotonic() - begun < self.operator.patience:
             state = (await self.operator.ask({"do": "state"})).get("state", {})
@@ -217,7 +267,7 @@ class Story:
             self.lost.add(new)
             self.counts["servers lost in a handover"] += 1
             document = without(await self.state(), self.document, self.lost)
-            return await self.reopen(document, [new], f"{new} was lost while it took {shard} from {old}")
+            return await self.reopen(document, [new], f"{new} was lost while it took {shard} from {old}", replaces=self.dice.random() < 0.5)
 
     async def stuck_handover(self, target: str | None) -> tuple[str, str, str] | None:
         """Begins a handover, holds orders to the old owner back until the new one is prepared, and kills that one. Returns shard, old and new owner."""

@@ -56,7 +56,7 @@ class Mover:
         }
 
     def choose(self, state: Line, most: int) -> dict[str, Line]:
-        """Chooses streams for shards that may be moved, at most so many."""
+        """Chooses streams for shards that may be moved, up to a greatest number."""
         rooms = self.rooms(state)
         shards = [it for it in state.get("shards", []) if it["shard"] not in self.busy]
         self.dice.shuffle(shards)

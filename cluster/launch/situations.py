@@ -62,7 +62,7 @@ def situations_of(events: list[dict], replies: Counter[str], counts: Counter[str
     found["a second restarted"] = replies["restarted: ignored"]
     found["a passed request after its handover ended"] = kinds["passed-late"]
     found["an append that timed out and went through"] = counts["appends that went through unanswered"]
-    found["a map write of a deposed leader"] = counts["publications of one that does not lead"]
+    found["a map write of a deposed leader"] = counts["publications of one that does not lead"] + counts["map writes of one that does not lead"]
     found["a repetition while work runs"] = kinds["order-at-work"]
     found["a server that crashed without leave"] = counts["servers killed without leave"]
     found["a leader killed between an order and its answer's entry"] = counts["leaders killed with orders outstanding"]

@@ -13,7 +13,7 @@ BUGS = {
     "commit-after-fence": "work that began before a fence commits after it",
     "settle-twice": "a settle is taken each time it comes",
     "add-without-cut": "a new owner takes over before the writes up to the cut are there",
-    "fence-while-passed": "a fence is answered while a passed request still runs",
+    "fence-while-passed": "the server answers a fence while a passed request still runs",
     "cut-unheeded": "a new owner does not take the cut from a request that is passed on, and may follow the old one behind it",
     "change-while-writing": "change to secondary commits while requests run, and before the secondaries have all writes",
 }
