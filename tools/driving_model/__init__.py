@@ -2,5 +2,10 @@
 
 `controller` is the driver's reference: a deterministic state machine over commands, with replies that compare well.
 `rules` has each rule with a switch, `laws` what may never be seen, `schedule` random schedules, `plays` worked ones.
-docs/MODEL.md, "The model of the network", says what it leaves out and how to run it.
+The laws look at the real slots after every event; after a fair end all plans are done.
+
+What it leaves out: random schedules have at most four servers and three shards; at a reopening shards, rooms and
+loads stay; data are lists of writes, lost together with the slots; the map's owner never forgets, a server that was
+given up never comes back with its slots, and no message is forged. It asks more in one thing: a secondary that is
+recorded down has to have a write, too, before it is acknowledged.
 """

@@ -332,10 +332,7 @@ class Controller:
         self.epoch, self.epoch_before = self.epoch + 1, self.epoch
         fresh = Record(record.document, tuple(map(tuple, record.cells)), record.permits)
         fresh.listed = record.listed
-        fresh.floors = [
-            min(record.document.floor(it), max(record.floors[it], record.live(it))) for it in record.shards
-        ]
-        fresh.limit = record.limit
+        fresh.floors, fresh.limit = record.floors, record.limit
         self.record = fresh
         self.forget_names()
         return Outcome(self.opened(), has_changed=True)
