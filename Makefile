@@ -49,7 +49,8 @@ vectors: ## writes build/agent-vectors.txt, by which a port to another language 
 ## To change it (docs/CONTRIBUTING.md)
 
 # (first what takes seconds; the gate leaves the program that it has proved and run beside its crate; of the wrong versions those of
-# tests/must-fail are tried, which undo a promise, and those that only tests catch)
+# tests/must-fail are tried, which undo a promise, and those that only tests catch. A check takes no libraries of two builds, and `rt ci` gives back
+# those that stood beside the crates before. So these go first, and edits are tried before `make agent` builds the agent's libraries again)
 test: ## the gate, in more than an hour: all proofs from nothing, all tests, wrong versions that must be refused; at the end what was left out
 	@mkdir -p build && rm -f build/left-out
 	scripts/check-layout
@@ -57,13 +58,14 @@ test: ## the gate, in more than an hour: all proofs from nothing, all tests, wro
 	scripts/check-lemmas
 	scripts/check-vocabulary
 	scripts/make-audit --check
+	rm -rf crates/*/out/rlib
 	rt ci 2>&1 | tee build/rt.log
 	cp crates/smplan/out/smplan build/smplan
 	cp crates/smpland/out/smpland build/smpland
 	scripts/keep-verdict build/rt.log
-	$(MAKE) --jobs=2 --output-sync=line check-caught check-program check-tests
 	scripts/check-try-edits
 	scripts/try-edits --always tests/must-fail --until 0
+	$(MAKE) --jobs=2 --output-sync=line check-caught check-program check-tests
 	@if [ -s build/left-out ]; then echo "This machine lacks something, so that tests were left out:"; sort -u build/left-out; else echo "No test was left out."; fi
 
 # (wrong versions that only tests catch, which take longest; the scripts over the program that stands in build; and those over tests)
@@ -99,7 +101,10 @@ check-tests:
 	scripts/check-memory-tests sm_tests_json sm_tests_placement sm_tests_rights sm_tests_text sm_tests sm_tests_machine sm_tests_plans sm_tests_play sm_tests_board sm_tests_planner sm_map
 	scripts/refused-programs
 
-edits: ## tries all wrong versions, over what make test has built: hours of a processor
+edits: ## tries all wrong versions, over what make test has proved: hours of a processor
+	@mkdir -p build
+	rm -rf crates/*/out/rlib
+	rt ci >build/rt-edits.log 2>&1 || { tail -n 20 build/rt-edits.log; exit 1; }
 	scripts/try-edits --always tests/must-fail
 
 cluster: ## a minute of a real cluster of Redis servers, moved and harmed while clients write (it needs Debian's etcd-server and redis-server)
