@@ -11,7 +11,7 @@ use Rattle.sm_reopening.specs.States.{is_left_out, says_lost}
 use Rattle.sm_reopening.specs.Ongoing.{left_out_of, net_reopening, shards_of}
 use Rattle.sm_driver.specs.Orders.{epoch_base}
 use Rattle.sm_driver.specs.Permits.{AreEarlierPermits}
-use Rattle.sm_document_reopening.specs.declared.reopening.Ground.{Ground}
+use Rattle.sm_document_reopening.specs.declared.beginning.Ground.{Ground}
 use Rattle.sm_document_reopening.specs.Begun.{BeginsUnder, IsBegun, IsGround, members_under}
 use Rattle.sm_document_reopening.specs.Members.{membership_at}
 

@@ -9,8 +9,8 @@ use Rattle.sm_reopening.specs.declared.party.Membership.{Membership}
 use Rattle.sm_reopening.specs.States.{is_left_out, says_lost}
 use Rattle.sm_reopening.specs.Ongoing.{left_out_of, net_reopening, shards_of}
 use Rattle.sm_driver.specs.Orders.{epoch_base}
-use Rattle.sm_document_reopening.specs.declared.reopening.Begun.{Begun}
-use Rattle.sm_document_reopening.specs.declared.reopening.Ground.{Ground}
+use Rattle.sm_document_reopening.specs.declared.beginning.Begun.{Begun}
+use Rattle.sm_document_reopening.specs.declared.beginning.Ground.{Ground}
 use Rattle.sm_document_reopening.specs.Members.{membership_at}
 use Rattle.sm_document_reopening.specs.Numbers.{AreNumbered, KeepsNames}
 

@@ -3,6 +3,7 @@
 #![tactic(auto)]
 
 mod answers;
+mod beginning;
 mod choice;
 mod confirming;
 mod fault;

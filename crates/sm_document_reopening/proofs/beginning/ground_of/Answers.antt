@@ -3,7 +3,7 @@ use Rattle.std.proofs.Common.{◌≡◌, ◌∙◌, ap, slice_get, subst, sym}
 use Rattle.sm_placement.specs.Config.{server_names, shard_names}
 use Rattle.sm_placement.specs.Setup.{names_of_servers, names_of_shards}
 use Rattle.sm_document_reopening.specs.Numbers.{AreNumbered}
-use Rattle.sm_document_reopening.proofs.reopening.ground_of.Goals as goal
+use Rattle.sm_document_reopening.proofs.beginning.ground_of.Goals as goal
 
 pub returns-clause-ground : goal.returns-clause-ground
 returns-clause-ground c =

@@ -4,7 +4,7 @@ use Rattle.sm_network.specs.ReopeningLaws.{no_reopening}
 use Rattle.sm_document_reopening.specs.Begun.{IsGround}
 use Rattle.sm_document_reopening.proofs.Begun.{begun_all, begun_over, members_count}
 use Rattle.sm_document_reopening.proofs.Numbers.{keeps_servers, keeps_shards}
-use Rattle.sm_document_reopening.proofs.reopening.begin_over.Goals as goal
+use Rattle.sm_document_reopening.proofs.beginning.begin_over.Goals as goal
 
 pub begin-requires-clause-servers : goal.begin-requires-clause-servers
 begin-requires-clause-servers c =
