@@ -1,7 +1,8 @@
 -- What the commands that change something make of a driver.
-use Rattle.std.specs.Prelude.{◌≡◌, ◌⊎◌, ℕ, true, Option, Some, None, option_map}
+use Rattle.std.specs.Prelude.{◌≡◌, ◌⊎◌, ℕ, true, List, [], Option, Some, None, length, option_map}
 use Rattle.sm_reservation.specs.declared.stream_id.StreamId.{StreamId}
-use Rattle.sm_placement.specs.Setup.{Sizes}
+use Rattle.sm_placement.specs.Setup.{Setup, Sizes}
+use Rattle.sm_placement.specs.Config.{setup_of}
 use Rattle.sm_placement.specs.Place.{Place}
 use Rattle.sm_placement.specs.Lead.{IsSettled}
 use Rattle.sm_plan_code.specs.Plan.{PlanModel}
@@ -9,6 +10,15 @@ use Rattle.sm_protocol.specs.State.{opened}
 use Rattle.sm_driver.specs.Driver.{DriverModel, HasApproved, HasBegunPlan, HasEndedRestart, HasRestored, HasTakenStep, is_due, record_of}
 use Rattle.sm_driver.specs.Epochs.{HasOpenedEpoch}
 use Rattle.sm_open_journal.specs.declared.opened.Opened.{Opened}
+use Rattle.sm_network.specs.Reopening.{Reopening, Settlement}
+use Rattle.sm_network.specs.ReopeningLaws.{no_reopening}
+use Rattle.sm_reopening.specs.Ongoing.{net_reopening}
+use Rattle.sm_document_reopening.specs.Begun.{BeginsUnder}
+use Rattle.sm_document_reopening.specs.InForce.{IsInForce}
+use Rattle.sm_document_reopening.specs.Reopening.{ReopeningModel}
+use Rattle.sm_reopening_lines.specs.Taken.{TakesConfirm, TakesSettled, TakesTold}
+use Rattle.sm_session.specs.declared.reopening.UnderWay.{UnderWay}
+use Rattle.sm_session.specs.declared.session.Session.{Session}
 
 -- the driver of a journal that is open
 abbrev pub driver_of : Option Opened → Option DriverModel
@@ -48,7 +58,62 @@ pub data Changes (old new : DriverModel) : Type 0 where
   OpensEpoch : HasOpenedEpoch old new → Changes old new
 
 -- what a command that changed something made of the driver
-abbrev pub HasChanged : Option DriverModel → Option DriverModel → Type 0
-HasChanged None (Some new) = HasOpened new
-HasChanged (Some old) (Some new) = Changes old new
-HasChanged old None = ⊥
+abbrev pub HasDriven : Option DriverModel → Option DriverModel → Type 0
+HasDriven None (Some new) = HasOpened new
+HasDriven (Some old) (Some new) = Changes old new
+HasDriven old None = ⊥
+
+-- ---- reopenings
+
+-- the reopening that is under way
+abbrev pub reopening_under_way : Option UnderWay → Option ReopeningModel
+reopening_under_way = option_map (λ (u : UnderWay). u.reopening)
+
+-- a reopening has begun under a document, over what had numbers
+abbrev pub IsBegunOver : Reopening → Setup → ReopeningModel → Type 0
+IsBegunOver before numbered r = (lost : List (List ℕ)) × BeginsUnder before numbered r.document.config r.numbering lost r.epoch r.ongoing
+
+-- a reopening has begun: in place of the one under way, over what the driver has recorded, or over nothing
+abbrev pub BeginsReopening : Option DriverModel → Option ReopeningModel → Option ReopeningModel → Type 0
+BeginsReopening driver (Some before) (Some new) = IsBegunOver (net_reopening before.ongoing) before.numbering new
+BeginsReopening (Some d) None (Some new) = IsBegunOver (no_reopening (length d.machine.placement.setup.servers)) d.machine.placement.setup new
+BeginsReopening None None (Some new) = IsBegunOver (no_reopening 0) (setup_of [] []) new
+BeginsReopening driver before None = ⊥
+
+-- a line has begun a reopening
+abbrev pub HasReopened : Option Opened → Option UnderWay → Option UnderWay → Type 0
+HasReopened opened old new = BeginsReopening (driver_of opened) (reopening_under_way old) (reopening_under_way new)
+
+-- the reopening under way has taken an answer, or was confirmed
+abbrev pub ReopeningGoesOn : Option ReopeningModel → Option ReopeningModel → Type 0
+ReopeningGoesOn (Some old) (Some new) = TakesTold old new ⊎ (TakesConfirm old new ⊎ TakesSettled old new)
+ReopeningGoesOn old new = ⊥
+
+-- a line has told or confirmed something of the reopening under way
+abbrev pub HasGoneOn : Option UnderWay → Option UnderWay → Type 0
+HasGoneOn old new = ReopeningGoesOn (reopening_under_way old) (reopening_under_way new)
+
+-- what was settled is in force
+abbrev pub OpensOf : ReopeningModel → Option Opened → Type 0
+OpensOf r (Some o) = (s : Settlement) → (net_reopening r.ongoing).settlement ≡ Some s → IsInForce r s o.driver
+OpensOf r None = ⊥
+
+-- a party of the reopening under way has taken its settle
+abbrev pub SettlesTo : Option ReopeningModel → ReopeningModel → Type 0
+SettlesTo (Some r) last = TakesSettled r last
+SettlesTo None last = ⊥
+
+-- the last party has taken its settle, and the settlement is in force
+abbrev pub ComesInForce : Option UnderWay → Option UnderWay → Option Opened → Type 0
+ComesInForce under after new = (last : ReopeningModel) × SettlesTo (reopening_under_way under) last × (after ≡ None) × OpensOf last new
+
+-- What a command that changed something made of what was opened, and of the reopening under way.
+pub data HasChanged (opened : Option Opened) (under : Option UnderWay) (new : Option Opened) (after : Option UnderWay) : Type 0 where
+  Drives : after ≡ under → HasDriven (driver_of opened) (driver_of new) → HasChanged opened under new after
+  Reopens : new ≡ opened → HasReopened opened under after → HasChanged opened under new after
+  Follows : new ≡ opened → HasGoneOn under after → HasChanged opened under new after
+  Opens : ComesInForce under after new → HasChanged opened under new after
+
+-- what a line that changed something made of a session
+abbrev pub SessionChanges : Session → Session → Type 0
+SessionChanges old new = HasChanged old.opened old.under_way new.opened new.under_way

@@ -43,6 +43,7 @@ pub fn change(
 
 /// Replies to a command that changes a journal, as long as none is open. Nothing changes.
 pub fn change_nothing(
+    at: Standing,
     alloc: Global,
     writer: &mut Writer,
     command: LineCommand<'_, '_>,
@@ -51,7 +52,8 @@ pub fn change_nothing(
 {
     match command {
         LineCommand::Restarted { .. } => write_ignored(writer, "old")?,
-        _ => refuse(writer, alloc, "NotOpened", &[])?,
+        LineCommand::Answered { .. } if at.is_reopening => write_ignored(writer, "old")?,
+        _ => refuse(writer, alloc, at.closed_word(), &[])?,
     }
     Ok(false)
 }

@@ -8,6 +8,7 @@ mod changing;
 mod next_epoch;
 mod opening;
 mod planning;
+mod reopening;
 mod restarting;
 mod restoring;
 mod session;

@@ -3,7 +3,7 @@ ghost use Rattle.std.specs.Prelude.{◌≡◌, IfOk, IfSome, OnOk, Some, false, 
 ghost use Rattle.sm_placement.specs.Setup.{sizes_of};
 ghost use Rattle.sm_placement.specs.Layout.{place_of};
 ghost use Rattle.sm_placement.specs.Lead.{IsSettled};
-ghost use Rattle.sm_session.specs.Changes.{HasChanged, driver_of};
+ghost use Rattle.sm_session.specs.Changes.{HasDriven, driver_of};
 
 use crate::standing::Standing;
 use json::Writer;
@@ -16,7 +16,7 @@ use sm_plan_text::{Document, TextFault, read_document_value};
 use std::alloc::{AllocError, Global};
 
 /// Returns the document that a value is; where it is none, writes what is wrong with it.
-fn read_document(
+pub fn read_document(
     alloc: Global,
     value: &Tree<'_>,
     writer: &mut Writer,
@@ -91,7 +91,7 @@ pub fn open(
     journal: u64,
     epoch: u32,
 ) -> Result<bool, AllocError>
-    ensures changed { IfOk result (λ changed. changed ≡ true → HasChanged (driver_of opened.old) (driver_of opened.new)) }
+    ensures changed { IfOk result (λ changed. changed ≡ true → HasDriven (driver_of opened.old) (driver_of opened.new)) }
     ensures unchanged { IfOk result (λ changed. changed ≡ false → opened.new ≡ opened.old) }
 {
     if opened.is_some() || at.is_reopening {

@@ -4,6 +4,7 @@ ghost use Rattle.sm_session.specs.declared.session.LineEffect.TheVariants as did
 
 use crate::changing::{change, change_nothing};
 use crate::opening::open;
+use crate::reopening::{UnderWay, confirm, fenced, reopen, settled};
 use crate::standing::Standing;
 use journal_lines::is_object;
 use json::{Scratch, Writer};
@@ -13,6 +14,7 @@ use sm_commands::{
 };
 use sm_open_journal::Opened;
 use sm_placement::Config;
+use sm_reopening::SettledEffect;
 use std::alloc::{AllocError, Global};
 use std::mem;
 
@@ -29,25 +31,32 @@ pub enum LineEffect {
 /// A driver under commands, from the first line on.
 pub struct Session {
     pub(crate) opened: Option<Opened>,
+    /// The reopening that is under way. As long as it is, what was opened before it stays, for questions alone.
+    pub(crate) under_way: Option<UnderWay>,
     /// How many commands have changed something.
     pub(crate) place: u64,
 }
 
 impl Session {
     ghost use Rattle.std.specs.Prelude.{true};
-    ghost use Rattle.sm_session.specs.Changes.{HasChanged, driver_of};
+    ghost use Rattle.sm_session.specs.Changes.{SessionChanges};
 
     /// Returns a session before its first line.
     pub fn new() -> Self {
         Session {
             opened: None,
+            under_way: None,
             place: 0,
         }
     }
 
     /// Ends a session.
     pub fn close(self) {
-        let Session { opened, place: _ } = self;
+        let Session {
+            opened,
+            under_way: _under_way,
+            place: _,
+        } = self;
         match opened {
             Some(opened) => opened.close(),
             None => {}
@@ -61,7 +70,7 @@ impl Session {
         line: &[u8],
         reply: &mut Vec<u8>,
     ) -> Result<LineEffect, AllocError>
-        ensures changed { IfOk result (λ applied. applied ≡ did.Changed → HasChanged (driver_of self.old.opened) (driver_of self.new.opened)) }
+        ensures changed { IfOk result (λ applied. applied ≡ did.Changed → SessionChanges self.old self.new) }
         ensures unchanged { IfOk result (λ applied. applied ≡ did.Unchanged → self.new ≡ self.old) }
     {
         let mut writer = Writer::new(mem::replace(reply, Vec::new(alloc)));
@@ -83,7 +92,7 @@ impl Session {
         line: &[u8],
         writer: &mut Writer,
     ) -> Result<bool, AllocError>
-        ensures changed { IfOk result (λ changed. changed ≡ true → HasChanged (driver_of self.old.opened) (driver_of self.new.opened)) }
+        ensures changed { IfOk result (λ changed. changed ≡ true → SessionChanges self.old self.new) }
         ensures unchanged { IfOk result (λ changed. changed ≡ false → self.new ≡ self.old) }
     {
         if line.len() > MOST_BYTES {
@@ -113,7 +122,7 @@ impl Session {
         line: &Tree<'_>,
         writer: &mut Writer,
     ) -> Result<bool, AllocError>
-        ensures changed { IfOk result (λ changed. changed ≡ true → HasChanged (driver_of self.old.opened) (driver_of self.new.opened)) }
+        ensures changed { IfOk result (λ changed. changed ≡ true → SessionChanges self.old self.new) }
         ensures unchanged { IfOk result (λ changed. changed ≡ false → self.new ≡ self.old) }
     {
         write_id(writer, id_of(line))?;
@@ -138,7 +147,7 @@ impl Session {
     pub(crate) fn standing(&self) -> Standing {
         Standing {
             place: self.place.saturating_add(1),
-            is_reopening: false,
+            is_reopening: self.under_way.is_some(),
         }
     }
 
@@ -149,7 +158,7 @@ impl Session {
         command: LineCommand<'_, '_>,
         writer: &mut Writer,
     ) -> Result<bool, AllocError>
-        ensures changed { IfOk result (λ changed. changed ≡ true → HasChanged (driver_of self.old.opened) (driver_of self.new.opened)) }
+        ensures changed { IfOk result (λ changed. changed ≡ true → SessionChanges self.old self.new) }
         ensures unchanged { IfOk result (λ changed. changed ≡ false → self.new ≡ self.old) }
     {
         let at = self.standing();
@@ -174,12 +183,58 @@ impl Session {
             | LineCommand::Restore { .. }
             | LineCommand::NewEpoch => match &mut self.opened {
                 Some(opened) => change(opened, at, alloc, writer, command),
-                None => change_nothing(alloc, writer, command),
+                None => change_nothing(at, alloc, writer, command),
             },
+            LineCommand::Reopen { .. }
+            | LineCommand::Fenced { .. }
+            | LineCommand::Confirm { .. }
+            | LineCommand::Settled { .. } => self.go_on(at, alloc, command, writer),
             asked => {
                 self.tell(alloc, asked, writer)?;
                 Ok(false)
             }
+        }
+    }
+
+    /// Carries out a command of a reopening.
+    fn go_on(
+        &mut self,
+        at: Standing,
+        alloc: Global,
+        command: LineCommand<'_, '_>,
+        writer: &mut Writer,
+    ) -> Result<bool, AllocError>
+        ensures changed { IfOk result (λ changed. changed ≡ true → SessionChanges self.old self.new) }
+        ensures unchanged { IfOk result (λ changed. changed ≡ false → self.new ≡ self.old) }
+    {
+        match command {
+            LineCommand::Reopen {
+                document,
+                lost,
+                journal,
+                epoch,
+            } => reopen(
+                &self.opened,
+                &mut self.under_way,
+                alloc,
+                writer,
+                document,
+                lost,
+                journal,
+                epoch,
+            ),
+            LineCommand::Fenced { server, base, told } => {
+                fenced(&mut self.under_way, alloc, writer, server, base, told)
+            }
+            LineCommand::Confirm { base, cells } => {
+                confirm(&mut self.under_way, alloc, writer, base, cells)
+            }
+            LineCommand::Settled { server, base } => {
+                let (opened, under_way) = (&mut self.opened, &mut self.under_way);
+                let effect = settled(opened, under_way, at, alloc, writer, server, base)?;
+                Ok(effect != SettledEffect::Old)
+            }
+            _ => Ok(false),
         }
     }
 }

@@ -6,3 +6,14 @@ pub struct Standing {
     pub place: u64,
     pub is_reopening: bool,
 }
+
+impl Standing {
+    /// Returns the word for why nothing may be done to a journal that is not open.
+    pub fn closed_word(self) -> &'static str {
+        if self.is_reopening {
+            "Reopening"
+        } else {
+            "NotOpened"
+        }
+    }
+}

@@ -1,11 +1,12 @@
 //! Lines that ask, and change nothing.
 
+use crate::answering::write_ignored;
 use crate::planning::{write_check, write_drain, write_moves};
 use crate::session::Session;
 use json::Writer;
 use sm_commands::{
-    BadLine, CommandMember, LineCommand, LinePart, SlotNeeds, StateOf, read_slots, refuse,
-    write_bad, write_name, write_number, write_text,
+    LineCommand, SlotNeeds, StateOf, read_slots, refuse, write_bad, write_name, write_number,
+    write_text,
 };
 use sm_open_journal::{
     Opened, write_audit, write_audited, write_failed, write_map, write_notices, write_plan_of,
@@ -15,14 +16,14 @@ use sm_reservation::StreamId;
 use std::alloc::{AllocError, Global};
 
 /// Writes a member that is a list of nothing.
-fn write_no_list(writer: &mut Writer, name: &str) -> Result<(), AllocError> {
+pub fn write_no_list(writer: &mut Writer, name: &str) -> Result<(), AllocError> {
     writer.key(name)?;
     writer.begin_array()?;
     writer.end_array()
 }
 
 impl Session {
-    /// Writes the reply to a command that asks. A session does nothing about reopenings yet.
+    /// Writes the reply to a command that asks.
     pub(crate) fn tell(
         &self,
         alloc: Global,
@@ -30,23 +31,19 @@ impl Session {
         writer: &mut Writer,
     ) -> Result<(), AllocError> {
         match command {
-            LineCommand::Orders => return self.write_orders(writer),
+            LineCommand::Orders => return self.write_orders(alloc, writer),
             LineCommand::Hello => return self.write_hello(writer),
-            LineCommand::State { of: StateOf::Whole } => return self.write_state(writer),
+            LineCommand::State { of: StateOf::Whole } => return self.write_state(alloc, writer),
             LineCommand::Audit { server, place, .. } if place > self.place => {
                 return write_audited(writer, server, "later");
             }
-            LineCommand::Reopen { .. }
-            | LineCommand::Fenced { .. }
-            | LineCommand::Confirm { .. }
-            | LineCommand::Settled { .. } => {
-                let bad = BadLine::Shape(LinePart::Line, CommandMember::Do);
-                return write_bad(writer, alloc, bad);
+            LineCommand::Failed { .. } if self.under_way.is_some() => {
+                return write_ignored(writer, "old");
             }
             _ => {}
         }
         match &self.opened {
-            None => refuse(writer, alloc, "NotOpened", &[]),
+            None => refuse(writer, alloc, self.standing().closed_word(), &[]),
             Some(opened) => self.tell_recorded(opened, alloc, command, writer),
         }
     }
@@ -71,7 +68,16 @@ impl Session {
             LineCommand::Since { place } => {
                 write_since(opened, is_reopening, writer, self.place, place)
             }
+            _ if is_reopening => refuse(writer, alloc, "Reopening", &[]),
             _ => tell_planned(opened, alloc, command, writer),
+        }
+    }
+
+    /// Returns the journal of the reopening under way, if there is one.
+    fn journal(&self) -> Option<&str> {
+        match &self.under_way {
+            Some(current) => Some(current.journal.as_str()),
+            None => None,
         }
     }
 
@@ -83,7 +89,7 @@ impl Session {
                 write_number(writer, "epoch", u64::from(opened.driver.epoch()))?;
             }
             None => {
-                write_name(writer, "journal", None)?;
+                write_name(writer, "journal", self.journal())?;
                 write_name(writer, "epoch", None)?;
             }
         }
@@ -100,27 +106,42 @@ impl Session {
         writer.end_object()
     }
 
-    /// Writes all that is recorded.
-    fn write_state(&self, writer: &mut Writer) -> Result<(), AllocError> {
+    /// Returns the word for whether anything may begin.
+    fn condition(&self) -> &'static str {
+        match (&self.under_way, &self.opened) {
+            (Some(_), _) => "reopening",
+            (None, Some(_)) => "open",
+            (None, None) => "new",
+        }
+    }
+
+    /// Writes all that is recorded, and how far a reopening is.
+    fn write_state(&self, alloc: Global, writer: &mut Writer) -> Result<(), AllocError> {
+        let fence = match &self.opened {
+            Some(opened) => opened.driver.fence(),
+            None => 0,
+        };
         writer.key("state")?;
         writer.begin_object()?;
         self.write_place(writer)?;
-        match &self.opened {
-            Some(opened) => {
-                write_number(writer, "fence", opened.driver.fence())?;
-                write_text(writer, "is", "open")?;
-                write_recorded(opened, self.standing().is_reopening, writer)?;
-            }
-            None => {
-                write_number(writer, "fence", 0)?;
-                write_text(writer, "is", "new")?;
-            }
+        write_number(writer, "fence", fence)?;
+        write_text(writer, "is", self.condition())?;
+        if let Some(opened) = &self.opened {
+            write_recorded(opened, self.under_way.is_some(), writer)?;
+        }
+        if let Some(current) = &self.under_way {
+            current.write_state(alloc, writer)?;
         }
         writer.end_object()
     }
 
-    /// Writes all present orders, and the servers that are to be told that they were carried over.
-    fn write_orders(&self, writer: &mut Writer) -> Result<(), AllocError> {
+    /// Writes all present orders, what a reopening waits for, and the servers that are to be told that they were carried over.
+    fn write_orders(&self, alloc: Global, writer: &mut Writer) -> Result<(), AllocError> {
+        if let Some(current) = &self.under_way {
+            write_no_list(writer, "orders")?;
+            current.write_orders(alloc, writer)?;
+            return write_no_list(writer, "notice");
+        }
         match &self.opened {
             Some(opened) => opened.messages().write_all(writer)?,
             None => write_no_list(writer, "orders")?,

@@ -1,0 +1,310 @@
+//! Reopenings.
+ghost use Rattle.std.specs.Prelude.{◌≡◌, ◌<◌, ◌⊎◌, IfOk, IfSome, OnOk, Some, None, false, is_some, option_map, true};
+ghost use Rattle.std.specs.Option.{ForSome};
+ghost use Rattle.sm_reopening.specs.Ongoing.{net_reopening};
+ghost use Rattle.sm_session.specs.Changes.{BeginsReopening, ComesInForce, HasGoneOn, HasReopened, OpensOf, driver_of, reopening_under_way};
+
+use crate::answering::write_ignored;
+use crate::opening::read_document;
+use crate::standing::Standing;
+use crate::telling::write_no_list;
+use json::Writer;
+use json_tree::Tree;
+use sm_commands::{ToldText, refuse};
+use sm_document_reopening::{DocumentReopening, ReopenFault};
+use sm_open_journal::Opened;
+use sm_plan_text::Document;
+use sm_reopening::SettledEffect;
+use sm_reopening_lines::{
+    refuse_reopen, take_confirm, take_fenced, take_settled, write_fences, write_settles,
+    write_state,
+};
+use std::alloc::{AllocError, Global};
+
+/// A reopening that is under way.
+#[derive(Drop)]
+pub(crate) struct UnderWay {
+    pub reopening: DocumentReopening,
+    /// The journal, in hexadecimal digits.
+    pub journal: String,
+}
+
+/// Which epoch a reopening opens, and of which journal.
+#[derive(Clone, Copy)]
+struct NextEpoch {
+    journal: u64,
+    epoch: u32,
+}
+
+impl UnderWay {
+    /// Writes, as members, the fences and the settles that are not answered.
+    pub fn write_orders(&self, alloc: Global, writer: &mut Writer) -> Result<(), AllocError> {
+        let journal = self.journal.as_str();
+        if self.reopening.is_confirmed() {
+            write_no_list(writer, "fence")?;
+        } else {
+            write_fences(writer, alloc, &self.reopening, journal)?;
+        }
+        write_settles(writer, alloc, &self.reopening, journal)
+    }
+
+    /// Writes, as a member, how far the reopening is.
+    pub fn write_state(&self, alloc: Global, writer: &mut Writer) -> Result<(), AllocError> {
+        write_state(writer, alloc, &self.reopening)
+    }
+}
+
+/// Returns the epoch of a journal that was begun last, in force or not.
+fn last_epoch(opened: &Option<Opened>, under_way: &Option<UnderWay>) -> Option<NextEpoch>
+    ensures replaced { IfSome under_way.now (λ u. IfSome result (λ last. last.epoch ≡ u.reopening.epoch)) }
+    ensures some { IfSome under_way.now (λ u. is_some result ≡ true) }
+    ensures recorded { under_way.now ≡ None → IfSome opened.now (λ o. IfSome result (λ last. last.epoch ≡ o.driver.epoch)) }
+    ensures opened { under_way.now ≡ None → IfSome opened.now (λ o. is_some result ≡ true) }
+{
+    match (under_way, opened) {
+        (Some(current), _) => Some(NextEpoch {
+            journal: current.reopening.journal(),
+            epoch: current.reopening.epoch(),
+        }),
+        (None, Some(opened)) => Some(NextEpoch {
+            journal: opened.driver.journal(),
+            epoch: opened.driver.epoch(),
+        }),
+        (None, None) => None,
+    }
+}
+
+/// Returns which epoch a reopening would open; if it opens none, writes why.
+fn next_epoch(
+    last: Option<NextEpoch>,
+    alloc: Global,
+    writer: &mut Writer,
+    journal: Option<u64>,
+    epoch: Option<u32>,
+) -> Result<Option<NextEpoch>, AllocError>
+    ensures { IfOk result (λ found. IfSome found (λ next. ForSome last (λ l. l.epoch < next.epoch))) }
+{
+    match (last, journal, epoch) {
+        (None, Some(journal), Some(epoch)) => return Ok(Some(NextEpoch { journal, epoch })),
+        (None, _, _) => refuse(writer, alloc, "NotOpened", &[])?,
+        (Some(last), Some(journal), _) if journal != last.journal => {
+            refuse(writer, alloc, "OtherJournal", &[])?
+        }
+        (Some(last), _, _) if last.epoch == u32::MAX => refuse(writer, alloc, "LastEpoch", &[])?,
+        (Some(last), _, _) => {
+            return Ok(Some(NextEpoch {
+                journal: last.journal,
+                epoch: last.epoch + 1,
+            }));
+        }
+    }
+    Ok(None)
+}
+
+/// Returns the names of a list.
+fn names_in<'a>(alloc: Global, entries: &[Tree<'a>]) -> Result<Vec<&'a str>, AllocError> {
+    let mut names = Vec::new(alloc);
+    for entry in entries {
+        if let Some(name) = entry.as_str() {
+            names.push(name)?;
+        }
+    }
+    Ok(names)
+}
+
+/// Returns the reopening that begins under a document over what is recorded. If it does not begin, the document comes back.
+fn begun_over(
+    opened: &Option<Opened>,
+    alloc: Global,
+    document: Document,
+    lost: &[&str],
+    next: NextEpoch,
+) -> Result<DocumentReopening, (Document, ReopenFault)>
+    requires { IfSome opened.now (λ o. o.driver.epoch < next.epoch) }
+    ensures { IfOk result (λ r. BeginsReopening (driver_of opened.now) None (Some r)) }
+{
+    match opened {
+        Some(opened) => {
+            DocumentReopening::begin(alloc, &opened.driver, document, lost, next.epoch)
+        }
+        None => DocumentReopening::begin_anew(alloc, document, lost, next.journal, next.epoch),
+    }
+}
+
+/// Returns the reopening that begins under a document over what is recorded, or replaces the one under way. If it does not begin, the document
+/// comes back.
+fn begun_under(
+    opened: &Option<Opened>,
+    under_way: &Option<UnderWay>,
+    alloc: Global,
+    document: Document,
+    lost: &[&str],
+    next: NextEpoch,
+) -> Result<DocumentReopening, (Document, ReopenFault)>
+    requires replaced { IfSome under_way.now (λ u. u.reopening.epoch < next.epoch) }
+    requires recorded { under_way.now ≡ None → IfSome opened.now (λ o. o.driver.epoch < next.epoch) }
+    ensures { IfOk result (λ r. BeginsReopening (driver_of opened.now) (reopening_under_way under_way.now) (Some r)) }
+{
+    match under_way {
+        Some(current) => current.reopening.replace(alloc, document, lost, next.epoch),
+        None => begun_over(opened, alloc, document, lost, next),
+    }
+}
+
+/// Begins a reopening under a document, or replaces the one under way, and writes its fences, or why it does not begin.
+fn begin_under(
+    opened: &Option<Opened>,
+    under_way: &mut Option<UnderWay>,
+    alloc: Global,
+    writer: &mut Writer,
+    document: Document,
+    lost: &[&str],
+    next: NextEpoch,
+) -> Result<bool, AllocError>
+    requires replaced { IfSome under_way.old (λ u. u.reopening.epoch < next.epoch) }
+    requires recorded { under_way.old ≡ None → IfSome opened.now (λ o. o.driver.epoch < next.epoch) }
+    ensures begun { IfOk result (λ begun. begun ≡ true → HasReopened opened.now under_way.old under_way.new) }
+    ensures unchanged { IfOk result (λ begun. begun ≡ false → under_way.new ≡ under_way.old) }
+{
+    match begun_under(opened, under_way, alloc, document, lost, next) {
+        Ok(reopening) => {
+            let journal = format!(in alloc; "{:x}", next.journal)?;
+            write_fences(writer, alloc, &reopening, journal.as_str())?;
+            *under_way = Some(UnderWay { reopening, journal });
+            Ok(true)
+        }
+        Err((document, fault)) => {
+            refuse_reopen(writer, alloc, &document.config, fault)?;
+            Ok(false)
+        }
+    }
+}
+
+/// Begins a reopening, or replaces the one under way, writes the reply, and tells whether one has begun.
+pub(crate) fn reopen(
+    opened: &Option<Opened>,
+    under_way: &mut Option<UnderWay>,
+    alloc: Global,
+    writer: &mut Writer,
+    document: &Tree<'_>,
+    lost: &[Tree<'_>],
+    journal: Option<u64>,
+    epoch: Option<u32>,
+) -> Result<bool, AllocError>
+    ensures begun { IfOk result (λ begun. begun ≡ true → HasReopened opened.now under_way.old under_way.new) }
+    ensures unchanged { IfOk result (λ begun. begun ≡ false → under_way.new ≡ under_way.old) }
+{
+    let last = last_epoch(opened, under_way);
+    let Some(next) = next_epoch(last, alloc, writer, journal, epoch)? else {
+        return Ok(false);
+    };
+    let Some(document) = read_document(alloc, document, writer)? else {
+        return Ok(false);
+    };
+    let lost = names_in(alloc, lost)?;
+    begin_under(
+        opened,
+        under_way,
+        alloc,
+        writer,
+        document,
+        lost.as_slice(),
+        next,
+    )
+}
+
+/// Takes the answer of a server to a fence, or of the map's owner, writes the reply, and tells whether it counts.
+pub(crate) fn fenced(
+    under_way: &mut Option<UnderWay>,
+    alloc: Global,
+    writer: &mut Writer,
+    server: Option<&str>,
+    base: u64,
+    told: ToldText<'_, '_>,
+) -> Result<bool, AllocError>
+    ensures taken { IfOk result (λ taken. taken ≡ true → HasGoneOn under_way.old under_way.new) }
+    ensures unchanged { IfOk result (λ taken. taken ≡ false → under_way.new ≡ under_way.old) }
+{
+    match under_way {
+        Some(current) => take_fenced(&mut current.reopening, alloc, writer, server, base, told),
+        None => {
+            write_ignored(writer, "old")?;
+            Ok(false)
+        }
+    }
+}
+
+/// Confirms what is proposed, or what is chosen, writes the reply, and tells whether it was confirmed.
+pub(crate) fn confirm(
+    under_way: &mut Option<UnderWay>,
+    alloc: Global,
+    writer: &mut Writer,
+    base: u64,
+    cells: &[Tree<'_>],
+) -> Result<bool, AllocError>
+    ensures taken { IfOk result (λ taken. taken ≡ true → HasGoneOn under_way.old under_way.new) }
+    ensures unchanged { IfOk result (λ taken. taken ≡ false → under_way.new ≡ under_way.old) }
+{
+    match under_way {
+        Some(current) => {
+            let journal = current.journal.as_str();
+            take_confirm(&mut current.reopening, alloc, writer, journal, base, cells)
+        }
+        None => {
+            write_ignored(writer, "old")?;
+            Ok(false)
+        }
+    }
+}
+
+/// Puts a reopening in force whose settlement all parties have taken, and writes that the journal is open.
+fn put_in_force(
+    opened: &mut Option<Opened>,
+    under_way: UnderWay,
+    place: u64,
+    alloc: Global,
+    writer: &mut Writer,
+) -> Result<(), AllocError>
+    requires { is_some (net_reopening under_way.reopening.ongoing).settlement ≡ true }
+    ensures { OnOk result (OpensOf under_way.reopening opened.new) }
+{
+    let UnderWay { reopening, journal } = under_way;
+    let log_room = reopening.log_room();
+    let driver = reopening.put_in_force(alloc)?;
+    let next = Opened::reopened(alloc, opened.take(), driver, journal, log_room, place)?;
+    let written = next.write_opened(writer);
+    match opened.replace(next) {
+        Some(before) => before.close(),
+        None => {}
+    }
+    written
+}
+
+/// Takes the answer of a server to its settle, or of the map's owner, writes the reply, and tells whether it counts. With the last one the
+/// next epoch is open.
+pub(crate) fn settled(
+    opened: &mut Option<Opened>,
+    under_way: &mut Option<UnderWay>,
+    at: Standing,
+    alloc: Global,
+    writer: &mut Writer,
+    server: Option<&str>,
+    base: u64,
+) -> Result<SettledEffect, AllocError>
+    ensures old { IfOk result (λ effect. effect ≡ SettledEffect.Old → opened.new ≡ opened.old) }
+    ensures unchanged { IfOk result (λ effect. effect ≡ SettledEffect.Old → under_way.new ≡ under_way.old) }
+    ensures stays { IfOk result (λ effect. effect ≡ SettledEffect.Waiting → opened.new ≡ opened.old) }
+    ensures waiting { IfOk result (λ effect. effect ≡ SettledEffect.Waiting → HasGoneOn under_way.old under_way.new) }
+    ensures complete { IfOk result (λ effect. effect ≡ SettledEffect.Complete → ComesInForce under_way.old under_way.new opened.new) }
+{
+    let Some(mut current) = under_way.take() else {
+        write_ignored(writer, "old")?;
+        return Ok(SettledEffect::Old);
+    };
+    let effect = take_settled(&mut current.reopening, alloc, writer, server, base)?;
+    match effect {
+        SettledEffect::Complete => put_in_force(opened, current, at.place, alloc, writer)?,
+        SettledEffect::Old | SettledEffect::Waiting => *under_way = Some(current),
+    }
+    Ok(effect)
+}
