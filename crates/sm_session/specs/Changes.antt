@@ -1,5 +1,5 @@
 -- What the commands that change something make of a driver.
-use Rattle.std.specs.Prelude.{◌≡◌, ◌⊎◌, ℕ, true, List, [], Option, Some, None, length, option_map}
+use Rattle.std.specs.Prelude.{◌≡◌, ◌<◌, ◌⊎◌, ℕ, true, List, [], Option, Some, None, length, option_map}
 use Rattle.sm_reservation.specs.declared.stream_id.StreamId.{StreamId}
 use Rattle.sm_placement.specs.Setup.{Setup, Sizes}
 use Rattle.sm_placement.specs.Config.{setup_of}
@@ -12,7 +12,7 @@ use Rattle.sm_driver.specs.Epochs.{HasOpenedEpoch}
 use Rattle.sm_open_journal.specs.declared.opened.Opened.{Opened}
 use Rattle.sm_network.specs.Reopening.{Reopening, Settlement}
 use Rattle.sm_network.specs.ReopeningLaws.{no_reopening}
-use Rattle.sm_reopening.specs.Ongoing.{net_reopening}
+use Rattle.sm_reopening.specs.Ongoing.{net_reopening, recorded_place}
 use Rattle.sm_document_reopening.specs.Begun.{BeginsUnder}
 use Rattle.sm_document_reopening.specs.InForce.{IsInForce}
 use Rattle.sm_document_reopening.specs.Reopening.{ReopeningModel}
@@ -73,11 +73,33 @@ reopening_under_way = option_map (λ (u : UnderWay). u.reopening)
 abbrev pub IsBegunOver : Reopening → Setup → ReopeningModel → Type 0
 IsBegunOver before numbered r = (lost : List (List ℕ)) × BeginsUnder before numbered r.document.config r.numbering lost r.epoch r.ongoing
 
+-- it is of this journal, in a later epoch than this one, over this recorded placement and with these permits of servers that are down
+pub record KeepsRecord (journal epoch : ℕ) (place : Place) (permits : List (Option ℕ)) (r : ReopeningModel) : Type 0 where
+  pub same_journal : r.journal ≡ journal
+  pub later : epoch < r.epoch
+  pub same_place : recorded_place r.ongoing ≡ place
+  pub same_permits : r.permits ≡ permits
+
+-- a reopening has begun over what a driver has recorded
+pub record BeginsOver (d : DriverModel) (new : ReopeningModel) : Type 0 where
+  pub under : IsBegunOver (no_reopening (length d.machine.placement.setup.servers)) d.machine.placement.setup new
+  pub record_is : KeepsRecord d.journal d.epoch (record_of d).place d.permits new
+
+-- a reopening has begun in place of another
+pub record Replaces (before new : ReopeningModel) : Type 0 where
+  pub under : IsBegunOver (net_reopening before.ongoing) before.numbering new
+  pub record_is : KeepsRecord before.journal before.epoch (recorded_place before.ongoing) before.permits new
+
+-- a reopening has begun over nothing that is recorded
+pub record BeginsAnew (new : ReopeningModel) : Type 0 where
+  pub under : IsBegunOver (no_reopening 0) (setup_of [] []) new
+  pub permits : new.permits ≡ []
+
 -- a reopening has begun: in place of the one under way, over what the driver has recorded, or over nothing
 abbrev pub BeginsReopening : Option DriverModel → Option ReopeningModel → Option ReopeningModel → Type 0
-BeginsReopening driver (Some before) (Some new) = IsBegunOver (net_reopening before.ongoing) before.numbering new
-BeginsReopening (Some d) None (Some new) = IsBegunOver (no_reopening (length d.machine.placement.setup.servers)) d.machine.placement.setup new
-BeginsReopening None None (Some new) = IsBegunOver (no_reopening 0) (setup_of [] []) new
+BeginsReopening driver (Some before) (Some new) = Replaces before new
+BeginsReopening (Some d) None (Some new) = BeginsOver d new
+BeginsReopening None None (Some new) = BeginsAnew new
 BeginsReopening driver before None = ⊥
 
 -- a line has begun a reopening
@@ -107,9 +129,10 @@ SettlesTo None last = ⊥
 abbrev pub ComesInForce : Option UnderWay → Option UnderWay → Option Opened → Type 0
 ComesInForce under after new = (last : ReopeningModel) × SettlesTo (reopening_under_way under) last × (after ≡ None) × OpensOf last new
 
--- What a command that changed something made of what was opened, and of the reopening under way.
+-- What a command that changed something made of what was opened, and of the reopening under way. While one is under way the driver stays as
+-- it is.
 pub data HasChanged (opened : Option Opened) (under : Option UnderWay) (new : Option Opened) (after : Option UnderWay) : Type 0 where
-  Drives : after ≡ under → HasDriven (driver_of opened) (driver_of new) → HasChanged opened under new after
+  Drives : under ≡ None → after ≡ None → HasDriven (driver_of opened) (driver_of new) → HasChanged opened under new after
   Reopens : new ≡ opened → HasReopened opened under after → HasChanged opened under new after
   Follows : new ≡ opened → HasGoneOn under after → HasChanged opened under new after
   Opens : ComesInForce under after new → HasChanged opened under new after

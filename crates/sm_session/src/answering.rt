@@ -67,6 +67,7 @@ pub fn answered(
 ) -> Result<bool, AllocError>
     ensures moved { IfOk result (λ moved. moved ≡ true → TakesAnswer opened.old.driver opened.new.driver) }
     ensures unchanged { IfOk result (λ moved. moved ≡ false → opened.new ≡ opened.old) }
+    ensures in_force { IfOk result (λ moved. moved ≡ true → at.is_reopening ≡ false) }
 {
     if at.is_reopening {
         write_ignored(writer, "old")?;

@@ -117,6 +117,7 @@ pub fn approve(
 ) -> Result<bool, AllocError>
     ensures approved { IfOk result (λ approved. approved ≡ true → ApprovesRestart opened.old.driver opened.new.driver) }
     ensures unchanged { IfOk result (λ approved. approved ≡ false → opened.new ≡ opened.old) }
+    ensures in_force { IfOk result (λ approved. approved ≡ true → at.is_reopening ≡ false) }
 {
     if let Some(given) = opened.approvals.get(by) {
         write_given(opened, alloc, writer, given, server)?;

@@ -96,6 +96,7 @@ pub fn begin(
 ) -> Result<bool, AllocError>
     ensures begun { IfOk result (λ begun. begun ≡ true → BeginsPlan opened.old.driver opened.new.driver) }
     ensures unchanged { IfOk result (λ begun. begun ≡ false → opened.new ≡ opened.old) }
+    ensures in_force { IfOk result (λ begun. begun ≡ true → at.is_reopening ≡ false) }
 {
     if let Some(plan) = opened.plans.get(name) {
         opened.write_begun_again(writer, plan, !at.is_reopening)?;

@@ -25,6 +25,7 @@ pub fn change(
 ) -> Result<bool, AllocError>
     ensures changed { IfOk result (λ changed. changed ≡ true → Changes opened.old.driver opened.new.driver) }
     ensures unchanged { IfOk result (λ changed. changed ≡ false → opened.new ≡ opened.old) }
+    ensures in_force { IfOk result (λ changed. changed ≡ true → at.is_reopening ≡ false) }
 {
     match command {
         LineCommand::Begin { plan, name } => begin(opened, at, alloc, writer, plan, name),

@@ -40,6 +40,7 @@ pub fn open_next(
 ) -> Result<bool, AllocError>
     ensures opened { IfOk result (λ is_open. is_open ≡ true → HasOpenedEpoch opened.old.driver opened.new.driver) }
     ensures unchanged { IfOk result (λ is_open. is_open ≡ false → opened.new ≡ opened.old) }
+    ensures in_force { IfOk result (λ is_open. is_open ≡ true → at.is_reopening ≡ false) }
 {
     if at.is_reopening {
         refuse(writer, alloc, "Reopening", &[])?;

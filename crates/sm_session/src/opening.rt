@@ -93,6 +93,7 @@ pub fn open(
 ) -> Result<bool, AllocError>
     ensures changed { IfOk result (λ changed. changed ≡ true → HasDriven (driver_of opened.old) (driver_of opened.new)) }
     ensures unchanged { IfOk result (λ changed. changed ≡ false → opened.new ≡ opened.old) }
+    ensures in_force { IfOk result (λ changed. changed ≡ true → at.is_reopening ≡ false) }
 {
     if opened.is_some() || at.is_reopening {
         refuse(writer, alloc, "AlreadyOpened", &[])?;

@@ -10,6 +10,20 @@ use sm_driver::RestartEffect;
 use sm_open_journal::Opened;
 use std::alloc::{AllocError, Global};
 
+/// Writes why no restart ends while a reopening is under way: it has to wait, or has ended before.
+fn wait_for_reopening(
+    opened: &Opened,
+    alloc: Global,
+    writer: &mut Writer,
+    permit: u64,
+) -> Result<(), AllocError> {
+    if opened.driver.permits().contains(&Some(permit)) {
+        refuse(writer, alloc, "Reopening", &[])
+    } else {
+        write_ignored(writer, "old")
+    }
+}
+
 /// Ends the restart that has this permit, unless a reopening is under way, writes the reply, and tells whether its server is up now.
 pub fn restarted(
     opened: &mut Opened,
@@ -20,9 +34,10 @@ pub fn restarted(
 ) -> Result<bool, AllocError>
     ensures ended { IfOk result (λ ended. ended ≡ true → EndsRestart opened.old.driver opened.new.driver) }
     ensures unchanged { IfOk result (λ ended. ended ≡ false → opened.new ≡ opened.old) }
+    ensures in_force { IfOk result (λ ended. ended ≡ true → at.is_reopening ≡ false) }
 {
-    if at.is_reopening && opened.driver.permits().contains(&Some(permit)) {
-        refuse(writer, alloc, "Reopening", &[])?;
+    if at.is_reopening {
+        wait_for_reopening(opened, alloc, writer, permit)?;
         return Ok(false);
     }
     match opened.driver.restarted(permit) {

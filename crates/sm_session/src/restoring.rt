@@ -35,6 +35,7 @@ pub fn restore(
 ) -> Result<bool, AllocError>
     ensures restored { IfOk result (λ restored. restored ≡ true → RestoresServer opened.old.driver opened.new.driver) }
     ensures unchanged { IfOk result (λ restored. restored ≡ false → opened.new ≡ opened.old) }
+    ensures in_force { IfOk result (λ restored. restored ≡ true → at.is_reopening ≡ false) }
 {
     let Some(server) = opened.driver.machine().config().server_named(name) else {
         write_bad(

@@ -1,5 +1,5 @@
 //! Sessions.
-ghost use Rattle.std.specs.Prelude.{◌≡◌, IfOk, false};
+ghost use Rattle.std.specs.Prelude.{◌≡◌, IfOk, None, false};
 ghost use Rattle.sm_session.specs.declared.session.LineEffect.TheVariants as did;
 
 use crate::changing::{change, change_nothing};
@@ -144,7 +144,9 @@ impl Session {
     }
 
     /// Returns the place of a command that changes something now, and whether a reopening is under way.
-    pub(crate) fn standing(&self) -> Standing {
+    pub(crate) fn standing(&self) -> Standing
+        ensures { result.is_reopening ≡ false → self.now.under_way ≡ None }
+    {
         Standing {
             place: self.place.saturating_add(1),
             is_reopening: self.under_way.is_some(),

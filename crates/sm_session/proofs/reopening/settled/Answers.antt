@@ -1,7 +1,7 @@
 -- The last settle brings what was settled into force.
-use Rattle.std.proofs.Common.{◌≡◌, ◌∙◌, ◌⊎◌, Some, None, Option, inl, inr, subst, sym}
+use Rattle.std.proofs.Common.{◌≡◌, ◌∙◌, Some, Option, inl, inr, subst, sym}
 use Rattle.sm_document_reopening.specs.Reopening.{ReopeningModel}
-use Rattle.sm_session.specs.Changes.{OpensOf, SettlesTo, reopening_under_way}
+use Rattle.sm_session.specs.Changes.{SettlesTo, reopening_under_way}
 use Rattle.sm_session.specs.declared.reopening.UnderWay.{UnderWay}
 use Rattle.sm_session.proofs.reopening.settled.Goals as goal
 
