@@ -1,5 +1,5 @@
 -- The targets of the shards that leave a server, one further.
-use Rattle.std.proofs.Common.{◌≡◌, ◌<◌, ◌+◌, ◌∙◌, inl, inr, ℕ, zero, suc, Bool, true, false, ltb, Option, Some, None, List, [], ◌∷◌, length, get_or, set, map, refl, sym, ap, subst, arith}
+use Rattle.std.proofs.Common.{◌≡◌, ◌<◌, ◌+◌, ◌∙◌, inl, inr, ℕ, Bool, true, false, ltb, Option, Some, None, List, [], length, get_or, set, map, sym, ap, subst, arith}
 use Rattle.std.specs.Prelude.{MatchOption}
 use Rattle.std.specs.List.{range_with_len}
 use Rattle.std.proofs.lemmas.Bool.{cases_eq, cases_lt, ltb-true, ltb-false}
@@ -60,17 +60,6 @@ most_stays has room n (Some u) best is = record {
     | inr d ↦ best.most w (omega arith) p
   ];
 }
-
--- ---- marks
-
-set_back : {A : Type 0} (xs : List A) (i : ℕ) (y d : A) → set (set xs i y) i (get_or xs i d) ≡ xs
-set_back [] i y d = refl
-set_back (x ∷ xs) zero y d = refl
-set_back (x ∷ xs) (suc i) y d = ap (λ ys. x ∷ ys) (set_back xs i y d)
-
--- what stood at a place of a list is put back, whatever was set there
-pub put_back : {A : Type 0} (xs ys : List A) (i : ℕ) (y d : A) → ys ≡ set xs i y → set ys i (get_or xs i d) ≡ xs
-put_back xs ys i y d is = ap (λ zs. set zs i (get_or xs i d)) is ∙ set_back xs i y d
 
 -- ---- the room that is left
 

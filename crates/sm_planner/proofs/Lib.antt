@@ -4,6 +4,7 @@ pub mod Accounting
 pub mod Stretching
 pub mod Drafting
 pub mod Regions
+pub mod Numbering
 pub mod Streams
 pub mod Signalling
 pub mod Refusing

@@ -1,23 +1,15 @@
--- In how many regions marked servers lie, one server further; marks by moves, one move further.
-use Rattle.std.proofs.Common.{◌≡◌, ◌<◌, ◌+◌, ◌∙◌, inl, inr, ℕ, Bool, true, false, ◌&&◌, length, sym, ap, refl, arith, add-one}
+-- In how many regions servers lie that pass one of two tests that agree.
+use Rattle.std.proofs.Common.{◌≡◌, ◌<◌, ◌∙◌, inl, inr, ℕ, Bool, true, false, ◌&&◌, length, sym, refl, arith}
 use Rattle.std.specs.Prelude.{not}
-use Rattle.std.proofs.lemmas.Bool.{cases_Bool, or_from}
-use Rattle.sm_placement.specs.Sums.{count_below, any_below, bit}
+use Rattle.std.proofs.lemmas.Bool.{cases_Bool}
+use Rattle.sm_placement.specs.Sums.{any_below, bit}
 use Rattle.sm_placement.specs.Setup.{Setup}
 use Rattle.sm_placement.proofs.Searches.{any_none, any_none_from}
 use Rattle.sm_placement.proofs.Sums.{same_sum}
 use Rattle.sm_planner.specs.Spread.{same_region, region_count}
 
--- none so far, nor here
-pub any_next : (n : ℕ) (t : ℕ → Bool) → any_below n t ≡ false → t n ≡ false → any_below (n + 1) t ≡ false
-any_next n t e h = ap (λ k. any_below k t) (add-one n) ∙ or_from (t n) (any_below n t) h e
-
--- a count is one more behind a number that passes, and the same behind one that doesn't
-pub count_next : (n : ℕ) (t : ℕ → Bool) → count_below (n + 1) t ≡ count_below n t + bit (t n)
-count_next n t = ap (λ k. count_below k t) (add-one n)
-
 -- tests that agree are passed by servers of as many regions
-same_any : (n : ℕ) (t r : ℕ → Bool) → ((k : ℕ) → k < n → t k ≡ r k) → any_below n t ≡ any_below n r
+pub same_any : (n : ℕ) (t r : ℕ → Bool) → ((k : ℕ) → k < n → t k ≡ r k) → any_below n t ≡ any_below n r
 same_any n t r h = elim (cases_Bool (any_below n t)) [
   | inl e ↦ e ∙ sym (elim (cases_Bool (any_below n r)) [
     | inl q ↦ q
@@ -31,14 +23,6 @@ pub same_regions : (setup : Setup) (f g : ℕ → Bool) → ((v : ℕ) → v < l
 same_regions setup f g h =
     same_sum (length setup.servers) (λ v. bit (f v && not (any_below v (λ u. f u && same_region setup u v)))) (λ v. bit (g v && not (any_below v (λ u. g u && same_region setup u v))))
     (λ v l. rw (h v l, same_any v (λ u. f u && same_region setup u v) (λ u. g u && same_region setup u v) (λ u m. rw (h u (omega arith)) refl)) refl)
-
--- a count kept so far is one more behind a number that passes
-pub count_passed : (n : ℕ) (t : ℕ → Bool) (count later : ℕ) → count ≡ count_below n t → later ≡ count + 1 → t n ≡ true → later ≡ count_below (n + 1) t
-count_passed n t count later e l h = let s = count_next n t in let b : bit (t n) ≡ 1 = ap bit h in omega arith
-
--- a count kept so far stays behind a number that doesn't pass
-pub count_failed : (n : ℕ) (t : ℕ → Bool) (count : ℕ) → count ≡ count_below n t → t n ≡ false → count ≡ count_below (n + 1) t
-count_failed n t count e h = let s = count_next n t in let b : bit (t n) ≡ 0 = ap bit h in omega arith
 
 -- where the first of two holds, both do exactly where the second does
 pub both_is : (x y : Bool) → x ≡ true → y ≡ (x && y)

@@ -3,6 +3,7 @@ pub mod Rights
 pub mod Placing
 pub mod Accounts
 pub mod Spread
+pub mod Regions
 pub mod Payment
 pub mod Stretches
 pub mod Plan

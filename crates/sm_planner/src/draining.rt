@@ -8,12 +8,14 @@ ghost use Rattle.sm_reservation.specs.Amounts.{is_cell};
 ghost use Rattle.sm_reservation.specs.Pool.{pool_hold};
 ghost use Rattle.sm_planner.specs.Basis.{basis_of, is_replica, move_load, IsMoveOf};
 ghost use Rattle.sm_planner.specs.Spread.{region_count, spread_of};
+ghost use Rattle.sm_planner.specs.Regions.{AreRegions, IsOccupied, stays};
 ghost use Rattle.sm_planner.specs.Drain.{may_leave, first_stuck, drain_refusal, has_place, IsBestOf, AreStaying, IsRoomBeside, AreLeaving, IsStuck, AreDepartures, IsNoDrainFor};
 
 use crate::held::{has_absent, has_crown, has_secondary, is_absent, is_primary, is_secondary};
-use crate::marks::{Amounts, is_marked, mark};
+use crate::marks::{Amounts, mark};
 use crate::refusal::NoPlan;
-use crate::spread::{mark_replicas, region_count};
+use crate::region_numbers::{Occupied, occupied_by, regions_of};
+use crate::spread::mark_replicas;
 use sm_placement::Placement;
 use sm_plan_code::Move;
 use sm_reservation::{PlainCell, Pool};
@@ -63,21 +65,35 @@ fn staying(
     Ok(has)
 }
 
-/// With a replica at the target beside those that stay, the shard's replicas lie in enough regions. The target is marked while
-/// regions are counted.
-fn is_spread(placement: &Placement, staying: &mut [bool], leaving: &Move) -> bool
-    requires leaving { IsMoveOf placement.now.setup leaving.now }
-    requires staying { AreStaying placement.now.setup (place_of placement.now) leaving.now.shard leaving.now.from staying.old }
-    ensures kept { staying.new ≡ staying.old }
-    ensures spread { result ≡ nat_le (spread_of placement.now.setup leaving.now.shard) (region_count placement.now.setup (λ w. (w == leaving.now.to) || (is_replica ((place_of placement.now).cells leaving.now.shard w) && not (w == leaving.now.from)))) }
+/// The regions in which the replicas of a shard lie that stay.
+fn staying_regions(
+    alloc: Global,
+    placement: &Placement,
+    regions: &[u32],
+    shard: ShardId,
+    from: ServerId,
+) -> Result<Occupied, AllocError>
+    requires regions { AreRegions placement.now.setup regions.now }
+    requires shard { shard < length placement.now.setup.shards }
+    requires from { from < length placement.now.setup.servers }
+    ensures { IfOk result (λ kept. IsOccupied placement.now.setup regions.now (stays (place_of placement.now) shard from) kept.marks.items kept.count) }
 {
-    let target = leaving.to.number() as usize;
-    let marked = is_marked(staying, target);
-    mark(staying, target, true);
+    let has = staying(alloc, placement, shard, from)?;
     let config = placement.config();
-    let count = region_count(config, staying);
-    mark(staying, target, marked);
-    config.shard(leaving.shard).spread <= count
+    let kept = occupied_by(alloc, config, regions, &has)?;
+    Ok(kept)
+}
+
+/// With a replica at the target beside those that stay, the shard's replicas lie in enough regions.
+fn is_spread(placement: &Placement, regions: &[u32], staying: &Occupied, leaving: &Move) -> bool
+    requires leaving { IsMoveOf placement.now.setup leaving.now }
+    requires regions { AreRegions placement.now.setup regions.now }
+    requires staying { IsOccupied placement.now.setup regions.now (stays (place_of placement.now) leaving.now.shard leaving.now.from) staying.now.marks.items staying.now.count }
+    ensures { result ≡ nat_le (spread_of placement.now.setup leaving.now.shard) (region_count placement.now.setup (λ w. (w == leaving.now.to) || (is_replica ((place_of placement.now).cells leaving.now.shard w) && not (w == leaving.now.from)))) }
+{
+    let region = regions[leaving.to.number() as usize] as usize;
+    let config = placement.config();
+    config.shard(leaving.shard).spread <= staying.count_with(region)
 }
 
 /// The server is another one, up, with nothing of the shard and the right to its cell in the pool, and has room for it.
@@ -98,15 +114,16 @@ fn may_take(
     placement: &Placement,
     pool: &Pool,
     room: &Amounts,
-    staying: &mut [bool],
+    regions: &[u32],
+    staying: &Occupied,
     leaving: &Move,
 ) -> bool
     requires leaving { IsMoveOf placement.now.setup leaving.now }
-    requires staying { AreStaying placement.now.setup (place_of placement.now) leaving.now.shard leaving.now.from staying.old }
-    ensures kept { staying.new ≡ staying.old }
-    ensures takes { result ≡ has_place (basis_of placement.now pool.now) leaving.now.from (slice_index room.now) leaving.now.shard leaving.now.to }
+    requires regions { AreRegions placement.now.setup regions.now }
+    requires staying { IsOccupied placement.now.setup regions.now (stays (place_of placement.now) leaving.now.shard leaving.now.from) staying.now.marks.items staying.now.count }
+    ensures { result ≡ has_place (basis_of placement.now pool.now) leaving.now.from (slice_index room.now) leaving.now.shard leaving.now.to }
 {
-    is_open(placement, pool, room, leaving) && is_spread(placement, staying, leaving)
+    is_open(placement, pool, room, leaving) && is_spread(placement, regions, staying, leaving)
 }
 
 /// There is no target yet, or the server has more room left than it.
@@ -119,25 +136,25 @@ fn is_better(room: &Amounts, best: &Option<ServerId>, to: ServerId) -> bool
     }
 }
 
-/// The target of the servers up to this one, where that of the lower ones is known. Regions are counted for a server with more
-/// room alone.
+/// The target of the servers up to this one, where that of the lower ones is known.
 #[tactic(auto, using(crate::proofs::Departing::most_here, crate::proofs::Departing::most_next, crate::proofs::Departing::most_stays))]
 fn target_with(
     placement: &Placement,
     pool: &Pool,
     room: &Amounts,
-    staying: &mut [bool],
+    regions: &[u32],
+    staying: &Occupied,
     leaving: &Move,
     best: Option<ServerId>,
 ) -> Option<ServerId>
     requires leaving { IsMoveOf placement.now.setup leaving.now }
-    requires staying { AreStaying placement.now.setup (place_of placement.now) leaving.now.shard leaving.now.from staying.old }
+    requires regions { AreRegions placement.now.setup regions.now }
+    requires staying { IsOccupied placement.now.setup regions.now (stays (place_of placement.now) leaving.now.shard leaving.now.from) staying.now.marks.items staying.now.count }
     requires best { IsBestOf (has_place (basis_of placement.now pool.now) leaving.now.from (slice_index room.now) leaving.now.shard) (slice_index room.now) leaving.now.to best }
-    ensures kept { staying.new ≡ staying.old }
-    ensures best { IsBestOf (has_place (basis_of placement.now pool.now) leaving.now.from (slice_index room.now) leaving.now.shard) (slice_index room.now) (leaving.now.to + 1) result }
+    ensures { IsBestOf (has_place (basis_of placement.now pool.now) leaving.now.from (slice_index room.now) leaving.now.shard) (slice_index room.now) (leaving.now.to + 1) result }
 {
     let to = leaving.to;
-    if is_better(room, &best, to) && may_take(placement, pool, room, staying, leaving) {
+    if is_better(room, &best, to) && may_take(placement, pool, room, regions, staying, leaving) {
         Some(to)
     } else {
         best
@@ -150,19 +167,21 @@ fn target(
     placement: &Placement,
     pool: &Pool,
     room: &Amounts,
+    regions: &[u32],
     shard: ShardId,
     from: ServerId,
 ) -> Result<Option<ServerId>, AllocError>
+    requires regions { AreRegions placement.now.setup regions.now }
     requires shard { shard < length placement.now.setup.shards }
     requires from { from < length placement.now.setup.servers }
     ensures { IfOk result (IsBestOf (has_place (basis_of placement.now pool.now) from (slice_index room.now) shard) (slice_index room.now) (length placement.now.setup.servers)) }
 {
-    let mut staying = staying(alloc, placement, shard, from)?;
+    let staying = staying_regions(alloc, placement, regions, shard, from)?;
     let mut best = None;
     for number in 0..placement.config().server_count() {
         let to = ServerId::new(number);
         let leaving = Move { shard, from, to };
-        best = target_with(placement, pool, room, &mut staying, &leaving, best);
+        best = target_with(placement, pool, room, regions, &staying, &leaving, best);
     }
     Ok(best)
 }
@@ -173,10 +192,12 @@ fn put_departure(
     alloc: Global,
     placement: &Placement,
     pool: &Pool,
+    regions: &[u32],
     leaving: (ShardId, ServerId),
     room: &mut Amounts,
     moves: &mut Vec<Move>,
 ) -> Result<bool, AllocError>
+    requires regions { AreRegions placement.now.setup regions.now }
     requires shard { leaving.0 < length placement.now.setup.shards }
     requires server { leaving.1 < length placement.now.setup.servers }
     requires known { All (IsMoveOf placement.now.setup) moves.old.items }
@@ -190,7 +211,7 @@ fn put_departure(
     if is_absent(placement, shard, from) {
         return Ok(true);
     }
-    match target(alloc, placement, pool, room, shard, from)? {
+    match target(alloc, placement, pool, room, regions, shard, from)? {
         Some(to) => {
             moves.push(Move { shard, from, to })?;
             room.take(to, u128::from(placement.config().load(shard)));
@@ -219,12 +240,16 @@ fn targets_of(
     ensures known { IfOk result (λ leaving. All (IsMoveOf placement.now.setup) leaving.moves.items) }
     ensures leaving { IfOk result (λ leaving. MatchOption leaving.stuck (AreLeaving (basis_of placement.now pool.now) server (length placement.now.setup.shards) leaving.moves.items) (λ s. IsStuck (basis_of placement.now pool.now) server s leaving.moves.items)) }
 {
-    let mut room = Amounts::of_pool(alloc, placement.config(), pool)?;
-    let mut moves = Vec::new(alloc);
-    for number in 0..placement.config().shard_count() {
+    let config = placement.config();
+    let regions = regions_of(alloc, config)?;
+    let mut room = Amounts::of_pool(alloc, config, pool)?;
+    let mut moves = Vec::with_capacity(alloc, config.shard_count() as usize)?;
+    for number in 0..config.shard_count() {
         let shard = ShardId::new(number);
         let leaving = (shard, server);
-        if !put_departure(alloc, placement, pool, leaving, &mut room, &mut moves)? {
+        if !put_departure(
+            alloc, placement, pool, &regions, leaving, &mut room, &mut moves,
+        )? {
             let stuck = Some(shard);
             return Ok(Departures { moves, stuck });
         }

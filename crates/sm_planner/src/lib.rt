@@ -10,6 +10,7 @@ mod payment;
 mod placing;
 mod planner;
 mod refusal;
+mod region_numbers;
 mod spread;
 mod writing;
 

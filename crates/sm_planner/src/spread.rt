@@ -1,72 +1,19 @@
 //! In how many regions replicas lie.
 ghost use Rattle.std.specs.Prelude.{◌≡◌, ◌<◌, ◌&&◌, ◌||◌, ◌==◌, ℕ, not, false, All, length, IfOk, slice_index_or};
 ghost use Rattle.std.specs.List.{list_any};
-ghost use Rattle.sm_placement.specs.Sums.{any_below};
 ghost use Rattle.sm_placement.specs.Opening.{first_below};
 ghost use Rattle.sm_placement.specs.Layout.{place_of};
 ghost use Rattle.sm_planner.specs.Basis.{IsMoveOf, is_replica};
-ghost use Rattle.sm_planner.specs.Spread.{same_region, region_count, has_after, is_too_close};
+ghost use Rattle.sm_planner.specs.Spread.{has_after, is_too_close};
+ghost use Rattle.sm_planner.specs.Regions.{AreRegions};
 
 use crate::held::is_replica;
-use crate::marks::{is_marked, mark};
-use sm_placement::{Config, Placement};
+use crate::marks::mark;
+use crate::region_numbers::{occupied_by, regions_of};
+use sm_placement::Placement;
 use sm_plan_code::Move;
 use sm_server::{ServerId, ShardId};
 use std::alloc::{AllocError, Global};
-
-/// Two servers stand in one region.
-fn same_region(config: &Config, one: ServerId, other: ServerId) -> bool
-    requires one { one < length config.now.servers }
-    requires other { other < length config.now.servers }
-    ensures { result ≡ same_region config.now one other }
-{
-    config.server(one).region == config.server(other).region
-}
-
-/// The server is marked, and stands in the region of the other one.
-fn is_twin(config: &Config, has: &[bool], lower: ServerId, server: ServerId) -> bool
-    requires lower { lower < length config.now.servers }
-    requires server { server < length config.now.servers }
-    ensures { result ≡ (slice_index_or has.now lower false && same_region config.now lower server) }
-{
-    is_marked(has, lower.number() as usize) && same_region(config, lower, server)
-}
-
-/// A lower server that is marked stands in the region of a server.
-#[tactic(auto, using(crate::proofs::Regions::any_next))]
-fn has_twin(config: &Config, has: &[bool], server: ServerId) -> bool
-    requires { server < length config.now.servers }
-    ensures { result ≡ any_below server (λ u. slice_index_or has.now u false && same_region config.now u server) }
-{
-    for number in 0..server.number() {
-        if is_twin(config, has, ServerId::new(number), server) {
-            return true;
-        }
-    }
-    false
-}
-
-/// The server is the lowest of its region that is marked.
-fn is_lowest(config: &Config, has: &[bool], server: ServerId) -> bool
-    requires { server < length config.now.servers }
-    ensures { result ≡ (slice_index_or has.now server false && not (any_below server (λ u. slice_index_or has.now u false && same_region config.now u server))) }
-{
-    is_marked(has, server.number() as usize) && !has_twin(config, has, server)
-}
-
-/// In how many regions the servers lie that are marked.
-#[tactic(auto, using(crate::proofs::Regions::count_next))]
-pub(crate) fn region_count(config: &Config, has: &[bool]) -> u32
-    ensures { result ≡ region_count config.now (λ v. slice_index_or has.now v false) }
-{
-    let mut count = 0u32;
-    for number in 0..config.server_count() {
-        if is_lowest(config, has, ServerId::new(number)) {
-            count += 1;
-        }
-    }
-    count
-}
 
 /// Marks the servers that have a replica of a shard.
 pub(crate) fn mark_replicas(placement: &Placement, shard: ShardId, has: &mut [bool])
@@ -148,10 +95,12 @@ fn holders_after(
 fn is_too_close(
     alloc: Global,
     placement: &Placement,
+    regions: &[u32],
     moves: &[Move],
     shard: ShardId,
 ) -> Result<bool, AllocError>
     requires shard { shard < length placement.now.setup.shards }
+    requires regions { AreRegions placement.now.setup regions.now }
     requires known { All (IsMoveOf placement.now.setup) moves.now }
     ensures { IfOk result (λ close. close ≡ is_too_close placement.now.setup (place_of placement.now) moves.now shard) }
 {
@@ -160,7 +109,8 @@ fn is_too_close(
     }
     let has = holders_after(alloc, placement, moves, shard)?;
     let config = placement.config();
-    Ok(region_count(config, &has) < config.shard(shard).spread)
+    let held = occupied_by(alloc, config, regions, &has)?;
+    Ok(held.count < config.shard(shard).spread)
 }
 
 /// The lowest shard that is moved and whose replicas then lie in fewer regions than its spread.
@@ -172,9 +122,11 @@ pub(crate) fn first_too_close(
     requires { All (IsMoveOf placement.now.setup) moves.now }
     ensures { IfOk result (λ shard. shard ≡ first_below (length placement.now.setup.shards) (is_too_close placement.now.setup (place_of placement.now) moves.now)) }
 {
-    for number in 0..placement.config().shard_count() {
+    let config = placement.config();
+    let regions = regions_of(alloc, config)?;
+    for number in 0..config.shard_count() {
         let shard = ShardId::new(number);
-        if is_too_close(alloc, placement, moves, shard)? {
+        if is_too_close(alloc, placement, &regions, moves, shard)? {
             return Ok(Some(shard));
         }
     }

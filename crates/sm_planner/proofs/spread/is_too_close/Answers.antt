@@ -1,11 +1,15 @@
-use Rattle.std.proofs.Common.{◌≡◌, ◌∙◌, sym, ap, false, ℕ, get_or}
+use Rattle.std.proofs.Common.{◌≡◌, ◌∙◌, sym, ap, subst, false, ℕ, get_or}
 use Rattle.std.specs.Prelude.{nat_lt, ◌==◌}
 use Rattle.std.specs.List.{list_any}
 use Rattle.sm_placement.specs.Setup.{Setup, ShardRow}
 use Rattle.sm_placement.specs.Layout.{place_of}
 use Rattle.sm_planner.specs.Spread.{region_count, spread_of, has_after}
+use Rattle.sm_planner.specs.Regions.{AreRegions}
 use Rattle.sm_planner.proofs.Regions.{same_regions, both_is}
 use Rattle.sm_planner.proofs.spread.is_too_close.Goals as goal
+
+pub occupied_by-held-requires : goal.occupied_by-held-requires
+occupied_by-held-requires c = subst (λ (x : Setup). AreRegions x c.args.regions.now) (sym c.config-config.ensures.setup) c.requires.regions
 
 pub returns : goal.returns
 returns c =
@@ -13,8 +17,9 @@ returns c =
     let s = c.args.shard in
     let moves = c.args.moves.now in
     let after = has_after (place_of p) moves s in
-    let count : c.region_count.result ≡ region_count p.setup after =
-    c.region_count.ensures
+    let held = c.in_ok-held.held in
+    let count : held.count ≡ region_count p.setup after =
+    c.in_ok-held.ensures.count
     ∙ ap (λ (x : Setup). region_count x (λ v. get_or c.deref.result.now v false)) c.config-config.ensures.setup
     ∙ same_regions p.setup (λ v. get_or c.deref.result.now v false) after (λ v l. rw c.deref.ensures.value (c.in_ok-has.ensures v l)) in
     let spread : c.shard.result.now.spread ≡ spread_of p.setup s = ap (λ (r : ShardRow). r.spread) c.shard.ensures.row ∙ ap (λ (x : Setup). spread_of x s) c.config-config.ensures.setup in

@@ -1,0 +1,18 @@
+use Rattle.std.proofs.Common.{ℕ, Bool, false, get_or, sym, subst}
+use Rattle.sm_placement.specs.Setup.{Setup}
+use Rattle.sm_placement.specs.Layout.{place_of}
+use Rattle.sm_planner.specs.Regions.{AreRegions, IsOccupied, stays}
+use Rattle.sm_planner.proofs.Numbering.{occupied_same}
+use Rattle.sm_planner.proofs.draining.staying_regions.Goals as goal
+
+pub occupied_by-kept-requires : goal.occupied_by-kept-requires
+occupied_by-kept-requires c = subst (λ (x : Setup). AreRegions x c.args.regions.now) (sym c.config-config.ensures.setup) c.requires.regions
+
+pub returns : goal.returns
+returns c =
+    let p = c.args.placement.now in
+    let kept = c.in_ok-kept.kept in
+    let marks : ℕ → Bool = λ v. get_or c.deref.result.now v false in
+    let is = subst (λ (x : Setup). IsOccupied x c.args.regions.now marks kept.marks.items kept.count) c.config-config.ensures.setup c.in_ok-kept.ensures in
+    occupied_same p.setup c.args.regions.now marks (stays (place_of p) c.args.shard c.args.from) kept.marks.items kept.count
+    (λ v l. rw c.deref.ensures.value (c.in_ok-has.ensures.marked v l)) is
