@@ -5,6 +5,7 @@ use crate::status::Status;
 use journal::Journal;
 use journal_session::{RecoverFault, ResumeFault, ServeFault, resume, serve_unkept};
 use journal_store::{FileStore, OpenFailure};
+use std::fs::File;
 use std::io;
 
 /// Returns how the program ends when lines were served, and tells what has failed.
@@ -64,9 +65,23 @@ fn serve_store(rt: &HostRuntime, store: FileStore) -> Status {
     }
 }
 
+/// Opens some file for reading.
+fn open_any(rt: &HostRuntime) -> Result<File, OpenFailure> {
+    File::open(rt, "/").or(Err(OpenFailure::Failed))
+}
+
+/// Opens a journal. Its file does not get the number of a standard stream that is closed: other files have those numbers until it is open.
+/// Otherwise replies would be written into the journal.
+fn open_store(rt: &HostRuntime, path: &str) -> Result<FileStore, OpenFailure> {
+    let _input = open_any(rt)?;
+    let _output = open_any(rt)?;
+    let _errors = open_any(rt)?;
+    FileStore::open(rt, path)
+}
+
 /// Serves each line of standard input, and keeps those that change something in a file.
 pub fn serve_journal(rt: &HostRuntime, path: &str) -> Status {
-    match FileStore::open(rt, path) {
+    match open_store(rt, path) {
         Ok(store) => serve_store(rt, store),
         Err(OpenFailure::InUse) => {
             let _ = rt.eprintln("error: another process has the journal");
