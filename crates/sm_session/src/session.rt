@@ -1,5 +1,6 @@
 //! Sessions.
-ghost use Rattle.std.specs.Prelude.{◌≡◌, IfOk, None, false};
+ghost use Rattle.std.specs.Prelude.{◌≡◌, ℕ, List, ◌++◌, IfOk, OnOk, None, false};
+ghost use Rattle.journal_lines.specs.Objects.{IsObject};
 ghost use Rattle.sm_session.specs.declared.session.LineEffect.TheVariants as did;
 
 use crate::changing::{change, change_nothing};
@@ -16,7 +17,6 @@ use sm_open_journal::Opened;
 use sm_placement::Config;
 use sm_reopening::SettledEffect;
 use std::alloc::{AllocError, Global};
-use std::mem;
 
 /// How many bytes a line has at most.
 const MOST_BYTES: usize = 67_108_864;
@@ -72,12 +72,16 @@ impl Session {
     ) -> Result<LineEffect, AllocError>
         ensures changed { IfOk result (λ applied. applied ≡ did.Changed → SessionChanges self.old self.new) }
         ensures unchanged { IfOk result (λ applied. applied ≡ did.Unchanged → self.new ≡ self.old) }
+        // A journal can take a line that changed something as an entry.
+        ensures object { IfOk result (λ applied. applied ≡ did.Changed → IsObject line.now) }
+        ensures behind { OnOk result ((text : List ℕ) × (reply.new.items ≡ reply.old.items ++ text)) }
     {
-        let mut writer = Writer::new(mem::replace(reply, Vec::new(alloc)));
+        let mut writer = Writer::new(Vec::new(alloc));
         writer.begin_object()?;
         let changed = self.answer(alloc, line, &mut writer)?;
         writer.end_object()?;
-        let _ = mem::replace(reply, writer.into_inner());
+        let text = writer.into_inner();
+        reply.extend_from_slice(text.as_slice())?;
         if !changed {
             return Ok(LineEffect::Unchanged);
         }
@@ -94,6 +98,7 @@ impl Session {
     ) -> Result<bool, AllocError>
         ensures changed { IfOk result (λ changed. changed ≡ true → SessionChanges self.old self.new) }
         ensures unchanged { IfOk result (λ changed. changed ≡ false → self.new ≡ self.old) }
+        ensures object { IfOk result (λ changed. changed ≡ true → IsObject line.now) }
     {
         if line.len() > MOST_BYTES {
             write_bad(writer, alloc, BadLine::TooLong)?;
