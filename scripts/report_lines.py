@@ -14,7 +14,9 @@ TROUBLE = (ROOT / "docs/TROUBLESHOOTING.md").read_text()
 EVERY = ("calls", "check", "play", "plan", "run")
 # The commands that check a plan and begin it, or say whether it may begin.
 CHECKING = ("check", "play", "run")
-WHY = re.findall(r"^\| `(\w+)` \|", TROUBLE[TROUBLE.index("| WHY |"):].split("\n\n")[0], re.MULTILINE)
+WHY = re.findall(r"^- `(\w+)`:", TROUBLE[TROUBLE.index("WHY is one of these"):].split("\n\n")[1], re.MULTILINE)
+# A line of a list: forms, and what stands behind them.
+ITEM = re.compile(r"- ((?:`[^`]+`(?:, )?)+): (.*)")
 REFUSED = [
     "refused: 2 Budget streams A plan B",
     "refused: 3 SignalNotOnce signal K posts A waits B",
@@ -116,11 +118,12 @@ def faults():
 
 
 def told():
-    """The lines in the tables of both, with 0 for each word in capitals, and the commands that print each."""
+    """The lines in the tables and lists of both, with 0 for each word in capitals, and the commands that print each."""
     title = ""
     for line in (FORMATS[FORMATS.index("## The report"):] + TROUBLE).splitlines():
         title = line if line.startswith("#") else title
-        cells = line.strip("| ").split(" | ") if line.startswith("| `") else [""]
+        item = ITEM.match(line)
+        cells = line.strip("| ").split(" | ") if line.startswith("| `") else [item[1], item[2]] if item else [""]
         of = re.match(r"(`\w+`(, )?)+(?=:)", cells[-1])
         commands = re.findall(r"\w+", of[0]) if of else re.findall("`(check|plan|play|run)`", title) or ["calls"]
         for form in re.findall("`(.*?)`", cells[0]):
@@ -142,7 +145,7 @@ def wrong(cases):
         yield from (f"{command}: a case has a line {form!r}, of which it is said that none has" for form in ELSEWHERE if (command, form) in had)
     lines_told = [*told()]
     if not lines_told:
-        yield "the documents have no line of a report in their tables, as they are read here"
+        yield "the documents have no line of a report in their tables and lists, as they are read here"
     for commands, line in lines_told:
         yield from (f"the documents tell of {line!r} of {it}, which has no form here" for it in commands if not forms_of(it, line))
 
