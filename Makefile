@@ -81,6 +81,7 @@ check-program:
 	scripts/check-driver-example
 	scripts/check-smpland
 	scripts/check-smpland-kills
+	scripts/check-smpland-faults 10
 	scripts/check-documents
 	scripts/check-reports
 	scripts/check-faults
@@ -118,10 +119,12 @@ page-test: ## loads the tools' pages in Debian's chromium, and writes pictures t
 	scripts/page-test
 
 # (over the program as it is now, and not as the gate may have built it before)
-storm: ## makes 1,000 runs of a plan of 64 streams, beside clients and restarts, and kills build/smpland 1,000 times in such plans
+storm: ## makes 1,000 runs of a plan of 64 streams, beside clients and restarts; kills build/smpland 1,000 times, refuses each of its calls, spoils 100,000 lines
 	rm -f crates/board_trials/out/board_trials
 	scripts/storm
 	scripts/check-smpland-kills 1000
+	scripts/check-smpland-faults
+	scripts/check-smpland build/smpland 100000
 
 bench: build ## measures the proved program on large documents (docs/BENCH.md)
 	scripts/bench

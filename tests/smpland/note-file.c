@@ -48,7 +48,7 @@ int open(const char *path, int flags, ...) {
 
 ssize_t write(int file, const void *bytes, size_t length) {
   if (file != noted_file) return syscall(SYS_write, file, bytes, length);
-  note('W', lseek(file, 0, SEEK_CUR), bytes, length);
+  note('W', syscall(SYS_lseek, file, 0, SEEK_CUR), bytes, length);
   if (!is_last()) return syscall(SYS_write, file, bytes, length);
   syscall(SYS_write, file, bytes, length / 2);
   die();
