@@ -134,7 +134,8 @@ class Trial:
         os.dup2(os.open(self.refused, os.O_WRONLY | os.O_APPEND), 9)
 
     def run(self, setting: Setting, fault: Fault, number: int) -> tuple[bool, list[str]]:
-        """Runs the program with one call refused. Returns whether there was such a call, and what is wrong."""
+        """Runs the program with one call refused. Returns whether there was such a call, and what is wrong. It may do without memory that it asks for
+        by a guess of a list's length; then it replies to all."""
         self.journal.unlink(missing_ok=True)
         if setting.before is not None:
             self.journal.write_bytes(setting.before)
@@ -145,7 +146,8 @@ class Trial:
         variables = self.variables | fault.variables(number)
         done = subprocess.run(words, input=lines, capture_output=True, env=variables, pass_fds=(9,), check=False)
         is_refused = self.refused.stat().st_size > 0
-        status = fault.status if is_refused else 0
+        does_without = fault.kind == "allocation" and done.returncode == 0
+        status = fault.status if is_refused and not does_without else 0
         wrong = [] if done.returncode == status else [f"status {done.returncode}"]
         wrong += [] if bool(done.stderr) == (status != 0) else [f"stderr {done.stderr!r}"]
         return is_refused, wrong + list(self.wrong_in(setting, done.stdout, status == 0))
