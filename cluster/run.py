@@ -16,7 +16,8 @@ from collections.abc import Awaitable, Callable
 from dataclasses import dataclass, field
 from pathlib import Path
 
-from cluster.faults.story import NotOpened, Story
+from cluster.faults.handovers import HandoverStory
+from cluster.faults.story import NotOpened
 from cluster.launch.cluster import CALM, ROOT, ROUGH, LocalCluster, program_of
 from cluster.launch.figures import at, handover_waits, in_words, lines_of, rate_of, request_waits
 from cluster.launch.moving import Mover
@@ -80,8 +81,8 @@ class Run:
         self.begun = time.monotonic()
         self.cluster = LocalCluster(settings.directory, settings.shape, settings.program, ROUGH if settings.is_rough else CALM, settings.bugs, pause=settings.pause)
         self.operator = Operator(self.cluster.pages, 240.0 if settings.is_busy else 90.0)
-        self.story = Story(self.cluster, self.operator, settings.shape.seed, self.tell)
         self.mover = Mover(self.operator, settings.shape.seed, settings.swaps)
+        self.story = HandoverStory(self.cluster, self.operator, self.mover, settings.shape.seed, self.tell)
         self.verdict: Verdict | None = None
         # Spans of time, by what went on in them.
         self.spans: dict[str, list[tuple[int, int]]] = {"at rest": [], "while a server is drained": []}
@@ -135,8 +136,7 @@ class Run:
     async def do_at(self, when: float, name: str) -> None:
         """Does a part of the story at a time."""
         await asyncio.sleep(max(0.0, when - time.monotonic()))
-        own = {"drain": self.drain, "lose_server": self.lose_server, "forget_twice": self.forget_twice}
-        part: Callable[[], Awaitable[object]] = own.get(name) or getattr(self.story, name)
+        part: Callable[[], Awaitable[object]] = self.drain if name == "drain" else getattr(self.story, name)
         try:
             await part()
         except (NoLeader, NotReady) as why:
@@ -151,22 +151,6 @@ class Run:
         self.spans["while a server is drained"].append((begun, time.monotonic_ns()))
         self.tell(f"{server} is empty after {(time.monotonic_ns() - begun) / 1e9:.1f} s" if is_done else f"{server} could not be emptied")
         self.mover.avoided.discard(server)
-
-    async def lose_server(self) -> None:
-        """Loses a server in a handover, which nobody else moves meanwhile."""
-        await self.story.lose_server()
-        self.mover.avoided |= self.story.lost
-
-    async def forget_twice(self) -> None:
-        """Restarts a server twice, without its slots, while copies of messages to it come late: the first restore, too. In between replicas are moved."""
-        server = self.story.dice.choice(self.story.alive)
-        await self.story.copy_late(server, True)
-        for _ in range(2):
-            self.mover.avoided.add(server)
-            await self.story.restart_server(True, server, 40)
-            self.mover.avoided.discard(server)
-            await asyncio.sleep(2.0)
-        await self.story.copy_late(server, False)
 
     async def calm_down(self) -> None:
         """Lets messages through again, and ends the clients, which read everything at the end."""
@@ -196,7 +180,7 @@ class Run:
         by_span = {name: rate_of(asked, spans) for name, spans in self.spans.items() if spans}
         histories = lines_of(where / "histories.jsonl")
         situations = situations_of(histories, self.verdict.replies, self.verdict.counts + self.story.counts)
-        if clients.get("failures") and self.story.counts["reopenings"] == 1 and not self.settings.is_busy:
+        if clients.get("failures") and not self.story.lost and not self.settings.is_busy:
             self.verdict.faults.append(f"{clients['failures']} requests were not acknowledged within 10 s")
         orders = self.verdict.counts["orders"] / self.moved_for if self.moved_for else 0.0
         return Result(self.verdict, clients, counts, self.story.failovers, request_waits(asked), handover_waits(histories), situations, by_span, orders)

@@ -6,6 +6,7 @@ import asyncio
 import os
 import random
 import shutil
+import signal
 import sys
 import tempfile
 import time
@@ -50,14 +51,18 @@ class Sums:
             self.failed.append(f"seed {seed}: {len(result.verdict.faults)} violations, the first: {result.verdict.faults[0]}")
 
 
-def parts_of(seed: int, loses: bool) -> tuple[tuple[float, str], ...]:
-    """The harm of a run: everything of HARM at times of its own, in each third run a reopening behind a leader that was stopped, and at the end perhaps a
-    server that is lost."""
+def parts_of(seed: int) -> tuple[tuple[float, str], ...]:
+    """The harm of a run: everything of HARM at times of its own, and at the end in each second run a server that is lost, in the others a reopening in handovers.
+    In half of the runs a reopening goes behind a leader that was stopped, and in each fifth one two of the restarts are of one server, while messages come late."""
     dice = random.Random(f"parts {seed}")
-    parts = [(dice.uniform(0.05, 0.75), name) for name, count in HARM for _ in range(count)]
-    if seed % 3 == 0:
-        parts = [(when, "reopen_behind_leader" if name == "freeze_leader" else name) for when, name in parts]
-    return tuple(sorted([*parts, (0.8, "lose_server")] if loses else parts))
+    names = [name for name, count in HARM for _ in range(count)]
+    if seed // 4 % 2 == 0:
+        names[names.index("freeze_leader")] = "reopen_behind_leader"
+    if seed % 5 == 0:
+        names.remove("restart_server")
+        names[names.index("restart_server")] = "forget_twice"
+    last = ("lose_server", "reopen_amid_passing", "lose_server", "reopen_behind_cut")[seed % 4]
+    return tuple(sorted([*((dice.uniform(0.05, 0.75), name) for name in names), (0.8, last)]))
 
 
 class Storm:
@@ -68,12 +73,18 @@ class Storm:
         self.seeds = iter(range(told.seed, told.seed + told.runs))
 
     async def run(self) -> None:
-        """Makes all runs, as many side by side as there are jobs."""
+        """Makes all runs, as many side by side as there are jobs. An interrupt lets those under way come to their end, and begins no more."""
+        for number in (signal.SIGINT, signal.SIGTERM):
+            asyncio.get_running_loop().add_signal_handler(number, self.stop)
         await asyncio.gather(*(self.work() for _ in range(self.told.jobs)))
+
+    def stop(self) -> None:
+        """Begins no more runs."""
+        self.seeds = iter(())
 
     async def work(self) -> None:
         """Makes one run after the other, until no seed is left."""
-        for seed in self.seeds:
+        while (seed := next(self.seeds, None)) is not None:
             await self.run_once(seed)
 
     async def run_once(self, seed: int) -> None:
@@ -81,8 +92,7 @@ class Storm:
         told, begun = self.told, time.monotonic()
         directory = Path(tempfile.mkdtemp(prefix=f"storm-{seed}-", dir="/dev/shm" if os.access("/dev/shm", os.W_OK) else None))
         shape = Shape(servers=told.servers, shards=told.shards, clients=told.clients, seed=seed)
-        parts = parts_of(seed, seed % 2 == 0)
-        settings = Settings(directory, shape, program_of(told.program), told.seconds, not told.calm, parts, tuple(told.bug), is_quiet=True, is_busy=told.busy)
+        settings = Settings(directory, shape, program_of(told.program), told.seconds, not told.calm, parts_of(seed), tuple(told.bug), is_quiet=True, is_busy=told.busy)
         try:
             result = await Run(settings).run()
         except (NotReady, NotOpened, OSError, TimeoutError, NoLeader, Failed) as why:

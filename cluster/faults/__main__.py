@@ -31,6 +31,8 @@ async def run(told: dict) -> None:
             if link.name.startswith(tuple(message.get("links", [""]))):
                 if "cut" in message:
                     link.is_cut = bool(message["cut"])
+                elif "hold" in message:
+                    link.held = message["hold"].encode() if message["hold"] else None
                 elif "rates" in message:
                     link.dice.rates = replace(link.dice.rates, **message["rates"])
                 else:

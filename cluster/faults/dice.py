@@ -8,14 +8,15 @@ from dataclasses import dataclass
 
 @dataclass(frozen=True, slots=True)
 class Rates:
-    """How often a message is lost, comes twice or comes late, each from 0 to 1, and how late at most in seconds. `rare` is how often those come
-    twice that are seldom sent: fences, settles, restores."""
+    """How often a message is lost, comes twice or comes late, each from 0 to 1, and by how many seconds it is late: at least, and how many more at most.
+    `rare` is how often those come twice that are seldom sent: fences, settles, restores."""
 
     drop: float = 0.0
     repeat: float = 0.0
     delay: float = 0.0
     longest: float = 0.3
     rare: float = 0.0
+    shortest: float = 0.0
 
 
 class Dice:
@@ -49,4 +50,4 @@ class Dice:
         if not self.rolls(self.rates.delay, "delayed"):
             return 0.0
         # (most are a little late, and few are late enough to be overtaken by much)
-        return self.random.random() ** 3 * self.rates.longest
+        return self.rates.shortest + self.random.random() ** 3 * self.rates.longest

@@ -16,13 +16,19 @@ Relay = Callable[[Reader, Writer, Reader, Writer, "Link"], Awaitable[None]]
 
 @dataclass
 class Link:
-    """A way through a proxy: whose dice are rolled, and whether it is cut, so that nothing gets through."""
+    """A way through a proxy: whose dice are rolled, whether it is cut, so that nothing gets through, and of which messages, by a text at their beginning, lines
+    do not get through and requests of HTTP wait."""
 
     name: str
     dice: Dice
     host: str
     port: int
     is_cut: bool = False
+    held: bytes | None = None
+
+    def holds(self, message: bytes) -> bool:
+        """Whether a message is one of those that are held."""
+        return self.held is not None and self.held in message[:40]
 
 
 async def send_late(writer: Writer, line: bytes, seconds: float) -> None:
@@ -45,7 +51,7 @@ async def relay_lines(reader: Reader, writer: Writer, link: Link) -> None:
         task.add_done_callback(late.discard)
 
     while line := await reader.readline():
-        if link.is_cut or link.dice.drops():
+        if link.is_cut or link.holds(line) or link.dice.drops():
             continue
         send(line, link.dice.lateness())
         if link.dice.repeats(is_rare=any(it in line[:40] for it in RARE)):
@@ -103,6 +109,8 @@ async def relay_http(reader: Reader, writer: Writer, far: Reader, far_writer: Wr
     while True:
         request = await read_http(reader)
         await asyncio.sleep(link.dice.lateness())
+        while link.holds(request):
+            await asyncio.sleep(0.05)
         if link.is_cut or link.dice.drops():
             return
         answer = b""

@@ -1,4 +1,4 @@
-"""What happens to a cluster in a run: kills, stops, restarts, and a server that is given up for good in the middle of a handover."""
+"""What happens to a cluster in a run: kills, stops, restarts and reopenings; handovers.py has what happens in handovers."""
 from __future__ import annotations
 
 import asyncio
@@ -6,16 +6,17 @@ import random
 import signal
 import time
 from collections import Counter
-from collections.abc import Callable
+from collections.abc import AsyncIterator, Callable
+from contextlib import asynccontextmanager
 from typing import Any
 
 from cluster.controllers.etcd import Etcd, end_of
 from cluster.controllers.journal import PREFIX
 from cluster.launch.cluster import LocalCluster
+from cluster.launch.moving import Mover
 from cluster.launch.operator import Operator
-from cluster.launch.plans import move_stream, plan_of, promote_stream
+from cluster.launch.plans import plan_of, promote_stream
 from cluster.launch.shape import document_of
-
 from cluster.wire import Address, Channel, Failed
 
 from smplan.control import Line
@@ -26,10 +27,10 @@ class NotOpened(Exception):
 
 
 class Story:
-    """Does harm to a cluster, by a seed, and what an operator does afterwards."""
+    """Does harm to a cluster, by a seed, and what an operator does afterwards. The mover moves replicas meanwhile, and is told what to leave alone."""
 
-    def __init__(self, cluster: LocalCluster, operator: Operator, seed: int, tell: Callable[[str], None]) -> None:
-        self.cluster, self.operator, self.tell = cluster, operator, tell
+    def __init__(self, cluster: LocalCluster, operator: Operator, mover: Mover, seed: int, tell: Callable[[str], None]) -> None:
+        self.cluster, self.operator, self.mover, self.tell = cluster, operator, mover, tell
         self.dice = random.Random(f"story {seed}")
         self.counts: Counter[str] = Counter()
         self.failovers: list[float] = []
@@ -58,6 +59,38 @@ class Story:
         """Who leads now."""
         return (await self.operator.state()).get("name")
 
+    @asynccontextmanager
+    async def slowed(self, *links: str, longest: float = 0.5, shortest: float = 0.0) -> AsyncIterator[None]:
+        """Has every message of links of one kind come late while something is done."""
+        usual = {"delay": 0.0, "longest": 0.3, **self.cluster.proxies.rates.get(links[0].partition(" ")[0], {}), "shortest": 0.0}
+        await self.cluster.tell_proxies(links=links, rates={"delay": 1.0, "longest": longest, "shortest": shortest})
+        try:
+            yield
+        finally:
+            await self.cluster.tell_proxies(links=links, rates=usual)
+
+    @asynccontextmanager
+    async def cut(self, *links: str) -> AsyncIterator[None]:
+        """Lets nothing through links while something is done."""
+        await self.cluster.tell_proxies(links=links, cut=True)
+        try:
+            yield
+        finally:
+            await self.cluster.tell_proxies(links=links, cut=False)
+
+    @asynccontextmanager
+    async def held(self, text: str, *links: str) -> AsyncIterator[None]:
+        """Holds messages with this text at their beginning on links while something is done."""
+        await self.cluster.tell_proxies(links=links, hold=text)
+        try:
+            yield
+        finally:
+            await self.cluster.tell_proxies(links=links, hold=None)
+
+    def orders_to(self, *servers: str) -> list[str]:
+        """The links on which controllers speak to servers."""
+        return [f"order {it} {server}" for server in servers for it in self.cluster.shape.controller_names]
+
     async def wait_for_leader(self, other_than: str) -> float:
         """Waits until another one leads, and returns how many seconds that took."""
         begun = time.monotonic()
@@ -66,13 +99,28 @@ class Story:
         return time.monotonic() - begun
 
     async def kill_leader(self) -> None:
-        """Kills the leading controller, and starts it again."""
+        """Kills the leading controller, each second time in a write of the map, and starts it again."""
+        leader = await self.leader()
+        if leader is None:
+            return
+        if self.dice.random() < 0.5:
+            await self.kill_at_once()
+            return
+        async with self.slowed(f"etcd {leader} "):
+            await self.wait_for_publication()
+            await self.kill_at_once()
+
+    async def kill_at_once(self) -> None:
+        """Kills the leading controller as it is, and starts it again."""
         state = await self.operator.state()
         leader = state.get("name")
         if leader is None:
             return
         self.tell(f"kill -9 {leader}, which leads")
         self.counts["leaders killed with orders outstanding"] += bool(state["orders"])
+        self.counts["leaders killed in a write of the map"] += any(it["what"].startswith("publish") for it in state["orders"])
+        # (its own counts end with it)
+        self.counts.update({what: count for what, count in state["counts"].items() if " " in what})
         await self.cluster.processes[leader].kill()
         self.counts["leaders killed"] += 1
         self.failovers.append(await self.wait_for_leader(leader))
@@ -81,24 +129,23 @@ class Story:
         await self.cluster.processes[leader].start()
 
     async def freeze_leader(self, seconds: float = 4.0, reopens: bool = False) -> None:
-        """Stops the leading controller, while it writes the map, until it is deposed; then lets it go on. Its messages to etcd are slow meanwhile, so that
-        it is in the middle of a write. If it `reopens`, the next leader does, before that one goes on."""
+        """Stops the leading controller, while it writes the map, until it is deposed; then lets it go on. Its messages to etcd are slow before, so that it is in the
+        middle of a write, and it hears late that its lease has ended. If it `reopens`, the next leader does, before that one goes on."""
         leader = await self.leader()
         if leader is None:
             return
-        links = [f"etcd {leader} "]
-        await self.cluster.tell_proxies(links=links, rates={"delay": 1.0, "longest": 0.5})
-        try:
+        async with self.slowed(f"etcd {leader} "):
             await self.wait_for_publication()
             self.tell(f"stop {leader}, which leads")
             self.cluster.processes[leader].signal(signal.SIGSTOP)
+        try:
             await asyncio.sleep(seconds)
             if reopens:
                 await self.reopen(without(await self.state(), self.document, self.lost), [], f"{leader} does not answer", replaces=True)
         finally:
-            self.cluster.processes[leader].signal(signal.SIGCONT)
-            await asyncio.sleep(1.5)
-            await self.cluster.tell_proxies(links=links, rates=self.cluster.proxies.rates.get("etcd", {"delay": 0.0}))
+            async with self.held("/v3/lease/", f"etcd {leader} "):
+                self.cluster.processes[leader].signal(signal.SIGCONT)
+                await asyncio.sleep(1.5)
         self.counts["leaders stopped"] += 1
 
     async def wait_for_publication(self, seconds: float = 4.0) -> None:
@@ -126,14 +173,44 @@ class Story:
     # Servers.
 
     async def crash_server(self) -> None:
-        """Kills a server without leave, and starts it again with its slots."""
+        """Kills a server without leave, each second time while an order is at work there, and starts it again with its slots."""
         async with self.restarting:
             name = self.dice.choice(self.alive)
-            self.tell(f"kill -9 {name}, without leave")
-            await self.cluster.processes[name].kill()
-            self.counts["servers killed without leave"] += 1
-            await asyncio.sleep(self.dice.uniform(0.2, 1.0))
-            await self.cluster.processes[name].start()
+            if self.dice.random() < 0.5:
+                await self.crash(name)
+                return
+            async with self.slowed(f"peer {name} "):
+                await self.wait_for_work([name])
+                await self.crash(name)
+
+    async def crash(self, name: str) -> None:
+        """Kills a server as it is, and starts it again."""
+        self.tell(f"kill -9 {name}, without leave")
+        await self.cluster.processes[name].kill()
+        self.counts["servers killed without leave"] += 1
+        await asyncio.sleep(self.dice.uniform(0.2, 1.0))
+        await self.cluster.processes[name].start()
+
+    async def wait_for_work(self, names: list[str], seconds: float = 3.0) -> None:
+        """Waits until an order is at work at one of these servers, for some seconds at most."""
+        channels = [Channel(Address("127.0.0.1", self.cluster.ports[it].control)) for it in names]
+        until = time.monotonic() + seconds
+        while time.monotonic() < until:
+            told = await asyncio.gather(*(it.ask(1.0, status={}) for it in channels), return_exceptions=True)
+            if any(isinstance(it, dict) and it["status"]["work"] for it in told):
+                break
+            await asyncio.sleep(0.02)
+        for channel in channels:
+            channel.close()
+
+    async def forget_twice(self) -> None:
+        """Restarts a server twice, without its slots, while copies of messages to it come late: the first restore, too. In between replicas are moved."""
+        server = self.dice.choice(self.alive)
+        await self.copy_late(server, True)
+        for _ in range(2):
+            await self.restart_server(True, server)
+            await asyncio.sleep(2.0)
+        await self.copy_late(server, False)
 
     async def copy_late(self, name: str, is_late: bool) -> None:
         """Has a copy of each message to a server come late, or as many as usual."""
@@ -142,11 +219,11 @@ class Story:
         usual = self.cluster.proxies.rates.get("order", {"repeat": 0.0, "rare": 0.0})
         await self.cluster.tell_proxies(links=links, rates={"repeat": 1.0, "rare": 1.0, "longest": 0.5} if is_late else usual)
 
-    async def restart_server(self, lose_slots: bool | None = None, server: str | None = None, tries: int = 10) -> bool:
+    async def restart_server(self, lose_slots: bool | None = None, server: str | None = None) -> bool:
         """Asks for leave to restart a server, kills it, starts it again with or without its slots, and tells that it is up."""
         async with self.restarting:
-            name, by = server or self.dice.choice(self.alive), self.name("rollout")
-            permit = await self.approved(name, by, tries)
+            name = server if server in self.alive else self.dice.choice(self.alive)
+            permit = await self.approved(name, self.name("rollout"))
             if permit is None:
                 return False
             lose = self.dice.random() < 0.5 if lose_slots is None else lose_slots
@@ -179,23 +256,30 @@ class Story:
         """Notes that a server goes down under its permit, or is up again."""
         self.permits.append({"server": name, "t": time.monotonic_ns(), "kind": "permit", "down": is_down})
 
-    async def approved(self, name: str, by: str, tries: int = 10) -> int | None:
-        """Asks for leave until it is given; None if it is not."""
+    async def approved(self, name: str, by: str, seconds: float = 12.0) -> int | None:
+        """Asks for leave until it is given, while no new plan names the server; None if it is not given."""
         if "restart-without-approval" in self.cluster.bugs:
             return 0
-        for _ in range(tries):
-            reply = await self.operator.do({"do": "approve", "server": name, "by": by})
-            if "approved" in reply:
-                return reply["approved"]["permit"]
-            await asyncio.sleep(0.3)
-        self.counts["restarts denied"] += 1
-        return None
+        is_avoided = name in self.mover.avoided
+        self.mover.avoided.add(name)
+        try:
+            until = time.monotonic() + seconds
+            while time.monotonic() < until:
+                reply = await self.operator.do({"do": "approve", "server": name, "by": by})
+                if "approved" in reply:
+                    return reply["approved"]["permit"]
+                await asyncio.sleep(0.3)
+            self.counts["restarts denied"] += 1
+            return None
+        finally:
+            if not is_avoided:
+                self.mover.avoided.discard(name)
 
-    # A server that is lost.
+    # Reopenings.
 
     async def begin_reopening(self, line: Line) -> int | None:
         """Begins a reopening, and returns its base; none if it is refused."""
-        reply = await self.operator.do(line)
+        reply = await self.operator.reopen(line)
         if "fence" in reply:
             return reply["fence"][0]["base"]
         self.refusal = reply
@@ -254,51 +338,6 @@ class Story:
             self.counts["secondaries promoted"] += len(streams)
             reply = await self.operator.do({"do": "begin", "plan": plan_of(streams), "name": self.name("promote")})
             self.tell(f"{len(streams)} shards without a primary: {'promoted' if 'begun' in reply else reply}")
-
-    # A server that is lost in a handover.
-
-    async def lose_server(self, target: str | None = None) -> bool:
-        """Gives the new owner of a handover up for good while the old one forwards to it, and reopens without it. Tells whether it came to that."""
-        async with self.restarting:
-            found = await self.stuck_handover(target)
-            if found is None:
-                return False
-            shard, old, new = found
-            self.lost.add(new)
-            self.counts["servers lost in a handover"] += 1
-            document = without(await self.state(), self.document, self.lost)
-            return await self.reopen(document, [new], f"{new} was lost while it took {shard} from {old}", replaces=self.dice.random() < 0.5)
-
-    async def stuck_handover(self, target: str | None) -> tuple[str, str, str] | None:
-        """Begins a handover, holds orders to the old owner back until the new one is prepared, and kills that one. Returns shard, old and new owner."""
-        for _ in range(20):
-            chosen = self.handover_in(await self.state(), target)
-            if chosen is not None:
-                shard, old, new = chosen
-                held = [f"order {it} {old}" for it in self.cluster.shape.controller_names]
-                await self.cluster.tell_proxies(links=held, cut=True)
-                try:
-                    reply = await self.operator.do({"do": "begin", "plan": plan_of([move_stream(shard, old, new)]), "name": self.name("handover")})
-                    if "begun" in reply and await self.wait_for_cell(shard["shard"], new, "prepared"):
-                        self.tell(f"kill -9 {new} for good, which is to take {shard['shard']} from {old}")
-                        await self.cluster.processes[new].kill()
-                        return shard["shard"], old, new
-                finally:
-                    await self.cluster.tell_proxies(links=held, cut=False)
-            await asyncio.sleep(0.3)
-        return None
-
-    def handover_in(self, state: Line, target: str | None) -> tuple[Line, str, str] | None:
-        """Chooses a shard whose primary may be handed over, its owner and the new one."""
-        rooms = {it["server"]: it["room"] - it["load"] - it["held"] for it in state.get("servers", []) if it["permit"] is None}
-        chosen = []
-        for shard in state.get("shards", []):
-            has = {it["server"]: it["state"] for it in shard["cells"]}
-            owner = next((it for it, word in has.items() if word == "primary"), None)
-            new = [it for it, room in rooms.items() if it not in has and room >= shard["load"] and target in (None, it)]
-            if owner in rooms and new and set(has.values()) <= {"primary", "secondary"}:
-                chosen.append((shard, owner, self.dice.choice(new)))
-        return self.dice.choice(chosen) if chosen else None
 
     async def state(self) -> Line:
         """What is recorded, nothing if no epoch is in force."""

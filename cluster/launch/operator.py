@@ -28,18 +28,23 @@ class Operator:
         except Failure:
             return None
 
-    async def do(self, line: Line) -> Line:
-        """Has the leader store and feed a line, and returns the reply."""
+    async def do(self, line: Line, timeout: float = 2.5) -> Line:
+        """Has the leader store and feed a line, and returns the reply. It goes to the next controller if none comes within the timeout."""
         try:
             async with asyncio.timeout(self.patience):
                 while True:
-                    reply = await self.post(self.leader, "/do", line)
+                    reply = await self.post(self.leader, "/do", line, timeout)
                     if reply is not None:
                         return reply
                     self.turn()
                     await asyncio.sleep(0.05)
         except TimeoutError:
             raise NoLeader(f"no controller took the line {line.get('do')} within {self.patience:g} s") from None
+
+    async def reopen(self, line: Line) -> Line:
+        """Has a reopening begun. Each further `reopen` begins it anew, so this one goes to who leads, and waits long for the reply."""
+        await self.state()
+        return await self.do(line, self.patience / 4)
 
     async def ask(self, line: Line) -> Line:
         """Asks the controller that led last, or any that answers."""

@@ -7,12 +7,15 @@ from collections.abc import Iterable
 
 # Every situation that a storm is to meet.
 SITUATIONS = (
-    "an order answered again after its stream went on", "an order answered old", "a restore that comes late", "a second restarted",
+    "an order answered again after its stream went on", "an order answered old", "a restore that comes late", "a restore of an earlier restart that comes late",
+    "a second restarted",
     "a passed request after its handover ended", "an append that timed out and went through", "a map write of a deposed leader",
-    "a repetition while work runs", "a server that crashed without leave", "a leader killed between an order and its answer's entry",
-    "a fence that meets an order at work", "a crash while at work", "a late fence", "a late inventory", "a late settle",
-    "a second reopening in place of one under way", "a late publication after a reopening", "a failover",
+    "a repetition while work runs", "a repetition while a copy runs", "a server that crashed without leave", "a leader killed between an order and its answer's entry",
+    "a leader killed between an entry and its write of the map", "a fence that meets an order at work", "a crash while at work", "a late fence", "a late inventory",
+    "a late settle", "a second reopening in place of one under way", "a server lost between fence and settle", "a late publication after a reopening", "a failover",
 )
+# Which orders copy a shard. (one that only takes it over is done in no time)
+COPYING = ("prepare_add", "add")
 
 
 def at_work(events: Iterable[dict]) -> Counter[str]:
@@ -51,6 +54,19 @@ def answered_again(events: list[dict]) -> int:
     return found
 
 
+def earlier_restores(events: list[dict]) -> int:
+    """How many restores came that an earlier start of their server had asked for."""
+    nonces: dict[str, list[str]] = defaultdict(list)
+    found = 0
+    for event in events:
+        asked = nonces[event["server"]]
+        if event["kind"] in ("start", "forget"):
+            asked.append(event["nonce"])
+        elif event["kind"] == "restore-ignored":
+            found += int(event["nonce"], 16) in [int(it, 16) for it in asked[:-1]]
+    return found
+
+
 def situations_of(events: list[dict], replies: Counter[str], counts: Counter[str]) -> Counter[str]:
     """How often each situation came up."""
     ordered = sorted((it for it in events if "t" in it), key=lambda it: it["t"])
@@ -59,17 +75,21 @@ def situations_of(events: list[dict], replies: Counter[str], counts: Counter[str
     found["an order answered again after its stream went on"] = answered_again(ordered)
     found["an order answered old"] = kinds["order-old"]
     found["a restore that comes late"] = kinds["restore-ignored"]
+    found["a restore of an earlier restart that comes late"] = earlier_restores(ordered)
     found["a second restarted"] = replies["restarted: ignored"]
     found["a passed request after its handover ended"] = kinds["passed-late"]
     found["an append that timed out and went through"] = counts["appends that went through unanswered"]
     found["a map write of a deposed leader"] = counts["publications of one that does not lead"] + counts["map writes of one that does not lead"]
     found["a repetition while work runs"] = kinds["order-at-work"]
+    found["a repetition while a copy runs"] = sum(it["kind"] == "order-at-work" and it["call"] in COPYING for it in ordered)
     found["a server that crashed without leave"] = counts["servers killed without leave"]
     found["a leader killed between an order and its answer's entry"] = counts["leaders killed with orders outstanding"]
+    found["a leader killed between an entry and its write of the map"] = counts["leaders killed in a write of the map"]
     found["a late fence"] = kinds["fence-ignored"] + kinds["fence-again"]
     found["a late inventory"] = replies["fenced: ignored"]
     found["a late settle"] = kinds["settle-again"] + kinds["settle-ignored"] + replies["settled: ignored"]
     found["a second reopening in place of one under way"] = counts["reopenings replaced"]
+    found["a server lost between fence and settle"] = counts["servers lost between fence and settle"]
     found["a late publication after a reopening"] = counts["publications old"] + counts["publications not_ready"]
     found["a failover"] = counts["failovers"]
     return +found

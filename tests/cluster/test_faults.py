@@ -27,6 +27,15 @@ logging.getLogger("asyncio").setLevel(logging.ERROR)
 class ProxyTest(unittest.IsolatedAsyncioTestCase):
     """Lines through a proxy."""
 
+    async def test_late_at_least(self):
+        dice = Dice(1, "peer a b", Rates(delay=1.0, longest=0.5, shortest=2.0), Counter())
+        late = [dice.lateness() for _ in range(100)]
+        self.assertTrue(all(2.0 <= it <= 2.5 for it in late))
+
+    def test_held(self):
+        link = Link("order k a", Dice(1, "order k a", Rates(), Counter()), "127.0.0.1", 1, held=b'"order"')
+        self.assertEqual([link.holds(it) for it in (b'{"id":1,"order":{}}', b'{"id":2,"fence":{}}')], [True, False])
+
     async def lines_through(self, rates, count=200, seed=1):
         """What comes back of some lines."""
         counts = Counter()
@@ -111,7 +120,9 @@ class SituationsTest(unittest.TestCase):
             self.event(4, "seal"), self.event(5, "order-again", number=5),
             self.event(6, "begin", call="drop", **{**order, "number": 7}), self.event(8, "commit", call="drop", **{**order, "number": 7}),
             self.event(9, "order-again", number=5), self.event(10, "begin", call="add", number=9), self.event(11, "fence"),
-            self.event(12, "begin", call="add", number=11), self.event(13, "start"), self.event(14, "order-old", number=5),
+            self.event(12, "begin", call="add", number=11), self.event(13, "start", nonce="7"), self.event(14, "order-old", number=5),
+            self.event(15, "forget", nonce="8"), self.event(16, "restore-ignored", nonce="0007", known=False), self.event(17, "restore-ignored", nonce="8", known=True),
+            self.event(18, "order-at-work", call="add", number=13), self.event(19, "order-at-work", call="drop", number=15),
         ]
         found = situations_of(events, Counter({"restarted: ignored": 2}), Counter())
         self.assertEqual(found["an order answered again after its stream went on"], 1)
@@ -119,6 +130,8 @@ class SituationsTest(unittest.TestCase):
         self.assertEqual(found["a crash while at work"], 1)
         self.assertEqual(found["an order answered old"], 1)
         self.assertEqual(found["a second restarted"], 2)
+        self.assertEqual((found["a restore that comes late"], found["a restore of an earlier restart that comes late"]), (2, 1))
+        self.assertEqual((found["a repetition while work runs"], found["a repetition while a copy runs"]), (2, 1))
         self.assertLessEqual(set(found), set(SITUATIONS))
         self.assertEqual(handover_waits([{**it, "t": it["t"] * 1e9} for it in events]), [3.0])
 

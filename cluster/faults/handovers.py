@@ -1,0 +1,188 @@
+"""What happens in handovers: a new owner that is given up for good, and reopenings while requests are passed on."""
+from __future__ import annotations
+
+import asyncio
+import time
+from collections.abc import AsyncIterator
+from contextlib import AsyncExitStack, asynccontextmanager
+from dataclasses import dataclass
+
+from smplan.control import Line
+
+from cluster.launch.plans import move_stream, plan_of
+from cluster.wire import Address, Channel, Failed
+
+from .story import Story, without
+
+
+@dataclass(frozen=True)
+class Handovers:
+    """Handovers of shards to one server: each shard's old owner, and what was recorded before."""
+
+    new: str
+    olds: dict[str, str]
+    streams: list[Line]
+    state: Line
+
+
+class HandoverStory(Story):
+    """The whole story."""
+
+    # A server that is lost.
+
+    async def lose_server(self, target: str | None = None) -> bool:
+        """Gives the new owner of a handover up for good while the old one waits to hand over, and reopens without it: once, or a second time in place of the first
+        one; or that server is lost between fence and settle of a reopening, and another one takes its place. Tells whether it came to that."""
+        how = self.dice.choice(("once", "twice", "fenced"))
+        async with self.restarting:
+            await self.wait_for_replicas()
+            for _ in range(20):
+                found = await self.lose_in_handover(target, how == "fenced")
+                if found is not None:
+                    document = without(found.state, self.document, self.lost)
+                    return await self.reopen(document, [found.new], f"{found.new} was lost in a handover", replaces=how == "twice")
+                await asyncio.sleep(0.3)
+            return False
+
+    async def wait_for_replicas(self, seconds: float = 20.0) -> None:
+        """Waits until secondaries have what their primaries have. A server that was away for long was not waited for, so that the loss of another one would take
+        acknowledged writes along."""
+        until = time.monotonic() + seconds
+        while time.monotonic() < until:
+            primaries = {name: position for name, state, position in await self.replicas() if state == "primary"}
+            if all(position >= primaries.get(name, 0) for name, state, position in await self.replicas() if state == "secondary"):
+                break
+            await asyncio.sleep(0.2)
+
+    async def replicas(self) -> list[tuple[str, str, int]]:
+        """The replicas as the servers have them: the shard, the state and the last write."""
+        found = []
+        for name in self.alive:
+            channel = Channel(Address("127.0.0.1", self.cluster.ports[name].control))
+            try:
+                slots = (await channel.ask(5.0, audit={}))["audit"]["slots"]
+                found += [(it["shard"], it["state"], it["position"]) for it in slots]
+            except Failed:
+                pass
+            channel.close()
+        return found
+
+    async def lose_in_handover(self, target: str | None, is_fenced: bool) -> Handovers | None:
+        """Kills the new owner of a handover for good, while orders to the old one are held back."""
+        async with self.held_handovers(1, target) as found:
+            if found is None or (is_fenced and not await self.fence_first(found)):
+                return None
+            ((shard, old),) = found.olds.items()
+            self.tell(f"kill -9 {found.new} for good, which is to take {shard} from {old}{', and is fenced' if is_fenced else ''}")
+            await self.cluster.processes[found.new].kill()
+            self.lost.add(found.new)
+            self.mover.avoided.add(found.new)
+            self.counts["servers lost in a handover"] += 1
+            self.counts["servers lost between fence and settle"] += is_fenced
+            return found
+
+    async def fence_first(self, found: Handovers, seconds: float = 8.0) -> bool:
+        """Begins a reopening without a loss, and waits until the new owner is fenced. The old one hears nothing of it, so nobody is settled."""
+        line = {"do": "reopen", "document": without(found.state, self.document, self.lost), "lost": [], "why": "a look at all slots"}
+        base = await self.begin_reopening(line)
+        until = time.monotonic() + seconds
+        while base is not None and time.monotonic() < until:
+            told = (await self.operator.ask({"do": "state"})).get("state", {}).get("reopening", {})
+            if told.get("base") == base and found.new not in told["waiting"]:
+                return True
+            await asyncio.sleep(0.05)
+        return False
+
+    # Reopenings without a loss.
+
+    async def reopen_amid_passing(self) -> bool:
+        """Reopens while requests are passed on, and orders are at work: the new owners have all writes up to the cuts."""
+        return await self.reopen_in_handovers(False)
+
+    async def reopen_behind_cut(self) -> bool:
+        """Reopens while requests are passed on to new owners that have not heard of the cuts, so that the old owners keep the shards."""
+        return await self.reopen_in_handovers(True)
+
+    async def reopen_in_handovers(self, is_behind: bool) -> bool:
+        """Reopens in handovers, as soon as some could be begun; tells whether it came to that."""
+        async with self.restarting:
+            for _ in range(10):
+                async with AsyncExitStack() as meanwhile:
+                    found = await self.passing_handovers(meanwhile, is_behind)
+                    if found is not None:
+                        return await self.reopen_at_work(found)
+                await asyncio.sleep(0.3)
+            return False
+
+    async def passing_handovers(self, meanwhile: AsyncExitStack, is_behind: bool) -> Handovers | None:
+        """Begins handovers to one server, and waits until their old owners pass requests on. No order gets to it meanwhile. If it `is_behind`, it follows the old
+        owners no more, and what they pass on comes late."""
+        async with self.held_handovers(4) as found:
+            if found is None:
+                return None
+            await meanwhile.enter_async_context(self.held('"order"', *self.orders_to(found.new)))
+            if is_behind:
+                olds = set(found.olds.values())
+                await meanwhile.enter_async_context(self.cut(*(f"peer {found.new} {it}" for it in olds)))
+                await meanwhile.enter_async_context(self.slowed(*(f"peer {it} {found.new}" for it in olds), shortest=2.5))
+        if not await self.wait_for_cells(found.olds, "forwarding"):
+            return None
+        await asyncio.sleep(0.4)
+        return found
+
+    async def reopen_at_work(self, found: Handovers) -> bool:
+        """Reopens as soon as an order is at work at one of the other servers, where copies are slow meanwhile."""
+        self.tell(f"reopen, while {', '.join(sorted(found.olds))} are handed over to {found.new}")
+        others = [it for it in self.alive if it not in (found.new, *found.olds.values())]
+        self.counts["reopenings in a handover"] += 1
+        async with self.slowed(*(f"peer {it} " for it in others or self.alive)):
+            await self.wait_for_work(others or self.alive)
+            return await self.reopen(without(found.state, self.document, self.lost), [], f"handovers to {found.new} stand still")
+
+    # Handovers that stand still.
+
+    @asynccontextmanager
+    async def held_handovers(self, most: int, target: str | None = None) -> AsyncIterator[Handovers | None]:
+        """Begins handovers to one server, which is prepared, and holds orders to their old owners back while something is done. None if that does not come
+        about."""
+        found = self.handovers_in(await self.state(), most, target)
+        if found is None:
+            yield None
+            return
+        self.mover.busy |= set(found.olds)
+        try:
+            async with self.cut(*self.orders_to(*set(found.olds.values()))):
+                reply = await self.operator.do({"do": "begin", "plan": plan_of(found.streams), "name": self.name("handover")})
+                is_begun = "begun" in reply and await self.wait_for_cells(dict.fromkeys(found.olds, found.new), "prepared")
+                yield found if is_begun else None
+        finally:
+            self.mover.busy -= set(found.olds)
+
+    def handovers_in(self, state: Line, most: int, target: str | None) -> Handovers | None:
+        """Chooses shards whose primaries may be handed over to one server, which is chosen, too, if no target is named."""
+        rooms = {it["server"]: it["room"] - it["load"] - it["held"] for it in state.get("servers", []) if it["permit"] is None}
+        new = target or (self.dice.choice(sorted(rooms)) if rooms else "")
+        room = rooms.get(new, 0)
+        shards = [it for it in state.get("shards", []) if it["shard"] not in self.mover.busy]
+        self.dice.shuffle(shards)
+        olds, streams = {}, []
+        for shard in shards:
+            has = {it["server"]: it["state"] for it in shard["cells"]}
+            owner = next((it for it, word in has.items() if word == "primary"), None)
+            is_at_rest = owner in rooms and new not in has and set(has.values()) <= {"primary", "secondary"}
+            if is_at_rest and room >= shard["load"] and len(olds) < most:
+                room -= shard["load"]
+                olds[shard["shard"]] = owner
+                streams.append(move_stream(shard, owner, new))
+        return Handovers(new, olds, streams, state) if olds else None
+
+    async def wait_for_cells(self, servers: dict[str, str], word: str, seconds: float = 8.0) -> bool:
+        """Waits until each of these shards is at its server in a state, as recorded."""
+        until = time.monotonic() + seconds
+        while time.monotonic() < until:
+            shards = (await self.operator.ask({"do": "state"})).get("state", {}).get("shards", [])
+            found = {it["shard"]: {cell["server"]: cell["state"] for cell in it["cells"]} for it in shards}
+            if all(found.get(shard, {}).get(server) == word for shard, server in servers.items()):
+                return True
+            await asyncio.sleep(0.05)
+        return False
