@@ -35,6 +35,10 @@ WHOLE = (
 # The share of a run in which nothing is moved, before the story begins.
 REST = 0.08
 JOURNAL_BITS = 64
+# The session in Python, which decides if there is no built one, and is compared with the one that decides.
+REFERENCE = f"{sys.executable} {ROOT / 'tools' / 'smpland_model.py'} -"
+# The lines of a reopening, with which a cluster begins.
+REOPENING = ("reopen", "fenced", "confirm", "settled")
 
 
 @dataclass(frozen=True)
@@ -98,7 +102,7 @@ class Run:
         try:
             await self.cluster.start()
             self.tell(f"{self.settings.shape.servers} servers, {self.settings.shape.controllers} controllers and {len(self.cluster.members)} members of etcd run; "
-                      f"a page is at http://127.0.0.1:{next(iter(self.cluster.pages.values()))}/")
+                      f"a page is at http://127.0.0.1:{next(iter(self.cluster.pages.values()))}/; the session is {self.cluster.program}")
             journal = os.urandom(JOURNAL_BITS // 8).hex().lstrip("0") or "1"
             await self.story.open(journal)
             await self.cluster.processes.start("clients")
@@ -108,7 +112,8 @@ class Run:
             self.tell("everything has come to rest; now the checkers look at it")
             program = shlex.split(self.cluster.program)
             floors = {it["name"]: 0 if self.story.lost else it["want"] - it["cap"] for it in document_of(self.settings.shape)["shards"]}
-            self.verdict = await judge(self.cluster, self.operator, program, self.story.alive, floors, self.story.permits)
+            reference = None if "smpland_model.py" in self.cluster.program else shlex.split(REFERENCE)
+            self.verdict = await judge(self.cluster, self.operator, program, reference, self.story.alive, floors, self.story.permits)
             return self.result(counts)
         finally:
             await self.cluster.end()
@@ -200,7 +205,8 @@ def report(result: Result) -> str:
         f"messages     {sum(harm.values())} harmed: " + ", ".join(f"{count} {what}" for what, count in harm.items()),
         f"processes    {', '.join(killed) or 'none harmed'}",
         f"failovers    {', '.join(f'{it:.1f} s' for it in result.failovers) or 'none'}",
-        f"compared     {verdict.counts['servers: answers compared']} answered orders, {verdict.counts['servers: replicas compared']} replicas, "
+        f"compared     {verdict.counts['replies compared with the reference']} replies with the reference, {verdict.counts['servers: answers compared']} "
+        f"answered orders, {verdict.counts['servers: replicas compared']} replicas, "
         f"{verdict.counts['clients: pushes acknowledged']} acknowledged pushes, {verdict.counts['servers audited']} audits",
         f"situations   {'; '.join(f'{count} x {what}' for what, count in sorted(result.situations.items()))}",
         f"verdict      {len(verdict.faults)} violations",
@@ -209,17 +215,16 @@ def report(result: Result) -> str:
 
 
 def knows_reopenings(path: Path) -> bool:
-    """Returns whether a built smpland has the lines with which a cluster begins."""
-    replies = subprocess.run([path, "-"], input=b'{"do":"reopen"}\n', stdout=subprocess.PIPE, check=False, timeout=10).stdout
-    return b'"$.do"' not in replies
+    """Returns whether a built smpland has the lines of a reopening. (It says of a line that it does not know that its `do` is bad.)"""
+    lines = "".join(f'{{"do":"{it}"}}\n' for it in REOPENING)
+    replies = subprocess.run([path, "-"], input=lines.encode(), stdout=subprocess.PIPE, check=False, timeout=60).stdout
+    return len(replies.splitlines()) == len(REOPENING) and b'"$.do"' not in replies
 
 
 def default_program() -> str:
-    """The session that is used if none is named: smpland if it is built and knows reopenings, otherwise its reference in Python."""
-    for path in (ROOT / "build" / "smpland", ROOT / "build" / "smpland-unproved"):
-        if path.exists() and knows_reopenings(path):
-            return f"{path} -"
-    return f"{sys.executable} {ROOT / 'tools' / 'smpland_model.py'} -"
+    """The session that is used if none is named: build/smpland if it is there and knows reopenings, otherwise the reference."""
+    path = ROOT / "build" / "smpland"
+    return f"{path} -" if path.exists() and knows_reopenings(path) else REFERENCE
 
 
 def add_session(parser: argparse.ArgumentParser) -> None:

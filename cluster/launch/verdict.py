@@ -39,6 +39,7 @@ class Journal:
     """A journal played again: its lines, the orders that it sent, and how it stands."""
 
     lines: list[str]
+    told: list[Line] = field(default_factory=list)
     orders: list[Line] = field(default_factory=list)
     replies: Counter[str] = field(default_factory=Counter)
     state: Line = field(default_factory=dict)
@@ -64,6 +65,7 @@ async def play(program: list[str], lines: list[str], audits: dict[str, Line]) ->
     session = await Session.start(program)
     for text, reply in [(text, session.feed(text)) for text in lines]:
         told = await reply
+        journal.told.append(told)
         journal.orders += told.get("orders", [])
         journal.replies[f"{json.loads(text)['do']}: {next(it for it in told if it != 'id')}"] += 1
     journal.state = (await session.ask({"do": "state"}))["state"]
@@ -73,6 +75,17 @@ async def play(program: list[str], lines: list[str], audits: dict[str, Line]) ->
         journal.audits[server] = await session.ask({"do": "audit", "server": server, "place": journal.state["place"], "slots": slots})
     await session.close()
     return journal
+
+
+async def look_at_reference(verdict: Verdict, reference: list[str] | None, journal: Journal) -> None:
+    """The reference says the same to each line of the journal as the session that decided."""
+    if reference is None:
+        return
+    again = await play(reference, journal.lines, {})
+    wrong = [place for place, (told, other) in enumerate(zip(journal.told, again.told), 1) if told != other]
+    verdict.need(not wrong, f"the reference replies otherwise to {len(wrong)} lines of the journal, the first of them line {wrong[0] if wrong else 0}")
+    verdict.need(again.state == journal.state, "the reference has another state in the end")
+    verdict.counts["replies compared with the reference"] += len(journal.told)
 
 
 async def audits_of(cluster: LocalCluster, servers: list[str]) -> dict[str, Line]:
@@ -170,7 +183,8 @@ async def histories_of(cluster: LocalCluster) -> Path:
     return path
 
 
-async def judge(cluster: LocalCluster, operator: Operator, program: list[str], alive: list[str], floors: dict[str, int], permits: list[Line]) -> Verdict:
+async def judge(cluster: LocalCluster, operator: Operator, program: list[str], reference: list[str] | None, alive: list[str], floors: dict[str, int],
+                permits: list[Line]) -> Verdict:
     """Looks at everything. Ends the cluster's processes in between."""
     verdict = Verdict()
     audits = await audits_of(cluster, alive)
@@ -180,6 +194,7 @@ async def judge(cluster: LocalCluster, operator: Operator, program: list[str], a
     look_at_servers(verdict, journal, audits)
     look_at_map(verdict, journal, shown)
     await look_at_replicas(verdict, operator, journal)
+    await look_at_reference(verdict, reference, journal)
     verdict.replies = journal.replies
     verdict.counts["reopenings replaced"] = journal.replies["reopen: fence"] - journal.replies["settled: opened"]
     verdict.counts["lines of the journal"] = len(lines)
