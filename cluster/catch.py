@@ -10,11 +10,14 @@ import tempfile
 from pathlib import Path
 
 from cluster.controllers.bugs import BUGS as CONTROLLER_BUGS
+from cluster.faults.story import NotOpened
 from cluster.launch.cluster import program_of
+from cluster.launch.operator import NoLeader
 from cluster.launch.processes import NotReady
 from cluster.launch.shape import Shape
 from cluster.run import Run, Settings, add_session
 from cluster.servers.bugs import BUGS as SERVER_BUGS
+from cluster.wire import Failed
 
 # What happens in a run, by the share of it: everything that some bug needs to do harm.
 PARTS = (
@@ -25,43 +28,62 @@ PARTS_OF = {
     "new-journal-without-reopening": ((0.5, "open_anew"),),
     "restore-without-nonce": ((0.05, "forget_twice"), (0.3, "forget_twice"), (0.6, "forget_twice")),
     "change-while-writing": ((0.3, "kill_leader"), (0.6, "crash_server")),
+    "fence-while-passed": ((0.05, "reopen_amid_passing"), (0.3, "reopen_amid_passing"), (0.6, "reopen_amid_passing")),
+    "cut-unheeded": ((0.05, "break_following"), (0.3, "break_following"), (0.6, "break_following")),
 }
 # How many of the moves are changes of roles, if not as many as otherwise.
 SWAPS_OF = {"change-while-writing": 0.9}
+# How many plans there are at once, if not as many as otherwise. (then there are shards that the parts can hand over)
+WORKERS_OF = {"fence-while-passed": 1, "cut-unheeded": 1}
 
 
-async def is_caught(bug: str, seed: int, told: argparse.Namespace) -> str | None:
-    """Runs once with a bug, and returns the first violation."""
+# What is told of a run that gave no verdict.
+NO_END = "the run did not come to its end"
+
+
+async def first_violation(bug: str, seed: int, told: argparse.Namespace) -> str | None:
+    """Runs once with a bug, or as it would be with the bug, and returns the first violation."""
     directory = Path(tempfile.mkdtemp(prefix=f"catch-{bug}-", dir="/dev/shm" if os.access("/dev/shm", os.W_OK) else None))
     shape = Shape(servers=told.servers, shards=told.shards, clients=told.clients, seed=seed)
     parts, swaps = PARTS_OF.get(bug, PARTS), SWAPS_OF.get(bug, 0.2)
-    settings = Settings(directory, shape, program_of(told.program), told.seconds, True, parts, (bug,), is_quiet=True, swaps=swaps)
+    settings = Settings(directory, shape, program_of(told.program), told.seconds, True, parts, () if told.sound else (bug,), WORKERS_OF.get(bug, 3),
+                        is_quiet=True, swaps=swaps, is_busy=told.busy)
     try:
         result = await Run(settings).run()
         return result.verdict.faults[0] if result.verdict.faults else None
-    except (NotReady, OSError, TimeoutError) as why:
-        return f"the run did not come to its end: {type(why).__name__} {why}"
+    except (NotReady, NotOpened, NoLeader, Failed, OSError, TimeoutError) as why:
+        return f"{NO_END}: {type(why).__name__} {why}"
     finally:
         shutil.rmtree(directory, ignore_errors=True)
 
 
+def try_bug(bug: str, told: argparse.Namespace) -> bool:
+    """Makes the runs with a bug, and tells in how many something was found; returns whether it was in one."""
+    found = [asyncio.run(first_violation(bug, seed, told)) for seed in range(told.seed, told.seed + told.runs)]
+    caught = [it for it in found if it and not it.startswith(NO_END)]
+    unended = [it for it in found if it and it.startswith(NO_END)]
+    print(f"{bug}: found in {len(caught)} of {told.runs} runs{': ' + caught[0][:200] if caught else ''}"
+          f"{f' ({len(unended)} without an end: {unended[0][:200]})' if unended else ''}", flush=True)
+    return bool(caught)
+
+
 def main() -> int:
-    """Plants all, or those that are named, and returns 0 if each was found at least once."""
+    """Plants all, or those that are named, and returns 0 if each was found at least once, or nothing without them."""
     parser = argparse.ArgumentParser(prog="cluster.catch", description="Plants bugs, and tells which are found.")
     parser.add_argument("bugs", nargs="*", metavar="BUG", help=f"one of {', '.join({**CONTROLLER_BUGS, **SERVER_BUGS})}; all if none is named")
     parser.add_argument("--runs", type=int, default=3)
+    parser.add_argument("--seed", type=int, default=1, help="the first seed")
     parser.add_argument("--seconds", type=float, default=20.0)
     parser.add_argument("--servers", type=int, default=5)
     parser.add_argument("--shards", type=int, default=16)
     parser.add_argument("--clients", type=int, default=8)
+    parser.add_argument("--busy", action="store_true", help="the machine has other work: waits are longer, and slow requests are no violations")
+    parser.add_argument("--sound", action="store_true", help="plant no bug: nothing is to be found then")
     add_session(parser)
     told = parser.parse_args()
     missed = []
     for bug in told.bugs or [*CONTROLLER_BUGS, *SERVER_BUGS]:
-        found = [asyncio.run(is_caught(bug, seed, told)) for seed in range(1, told.runs + 1)]
-        caught = [it for it in found if it]
-        print(f"{bug}: found in {len(caught)} of {told.runs} runs{': ' + caught[0][:200] if caught else ''}", flush=True)
-        missed += [] if caught else [bug]
+        missed += [] if try_bug(bug, told) != told.sound else [bug]
     return 1 if missed else 0
 
 

@@ -1,9 +1,9 @@
-"""What happens in handovers: a new owner that is given up for good, and reopenings while requests are passed on."""
+"""What happens in handovers: a new owner that is given up for good, reopenings while requests are passed on, connections that break."""
 from __future__ import annotations
 
 import asyncio
 import time
-from collections.abc import AsyncIterator
+from collections.abc import AsyncIterator, Awaitable, Callable
 from contextlib import AsyncExitStack, asynccontextmanager
 from dataclasses import dataclass
 
@@ -23,6 +23,10 @@ class Handovers:
     olds: dict[str, str]
     streams: list[Line]
     state: Line
+
+
+# Does harm for a while, to the new owner (named first) and the old ones of handovers.
+Harm = Callable[[AsyncExitStack, str, set[str]], Awaitable[None]]
 
 
 class HandoverStory(Story):
@@ -93,42 +97,61 @@ class HandoverStory(Story):
             await asyncio.sleep(0.05)
         return False
 
-    # Reopenings without a loss.
+    # Handovers while the new owner hears little.
 
     async def reopen_amid_passing(self) -> bool:
         """Reopens while requests are passed on, and orders are at work: the new owners have all writes up to the cuts."""
-        return await self.reopen_in_handovers(False)
+        return await self.in_handovers(self.undisturbed, self.reopen_at_work)
 
     async def reopen_behind_cut(self) -> bool:
         """Reopens while requests are passed on to new owners that have not heard of the cuts, so that the old owners keep the shards."""
-        return await self.reopen_in_handovers(True)
+        return await self.in_handovers(self.unheard, self.reopen_at_work)
 
-    async def reopen_in_handovers(self, is_behind: bool) -> bool:
-        """Reopens in handovers, as soon as some could be begun; tells whether it came to that."""
+    async def break_following(self) -> bool:
+        """Hands shards over while the new owners lose the connections by which they follow, again and again, so that they hear of cuts by requests alone."""
+        return await self.in_handovers(self.lossy, self.let_pass)
+
+    async def in_handovers(self, harm: Harm, act: Callable[[Handovers], Awaitable[bool]]) -> bool:
+        """Begins handovers, and acts once requests are passed on, while no order gets to the new owner, and harm is done to it; tells whether it came to that."""
         async with self.restarting:
             for _ in range(10):
                 async with AsyncExitStack() as meanwhile:
-                    found = await self.passing_handovers(meanwhile, is_behind)
+                    found = await self.passing_handovers(meanwhile, harm)
                     if found is not None:
-                        return await self.reopen_at_work(found)
+                        return await act(found)
                 await asyncio.sleep(0.3)
             return False
 
-    async def passing_handovers(self, meanwhile: AsyncExitStack, is_behind: bool) -> Handovers | None:
-        """Begins handovers to one server, and waits until their old owners pass requests on. No order gets to it meanwhile. If it `is_behind`, it follows the old
-        owners no more, and what they pass on comes late."""
+    async def passing_handovers(self, meanwhile: AsyncExitStack, harm: Harm) -> Handovers | None:
+        """Begins handovers to one server, and waits until their old owners pass requests on."""
         async with self.held_handovers(4) as found:
             if found is None:
                 return None
             await meanwhile.enter_async_context(self.held('"order"', *self.orders_to(found.new)))
-            if is_behind:
-                olds = set(found.olds.values())
-                await meanwhile.enter_async_context(self.cut(*(f"peer {found.new} {it}" for it in olds)))
-                await meanwhile.enter_async_context(self.slowed(*(f"peer {it} {found.new}" for it in olds), shortest=2.5))
+            await harm(meanwhile, found.new, set(found.olds.values()))
         if not await self.wait_for_cells(found.olds, "forwarding"):
             return None
         await asyncio.sleep(0.4)
         return found
+
+    async def undisturbed(self, meanwhile: AsyncExitStack, new: str, olds: set[str]) -> None:
+        """Does no harm."""
+
+    async def unheard(self, meanwhile: AsyncExitStack, new: str, olds: set[str]) -> None:
+        """Has the new owner follow the old ones no more, and what they pass on come late."""
+        await meanwhile.enter_async_context(self.cut(*(f"peer {new} {it}" for it in olds)))
+        await meanwhile.enter_async_context(self.slowed(*(f"peer {it} {new}" for it in olds), shortest=2.5))
+
+    async def lossy(self, meanwhile: AsyncExitStack, new: str, olds: set[str]) -> None:
+        """Has the new owner's connections to the old ones end at each second message."""
+        await meanwhile.enter_async_context(self.slowed(*(f"peer {new} {it}" for it in olds), shortest=0.15, drop=0.5))
+
+    async def let_pass(self, found: Handovers) -> bool:
+        """Lets requests be passed on for a while."""
+        self.tell(f"connections break, while {', '.join(sorted(found.olds))} are handed over to {found.new}")
+        self.counts["handovers with broken connections"] += len(found.olds)
+        await asyncio.sleep(1.0)
+        return True
 
     async def reopen_at_work(self, found: Handovers) -> bool:
         """Reopens as soon as an order is at work at one of the other servers, where copies are slow meanwhile."""

@@ -60,10 +60,10 @@ class Story:
         return (await self.operator.state()).get("name")
 
     @asynccontextmanager
-    async def slowed(self, *links: str, longest: float = 0.5, shortest: float = 0.0) -> AsyncIterator[None]:
-        """Has every message of links of one kind come late while something is done."""
-        usual = {"delay": 0.0, "longest": 0.3, **self.cluster.proxies.rates.get(links[0].partition(" ")[0], {}), "shortest": 0.0}
-        await self.cluster.tell_proxies(links=links, rates={"delay": 1.0, "longest": longest, "shortest": shortest})
+    async def slowed(self, *links: str, longest: float = 0.5, **more: float) -> AsyncIterator[None]:
+        """Has every message of links of one kind come late, and what more is told befall them, while something is done."""
+        usual = {"delay": 0.0, "longest": 0.3, "drop": 0.0, "shortest": 0.0, **self.cluster.proxies.rates.get(links[0].partition(" ")[0], {})}
+        await self.cluster.tell_proxies(links=links, rates={"delay": 1.0, "longest": longest, **more})
         try:
             yield
         finally:
