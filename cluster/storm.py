@@ -3,6 +3,7 @@ from __future__ import annotations
 
 import argparse
 import asyncio
+import json
 import os
 import random
 import shutil
@@ -51,17 +52,21 @@ class Sums:
             self.failed.append(f"seed {seed}: {len(result.verdict.faults)} violations, the first: {result.verdict.faults[0]}")
 
 
+# What happens in some runs beside HARM, by the rest of the seed divided by 3.
+MORE = (("reopen_behind_leader", "break_following"), ("reopen_before_write", "reopen_behind_cut"), ("reopen_before_write", "reopen_behind_cut"))
+
+
 def parts_of(seed: int) -> tuple[tuple[float, str], ...]:
-    """The harm of a run: everything of HARM at times of its own, and at the end in each second run a server that is lost, in the others a reopening in handovers.
-    In half of the runs a reopening goes behind a leader that was stopped, and in each fifth one two of the restarts are of one server, while messages come late."""
+    """The harm of a run: everything of HARM at times of its own, some of MORE, and at the end in two of three runs a server that is lost, otherwise a reopening in
+    handovers. In each second run two of the restarts are of one server, while messages come late."""
     dice = random.Random(f"parts {seed}")
-    names = [name for name, count in HARM for _ in range(count)]
-    if seed // 4 % 2 == 0:
-        names[names.index("freeze_leader")] = "reopen_behind_leader"
-    if seed % 5 == 0:
+    names = [name for name, count in HARM for _ in range(count)] + list(MORE[seed % 3])
+    if "reopen_behind_leader" in names:
+        names.remove("freeze_leader")
+    if seed % 2 == 0:
         names.remove("restart_server")
         names[names.index("restart_server")] = "forget_twice"
-    last = ("lose_server", "reopen_amid_passing", "lose_server", "reopen_behind_cut")[seed % 4]
+    last = "reopen_amid_passing" if seed % 3 == 2 else "lose_server"
     return tuple(sorted([*((dice.uniform(0.05, 0.75), name) for name in names), (0.8, last)]))
 
 
@@ -101,8 +106,12 @@ class Storm:
             return
         self.sums.add(seed, result)
         faults = result.verdict.faults
+        if told.figures is not None:
+            with told.figures.open("a") as file:
+                file.write(json.dumps({"seed": seed, "faults": faults, "situations": result.situations, "counts": result.counts + result.verdict.counts,
+                                       "failovers": result.failovers, "handovers": result.handovers, "clients": result.clients}) + "\n")
         print(f"seed {seed}: {len(faults)} violations, {result.clients.get('requests', 0)} requests, {result.counts['moves']} moves, "
-              f"{len(result.situations)} situations, {time.monotonic() - begun:.0f} s" + "".join(f"\n    {it}" for it in faults[:5]), flush=True)
+              f"{result.counts['restarts']} restarts, {len(result.situations)} situations, {time.monotonic() - begun:.0f} s" + "".join(f"\n    {it}" for it in faults[:5]), flush=True)
         if faults and told.keep:
             shutil.copytree(directory, told.keep / str(seed), dirs_exist_ok=True, ignore=shutil.ignore_patterns("*.sock", "etcd-*"))
         shutil.rmtree(directory, ignore_errors=True)
@@ -138,6 +147,7 @@ def arguments() -> argparse.Namespace:
     parser.add_argument("--busy", action="store_true", help="the machine has other work: waits are longer, and slow requests are no violations")
     parser.add_argument("--bug", action="append", default=[])
     parser.add_argument("--keep", type=Path, metavar="DIR", help="keep the folders of runs with violations there")
+    parser.add_argument("--figures", type=Path, metavar="FILE", help="append the figures of each run, a JSON object a line")
     return parser.parse_args()
 
 

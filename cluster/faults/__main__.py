@@ -32,7 +32,7 @@ async def run(told: dict) -> None:
                 if "cut" in message:
                     link.is_cut = bool(message["cut"])
                 elif "hold" in message:
-                    link.held = message["hold"].encode() if message["hold"] else None
+                    link.held = tuple(it.encode() for it in message["hold"])
                 elif "rates" in message:
                     link.dice.rates = replace(link.dice.rates, **message["rates"])
                 else:

@@ -37,7 +37,7 @@ class HandoverStory(Story):
     async def lose_server(self, target: str | None = None) -> bool:
         """Gives the new owner of a handover up for good while the old one waits to hand over, and reopens without it: once, or a second time in place of the first
         one; or that server is lost between fence and settle of a reopening, and another one takes its place. Tells whether it came to that."""
-        how = self.dice.choice(("once", "twice", "fenced"))
+        how = self.dice.choice(("once", "twice", "fenced", "fenced"))
         async with self.restarting:
             await self.wait_for_replicas()
             for _ in range(20):
@@ -85,17 +85,10 @@ class HandoverStory(Story):
             self.counts["servers lost between fence and settle"] += is_fenced
             return found
 
-    async def fence_first(self, found: Handovers, seconds: float = 8.0) -> bool:
+    async def fence_first(self, found: Handovers) -> bool:
         """Begins a reopening without a loss, and waits until the new owner is fenced. The old one hears nothing of it, so nobody is settled."""
         line = {"do": "reopen", "document": without(found.state, self.document, self.lost), "lost": [], "why": "a look at all slots"}
-        base = await self.begin_reopening(line)
-        until = time.monotonic() + seconds
-        while base is not None and time.monotonic() < until:
-            told = (await self.operator.ask({"do": "state"})).get("state", {}).get("reopening", {})
-            if told.get("base") == base and found.new not in told["waiting"]:
-                return True
-            await asyncio.sleep(0.05)
-        return False
+        return await self.begin_reopening(line) is not None and await self.wait_until_fenced(found.new)
 
     # Handovers while the new owner hears little.
 
@@ -127,7 +120,7 @@ class HandoverStory(Story):
         async with self.held_handovers(4) as found:
             if found is None:
                 return None
-            await meanwhile.enter_async_context(self.held('"order"', *self.orders_to(found.new)))
+            await meanwhile.enter_async_context(self.held(['"order"'], *self.orders_to(found.new)))
             await harm(meanwhile, found.new, set(found.olds.values()))
         if not await self.wait_for_cells(found.olds, "forwarding"):
             return None

@@ -16,19 +16,23 @@ Relay = Callable[[Reader, Writer, Reader, Writer, "Link"], Awaitable[None]]
 
 @dataclass
 class Link:
-    """A way through a proxy: whose dice are rolled, whether it is cut, so that nothing gets through, and of which messages, by a text at their beginning, lines
-    do not get through and requests of HTTP wait."""
+    """A way through a proxy: whose dice are rolled, and whether it is cut, so that nothing gets through. Of messages that are held, those that have all these texts,
+    lines do not get through and requests of HTTP wait."""
 
     name: str
     dice: Dice
     host: str
     port: int
     is_cut: bool = False
-    held: bytes | None = None
+    held: tuple[bytes, ...] = ()
 
     def holds(self, message: bytes) -> bool:
         """Whether a message is one of those that are held."""
-        return self.held is not None and self.held in message[:40]
+        return bool(self.held) and all(it in message for it in self.held)
+
+    def count(self, what: str) -> None:
+        """Counts what befell a message."""
+        self.dice.counts[f"{self.dice.kind} {what}"] += 1
 
 
 async def send_late(writer: Writer, line: bytes, seconds: float) -> None:
@@ -51,7 +55,7 @@ async def relay_lines(reader: Reader, writer: Writer, link: Link) -> None:
         task.add_done_callback(late.discard)
 
     while line := await reader.readline():
-        if link.is_cut or link.holds(line) or link.dice.drops():
+        if link.is_cut or link.holds(line[:40]) or link.dice.drops():
             continue
         send(line, link.dice.lateness())
         if link.dice.repeats(is_rare=any(it in line[:40] for it in RARE)):
@@ -104,19 +108,30 @@ async def read_http(reader: Reader) -> bytes:
             return text
 
 
+async def wait_while_held(request: bytes, link: Link) -> bool:
+    """Waits while a request is held; tells whether it was. Who asks may be gone then, and the request arrives late all the same."""
+    was_held = link.holds(request)
+    if was_held:
+        link.count("held")
+    while link.holds(request):
+        await asyncio.sleep(0.05)
+    return was_held
+
+
 async def relay_http(reader: Reader, writer: Writer, far: Reader, far_writer: Writer, link: Link) -> None:
     """Carries HTTP requests one by one. A lost request or answer ends the connection, and a repeated one is made twice."""
     while True:
         request = await read_http(reader)
         await asyncio.sleep(link.dice.lateness())
-        while link.holds(request):
-            await asyncio.sleep(0.05)
+        was_held = await wait_while_held(request, link)
         if link.is_cut or link.dice.drops():
             return
         answer = b""
         for _ in range(2 if link.dice.repeats() else 1):
             far_writer.write(request)
             answer = await read_http(far)
+        if was_held:
+            link.count("held and then done" if b'"succeeded":true' in answer else "held and then refused")
         await asyncio.sleep(link.dice.lateness())
         if link.is_cut or link.dice.drops():
             return

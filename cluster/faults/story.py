@@ -10,7 +10,7 @@ from collections.abc import AsyncIterator, Callable
 from contextlib import asynccontextmanager
 from typing import Any
 
-from cluster.controllers.etcd import Etcd, end_of
+from cluster.controllers.etcd import Etcd, encoded, end_of
 from cluster.controllers.journal import PREFIX
 from cluster.launch.cluster import LocalCluster
 from cluster.launch.moving import Mover
@@ -20,6 +20,10 @@ from cluster.launch.shape import document_of
 from cluster.wire import Address, Channel, Failed
 
 from smplan.control import Line
+
+
+# What a transaction has that writes an entry of the map: its path, and `/map/` as the gateway of etcd wants it.
+ENTRY_WRITTEN = ["/v3/kv/txn", encoded("/map/s")[:7]]
 
 
 class NotOpened(Exception):
@@ -79,13 +83,17 @@ class Story:
             await self.cluster.tell_proxies(links=links, cut=False)
 
     @asynccontextmanager
-    async def held(self, text: str, *links: str) -> AsyncIterator[None]:
-        """Holds messages with this text at their beginning on links while something is done."""
-        await self.cluster.tell_proxies(links=links, hold=text)
+    async def held(self, texts: list[str], *links: str) -> AsyncIterator[None]:
+        """Holds messages that have these texts on links while something is done."""
+        await self.cluster.tell_proxies(links=links, hold=texts)
         try:
             yield
         finally:
-            await self.cluster.tell_proxies(links=links, hold=None)
+            await self.cluster.tell_proxies(links=links, hold=[])
+
+    async def proxies_count(self, what: str) -> int:
+        """How often the proxies have done this."""
+        return (await self.cluster.tell_proxies(counts=True))["counts"].get(what, 0)
 
     def orders_to(self, *servers: str) -> list[str]:
         """The links on which controllers speak to servers."""
@@ -143,7 +151,7 @@ class Story:
             if reopens:
                 await self.reopen(without(await self.state(), self.document, self.lost), [], f"{leader} does not answer", replaces=True)
         finally:
-            async with self.held("/v3/lease/", f"etcd {leader} "):
+            async with self.held(["/v3/lease/"], f"etcd {leader} "):
                 self.cluster.processes[leader].signal(signal.SIGCONT)
                 await asyncio.sleep(1.5)
         self.counts["leaders stopped"] += 1
@@ -160,6 +168,30 @@ class Story:
         """Stops the leading controller while it writes the map, and reopens before it goes on: what it writes then is of an epoch before."""
         async with self.restarting:
             await self.freeze_leader(reopens=True)
+
+    async def reopen_before_write(self) -> None:
+        """Holds writes of the map on their way to etcd, and reopens before they arrive: they come late, behind the fence of the map."""
+        async with self.restarting:
+            held, refused = await self.proxies_count("etcd held"), await self.proxies_count("etcd held and then refused")
+            document = without(await self.state(), self.document, self.lost)
+            async with self.held(ENTRY_WRITTEN, "etcd k"):
+                until = time.monotonic() + 8.0
+                while await self.proxies_count("etcd held") == held and time.monotonic() < until:
+                    await asyncio.sleep(0.05)
+                reopening = asyncio.create_task(self.reopen(document, [], "writes of the map do not arrive"))
+                await self.wait_until_fenced(None)
+            await reopening
+            self.counts["writes of the map refused behind a fence"] += await self.proxies_count("etcd held and then refused") - refused
+
+    async def wait_until_fenced(self, server: str | None, seconds: float = 8.0) -> bool:
+        """Waits until a server, or the map's owner, has told what it has in a reopening."""
+        until = time.monotonic() + seconds
+        while time.monotonic() < until:
+            told = (await self.operator.ask({"do": "state"})).get("state", {}).get("reopening")
+            if told is not None and server not in told["waiting"]:
+                return True
+            await asyncio.sleep(0.05)
+        return False
 
     async def kill_member(self) -> None:
         """Kills a member of etcd, and starts it again."""
@@ -204,12 +236,15 @@ class Story:
             channel.close()
 
     async def forget_twice(self) -> None:
-        """Restarts a server twice, without its slots, while copies of messages to it come late: the first restore, too. In between replicas are moved."""
+        """Restarts a server twice, without its slots, while copies of messages to it come late: the first restore, too."""
         server = self.dice.choice(self.alive)
+        self.mover.avoided.add(server)
         await self.copy_late(server, True)
         for _ in range(2):
             await self.restart_server(True, server)
-            await asyncio.sleep(2.0)
+            await asyncio.sleep(self.dice.uniform(0.2, 0.8))
+        self.mover.avoided.discard(server)
+        await asyncio.sleep(2.0)
         await self.copy_late(server, False)
 
     async def copy_late(self, name: str, is_late: bool) -> None:
@@ -217,7 +252,7 @@ class Story:
         links = [f"{kind} {it} {name}" for kind in ("order", "ask") for it in self.cluster.shape.controller_names]
         links.append(f"ask {name} ")
         usual = self.cluster.proxies.rates.get("order", {"repeat": 0.0, "rare": 0.0})
-        await self.cluster.tell_proxies(links=links, rates={"repeat": 1.0, "rare": 1.0, "longest": 0.5} if is_late else usual)
+        await self.cluster.tell_proxies(links=links, rates={"repeat": 1.0, "rare": 1.0, "longest": 0.8} if is_late else usual)
 
     async def restart_server(self, lose_slots: bool | None = None, server: str | None = None) -> bool:
         """Asks for leave to restart a server, kills it, starts it again with or without its slots, and tells that it is up."""
@@ -263,12 +298,13 @@ class Story:
         is_avoided = name in self.mover.avoided
         self.mover.avoided.add(name)
         try:
-            until = time.monotonic() + seconds
+            reply, until = {}, time.monotonic() + seconds
             while time.monotonic() < until:
                 reply = await self.operator.do({"do": "approve", "server": name, "by": by})
                 if "approved" in reply:
                     return reply["approved"]["permit"]
                 await asyncio.sleep(0.3)
+            self.tell(f"{name} may not be restarted: {reply}")
             self.counts["restarts denied"] += 1
             return None
         finally:

@@ -90,6 +90,7 @@ def situations_of(events: list[dict], replies: Counter[str], counts: Counter[str
     found["a late settle"] = kinds["settle-again"] + kinds["settle-ignored"] + replies["settled: ignored"]
     found["a second reopening in place of one under way"] = counts["reopenings replaced"]
     found["a server lost between fence and settle"] = counts["servers lost between fence and settle"]
-    found["a late publication after a reopening"] = counts["publications old"] + counts["publications not_ready"]
+    found["a late publication after a reopening"] = (
+        counts["publications old"] + counts["publications not_ready"] + counts["writes of the map refused behind a fence"])
     found["a failover"] = counts["failovers"]
     return +found

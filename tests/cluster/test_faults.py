@@ -33,7 +33,7 @@ class ProxyTest(unittest.IsolatedAsyncioTestCase):
         self.assertTrue(all(2.0 <= it <= 2.5 for it in late))
 
     def test_held(self):
-        link = Link("order k a", Dice(1, "order k a", Rates(), Counter()), "127.0.0.1", 1, held=b'"order"')
+        link = Link("order k a", Dice(1, "order k a", Rates(), Counter()), "127.0.0.1", 1, held=(b'"order"',))
         self.assertEqual([link.holds(it) for it in (b'{"id":1,"order":{}}', b'{"id":2,"fence":{}}')], [True, False])
 
     async def lines_through(self, rates, count=200, seed=1):
