@@ -11,7 +11,7 @@ from cluster.servers.bugs import BUGS as SERVER_BUGS
 from cluster.wire import Address, Channel, Failed, Message
 
 from .etcd import add_etcd
-from .processes import Processes, free_ports
+from .processes import Ports, Processes
 from .shape import Shape
 
 ROOT = Path(__file__).resolve().parents[2]
@@ -34,11 +34,12 @@ class Proxies:
     seed: int
     rates: dict[str, dict[str, float]]
     control: int
+    free: Ports
     links: list[dict] = field(default_factory=list)
 
     def link(self, name: str, relay: str, to: int) -> str:
         """Adds a link, and returns where it is entered."""
-        (at,) = free_ports(1)
+        (at,) = self.free.take(1)
         self.links.append({"name": name, "relay": relay, "at": at, "to": to})
         return f"127.0.0.1:{at}"
 
@@ -63,12 +64,13 @@ class LocalCluster:
                  servers: str = "cluster.servers", pause: float = 0.01) -> None:
         self.directory, self.shape, self.program, self.bugs, self.server_module, self.pause = directory, shape, program, bugs, servers, pause
         self.processes = Processes(directory / "logs")
-        self.members = add_etcd(self.processes, directory)
-        self.proxies = Proxies(shape.seed, rates, free_ports(1)[0])
-        self.ports = {name: ServerPorts(*free_ports(3)) for name in shape.server_names}
+        self.free = Ports()
+        self.members = add_etcd(self.processes, self.free, directory)
+        self.proxies = Proxies(shape.seed, rates, self.free.take(1)[0], self.free)
+        self.ports = {name: ServerPorts(*self.free.take(3)) for name in shape.server_names}
         self.numbers = {name: it for it, name in enumerate(shape.server_names)}
-        self.asks = dict(zip(shape.controller_names, free_ports(shape.controllers)))
-        self.pages = dict(zip(shape.controller_names, free_ports(shape.controllers)))
+        self.asks = dict(zip(shape.controller_names, self.free.take(shape.controllers)))
+        self.pages = dict(zip(shape.controller_names, self.free.take(shape.controllers)))
         self.faults = Channel(Address("127.0.0.1", self.proxies.control))
         for name in shape.server_names:
             self.add_server(name)
@@ -129,6 +131,7 @@ class LocalCluster:
         """Ends everything."""
         self.faults.close()
         await self.processes.end()
+        self.free.end()
 
     async def tell_proxies(self, **message: object) -> Message:
         """Changes what befalls messages, or asks for the counts. What is told twice does the same."""

@@ -3,13 +3,13 @@ from __future__ import annotations
 
 from pathlib import Path
 
-from .processes import Processes, free_ports
+from .processes import Ports, Processes
 
 
-def add_etcd(processes: Processes, directory: Path, count: int = 3) -> list[tuple[str, int]]:
+def add_etcd(processes: Processes, free: Ports, directory: Path, count: int = 3) -> list[tuple[str, int]]:
     """Adds the members of a new etcd cluster. Returns the name of each, and the port at which it serves."""
     names = [f"etcd-{it}" for it in range(count)]
-    ports = free_ports(2 * count)
+    ports = free.take(2 * count)
     peers = {name: f"http://127.0.0.1:{ports[count + it]}" for it, name in enumerate(names)}
     together = ",".join(f"{name}={url}" for name, url in peers.items())
     for name, port in zip(names, ports):

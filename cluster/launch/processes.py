@@ -119,27 +119,55 @@ class Processes:
         await asyncio.gather(*(it.kill() for it in self.by_name.values()))
 
 
-# Ports that were given out; below those that connections get, so that nobody takes one before its process listens.
-FIRST_PORT, LAST_PORT = 20_000, 32_000
-GIVEN: set[int] = set()
+# Ports are given out in blocks, below those that connections get, so that nobody takes one before its process listens.
+FIRST_PORT, LAST_PORT, BLOCK = 20_000, 32_000, 500
 
 
-def is_free(port: int) -> bool:
-    """Whether nobody listens at a port now."""
-    with socket.socket() as it:
-        try:
-            it.bind(("127.0.0.1", port))
-        except OSError:
-            return False
-    return True
+def bound(port: int) -> socket.socket | None:
+    """Returns a socket that is bound to a port, none if somebody has it."""
+    it = socket.socket()
+    try:
+        it.bind(("127.0.0.1", port))
+    except OSError:
+        it.close()
+        return None
+    return it
 
 
-def free_ports(count: int) -> list[int]:
-    """Returns ports that nobody listens at now, and that were not given out before."""
-    found: list[int] = []
-    while len(found) < count:
-        port = secrets.randbelow(LAST_PORT - FIRST_PORT) + FIRST_PORT
-        if port not in GIVEN and is_free(port):
-            GIVEN.add(port)
-            found.append(port)
-    return found
+class Ports:
+    """Ports of one run, from blocks that no other run has: it is bound to the first port of each until its end."""
+
+    def __init__(self) -> None:
+        self.guards: list[socket.socket] = []
+        self.left: list[int] = []
+
+    def take_block(self) -> None:
+        """Takes one more block."""
+        firsts = list(range(FIRST_PORT, LAST_PORT, BLOCK))
+        secrets.SystemRandom().shuffle(firsts)
+        for first in firsts:
+            guard = bound(first)
+            if guard is not None:
+                self.guards.append(guard)
+                self.left += range(first + 1, first + BLOCK)
+                return
+        raise NotReady("no ports are left")
+
+    def take(self, count: int) -> list[int]:
+        """Returns ports at which nobody listens, and that were not given out before."""
+        found: list[int] = []
+        while len(found) < count:
+            if not self.left:
+                self.take_block()
+            port = self.left.pop()
+            socket_there = bound(port)
+            if socket_there is not None:
+                socket_there.close()
+                found.append(port)
+        return found
+
+    def end(self) -> None:
+        """Gives all blocks back."""
+        for guard in self.guards:
+            guard.close()
+        self.guards, self.left = [], []

@@ -9,7 +9,7 @@ from cluster.faults.dice import Dice, Rates
 from cluster.faults.proxies import RELAYS, Link, open_proxy
 from cluster.launch.figures import handover_waits
 from cluster.launch.moving import Mover
-from cluster.launch.processes import free_ports
+from cluster.launch.processes import Ports
 from cluster.launch.shape import Shape, document_of
 from cluster.launch.situations import SITUATIONS, situations_of
 
@@ -39,7 +39,8 @@ class ProxyTest(unittest.IsolatedAsyncioTestCase):
     async def lines_through(self, rates, count=200, seed=1):
         """What comes back of some lines."""
         counts = Counter()
-        far, near = free_ports(2)
+        ports = Ports()
+        far, near = ports.take(2)
         server = await asyncio.start_server(echo, "127.0.0.1", far)
         proxy = await open_proxy(near, RELAYS["lines"], Link("order k a", Dice(seed, "order k a", rates, counts), "127.0.0.1", far))
         reader, writer = await asyncio.open_connection("127.0.0.1", near)
@@ -58,6 +59,7 @@ class ProxyTest(unittest.IsolatedAsyncioTestCase):
         await asyncio.sleep(0.2)
         server.close()
         proxy.close()
+        ports.end()
         return found, counts
 
     async def test_calm(self):
@@ -105,6 +107,20 @@ class ShapeTest(unittest.TestCase):
         chosen = mover.choose({"servers": servers, "shards": shards}, 4)
         targets = Counter(it["holds"]["room"][0]["server"] for it in chosen.values())
         self.assertEqual(targets, Counter({"b": 1, "c": 1}))
+
+
+class PortsTest(unittest.TestCase):
+    """Ports of several runs."""
+
+    def test_ports_of_two_runs(self):
+        one, other = Ports(), Ports()
+        found, others = one.take(600), other.take(600)
+        self.assertEqual(len({*found, *others}), 1200)
+        guards = [it.getsockname()[1] for it in one.guards]
+        one.end()
+        self.assertEqual(len(guards), 2)
+        self.assertFalse(set(guards) & set(others))
+        other.end()
 
 
 class SituationsTest(unittest.TestCase):
