@@ -11,7 +11,7 @@ from pathlib import Path
 
 from cluster.controllers.bugs import BUGS as CONTROLLER_BUGS
 from cluster.faults.story import NotOpened
-from cluster.launch.cluster import program_of
+from cluster.launch.cluster import ROUGH, program_of
 from cluster.launch.operator import NoLeader
 from cluster.launch.processes import NotReady
 from cluster.launch.shape import Shape
@@ -32,7 +32,10 @@ PARTS_OF = {
     "cut-unheeded": ((0.05, "break_following"), (0.3, "break_following"), (0.6, "break_following")),
 }
 # How many of the moves are changes of roles, if not as many as otherwise.
-SWAPS_OF = {"change-while-writing": 0.9}
+SWAPS_OF = {"change-while-writing": 0.9, "no-numbers": 0.5}
+# What befalls messages, if not the same as otherwise: an order that is not told by its number does harm if a copy of it comes when its cell is there again.
+MANY_COPIES = {**ROUGH, "order": {**ROUGH["order"], "repeat": 0.5}}
+RATES_OF = {"no-numbers": MANY_COPIES, "slot-deleted": MANY_COPIES}
 # How many plans there are at once, if not as many as otherwise. (then there are shards that the parts can hand over)
 WORKERS_OF = {"fence-while-passed": 1, "cut-unheeded": 1}
 
@@ -46,8 +49,9 @@ async def first_violation(bug: str, seed: int, told: argparse.Namespace) -> str 
     directory = Path(tempfile.mkdtemp(prefix=f"catch-{bug}-", dir="/dev/shm" if os.access("/dev/shm", os.W_OK) else None))
     shape = Shape(servers=told.servers, shards=told.shards, clients=told.clients, seed=seed)
     parts, swaps = PARTS_OF.get(bug, PARTS), SWAPS_OF.get(bug, 0.2)
-    settings = Settings(directory, shape, program_of(told.program), told.seconds, True, parts, () if told.sound else (bug,), WORKERS_OF.get(bug, 3),
-                        is_quiet=True, swaps=swaps, is_busy=told.busy)
+    rates = RATES_OF.get(bug, ROUGH)
+    settings = Settings(directory, shape, program_of(told.program), told.seconds, rates, parts, () if told.sound else (bug,), WORKERS_OF.get(bug, 3),
+                        is_quiet=True, swaps=swaps, is_busy=told.busy, ending=45.0)
     try:
         result = await Run(settings).run()
         return result.verdict.faults[0] if result.verdict.faults else None

@@ -49,7 +49,8 @@ class Settings:
     shape: Shape
     program: str
     seconds: float = 60.0
-    is_rough: bool = True
+    # What befalls messages, by the kind of link.
+    rates: dict[str, dict[str, float]] = field(default_factory=lambda: ROUGH)
     parts: tuple[tuple[float, str], ...] = WHOLE
     bugs: tuple[str, ...] = ()
     workers: int = 3
@@ -60,6 +61,8 @@ class Settings:
     swaps: float = 0.2
     # The machine has other work: waits are longer, and a request that takes more than 10 seconds is no violation.
     is_busy: bool = False
+    # How many seconds plans are waited for at the end, if not as many as otherwise.
+    ending: float | None = None
 
 
 @dataclass
@@ -83,7 +86,7 @@ class Run:
     def __init__(self, settings: Settings) -> None:
         self.settings = settings
         self.begun = time.monotonic()
-        self.cluster = LocalCluster(settings.directory, settings.shape, settings.program, ROUGH if settings.is_rough else CALM, settings.bugs, pause=settings.pause)
+        self.cluster = LocalCluster(settings.directory, settings.shape, settings.program, settings.rates, settings.bugs, pause=settings.pause)
         self.operator = Operator(self.cluster.pages, 240.0 if settings.is_busy else 90.0)
         self.mover = Mover(self.operator, settings.shape.seed, settings.swaps)
         self.story = HandoverStory(self.cluster, self.operator, self.mover, settings.shape.seed, self.tell)
@@ -132,7 +135,7 @@ class Run:
         self.moved_for = time.monotonic() - start
         self.mover.stopped.set()
         try:
-            await asyncio.wait_for(moving, 180 if self.settings.is_busy else 30)
+            await asyncio.wait_for(moving, self.settings.ending or (180 if self.settings.is_busy else 30))
         except TimeoutError:
             orders = (await self.operator.state()).get("orders", [])
             self.tell("plans do not come to their end: " + "; ".join(f"{it['what']} to {it['to']}, {it['said']}" for it in orders))
@@ -261,7 +264,7 @@ def main() -> int:
     told = arguments()
     directory = Path(tempfile.mkdtemp(prefix="cluster-", dir="/dev/shm" if os.access("/dev/shm", os.W_OK) else None))
     shape = Shape(servers=told.servers, shards=told.shards, clients=told.clients, seed=told.seed)
-    settings = Settings(directory, shape, program_of(told.program), told.seconds, not told.calm, parts_of(told.parts), tuple(told.bug), is_busy=told.busy)
+    settings = Settings(directory, shape, program_of(told.program), told.seconds, CALM if told.calm else ROUGH, parts_of(told.parts), tuple(told.bug), is_busy=told.busy)
     try:
         result = asyncio.run(Run(settings).run())
         print(report(result))

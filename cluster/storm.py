@@ -16,7 +16,7 @@ from dataclasses import dataclass, field
 from pathlib import Path
 
 from cluster.faults.story import NotOpened
-from cluster.launch.cluster import program_of
+from cluster.launch.cluster import CALM, ROUGH, program_of
 from cluster.launch.operator import NoLeader
 from cluster.launch.processes import NotReady
 from cluster.launch.shape import Shape
@@ -97,7 +97,8 @@ class Storm:
         told, begun = self.told, time.monotonic()
         directory = Path(tempfile.mkdtemp(prefix=f"storm-{seed}-", dir="/dev/shm" if os.access("/dev/shm", os.W_OK) else None))
         shape = Shape(servers=told.servers, shards=told.shards, clients=told.clients, seed=seed)
-        settings = Settings(directory, shape, program_of(told.program), told.seconds, not told.calm, parts_of(seed), tuple(told.bug), is_quiet=True, is_busy=told.busy)
+        rates = CALM if told.calm else ROUGH
+        settings = Settings(directory, shape, program_of(told.program), told.seconds, rates, parts_of(seed), tuple(told.bug), is_quiet=True, is_busy=told.busy)
         try:
             result = await Run(settings).run()
         except (NotReady, NotOpened, OSError, TimeoutError, NoLeader, Failed) as why:
