@@ -90,6 +90,7 @@ NOTES = {
     "resume": "that a file keeps its word; forged lines",
     "recover": "that a file keeps its word",
     "serve_unkept": "that the host stores a line before it feeds it",
+    "lines_determine_exchanges": "that a state and a line determine what comes of it",
     "Driver::order": "when it is sent",
     "Driver::publication": "when it is sent",
     "Driver::begin": NOTHING,

@@ -1,10 +1,9 @@
 -- A text that is read from its front on: its head, its lines, and its end.
-use Rattle.std.proofs.Common.{◌≡◌, ◌⊎◌, inl, inr, ⊎_elim, ℕ, ◌+◌, ◌-◌, ◌≤◌, ◌<◌, List, [], ◌∷◌, ◌++◌, length, take, drop, map, refl, sym, ◌∙◌, ap, subst, arith, append_assoc, length-append, take-append-drop, Result, Err}
-use Rattle.std.specs.List.{All}
+use Rattle.std.proofs.Common.{◌≡◌, inl, inr, ⊎_elim, ℕ, ◌+◌, ◌≤◌, ◌<◌, List, [], ◌++◌, length, take, drop, map, refl, sym, ◌∙◌, ap, subst, arith, append_assoc, length-append, take-append-drop, Result, Err}
 use Rattle.std.proofs.Math.Seq.{take-add}
 use Rattle.std.proofs.lemmas.List.{append-nil, nil_from_length, length-drop, length-take, take_all, take_at, take-take, take-append-le}
 use Rattle.journal_lines.specs.declared.reading.Reading.{Reading}
-use Rattle.journal_lines.specs.Objects.{IsBatch, listed}
+use Rattle.journal_lines.specs.Objects.{listed}
 use Rattle.journal_lines.specs.Lines.{head, no_sum}
 use Rattle.journal_lines.specs.Journal.{chain, journal_of, HasBatches, IsForeign}
 use Rattle.journal_lines.specs.Reading.{Reads}

@@ -1,6 +1,7 @@
 -- Known bytes, and what is written behind them.
-use Rattle.std.proofs.Common.{◌≡◌, ℕ, zero, suc, ◌+◌, ◌-◌, min, List, [], ◌∷◌, ◌++◌, length, take, drop, Option, Some, None, refl, sym, ◌∙◌, ap, subst, arith, append_assoc}
-use Rattle.std.proofs.lemmas.List.{append-nil, take_rest, drop-drop, take_all, take_min, take-append-le}
+use Rattle.std.proofs.Common.{◌≡◌, ℕ, zero, suc, ◌+◌, ◌-◌, List, [], ◌∷◌, ◌++◌, length, take, drop, Option, Some, None, refl, sym, ◌∙◌, ap, subst, arith, append_assoc}
+use Rattle.std.proofs.lemmas.List.{append-nil, take_rest, drop-drop, take_all}
+use Rattle.std.specs.Prelude.{IfSome}
 use Rattle.std.specs.Io.KnownBytes.{Appends, Keeps, Consumes, IsAtEnd}
 use Rattle.journal_session.specs.Session.{GrowsWithin}
 use Rattle.journal_session.proofs.Lines.{take-append}
@@ -34,11 +35,6 @@ keeps_appends (Some xs) (Some ys) keeps = keeps ∙ sym (append-nil xs)
 pub grows_all : (old new : Option (List ℕ)) (text : List ℕ) → Appends old new text → GrowsWithin old new text
 grows_all old new text all = (length text, subst (Appends old new) (sym (take_all (length text) text (omega arith))) all)
 
--- a beginning of a text is one of a longer text
-pub grows_front : (old new : Option (List ℕ)) (text more : List ℕ) → GrowsWithin old new text → GrowsWithin old new (text ++ more)
-grows_front old new text more (n, is) =
-    (min n (length text), subst (Appends old new) (sym (take-append-le (min n (length text)) text more (omega arith) ∙ take_min n text)) is)
-
 -- a beginning of a text behind another text
 pub grows_behind : (old mid new : Option (List ℕ)) (text more : List ℕ) → Appends old mid text → GrowsWithin mid new more → GrowsWithin old new (text ++ more)
 grows_behind old mid new text more one (n, two) =
@@ -64,25 +60,41 @@ appends_rest old mid new text m n one two = subst (Appends old new) (parts m tex
 pub appends_left : (old mid new : Option (List ℕ)) (text rest : List ℕ) (m n : ℕ) → rest ≡ drop m text → Appends old mid (take m text) → Appends mid new (take n rest) → Appends old new (take (m + n) text)
 appends_left old mid new text rest m n is one two = appends_rest old mid new text m n one (subst (λ (l : List ℕ). Appends mid new (take n l)) is two)
 
--- what was read of known bytes
-pub consumed : (old new : Option (List ℕ)) (xs bytes : List ℕ) → old ≡ Some xs → Consumes old new bytes → (ys : List ℕ) × (new ≡ Some ys) × (xs ≡ bytes ++ ys)
-consumed old new xs bytes is read = by_new new (subst (λ (o : Option (List ℕ)). Consumes o new bytes) is read)
-  where
-    by_new : (new : Option (List ℕ)) → Consumes (Some xs) new bytes → (ys : List ℕ) × (new ≡ Some ys) × (xs ≡ bytes ++ ys)
-    by_new None read = absurd read
-    by_new (Some ys) read = (ys, refl, read)
+-- what was read further
+pub consumes_more : (old mid new : Option (List ℕ)) (xs ys : List ℕ) → Consumes old mid xs → Consumes mid new ys → Consumes old new (xs ++ ys)
+consumes_more None mid new xs ys one two = tt
+consumes_more (Some xs') None new xs ys one two = absurd one
+consumes_more (Some xs') (Some ys') None xs ys one two = absurd two
+consumes_more (Some xs') (Some ys') (Some zs') xs ys one two = one ∙ ap (λ (l : List ℕ). xs ++ l) two ∙ sym (append_assoc xs ys zs')
 
--- what stays known
-pub kept_known : (old new : Option (List ℕ)) (xs : List ℕ) → old ≡ Some xs → Keeps old new → new ≡ Some xs
-kept_known old new xs is keeps = by_new new (subst (λ (o : Option (List ℕ)). Keeps o new) is keeps)
-  where
-    by_new : (new : Option (List ℕ)) → Keeps (Some xs) new → new ≡ Some xs
-    by_new None keeps = absurd keeps
-    by_new (Some ys) keeps = ap (λ (l : List ℕ). Some l) keeps
+-- bytes that were read
+pub consumes_bytes : (old mid new : Option (List ℕ)) (text items bytes : List ℕ) → Consumes old mid text → Consumes mid new items → bytes ≡ items → Consumes old new (text ++ bytes)
+consumes_bytes old mid new text items bytes one two is = subst (λ (l : List ℕ). Consumes old new (text ++ l)) (sym is) (consumes_more old mid new text items one two)
 
--- at the end nothing is left
-pub none_left : (new : Option (List ℕ)) (ys : List ℕ) → new ≡ Some ys → IsAtEnd new → ys ≡ []
-none_left new ys is end = subst IsAtEnd is end
+-- nothing was read yet
+pub consumes_none : (old : Option (List ℕ)) → Consumes old old []
+consumes_none None = tt
+consumes_none (Some xs) = refl
+
+-- nothing was read further
+pub consumes_kept : (old mid new : Option (List ℕ)) (xs : List ℕ) → Consumes old mid xs → Keeps mid new → Consumes old new xs
+consumes_kept None mid new xs one two = tt
+consumes_kept (Some xs') None new xs one two = absurd one
+consumes_kept (Some xs') (Some ys') None xs one two = absurd two
+consumes_kept (Some xs') (Some ys') (Some zs') xs one two = one ∙ ap (λ (l : List ℕ). xs ++ l) (sym two)
+
+-- what is left behind what was read
+pub input_of : (old new : Option (List ℕ)) (text : List ℕ) → Consumes old new text → (left : List ℕ) × IfSome old (λ bytes. text ++ left ≡ bytes)
+input_of None new text read = ([], tt)
+input_of (Some xs) None text read = absurd read
+input_of (Some xs) (Some ys) text read = (ys, sym read)
+
+-- nothing is, at the end
+pub input_all : (old new : Option (List ℕ)) (text bytes : List ℕ) → Consumes old new (text ++ bytes) → bytes ≡ [] → IsAtEnd new → IfSome old (λ known. text ≡ known)
+input_all None new text bytes read none end = tt
+input_all (Some xs) None text bytes read none end = absurd read
+input_all (Some xs) (Some ys) text bytes read none end =
+    sym (read ∙ ap (λ (l : List ℕ). text ++ bytes ++ l) end ∙ append-nil (text ++ bytes) ∙ ap (λ (l : List ℕ). text ++ l) none ∙ append-nil text)
 
 -- what is left behind what was written
 pub rest_goes : (bytes rest : List ℕ) (m n : ℕ) → rest ≡ drop m bytes → take (length rest - n) (drop n rest) ≡ drop (m + n) bytes

@@ -1,5 +1,5 @@
 -- The commands of a journal, one behind the other, and its lines.
-use Rattle.std.proofs.Common.{◌≡◌, ℕ, ◌+◌, ◌-◌, ◌≤◌, ◌<◌, List, [], ◌∷◌, ◌++◌, length, take, drop, map, None, Some, refl, sym, ◌∙◌, ap, arith, append_assoc, length-append}
+use Rattle.std.proofs.Common.{◌≡◌, ℕ, ◌+◌, ◌-◌, ◌≤◌, ◌<◌, List, [], ◌∷◌, ◌++◌, length, take, drop, map, None, Some, refl, sym, ◌∙◌, ap, subst, arith, append_assoc, length-append}
 use Rattle.std.specs.List.{All}
 use Rattle.std.proofs.lemmas.List.{append-nil, length_push, take_at, drop_at, take_all, drop-drop, length-drop, take_rest}
 use Rattle.std.proofs.lemmas.List.Concat.{flat_map-append}
@@ -8,14 +8,16 @@ use Rattle.std.proofs.lemmas.Option.{same_Some}
 use Rattle.journal_lines.specs.Objects.{object_length, IsObject, behind_commas, listed, IsBatch}
 use Rattle.journal_lines.specs.declared.reading.Reading.{Reading}
 use Rattle.journal_lines.specs.Lines.{head, no_sum}
-use Rattle.journal_lines.specs.Journal.{chain, journal_of}
+use Rattle.journal_lines.specs.Journal.{chain}
 use Rattle.journal_lines.specs.Reading.{Reads}
 use Rattle.journal_lines.proofs.ObjectTexts.{object_length-append}
 use Rattle.journal_session.specs.Pieces.{EndsLine}
 use Rattle.journal_session.specs.declared.applies.Applied.{Applied}
-use Rattle.journal_session.specs.declared.applies.Applied.TheVariants.{Unchanged}
+use Rattle.journal_session.specs.declared.applies.Applied.TheVariants.{Changed, Unchanged}
+use Rattle.journal_session.specs.Trace.{Exchange, exchange, Replays}
 use Rattle.journal_session.specs.Session.{commands_of}
 use Rattle.journal_session.specs.Recovery.{HasUnchanged, IsUnfit}
+use Rattle.journal_session.proofs.Turns.{replays_on, replays_one}
 
 -- one batch more
 pub commands_push : (batches : List (List (List ℕ))) (commands : List (List ℕ)) → commands_of (batches ++ commands ∷ []) ≡ commands_of batches ++ commands
@@ -65,21 +67,22 @@ begins_more text n commands b within =
     some : (others : List (List ℕ)) → drop n text ≡ behind_commas others → others ≡ [] → ⊥
     some others is none = absurd (omega (arith, within, ap length (is ∙ ap behind_commas none), length-drop n text))
 
--- one command more
-pub applied_more : (entries done : List (List ℕ)) (text : List ℕ) (n : ℕ) (next : List (List ℕ)) → (b : Begins text n next) → entries ++ done ++ take n text ∷ [] ≡ entries ++ (done ++ b.first ∷ [])
-applied_more entries done text n next b =
-    append_assoc entries done (take n text ∷ []) ∙ ap (λ (l : List ℕ). entries ++ (done ++ l ∷ [])) b.front
-
 -- the last command
-pub applied_last : (entries done commands : List (List ℕ)) (text : List ℕ) (n : ℕ) (next : List (List ℕ)) → (b : Begins text n next) → commands ≡ done ++ next → n ≡ length text
-    → entries ++ done ++ take n text ∷ [] ≡ entries ++ commands
-applied_last entries done commands text n next b is whole =
-    applied_more entries done text n next b ∙ ap (λ (l : List (List ℕ)). entries ++ l) (ap (λ (others : List (List ℕ)). done ++ b.first ∷ others) (sym (begins_last text n next b whole))
-    ∙ ap (λ (l : List (List ℕ)). done ++ l) (sym b.are) ∙ sym is)
+pub applied_last : (done commands : List (List ℕ)) (text : List ℕ) (n : ℕ) (next : List (List ℕ)) → (b : Begins text n next) → commands ≡ done ++ next → n ≡ length text
+    → done ++ take n text ∷ [] ≡ commands
+applied_last done commands text n next b is whole =
+    ap (λ (c : List ℕ). done ++ c ∷ []) b.front ∙ ap (λ (others : List (List ℕ)). done ++ b.first ∷ others) (sym (begins_last text n next b whole))
+    ∙ ap (λ (l : List (List ℕ)). done ++ l) (sym b.are) ∙ sym is
 
 -- the commands that are left
-pub left_more : (done commands : List (List ℕ)) (text : List ℕ) (n : ℕ) (next : List (List ℕ)) → (b : Begins text n next) → commands ≡ done ++ next → commands ≡ done ++ b.first ∷ [] ++ b.others
-left_more done commands text n next b is = is ∙ ap (λ (l : List (List ℕ)). done ++ l) b.are ∙ sym (append_assoc done (b.first ∷ []) b.others)
+pub left_more : (done commands : List (List ℕ)) (text : List ℕ) (n : ℕ) (next : List (List ℕ)) → (b : Begins text n next) → commands ≡ done ++ next → commands ≡ done ++ take n text ∷ [] ++ b.others
+left_more done commands text n next b is =
+    is ∙ ap (λ (l : List (List ℕ)). done ++ l) b.are ∙ sym (append_assoc done (b.first ∷ []) b.others) ∙ ap (λ (c : List ℕ). done ++ c ∷ [] ++ b.others) (sym b.front)
+
+-- one command more was replayed
+pub replays_more : {A : Type 0} (takes : A → Exchange → A → Type 0) (first old new : A) (done : List (List ℕ)) (command reply : List ℕ) (effect : Applied) → Replays takes done first old
+    → takes old (exchange command effect reply) new → effect ≡ Changed → Replays takes (done ++ command ∷ []) first new
+replays_more takes first old new done command reply effect so_far step is = replays_on takes first old new done (command ∷ []) so_far (replays_one takes old new command reply effect step is)
 
 -- a line that was taken whole
 pub taken_whole : (most : ℕ) (old part new : List ℕ) → ((raw : List ℕ) → old ≡ take most raw → new ≡ take most (raw ++ part)) → length old + length part ≤ most → new ≡ old ++ part
@@ -118,21 +121,40 @@ batch_has_object text (c ∷ cs) batch is none =
     differ n is = cc
 
 -- a command that changed nothing
-pub has_unchanged : (effect_of : List (List ℕ) → List ℕ → Applied) (entries done commands : List (List ℕ)) (text : List ℕ) (n : ℕ) (next : List (List ℕ)) → Begins text n next → commands ≡ done ++ next
-    → effect_of (entries ++ done) (take n text) ≡ Unchanged → HasUnchanged effect_of entries commands
-has_unchanged effect_of entries done commands text n next b is effect = record {
+pub has_unchanged : {A : Type 0} (takes : A → Exchange → A → Type 0) (first old new : A) (done commands : List (List ℕ)) (text reply : List ℕ) (effect : Applied) (n : ℕ) (next : List (List ℕ))
+    → Begins text n next → commands ≡ done ++ next → Replays takes done first old → takes old (exchange (take n text) effect reply) new → effect ≡ Unchanged → HasUnchanged takes first [] commands
+has_unchanged takes first old new done commands text reply effect n next b is so_far step same = record {
   front = done;
-  command = b.first;
+  command = take n text;
   others = b.others;
-  are = is ∙ ap (λ (l : List (List ℕ)). done ++ l) b.are;
-  unchanged = ap (effect_of (entries ++ done)) (sym b.front) ∙ effect;
+  are = is ∙ ap (λ (l : List (List ℕ)). done ++ l) b.are ∙ ap (λ (c : List ℕ). done ++ c ∷ b.others) (sym b.front);
+  reached = old;
+  replayed = so_far;
+  reply = reply;
+  next = new;
+  unchanged = subst (λ (e : Applied). takes old (exchange (take n text) e reply) new) same step;
+}
+
+-- such a command behind others
+pub unchanged_behind : {A : Type 0} (takes : A → Exchange → A → Type 0) (first mid : A) (entries commands : List (List ℕ)) → Replays takes entries first mid → HasUnchanged takes mid [] commands
+    → HasUnchanged takes first entries commands
+unchanged_behind takes first mid entries commands so_far one = record {
+  front = one.front;
+  command = one.command;
+  others = one.others;
+  are = one.are;
+  reached = one.reached;
+  replayed = replays_on takes first mid one.reached entries one.front so_far one.replayed;
+  reply = one.reply;
+  next = one.next;
+  unchanged = one.unchanged;
 }
 
 -- a line with such a command
-pub unfit_line : (effect_of : List (List ℕ) → List ℕ → Applied) (old new : Reading) (text line more : List ℕ) (batches : List (List (List ℕ))) (commands : List (List ℕ)) (number : ℕ)
-    → Reads old text batches → Reads new (text ++ line ++ 10 ∷ []) (batches ++ commands ∷ []) → IsBatch commands → number ≡ new.batches + 1 → HasUnchanged effect_of (commands_of batches) commands
-    → IsUnfit effect_of (head ++ (text ++ line ++ 10 ∷ more)) number
-unfit_line effect_of old new text line more batches commands number before reads batch at one = record {
+pub unfit_line : {A : Type 0} (takes : A → Exchange → A → Type 0) (first : A) (old new : Reading) (text line more : List ℕ) (batches : List (List (List ℕ))) (commands : List (List ℕ)) (number : ℕ)
+    → Reads old text batches → Reads new (text ++ line ++ 10 ∷ []) (batches ++ commands ∷ []) → IsBatch commands → number ≡ new.batches + 1 → HasUnchanged takes first (commands_of batches) commands
+    → IsUnfit takes first (head ++ (text ++ line ++ 10 ∷ more)) number
+unfit_line takes first old new text line more batches commands number before reads batch at one = record {
   batches = batches;
   commands = commands;
   rest = reads.bad ++ more;

@@ -1,5 +1,5 @@
 -- Lines, applied one behind the other.
-use Rattle.std.proofs.Common.{arith, ◌≡◌, ℕ, List, [], ◌∷◌, ◌++◌, map, refl, sym, ◌∙◌, ap, subst, append_assoc}
+use Rattle.std.proofs.Common.{arith, ◌≡◌, ℕ, List, [], ◌∷◌, ◌++◌, length, take, map, refl, sym, ◌∙◌, ap, subst, append_assoc}
 use Rattle.std.specs.List.{All}
 use Rattle.std.proofs.lemmas.List.{append-nil, map-append, take_all}
 use Rattle.std.proofs.lemmas.List.Elements.{All-nil, All-cons, All-append}
@@ -9,152 +9,175 @@ use Rattle.journal_session.specs.declared.applies.Applied.TheVariants.{Changed, 
 use Rattle.journal_session.specs.declared.pending.Pending.{Pending}
 use Rattle.journal_session.specs.declared.turn.Turn.{Turn}
 use Rattle.journal_session.specs.Pieces.{IsOneLine, EndsLine}
-use Rattle.journal_session.specs.Commands.{entries_behind, changed_first, changing, replies_of}
+use Rattle.journal_session.specs.Trace.{Exchange, exchange, lines_in, changed_first, changes_in, replies_in, LeadsTo, Replays, IsDetermined}
 use Rattle.journal_session.specs.Turn.{kept_line, Took, TookText}
 use Rattle.journal_session.proofs.Lines.{splits_begin, splits_line, splits_open}
 
-module _ (effect_of : List (List ℕ) → List ℕ → Applied) where
-  first_append : (applied : Applied) (line : List ℕ) (xs ys : List (List ℕ)) → changed_first applied line (xs ++ ys) ≡ changed_first applied line xs ++ ys
-  first_append Changed line xs ys = refl
-  first_append Unchanged line xs ys = refl
+first_append : (effect : Applied) (line : List ℕ) (xs ys : List (List ℕ)) → changed_first effect line (xs ++ ys) ≡ changed_first effect line xs ++ ys
+first_append Changed line xs ys = refl
+first_append Unchanged line xs ys = refl
 
-  -- what a line changed stands behind what was changed before
-  pub behind_all : (applied : Applied) (entries : List (List ℕ)) (line : List ℕ) (more : List (List ℕ)) → entries_behind entries line applied ++ more ≡ entries ++ changed_first applied line more
-  behind_all Changed entries line more = append_assoc entries (line ∷ []) more
-  behind_all Unchanged entries line more = refl
+-- exchanges behind exchanges: their lines
+pub lines_in-append : (a b : List Exchange) → lines_in (a ++ b) ≡ lines_in a ++ lines_in b
+lines_in-append a b = map-append (λ (x : Exchange). x.line) a b
 
-  -- lines behind lines
-  pub changing-append : (entries a b : List (List ℕ)) → changing effect_of entries (a ++ b) ≡ changing effect_of entries a ++ changing effect_of (entries ++ changing effect_of entries a) b
-  changing-append entries [] b = ap (λ (e : List (List ℕ)). changing effect_of e b) (sym (append-nil entries))
-  changing-append entries (line ∷ a) b =
-      let applied = effect_of entries line in
-      let next = entries_behind entries line applied in
-      ap (changed_first applied line) (changing-append next a b)
-      ∙ first_append applied line (changing effect_of next a) (changing effect_of (next ++ changing effect_of next a) b)
-      ∙ ap (λ (e : List (List ℕ)). changed_first applied line (changing effect_of next a) ++ changing effect_of e b) (behind_all applied entries line (changing effect_of next a))
+-- what they changed
+pub changes_in-append : (a b : List Exchange) → changes_in (a ++ b) ≡ changes_in a ++ changes_in b
+changes_in-append [] b = refl
+changes_in-append (x ∷ a) b = ap (changed_first x.effect x.line) (changes_in-append a b) ∙ first_append x.effect x.line (changes_in a) (changes_in b)
 
-  -- the commands behind lines, and behind more lines
-  pub entries-append : (entries a b : List (List ℕ)) → entries ++ changing effect_of entries (a ++ b) ≡ entries ++ changing effect_of entries a ++ changing effect_of (entries ++ changing effect_of entries a) b
-  entries-append entries a b = ap (λ (l : List (List ℕ)). entries ++ l) (changing-append entries a b) ∙ sym (append_assoc entries (changing effect_of entries a) (changing effect_of (entries ++ changing effect_of entries a) b))
+-- their replies
+pub replies_in-append : (a b : List Exchange) → replies_in (a ++ b) ≡ replies_in a ++ replies_in b
+replies_in-append [] b = refl
+replies_in-append (x ∷ a) b = ap (λ (l : List ℕ). x.reply ++ 10 ∷ l) (replies_in-append a b) ∙ sym (append_assoc x.reply (10 ∷ replies_in a) (replies_in b))
 
-  -- one line more
-  pub entries-push : (entries a : List (List ℕ)) (line : List ℕ) → entries ++ changing effect_of entries (a ++ line ∷ [])
-      ≡ entries_behind (entries ++ changing effect_of entries a) line (effect_of (entries ++ changing effect_of entries a) line)
-  entries-push entries a line =
-      let now = entries ++ changing effect_of entries a in
-      entries-append entries a (line ∷ []) ∙ sym (behind_all (effect_of now line) now line []) ∙ append-nil (entries_behind now line (effect_of now line))
+commas-append : (a b : List (List ℕ)) → behind_commas (a ++ b) ≡ behind_commas a ++ behind_commas b
+commas-append [] b = refl
+commas-append (x ∷ a) b = ap (λ (l : List ℕ). 44 ∷ (x ++ l)) (commas-append a b) ∙ ap (λ (l : List ℕ). 44 ∷ l) (sym (append_assoc x (behind_commas a) (behind_commas b)))
 
-  -- what one line changed
-  pub entries_one : (entries : List (List ℕ)) (line : List ℕ) → entries_behind entries line (effect_of entries line) ≡ entries ++ changing effect_of entries (line ∷ [])
-  entries_one entries line = sym (append-nil (entries_behind entries line (effect_of entries line))) ∙ behind_all (effect_of entries line) entries line []
+module _ {A : Type 0} (takes : A → Exchange → A → Type 0) where
+  -- exchanges that lead on
+  pub leads_on : (old mid new : A) (a b : List Exchange) → LeadsTo takes old a mid → LeadsTo takes mid b new → LeadsTo takes old (a ++ b) new
+  leads_on old mid new [] b one two = subst (λ (s : A). LeadsTo takes s b new) one two
+  leads_on old mid new (x ∷ a) b (next, step, rest) two = (next, step, leads_on next mid new a b rest two)
 
-  module _ (reply_to : List (List ℕ) → List ℕ → List ℕ) where
-    -- their replies
-    pub replies-append : (entries a b : List (List ℕ)) → replies_of effect_of reply_to entries (a ++ b) ≡ replies_of effect_of reply_to entries a ++ replies_of effect_of reply_to (entries ++ changing effect_of entries a) b
-    replies-append entries [] b = ap (λ (e : List (List ℕ)). replies_of effect_of reply_to e b) (sym (append-nil entries))
-    replies-append entries (line ∷ a) b =
-        let applied = effect_of entries line in
-        let next = entries_behind entries line applied in
-        ap (λ (l : List ℕ). reply_to entries line ++ 10 ∷ l) (replies-append next a b)
-        ∙ sym (append_assoc (reply_to entries line) (10 ∷ replies_of effect_of reply_to next a) (replies_of effect_of reply_to (next ++ changing effect_of next a) b))
-        ∙ ap (λ (e : List (List ℕ)). reply_to entries line ++ 10 ∷ replies_of effect_of reply_to next a ++ replies_of effect_of reply_to e b) (behind_all applied entries line (changing effect_of next a))
+  -- one exchange
+  pub leads_one : (old new : A) (x : Exchange) → takes old x new → LeadsTo takes old (x ∷ []) new
+  leads_one old new x step = (new, step, refl)
 
-    commas-append : (a b : List (List ℕ)) → behind_commas (a ++ b) ≡ behind_commas a ++ behind_commas b
-    commas-append [] b = refl
-    commas-append (x ∷ a) b = ap (λ (l : List ℕ). 44 ∷ (x ++ l)) (commas-append a b) ∙ ap (λ (l : List ℕ). 44 ∷ l) (sym (append_assoc x (behind_commas a) (behind_commas b)))
+  -- no command was replayed
+  pub replays_none : (state : A) → Replays takes [] state state
+  replays_none state = record { trace = []; leads = refl; are = refl; each = All-nil (λ (x : Exchange). x.effect ≡ Changed) }
 
-    -- no line
-    pub took_none : (entries : List (List ℕ)) (turn : Turn) → Took effect_of reply_to entries [] turn turn
-    took_none entries turn = record {
-      replies = sym (append-nil turn.replies.items);
-      changed = sym (append-nil turn.changed.items);
-      objects = All-nil IsObject;
+  -- commands behind commands
+  pub replays_on : (old mid new : A) (a b : List (List ℕ)) → Replays takes a old mid → Replays takes b mid new → Replays takes (a ++ b) old new
+  replays_on old mid new a b one two = record {
+    trace = one.trace ++ two.trace;
+    leads = leads_on old mid new one.trace two.trace one.leads two.leads;
+    are = lines_in-append one.trace two.trace ∙ ap (λ (l : List (List ℕ)). l ++ lines_in two.trace) one.are ∙ ap (λ (l : List (List ℕ)). a ++ l) two.are;
+    each = All-append (λ (x : Exchange). x.effect ≡ Changed) one.trace two.trace one.each two.each;
+  }
+
+  -- one command
+  pub replays_one : (old new : A) (command reply : List ℕ) (effect : Applied) → takes old (exchange command effect reply) new → effect ≡ Changed → Replays takes (command ∷ []) old new
+  replays_one old new command reply effect step is = record {
+    trace = exchange command effect reply ∷ [];
+    leads = (new, step, refl);
+    are = refl;
+    each = All-cons (λ (x : Exchange). x.effect ≡ Changed) (exchange command effect reply) [] is (All-nil (λ (x : Exchange). x.effect ≡ Changed));
+  }
+
+  -- the same commands
+  pub replays_same : (old new : A) (a b : List (List ℕ)) → a ≡ b → Replays takes a old new → Replays takes b old new
+  replays_same old new a b is one = subst (λ (l : List (List ℕ)). Replays takes l old new) is one
+
+  -- where a state and a line determine what comes, the lines determine the exchanges
+  pub lines_determine : IsDetermined takes → (old one other : A) (a b : List Exchange) (others : List (List ℕ)) → LeadsTo takes old a one → LeadsTo takes old b other
+      → lines_in b ≡ lines_in a ++ others → take (length a) b ≡ a
+  lines_determine fixed old one other [] b others leads leads' are = refl
+  lines_determine fixed old one other (x ∷ a) [] others leads leads' are = absurd (cc)
+  lines_determine fixed old one other (x ∷ a) (y ∷ b) others (next, step, rest) (next', step', rest') are =
+      let line : y.line ≡ x.line = cc in
+      let lines : lines_in b ≡ lines_in a ++ others = cc in
+      let same = fixed old next next' x y step step' line in
+      let from_next = subst (λ (s : A). LeadsTo takes s b other) same.1 rest' in
+      ap (λ (z : Exchange). z ∷ take (length a) b) same.0 ∙ ap (λ (l : List Exchange). x ∷ l) (lines_determine fixed next one other a b others rest from_next lines)
+
+  -- and the state to which they lead
+  pub lines_determine_all : IsDetermined takes → (old one other : A) (a b : List Exchange) → LeadsTo takes old a one → LeadsTo takes old b other → lines_in b ≡ lines_in a → (b ≡ a) × (other ≡ one)
+  lines_determine_all fixed old one other [] [] leads leads' are = (refl, leads' ∙ sym leads)
+  lines_determine_all fixed old one other [] (y ∷ b) leads leads' are = absurd (cc)
+  lines_determine_all fixed old one other (x ∷ a) [] leads leads' are = absurd (cc)
+  lines_determine_all fixed old one other (x ∷ a) (y ∷ b) (next, step, rest) (next', step', rest') are =
+      let line : y.line ≡ x.line = cc in
+      let lines : lines_in b ≡ lines_in a = cc in
+      let same = fixed old next next' x y step step' line in
+      let from_next = subst (λ (s : A). LeadsTo takes s b other) same.1 rest' in
+      let behind = lines_determine_all fixed next one other a b rest from_next lines in
+      (ap (λ (z : Exchange). z ∷ b) same.0 ∙ ap (λ (l : List Exchange). x ∷ l) behind.0, behind.1)
+
+-- no line
+pub took_none : (turn : Turn) → Took [] turn turn
+took_none turn = record {
+  replies = sym (append-nil turn.replies.items);
+  changed = sym (append-nil turn.changed.items);
+  objects = All-nil IsObject;
+}
+
+-- lines behind lines
+pub took_more : (a b : List Exchange) (old mid new : Turn) → Took a old mid → Took b mid new → Took (a ++ b) old new
+took_more a b old mid new first second = record {
+  replies = second.replies ∙ ap (λ (l : List ℕ). l ++ replies_in b) first.replies ∙ append_assoc old.replies.items (replies_in a) (replies_in b)
+      ∙ ap (λ (l : List ℕ). old.replies.items ++ l) (sym (replies_in-append a b));
+  changed = second.changed ∙ ap (λ (l : List ℕ). l ++ behind_commas (changes_in b)) first.changed
+      ∙ append_assoc old.changed.items (behind_commas (changes_in a)) (behind_commas (changes_in b))
+      ∙ ap (λ (l : List ℕ). old.changed.items ++ l) (sym (commas-append (changes_in a) (changes_in b)) ∙ ap behind_commas (sym (changes_in-append a b)));
+  objects = subst (All IsObject) (sym (changes_in-append a b)) (All-append IsObject (changes_in a) (changes_in b) first.objects second.objects);
+}
+
+-- a line that changed nothing
+pub took_unchanged : (line reply : List ℕ) (effect : Applied) (old new : Turn) → effect ≡ Unchanged → new.replies.items ≡ old.replies.items ++ reply ++ 10 ∷ []
+    → new.changed.items ≡ old.changed.items → Took (exchange line effect reply ∷ []) old new
+took_unchanged line reply effect old new is replies changed =
+    let none : changes_in (exchange line effect reply ∷ []) ≡ [] = ap (λ (e : Applied). changed_first e line []) is in
+    record {
+      replies = replies ∙ append_assoc old.replies.items reply (10 ∷ []);
+      changed = changed ∙ sym (append-nil old.changed.items) ∙ ap (λ (l : List (List ℕ)). old.changed.items ++ behind_commas l) (sym none);
+      objects = subst (All IsObject) (sym none) (All-nil IsObject);
     }
 
-    -- lines behind lines
-    pub took_more : (entries a b : List (List ℕ)) (old mid new : Turn) → Took effect_of reply_to entries a old mid
-        → Took effect_of reply_to (entries ++ changing effect_of entries a) b mid new → Took effect_of reply_to entries (a ++ b) old new
-    took_more entries a b old mid new first second =
-        let now = entries ++ changing effect_of entries a in
-        let both = changing-append entries a b in
-        record {
-          replies = second.replies ∙ ap (λ (l : List ℕ). l ++ replies_of effect_of reply_to now b) first.replies
-              ∙ append_assoc old.replies.items (replies_of effect_of reply_to entries a) (replies_of effect_of reply_to now b) ∙ ap (λ (l : List ℕ). old.replies.items ++ l) (sym (replies-append entries a b));
-          changed = second.changed ∙ ap (λ (l : List ℕ). l ++ behind_commas (changing effect_of now b)) first.changed
-              ∙ append_assoc old.changed.items (behind_commas (changing effect_of entries a)) (behind_commas (changing effect_of now b))
-              ∙ ap (λ (l : List ℕ). old.changed.items ++ l) (sym (commas-append (changing effect_of entries a) (changing effect_of now b)) ∙ ap behind_commas (sym both));
-          objects = subst (All IsObject) (sym both) (All-append IsObject (changing effect_of entries a) (changing effect_of now b) first.objects second.objects);
-        }
+-- a line that changed something
+pub took_changed : (line reply : List ℕ) (effect : Applied) (old new : Turn) → effect ≡ Changed → IsObject line
+    → new.replies.items ≡ old.replies.items ++ reply ++ 10 ∷ [] → new.changed.items ≡ old.changed.items ++ 44 ∷ [] ++ line → Took (exchange line effect reply ∷ []) old new
+took_changed line reply effect old new is object replies changed =
+    let one : changes_in (exchange line effect reply ∷ []) ≡ line ∷ [] = ap (λ (e : Applied). changed_first e line []) is in
+    record {
+      replies = replies ∙ append_assoc old.replies.items reply (10 ∷ []);
+      changed = changed ∙ append_assoc old.changed.items (44 ∷ []) line ∙ ap (λ (l : List ℕ). old.changed.items ++ 44 ∷ l) (sym (append-nil line))
+          ∙ ap (λ (l : List (List ℕ)). old.changed.items ++ behind_commas l) (sym one);
+      objects = subst (All IsObject) (sym one) (All-cons IsObject line [] object (All-nil IsObject));
+    }
 
-    -- the same lines
-    pub took_same : (entries lines others : List (List ℕ)) (old new : Turn) → others ≡ lines → Took effect_of reply_to entries lines old new → Took effect_of reply_to entries others old new
-    took_same entries lines others old new is took = subst (λ (ls : List (List ℕ)). Took effect_of reply_to entries ls old new) (sym is) took
+module _ {A : Type 0} (takes : A → Exchange → A → Type 0) where
+  -- before the first line
+  pub text_begins : (raw : List ℕ) (pending : Pending) (state : A) (turn : Turn) → IsOneLine raw → pending.text.items ≡ kept_line raw
+      → TookText takes raw [] raw [] pending state state turn turn
+  text_begins raw pending state turn one_line is = record {
+    splits = splits_begin raw one_line;
+    held = is;
+    are = refl;
+    leads = refl;
+    took = took_none turn;
+  }
 
-    -- a line that changed nothing
-    pub took_unchanged : (entries : List (List ℕ)) (line : List ℕ) (old new : Turn) → effect_of entries line ≡ Unchanged → new.replies.items ≡ old.replies.items ++ reply_to entries line ++ 10 ∷ []
-        → new.changed.items ≡ old.changed.items → Took effect_of reply_to entries (line ∷ []) old new
-    took_unchanged entries line old new is replies changed =
-        let none : changing effect_of entries (line ∷ []) ≡ [] = ap (λ (applied : Applied). changed_first applied line []) is in
-        record {
-          replies = replies ∙ append_assoc old.replies.items (reply_to entries line) (10 ∷ []);
-          changed = changed ∙ sym (append-nil old.changed.items) ∙ ap (λ (l : List (List ℕ)). old.changed.items ++ behind_commas l) (sym none);
-          objects = subst (All IsObject) (sym none) (All-nil IsObject);
-        }
+  -- a line that a piece ends
+  pub text_line : (text rest part line : List ℕ) (used : ℕ) (lines : List (List ℕ)) (open_line : List ℕ) (trace : List Exchange) (pending next : Pending) (first state state' : A) (old mid new : Turn)
+      → TookText takes text lines open_line trace pending first state old mid → EndsLine rest part used
+      → line ≡ kept_line (open_line ++ part) → (one : Exchange) → one.line ≡ line → takes state one state' → Took (one ∷ []) mid new → next.text.items ≡ []
+      → TookText takes (text ++ part ++ 10 ∷ []) (lines ++ (open_line ++ part) ∷ []) [] (trace ++ one ∷ []) next first state' old new
+  text_line text rest part line used lines open_line trace pending next first state state' old mid new so_far ends is one its step takes_one none = record {
+    splits = splits_line text lines open_line part so_far.splits ends.one_line;
+    held = none ∙ sym (take_all 67108865 [] (omega arith));
+    are = lines_in-append trace (one ∷ []) ∙ ap (λ (l : List (List ℕ)). l ++ one.line ∷ []) so_far.are ∙ ap (λ (l : List ℕ). map kept_line lines ++ l ∷ []) (its ∙ is)
+        ∙ sym (map-append kept_line lines ((open_line ++ part) ∷ []));
+    leads = leads_on takes first state state' trace (one ∷ []) so_far.leads (leads_one takes state state' one step);
+    took = took_more trace (one ∷ []) old mid new so_far.took takes_one;
+  }
 
-    -- a line that changed something
-    pub took_changed : (entries : List (List ℕ)) (line : List ℕ) (old new : Turn) → effect_of entries line ≡ Changed → IsObject line
-        → new.replies.items ≡ old.replies.items ++ reply_to entries line ++ 10 ∷ [] → new.changed.items ≡ old.changed.items ++ 44 ∷ [] ++ line → Took effect_of reply_to entries (line ∷ []) old new
-    took_changed entries line old new is object replies changed =
-        let one : changing effect_of entries (line ∷ []) ≡ line ∷ [] = ap (λ (applied : Applied). changed_first applied line []) is in
-        record {
-          replies = replies ∙ append_assoc old.replies.items (reply_to entries line) (10 ∷ []);
-          changed = changed ∙ append_assoc old.changed.items (44 ∷ []) line ∙ ap (λ (l : List ℕ). old.changed.items ++ 44 ∷ l) (sym (append-nil line))
-              ∙ ap (λ (l : List (List ℕ)). old.changed.items ++ behind_commas l) (sym one);
-          objects = subst (All IsObject) (sym one) (All-cons IsObject line [] object (All-nil IsObject));
-        }
+  -- what a piece has of a line that goes on
+  pub text_open : (text rest : List ℕ) (lines : List (List ℕ)) (open_line : List ℕ) (trace : List Exchange) (pending next : Pending) (first state : A) (old new : Turn)
+      → TookText takes text lines open_line trace pending first state old new → IsOneLine rest → next.text.items ≡ kept_line (open_line ++ rest)
+      → TookText takes (text ++ rest) lines (open_line ++ rest) trace next first state old new
+  text_open text rest lines open_line trace pending next first state old new so_far one_line is = record {
+    splits = splits_open text lines open_line rest so_far.splits one_line;
+    held = is;
+    are = so_far.are;
+    leads = so_far.leads;
+    took = so_far.took;
+  }
 
-    module _ {A : Type 0} (is_after : A → List (List ℕ) → Type 0) where
-      -- before the first line
-      pub text_begins : (entries : List (List ℕ)) (raw : List ℕ) (pending : Pending) (state : A) (turn : Turn) → is_after state entries → IsOneLine raw → pending.text.items ≡ kept_line raw
-          → TookText is_after effect_of reply_to entries raw [] raw pending state turn turn
-      text_begins entries raw pending state turn now one_line is = record {
-        splits = splits_begin raw one_line;
-        held = is;
-        reached = subst (is_after state) (sym (append-nil entries)) now;
-        took = took_none entries turn;
-      }
-
-      -- a line that a piece ends
-      pub text_line : (entries : List (List ℕ)) (text rest part line : List ℕ) (used : ℕ) (lines : List (List ℕ)) (open_line : List ℕ) (pending next : Pending) (state state' : A) (old mid new : Turn)
-          → TookText is_after effect_of reply_to entries text lines open_line pending state old mid → EndsLine rest part used
-          → line ≡ kept_line (open_line ++ part)
-          → ((now : List (List ℕ)) → is_after state now → is_after state' (entries_behind now line (effect_of now line)))
-          → ((now : List (List ℕ)) → is_after state now → Took effect_of reply_to now (line ∷ []) mid new) → next.text.items ≡ []
-          → TookText is_after effect_of reply_to entries (text ++ part ++ 10 ∷ []) (lines ++ (open_line ++ part) ∷ []) [] next state' old new
-      text_line entries text rest part line used lines open_line pending next state state' old mid new so_far ends is goes takes none =
-          let done = map kept_line lines in
-          let now = entries ++ changing effect_of entries done in
-          let all : map kept_line (lines ++ (open_line ++ part) ∷ []) ≡ done ++ line ∷ [] = map-append kept_line lines ((open_line ++ part) ∷ []) ∙ ap (λ (l : List ℕ). done ++ l ∷ []) (sym is) in
-          record {
-            splits = splits_line text lines open_line part so_far.splits ends.one_line;
-            held = none ∙ sym (take_all 67108865 [] (omega arith));
-            reached = subst (is_after state') (sym (ap (λ (l : List (List ℕ)). entries ++ changing effect_of entries l) all ∙ entries-push entries done line)) (goes now so_far.reached);
-            took = subst (λ (l : List (List ℕ)). Took effect_of reply_to entries l old new) (sym all) (took_more entries done (line ∷ []) old mid new so_far.took (takes now so_far.reached));
-          }
-
-      -- what a piece has of a line that goes on
-      pub text_open : (entries : List (List ℕ)) (text rest : List ℕ) (lines : List (List ℕ)) (open_line : List ℕ) (pending next : Pending) (state : A) (old new : Turn)
-          → TookText is_after effect_of reply_to entries text lines open_line pending state old new → IsOneLine rest → next.text.items ≡ kept_line (open_line ++ rest)
-          → TookText is_after effect_of reply_to entries (text ++ rest) lines (open_line ++ rest) next state old new
-      text_open entries text rest lines open_line pending next state old new so_far one_line is = record {
-        splits = splits_open text lines open_line rest so_far.splits one_line;
-        held = is;
-        reached = so_far.reached;
-        took = so_far.took;
-      }
-
-      -- the same text
-      pub text_same : (entries : List (List ℕ)) (text other : List ℕ) (lines : List (List ℕ)) (open_line : List ℕ) (pending : Pending) (state : A) (old new : Turn) → other ≡ text
-          → TookText is_after effect_of reply_to entries text lines open_line pending state old new → TookText is_after effect_of reply_to entries other lines open_line pending state old new
-      text_same entries text other lines open_line pending state old new is took =
-          subst (λ (t : List ℕ). TookText is_after effect_of reply_to entries t lines open_line pending state old new) (sym is) took
+  -- the same text
+  pub text_same : (text other : List ℕ) (lines : List (List ℕ)) (open_line : List ℕ) (trace : List Exchange) (pending : Pending) (first state : A) (old new : Turn) → other ≡ text
+      → TookText takes text lines open_line trace pending first state old new → TookText takes other lines open_line trace pending first state old new
+  text_same text other lines open_line trace pending first state old new is took =
+      subst (λ (t : List ℕ). TookText takes t lines open_line trace pending first state old new) (sym is) took

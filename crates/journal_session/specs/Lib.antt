@@ -1,4 +1,4 @@
-pub mod Commands
+pub mod Trace
 pub mod Faults
 pub mod Pieces
 pub mod Turn

@@ -7,10 +7,10 @@ use Rattle.journal_lines.specs.Lines.{head}
 use Rattle.journal_lines.specs.Journal.{journal_of, RecoversTo, IsForeign}
 use Rattle.journal_lines.specs.Reading.{Reads}
 use Rattle.journal_store.specs.Store.{written_now, MayLeave, Passes}
-use Rattle.journal_session.specs.declared.applies.Applied.{Applied}
 use Rattle.journal_session.specs.declared.applies.Applied.TheVariants.{Unchanged}
 use Rattle.journal_session.specs.declared.recovery.Beginning.{Beginning}
 use Rattle.journal_session.specs.declared.recovery.Beginning.TheVariants.{Head, Other, NotBegun}
+use Rattle.journal_session.specs.Trace.{Exchange, exchange, Replays}
 use Rattle.journal_session.specs.Session.{commands_of}
 
 -- the content is this text, or both recover to the same commands
@@ -27,16 +27,20 @@ pub record KeepsJournal {D : Type 0} (moment : D → ℕ) (written_at : D → �
   pub each : (n : ℕ) (content : List ℕ) → moment old < n → n ≤ moment new → left_at new n content
       → MayLeave moment left_at old content ⊎ IsSameJournal (written_now moment written_at old) content
 
--- one of these commands does not change the state to which those before it lead
-pub record HasUnchanged (effect_of : List (List ℕ) → List ℕ → Applied) (entries commands : List (List ℕ)) : Type 0 where
+-- Once these commands were replayed, and then the first of those, the next of those may be applied and told as unchanged.
+pub record HasUnchanged {A : Type 0} (takes : A → Exchange → A → Type 0) (first : A) (entries commands : List (List ℕ)) : Type 0 where
   pub front : List (List ℕ)
   pub command : List ℕ
   pub others : List (List ℕ)
   pub are : commands ≡ front ++ command ∷ others
-  pub unchanged : effect_of (entries ++ front) command ≡ Unchanged
+  pub reached : A
+  pub replayed : Replays takes (entries ++ front) first reached
+  pub reply : List ℕ
+  pub next : A
+  pub unchanged : takes reached (exchange command Unchanged reply) next
 
--- The line of this number goes on from those before it, and a command on it does not change the state to which the commands before it lead.
-pub record IsUnfit (effect_of : List (List ℕ) → List ℕ → Applied) (content : List ℕ) (number : ℕ) : Type 0 where
+-- The line of this number goes on from those before it, and a command on it may be applied and told as unchanged, once the commands before it were replayed.
+pub record IsUnfit {A : Type 0} (takes : A → Exchange → A → Type 0) (first : A) (content : List ℕ) (number : ℕ) : Type 0 where
   pub batches : List (List (List ℕ))
   pub commands : List (List ℕ)
   pub rest : List ℕ
@@ -44,7 +48,7 @@ pub record IsUnfit (effect_of : List (List ℕ) → List ℕ → Applied) (conte
   pub batch : IsBatch commands
   pub is : content ≡ journal_of (batches ++ commands ∷ []) ++ rest
   pub at : number ≡ length batches + 2
-  pub one : HasUnchanged effect_of (commands_of batches) commands
+  pub one : HasUnchanged takes first (commands_of batches) commands
 
 -- a text begins like this
 abbrev pub StartsAs : List ℕ → Beginning → Type 0

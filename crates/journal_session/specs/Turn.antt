@@ -1,11 +1,10 @@
 -- What a turn of a session has of its lines. `Took` and `TookText` are steps of the code's own way: whoever reads the public contracts need not read them.
 use Rattle.std.specs.Prelude.{◌≡◌, ℕ, List, ◌++◌, All, map, take}
 use Rattle.journal_lines.specs.Objects.{IsObject, behind_commas}
-use Rattle.journal_session.specs.declared.applies.Applied.{Applied}
 use Rattle.journal_session.specs.declared.pending.Pending.{Pending}
 use Rattle.journal_session.specs.declared.turn.Turn.{Turn}
 use Rattle.journal_session.specs.Pieces.{Splits, lines_of}
-use Rattle.journal_session.specs.Commands.{changing, replies_of}
+use Rattle.journal_session.specs.Trace.{Exchange, lines_in, changes_in, replies_in, LeadsTo}
 
 -- a line as far as it is kept: its first 64 MiB, and one byte that tells that there are more
 abbrev pub kept_line : List ℕ → List ℕ
@@ -15,16 +14,17 @@ kept_line line = take 67108865 line
 abbrev pub lines_taken : List ℕ → List (List ℕ)
 lines_taken text = map kept_line (lines_of text)
 
--- Once these commands had changed the state, these lines were applied: behind what the turn had, it has their replies, and those of them that changed something.
-pub record Took (effect_of : List (List ℕ) → List ℕ → Applied) (reply_to : List (List ℕ) → List ℕ → List ℕ) (entries lines : List (List ℕ)) (old new : Turn) : Type 0 where
-  pub replies : new.replies.items ≡ old.replies.items ++ replies_of effect_of reply_to entries lines
-  pub changed : new.changed.items ≡ old.changed.items ++ behind_commas (changing effect_of entries lines)
-  pub objects : All IsObject (changing effect_of entries lines)
+-- Lines were applied: behind what the turn had, it has their replies, and those of them that changed something.
+pub record Took (trace : List Exchange) (old new : Turn) : Type 0 where
+  pub replies : new.replies.items ≡ old.replies.items ++ replies_in trace
+  pub changed : new.changed.items ≡ old.changed.items ++ behind_commas (changes_in trace)
+  pub objects : All IsObject (changes_in trace)
 
 -- A text was read as these lines and an open one: the lines were applied, and the open one is pending.
-pub record TookText {A : Type 0} (is_after : A → List (List ℕ) → Type 0) (effect_of : List (List ℕ) → List ℕ → Applied) (reply_to : List (List ℕ) → List ℕ → List ℕ)
-    (entries : List (List ℕ)) (text : List ℕ) (lines : List (List ℕ)) (open_line : List ℕ) (pending : Pending) (state : A) (old new : Turn) : Type 0 where
+pub record TookText {A : Type 0} (takes : A → Exchange → A → Type 0) (text : List ℕ) (lines : List (List ℕ)) (open_line : List ℕ) (trace : List Exchange)
+    (pending : Pending) (first state : A) (old new : Turn) : Type 0 where
   pub splits : Splits text lines open_line
   pub held : pending.text.items ≡ kept_line open_line
-  pub reached : is_after state (entries ++ changing effect_of entries (map kept_line lines))
-  pub took : Took effect_of reply_to entries (map kept_line lines) old new
+  pub are : lines_in trace ≡ map kept_line lines
+  pub leads : LeadsTo takes first trace state
+  pub took : Took trace old new

@@ -1,9 +1,8 @@
 //! What applies the lines that come.
-ghost use Rattle.std.specs.Prelude.{◌≡◌, ℕ, List, ◌++◌, IfOk, OnOk};
+ghost use Rattle.std.specs.Prelude.{◌≡◌, ℕ, List, ◌++◌, IfOk};
 ghost use Rattle.journal_lines.specs.Objects.{IsObject};
-ghost use Rattle.journal_session.specs.declared.applies.Applied.{Applied as Effect};
 ghost use Rattle.journal_session.specs.declared.applies.Applied.TheVariants.{Changed};
-ghost use Rattle.journal_session.specs.Commands.{entries_behind};
+ghost use Rattle.journal_session.specs.Trace.{Exchange, exchange};
 
 use std::alloc::{AllocError, Global};
 
@@ -14,16 +13,10 @@ pub enum Applied {
     Unchanged,
 }
 
-/// What lines are applied to. Its state is told by the commands that changed it, in their order, and by nothing else.
+/// What lines are applied to.
 pub trait Applies {
-    /// The state is the one to which these commands lead.
-    ghost is_after: { Self → List (List ℕ) → Type 0 };
-
-    /// What a line does, once these commands have changed the state.
-    ghost effect_of: { List (List ℕ) → List ℕ → Effect };
-
-    /// The reply to a line, once these commands have changed the state.
-    ghost reply_to: { List (List ℕ) → List ℕ → List ℕ };
+    /// A line with this effect and this reply may lead from one state to another.
+    ghost takes: { Self → Exchange → Self → Type 0 };
 
     /// Applies a line, and writes the reply to it behind what is there.
     fn apply(
@@ -32,10 +25,8 @@ pub trait Applies {
         line: &[u8],
         reply: &mut Vec<u8>,
     ) -> Result<Applied, AllocError>
-        ensures effect { (entries : List (List ℕ)) → is_after self.old entries → IfOk result (λ applied. applied ≡ effect_of entries line.now) }
-        ensures state { (entries : List (List ℕ)) → is_after self.old entries
-            → OnOk result (is_after self.new (entries_behind entries line.now (effect_of entries line.now))) }
-        ensures reply { (entries : List (List ℕ)) → is_after self.old entries → OnOk result (reply.new.items ≡ reply.old.items ++ reply_to entries line.now) }
+        ensures takes { IfOk result (λ applied. (text : List ℕ) × (reply.new.items ≡ reply.old.items ++ text)
+            × takes self.old (exchange line.now applied text) self.new) }
         // What changed something is one object, on one line: a journal can take it as an entry.
-        ensures object { (entries : List (List ℕ)) → is_after self.old entries → IfOk result (λ applied. applied ≡ Changed → IsObject line.now) };
+        ensures object { IfOk result (λ applied. applied ≡ Changed → IsObject line.now) };
 }

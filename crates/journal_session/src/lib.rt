@@ -3,6 +3,7 @@
 
 mod applies;
 mod fault;
+mod law;
 mod pending;
 mod recovery;
 mod replay;
@@ -13,6 +14,7 @@ mod writing;
 
 pub use applies::{Applied, Applies};
 pub use fault::{RecoverFault, ServeFault};
+pub use law::lines_determine_exchanges;
 pub use recovery::recover;
 pub use resuming::{ResumeFault, resume, safe_lines_stay};
 pub use session::{serve, serve_unkept};

@@ -6,6 +6,7 @@ ghost use Rattle.journal_lines.specs.Reading.{Reads};
 ghost use Rattle.journal_store.specs.Store.{written_now, IsSynced};
 ghost use Rattle.journal.specs.Journal.{IsOnDisk};
 ghost use Rattle.journal_session.specs.Pieces.{IsOneLine};
+ghost use Rattle.journal_session.specs.Trace.{Replays};
 ghost use Rattle.journal_session.specs.Session.{commands_of};
 ghost use Rattle.journal_session.specs.Recovery.{KeepsJournal, IsUnfit, StartsAs, ComesNext, IsFront, WasRead, HasReplayed};
 
@@ -122,15 +123,15 @@ fn replay<S: Store, A: Applies>(
     ensures within { IfOk result (λ end. (reading.new.end ≤ end) × (end < 2 ^ 62)) }
     ensures read { S.keeps_word store.old → WasRead S.moment S.written_at S.left_at store.old store.new }
     ensures word { S.keeps_word store.old → OnOk result (S.keeps_word store.new) }
-    ensures replayed { S.keeps_word store.old → take (length head) (written_now S.moment S.written_at store.old) ≡ head → Reads reading.old [] []
-        → IfOk result (λ end. (end ≡ length (written_now S.moment S.written_at store.old))
+    ensures replayed { IfOk result (λ end. (commands : List (List ℕ)) × Replays A.takes commands state.old state.new
+        × (S.keeps_word store.old → take (length head) (written_now S.moment S.written_at store.old) ≡ head → Reads reading.old [] []
+        → (end ≡ length (written_now S.moment S.written_at store.old))
         × (batches : List (List (List ℕ))) × (open_line : List ℕ) × IsOneLine open_line
-        × HasReplayed (written_now S.moment S.written_at store.old) end reading.new batches open_line
-        × (A.is_after state.old [] → A.is_after state.new (commands_of batches))) }
+        × HasReplayed (written_now S.moment S.written_at store.old) end reading.new batches open_line × (commands_of batches ≡ commands))) }
     ensures damaged { S.keeps_word store.old → take (length head) (written_now S.moment S.written_at store.old) ≡ head → Reads reading.old [] []
         → (number : ℕ) → result ≡ Err (RecoverFault.Damaged number) → IsDamaged (written_now S.moment S.written_at store.old) number }
-    ensures unfit { S.keeps_word store.old → take (length head) (written_now S.moment S.written_at store.old) ≡ head → Reads reading.old [] [] → A.is_after state.old []
-        → (number : ℕ) → result ≡ Err (RecoverFault.Unfit number) → IsUnfit A.effect_of (written_now S.moment S.written_at store.old) number }
+    ensures unfit { S.keeps_word store.old → take (length head) (written_now S.moment S.written_at store.old) ≡ head → Reads reading.old [] []
+        → (number : ℕ) → result ≡ Err (RecoverFault.Unfit number) → IsUnfit A.takes state.old (written_now S.moment S.written_at store.old) number }
     ensures no_other { result ≡ Err RecoverFault.Foreign → ⊥ }
 {
     let mut pending = Pending::new(alloc);
@@ -157,18 +158,19 @@ fn recover_lines<S: Store, A: Applies>(
     journal: &mut Journal<S>,
     state: &mut A,
 ) -> Result<(), RecoverFault>
-    ensures recovered { S.keeps_word journal.old.store → IsSynced S.moment S.written_at S.left_at journal.old.store
+    ensures recovered { OnOk result ((commands : List (List ℕ)) × Replays A.takes commands state.old state.new
+        × (S.keeps_word journal.old.store → IsSynced S.moment S.written_at S.left_at journal.old.store
         → take (length head) (written_now S.moment S.written_at journal.old.store) ≡ head
-        → OnOk result ((batches : List (List (List ℕ))) × HasBatches (written_now S.moment S.written_at journal.old.store) batches
-        × IsOnDisk S.moment S.written_at S.left_at journal.new batches × (A.is_after state.old [] → A.is_after state.new (commands_of batches))) }
+        → (batches : List (List (List ℕ))) × HasBatches (written_now S.moment S.written_at journal.old.store) batches
+        × IsOnDisk S.moment S.written_at S.left_at journal.new batches × (commands_of batches ≡ commands))) }
     ensures keeps { S.keeps_word journal.old.store → IsSynced S.moment S.written_at S.left_at journal.old.store
         → take (length head) (written_now S.moment S.written_at journal.old.store) ≡ head
         → KeepsJournal S.moment S.written_at S.left_at journal.old.store journal.new.store }
     ensures word { S.keeps_word journal.old.store → OnOk result (S.keeps_word journal.new.store) }
     ensures damaged { S.keeps_word journal.old.store → take (length head) (written_now S.moment S.written_at journal.old.store) ≡ head
         → (number : ℕ) → result ≡ Err (RecoverFault.Damaged number) → IsDamaged (written_now S.moment S.written_at journal.old.store) number }
-    ensures unfit { S.keeps_word journal.old.store → take (length head) (written_now S.moment S.written_at journal.old.store) ≡ head → A.is_after state.old []
-        → (number : ℕ) → result ≡ Err (RecoverFault.Unfit number) → IsUnfit A.effect_of (written_now S.moment S.written_at journal.old.store) number }
+    ensures unfit { S.keeps_word journal.old.store → take (length head) (written_now S.moment S.written_at journal.old.store) ≡ head
+        → (number : ℕ) → result ≡ Err (RecoverFault.Unfit number) → IsUnfit A.takes state.old (written_now S.moment S.written_at journal.old.store) number }
     ensures no_other { result ≡ Err RecoverFault.Foreign → ⊥ }
 {
     let mut reading = Reading::begin();
@@ -188,17 +190,18 @@ pub fn recover<S: Store, A: Applies>(
     journal: &mut Journal<S>,
     state: &mut A,
 ) -> Result<(), RecoverFault>
-    // What was found is applied, and the journal of just that is on the disk.
-    ensures recovered { S.keeps_word journal.old.store → OnOk result ((batches : List (List (List ℕ)))
-        × RecoversTo (written_now S.moment S.written_at journal.old.store) (commands_of batches)
-        × IsOnDisk S.moment S.written_at S.left_at journal.new batches × (A.is_after state.old [] → A.is_after state.new (commands_of batches))) }
+    // Whatever the store gives, commands were applied that changed something. If it keeps its word, they are those that it has, and the journal of just these is
+    // on the disk.
+    ensures recovered { OnOk result ((commands : List (List ℕ)) × Replays A.takes commands state.old state.new
+        × (S.keeps_word journal.old.store → RecoversTo (written_now S.moment S.written_at journal.old.store) commands
+        × (batches : List (List (List ℕ))) × IsOnDisk S.moment S.written_at S.left_at journal.new batches × (commands_of batches ≡ commands))) }
     // A crash at any moment of the call leaves what it might have left before, or the same journal: the next recovery finds the same. Damage stays as it is.
     ensures keeps { S.keeps_word journal.old.store → KeepsJournal S.moment S.written_at S.left_at journal.old.store journal.new.store }
     ensures word { S.keeps_word journal.old.store → OnOk result (S.keeps_word journal.new.store) }
     ensures damaged { S.keeps_word journal.old.store → (number : ℕ) → result ≡ Err (RecoverFault.Damaged number)
         → IsDamaged (written_now S.moment S.written_at journal.old.store) number }
-    ensures unfit { S.keeps_word journal.old.store → A.is_after state.old [] → (number : ℕ) → result ≡ Err (RecoverFault.Unfit number)
-        → IsUnfit A.effect_of (written_now S.moment S.written_at journal.old.store) number }
+    ensures unfit { S.keeps_word journal.old.store → (number : ℕ) → result ≡ Err (RecoverFault.Unfit number)
+        → IsUnfit A.takes state.old (written_now S.moment S.written_at journal.old.store) number }
     ensures foreign { S.keeps_word journal.old.store → result ≡ Err RecoverFault.Foreign → IsForeign (written_now S.moment S.written_at journal.old.store) }
 {
     // What is read may be nowhere but in memory.

@@ -4,6 +4,7 @@ ghost use Rattle.journal_lines.specs.Objects.{IsBatch, listed};
 ghost use Rattle.journal_lines.specs.Lines.{head};
 ghost use Rattle.journal_lines.specs.Journal.{IsDamaged};
 ghost use Rattle.journal_lines.specs.Reading.{Reads};
+ghost use Rattle.journal_session.specs.Trace.{Replays};
 ghost use Rattle.journal_session.specs.Session.{commands_of};
 ghost use Rattle.journal_session.specs.Recovery.{HasUnchanged, IsUnfit};
 
@@ -20,11 +21,11 @@ fn apply_batch<A: Applies>(
     body: &[u8],
     number: u64,
 ) -> Result<(), RecoverFault>
-    ensures applied { (commands entries : List (List ℕ)) → IsBatch commands → body.now ≡ listed commands → A.is_after state.old entries
-        → OnOk result (A.is_after state.new (entries ++ commands)) }
+    ensures applied { OnOk result ((commands : List (List ℕ)) × Replays A.takes commands state.old state.new
+        × ((those : List (List ℕ)) → IsBatch those → body.now ≡ listed those → commands ≡ those)) }
     ensures undamaged { (other : ℕ) → result ≡ Err (RecoverFault.Damaged other) → ⊥ }
-    ensures unfit { (commands entries : List (List ℕ)) → IsBatch commands → body.now ≡ listed commands → A.is_after state.old entries
-        → (other : ℕ) → result ≡ Err (RecoverFault.Unfit other) → (other ≡ number) × HasUnchanged A.effect_of entries commands }
+    ensures unfit { (commands : List (List ℕ)) → IsBatch commands → body.now ≡ listed commands
+        → (other : ℕ) → result ≡ Err (RecoverFault.Unfit other) → (other ≡ number) × HasUnchanged A.takes state.old [] commands }
     ensures no_other { result ≡ Err RecoverFault.Foreign → ⊥ }
 {
     let mut reply = Vec::new(alloc);
@@ -53,14 +54,14 @@ fn replay_line<A: Applies>(
     requires one_line { All (λ b. b ≡ 10 → ⊥) line.now }
     requires room { reading.old.end + length line.now < 2 ^ 63 }
     ensures within { OnOk result (reading.new.end ≤ reading.old.end + length line.now + 1) }
-    ensures reads { (text : List ℕ) (batches : List (List (List ℕ))) → Reads reading.old text batches
-        → OnOk result ((next : List (List (List ℕ))) × Reads reading.new (text ++ line.now ++ 10 ∷ []) next
-        × (A.is_after state.old (commands_of batches) → A.is_after state.new (commands_of next))) }
+    ensures reads { OnOk result ((commands : List (List ℕ)) × Replays A.takes commands state.old state.new
+        × ((text : List ℕ) (batches : List (List (List ℕ))) → Reads reading.old text batches
+        → (next : List (List (List ℕ))) × Reads reading.new (text ++ line.now ++ 10 ∷ []) next × (commands_of next ≡ commands_of batches ++ commands))) }
     ensures damaged { (number : ℕ) → result ≡ Err (RecoverFault.Damaged number) → (text more : List ℕ) (batches : List (List (List ℕ)))
         → Reads reading.old text batches → IsDamaged (head ++ (text ++ line.now ++ 10 ∷ more)) number }
     ensures unfit { (number : ℕ) → result ≡ Err (RecoverFault.Unfit number) → (text more : List ℕ) (batches : List (List (List ℕ)))
-        → Reads reading.old text batches → A.is_after state.old (commands_of batches)
-        → IsUnfit A.effect_of (head ++ (text ++ line.now ++ 10 ∷ more)) number }
+        → Reads reading.old text batches → (first : A) → Replays A.takes (commands_of batches) first state.old
+        → IsUnfit A.takes first (head ++ (text ++ line.now ++ 10 ∷ more)) number }
     ensures no_other { result ≡ Err RecoverFault.Foreign → ⊥ }
 {
     match reading.take(alloc, line) {
@@ -85,15 +86,15 @@ pub fn replay_piece<A: Applies>(
     requires { reading.old.end + length pending.old.text.items + length piece.now < 2 ^ 63 }
     ensures within { OnOk result (reading.new.end + length pending.new.text.items
         ≤ reading.old.end + length pending.old.text.items + length piece.now) }
-    ensures reads { (text : List ℕ) (batches : List (List (List ℕ))) → Reads reading.old text batches
-        → OnOk result ((read : List ℕ) × (next : List (List (List ℕ)))
-        × (text ++ (pending.old.text.items ++ piece.now) ≡ read ++ pending.new.text.items) × Reads reading.new read next
-        × (A.is_after state.old (commands_of batches) → A.is_after state.new (commands_of next))) }
+    ensures reads { OnOk result ((commands : List (List ℕ)) × Replays A.takes commands state.old state.new
+        × ((text : List ℕ) (batches : List (List (List ℕ))) → Reads reading.old text batches
+        → (read : List ℕ) × (next : List (List (List ℕ))) × (text ++ (pending.old.text.items ++ piece.now) ≡ read ++ pending.new.text.items)
+        × Reads reading.new read next × (commands_of next ≡ commands_of batches ++ commands))) }
     ensures damaged { (number : ℕ) → result ≡ Err (RecoverFault.Damaged number) → (text more : List ℕ) (batches : List (List (List ℕ)))
         → Reads reading.old text batches → IsDamaged (head ++ (text ++ (pending.old.text.items ++ piece.now ++ more))) number }
     ensures unfit { (number : ℕ) → result ≡ Err (RecoverFault.Unfit number) → (text more : List ℕ) (batches : List (List (List ℕ)))
-        → Reads reading.old text batches → A.is_after state.old (commands_of batches)
-        → IsUnfit A.effect_of (head ++ (text ++ (pending.old.text.items ++ piece.now ++ more))) number }
+        → Reads reading.old text batches → (first : A) → Replays A.takes (commands_of batches) first state.old
+        → IsUnfit A.takes first (head ++ (text ++ (pending.old.text.items ++ piece.now ++ more))) number }
     ensures no_other { result ≡ Err RecoverFault.Foreign → ⊥ }
 {
     let mut rest = piece;

@@ -1,13 +1,11 @@
 //! A journal that is recovered and then served.
-ghost use Rattle.std.specs.Prelude.{◌≡◌, ◌≤◌, ℕ, List, [], ◌∷◌, ◌++◌, length, take, Some, Err, OnOk};
-ghost use Rattle.std.specs.Io.KnownBytes.{Appends, Keeps};
+ghost use Rattle.std.specs.Prelude.{◌≡◌, ◌⊎◌, ◌≤◌, ℕ, List, [], ◌++◌, take, IfSome, Err, OnOk};
+ghost use Rattle.std.specs.Io.KnownBytes.{Keeps};
 ghost use Rattle.journal_lines.specs.Journal.{RecoversTo, HasNoForged, IsDamaged};
 ghost use Rattle.journal_store.specs.Store.{written_now, MayLeave};
 ghost use Rattle.journal_session.specs.declared.resuming.ResumeFault.TheVariants.{Unrecovered, Unserved};
-ghost use Rattle.journal_session.specs.declared.applies.Applied.{Applied as Effect};
-ghost use Rattle.journal_session.specs.Commands.{changing, replies_of};
-ghost use Rattle.journal_session.specs.Turn.{lines_taken};
-ghost use Rattle.journal_session.specs.Session.{GrowsWithin, RecoversBeyond};
+ghost use Rattle.journal_session.specs.Trace.{Exchange, changes_in, Replays};
+ghost use Rattle.journal_session.specs.Session.{HasServed, IsServed, RecoversBeyond};
 ghost use Rattle.journal_session.specs.Resume.{HasAtLeast, HasResumed};
 
 use crate::applies::Applies;
@@ -45,10 +43,10 @@ impl From<ServeFault> for ResumeFault {
     }
 }
 
-/// What the first of these lines changed, so many of them, is never lost where more of them are safe.
+/// What the first of these exchanges changed, so many of them, is never lost where more of them are safe.
 pub fn safe_lines_stay()
-    ensures { (effect_of : List (List ℕ) → List ℕ → Effect) (found lines : List (List ℕ)) (safe : ℕ) (content : List ℕ)
-        → RecoversBeyond effect_of found lines safe content → HasAtLeast (found ++ changing effect_of found (take safe lines)) content }
+    ensures { (found : List (List ℕ)) (trace : List Exchange) (safe : ℕ) (content : List ℕ)
+        → RecoversBeyond found trace safe content → HasAtLeast (found ++ changes_in (take safe trace)) content }
 {}
 
 /// Recovers a journal, and serves each line of the input to its end.
@@ -59,20 +57,21 @@ pub fn resume<S: Store, A: Applies, R: Read, W: Write>(
     reader: &mut R,
     writer: &mut W,
 ) -> Result<(), ResumeFault>
-    // What is written is the reply to each line in turn, once what was found has changed the state.
-    ensures written { S.keeps_word journal.old.store → (found : List (List ℕ)) (input : List ℕ)
-        → RecoversTo (written_now S.moment S.written_at journal.old.store) found → A.is_after state.old [] → R.remaining reader.old ≡ Some input
-        → GrowsWithin (W.contents writer.old) (W.contents writer.new) (replies_of A.effect_of A.reply_to found (lines_taken input)) }
-    ensures whole { S.keeps_word journal.old.store → (found : List (List ℕ)) (input : List ℕ)
-        → RecoversTo (written_now S.moment S.written_at journal.old.store) found → A.is_after state.old [] → R.remaining reader.old ≡ Some input
-        → OnOk result (Appends (W.contents writer.old) (W.contents writer.new) (replies_of A.effect_of A.reply_to found (lines_taken input))) }
-    // However the call ends, what a crash leaves has what was found and what each line changed to which something was replied.
-    ensures safe { S.keeps_word journal.old.store → (found : List (List ℕ)) (input : List ℕ)
-        → RecoversTo (written_now S.moment S.written_at journal.old.store) found → A.is_after state.old [] → R.remaining reader.old ≡ Some input
-        → (count : ℕ) × HasResumed S.moment S.written_at S.left_at A.effect_of A.reply_to found (lines_taken input)
-        (W.contents writer.old) (W.contents writer.new) journal.old.store journal.new.store count }
+    // Whatever the store gives, nothing is written before commands that changed something were replayed, those that the store has if it keeps its word. Then the
+    // reply to each line is written in turn. However the call ends, what a crash leaves has what was found and what each line changed to which something was
+    // replied.
+    ensures resumed { (input : List ℕ) × IfSome (R.remaining reader.old) (λ bytes. input ≡ bytes) × (trace : List Exchange)
+        × (((fault : RecoverFault) × (result ≡ Err (Unrecovered fault)) × (trace ≡ []) × Keeps (W.contents writer.old) (W.contents writer.new))
+        ⊎ ((commands : List (List ℕ)) × (reached : A) × (end : A) × Replays A.takes commands state.old reached
+        × (S.keeps_word journal.old.store → RecoversTo (written_now S.moment S.written_at journal.old.store) commands)
+        × HasServed A.takes input (W.contents writer.old) (W.contents writer.new) reached end trace
+        × OnOk result (IsServed input (W.contents writer.old) (W.contents writer.new) trace)
+        × ((result ≡ Err (Unserved ServeFault.NoMemory) → ⊥) → state.new ≡ end)))
+        × (S.keeps_word journal.old.store → (found : List (List ℕ)) → RecoversTo (written_now S.moment S.written_at journal.old.store) found
+        → (count : ℕ) × HasResumed S.moment S.written_at S.left_at found trace
+        (W.contents writer.old) (W.contents writer.new) journal.old.store journal.new.store count) }
     // What earlier runs have told is never lost: if what is read has it, and each content that a crash may leave before the call, so has each at any moment of it.
-    ensures never_lost { S.keeps_word journal.old.store → (told : List (List ℕ)) (input : List ℕ) → A.is_after state.old [] → R.remaining reader.old ≡ Some input
+    ensures never_lost { S.keeps_word journal.old.store → (told : List (List ℕ))
         → HasAtLeast told (written_now S.moment S.written_at journal.old.store) → ((content : List ℕ) → MayLeave S.moment S.left_at journal.old.store content → HasAtLeast told content)
         → (n : ℕ) (content : List ℕ) → S.moment journal.old.store ≤ n → n ≤ S.moment journal.new.store → S.left_at journal.new.store n content
         → HasNoForged (S.written_at journal.new.store n) content → HasAtLeast told content }

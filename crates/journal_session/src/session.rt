@@ -1,14 +1,13 @@
 //! The loop over what comes.
-ghost use Rattle.std.specs.Prelude.{◌≡◌, ◌⊎◌, ◌≤◌, ◌<◌, ℕ, List, [], length, take, Some, All, IfOk, IfSome, IfNone, OnOk};
+ghost use Rattle.std.specs.Prelude.{◌≡◌, ◌⊎◌, ◌≤◌, ◌<◌, ℕ, List, [], length, take, Err, All, IfOk, IfSome, IfNone, OnOk};
 ghost use Rattle.std.specs.Io.KnownBytes.{Appends, Keeps, Consumes, IsAtEnd};
 ghost use Rattle.journal_lines.specs.Objects.{IsObject, behind_commas};
 ghost use Rattle.journal_lines.specs.Journal.{journal_of};
 ghost use Rattle.journal_store.specs.Store.{Passes};
 ghost use Rattle.journal.specs.Moments.{RecoversToGrown, grown};
 ghost use Rattle.journal.specs.Journal.{IsOnDisk};
-ghost use Rattle.journal_session.specs.Commands.{replies_of};
-ghost use Rattle.journal_session.specs.Turn.{lines_taken};
-ghost use Rattle.journal_session.specs.Session.{commands_of, GrowsWithin, AreSafe};
+ghost use Rattle.journal_session.specs.Trace.{Exchange};
+ghost use Rattle.journal_session.specs.Session.{commands_of, GrowsWithin, HasServed, IsServed, AreSafe};
 
 use crate::applies::Applies;
 use crate::fault::ServeFault;
@@ -86,17 +85,14 @@ pub fn serve<S: Store, A: Applies, R: Read, W: Write>(
     reader: &mut R,
     writer: &mut W,
 ) -> Result<(), ServeFault>
-    // What is written is the reply to each line in turn, however the lines came in pieces.
-    ensures written { (entries : List (List ℕ)) (input : List ℕ) → A.is_after state.old entries → R.remaining reader.old ≡ Some input
-        → GrowsWithin (W.contents writer.old) (W.contents writer.new) (replies_of A.effect_of A.reply_to entries (lines_taken input)) }
-    ensures whole { (entries : List (List ℕ)) (input : List ℕ) → A.is_after state.old entries → R.remaining reader.old ≡ Some input
-        → OnOk result (Appends (W.contents writer.old) (W.contents writer.new) (replies_of A.effect_of A.reply_to entries (lines_taken input))) }
-    // However the call ends, what a crash leaves has what each line changed to which something was replied.
-    ensures safe { (entries : List (List ℕ)) (input : List ℕ) → A.is_after state.old entries → R.remaining reader.old ≡ Some input
-        → (batches : List (List (List ℕ))) → S.keeps_word journal.old.store → IsOnDisk S.moment S.written_at S.left_at journal.old batches
-        → commands_of batches ≡ entries
-        → (count : ℕ) × AreSafe S.moment S.written_at S.left_at A.effect_of A.reply_to entries (lines_taken input)
-        (W.contents writer.old) (W.contents writer.new) journal.old.store journal.new.store count }
+    // What is written is the reply to each line in turn. However the call ends, what a crash leaves has what each line changed to which something was replied.
+    ensures { (input : List ℕ) × IfSome (R.remaining reader.old) (λ bytes. input ≡ bytes) × (trace : List Exchange) × (end : A)
+        × HasServed A.takes input (W.contents writer.old) (W.contents writer.new) state.old end trace
+        × OnOk result (IsServed input (W.contents writer.old) (W.contents writer.new) trace)
+        × ((result ≡ Err ServeFault.NoMemory → ⊥) → state.new ≡ end)
+        × ((batches : List (List (List ℕ))) → S.keeps_word journal.old.store → IsOnDisk S.moment S.written_at S.left_at journal.old batches
+        → (count : ℕ) × AreSafe S.moment S.written_at S.left_at (commands_of batches) trace
+        (W.contents writer.old) (W.contents writer.new) journal.old.store journal.new.store count) }
 {
     let mut piece = Vec::new(alloc);
     let mut pending = Pending::new(alloc);
@@ -123,10 +119,10 @@ pub fn serve_unkept<A: Applies, R: Read, W: Write>(
     reader: &mut R,
     writer: &mut W,
 ) -> Result<(), ServeFault>
-    ensures written { (entries : List (List ℕ)) (input : List ℕ) → A.is_after state.old entries → R.remaining reader.old ≡ Some input
-        → GrowsWithin (W.contents writer.old) (W.contents writer.new) (replies_of A.effect_of A.reply_to entries (lines_taken input)) }
-    ensures whole { (entries : List (List ℕ)) (input : List ℕ) → A.is_after state.old entries → R.remaining reader.old ≡ Some input
-        → OnOk result (Appends (W.contents writer.old) (W.contents writer.new) (replies_of A.effect_of A.reply_to entries (lines_taken input))) }
+    ensures { (input : List ℕ) × IfSome (R.remaining reader.old) (λ bytes. input ≡ bytes) × (trace : List Exchange) × (end : A)
+        × HasServed A.takes input (W.contents writer.old) (W.contents writer.new) state.old end trace
+        × OnOk result (IsServed input (W.contents writer.old) (W.contents writer.new) trace)
+        × ((result ≡ Err ServeFault.NoMemory → ⊥) → state.new ≡ end) }
 {
     let mut piece = Vec::new(alloc);
     let mut pending = Pending::new(alloc);

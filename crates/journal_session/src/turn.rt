@@ -1,7 +1,7 @@
 //! What one read brought, applied.
 ghost use Rattle.std.specs.Prelude.{◌≡◌, ℕ, List, [], ◌∷◌, ◌++◌, OnOk};
 ghost use Rattle.journal_session.specs.Pieces.{IsOneLine};
-ghost use Rattle.journal_session.specs.Commands.{entries_behind, changing};
+ghost use Rattle.journal_session.specs.Trace.{Exchange, lines_in, LeadsTo};
 ghost use Rattle.journal_session.specs.Turn.{kept_line, lines_taken, Took, TookText};
 
 use crate::applies::{Applied, Applies};
@@ -46,10 +46,7 @@ impl Turn {
         state: &mut A,
         line: &[u8],
     ) -> Result<(), AllocError>
-        ensures state { (entries : List (List ℕ)) → A.is_after state.old entries
-            → OnOk result (A.is_after state.new (entries_behind entries line.now (A.effect_of entries line.now))) }
-        ensures took { (entries : List (List ℕ)) → A.is_after state.old entries
-            → OnOk result (Took A.effect_of A.reply_to entries (line.now ∷ []) self.old self.new) }
+        ensures { OnOk result ((one : Exchange) × (one.line ≡ line.now) × A.takes state.old one state.new × Took (one ∷ []) self.old self.new) }
     {
         let applied = state.apply(alloc, line, &mut self.replies)?;
         self.replies.push(b'\n')?;
@@ -71,9 +68,9 @@ impl Turn {
         pending: &mut Pending,
         piece: &[u8],
     ) -> Result<(), AllocError>
-        ensures { (entries : List (List ℕ)) (raw : List ℕ) → A.is_after state.old entries → IsOneLine raw → pending.old.text.items ≡ kept_line raw
-            → OnOk result ((lines : List (List ℕ)) × (open_line : List ℕ)
-            × TookText A.is_after A.effect_of A.reply_to entries (raw ++ piece.now) lines open_line pending.new state.new self.old self.new) }
+        ensures { (raw : List ℕ) → IsOneLine raw → pending.old.text.items ≡ kept_line raw
+            → OnOk result ((lines : List (List ℕ)) × (open_line : List ℕ) × (trace : List Exchange)
+            × TookText A.takes (raw ++ piece.now) lines open_line trace pending.new state.old state.new self.old self.new) }
     {
         let mut rest = piece;
         while let Some(used) = pending.take(rest, LONGEST)? {
@@ -91,10 +88,9 @@ impl Turn {
         state: &mut A,
         pending: &Pending,
     ) -> Result<(), AllocError>
-        ensures state { (entries : List (List ℕ)) (raw : List ℕ) → A.is_after state.old entries → IsOneLine raw → pending.now.text.items ≡ kept_line raw
-            → OnOk result (A.is_after state.new (entries ++ changing A.effect_of entries (lines_taken raw))) }
-        ensures took { (entries : List (List ℕ)) (raw : List ℕ) → A.is_after state.old entries → IsOneLine raw → pending.now.text.items ≡ kept_line raw
-            → OnOk result (Took A.effect_of A.reply_to entries (lines_taken raw) self.old self.new) }
+        ensures { (raw : List ℕ) → IsOneLine raw → pending.now.text.items ≡ kept_line raw
+            → OnOk result ((trace : List Exchange) × (lines_in trace ≡ lines_taken raw) × LeadsTo A.takes state.old trace state.new
+            × Took trace self.old self.new) }
     {
         let text = pending.text.as_slice();
         if text.is_empty() {

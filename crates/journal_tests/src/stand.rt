@@ -1,6 +1,7 @@
 //! What the tests stand on.
-ghost use Rattle.std.specs.Prelude.{[]};
-ghost use Rattle.journal_session.specs.declared.applies.Applied.TheVariants.{Unchanged};
+ghost use Rattle.std.specs.Prelude.{◌≡◌, List, [], ◌∷◌, ◌++◌, map};
+ghost use Rattle.journal_session.specs.declared.applies.Applied.TheVariants.{Changed, Unchanged};
+ghost use Rattle.journal_tests.specs.Notes.{IsNoted, no, yes};
 
 use journal::Journal;
 use journal_lines::is_object;
@@ -16,11 +17,9 @@ pub struct Notes {
 }
 
 impl Applies for Notes {
-    ghost is_after = { λ _ _. ⊥ };
-
-    ghost effect_of = { λ _ _. Unchanged };
-
-    ghost reply_to = { λ _ _. [] };
+    ghost takes = { λ old x new. (x.effect ≡ Changed → IsNoted x.line × (x.reply ≡ yes)
+        × (map (λ kept. kept.items) new.lines.items ≡ map (λ kept. kept.items) old.lines.items ++ x.line ∷ []))
+        × (x.effect ≡ Unchanged → (IsNoted x.line → ⊥) × (x.reply ≡ no) × (new ≡ old)) };
 
     fn apply(
         &mut self,

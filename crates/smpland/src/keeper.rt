@@ -4,7 +4,7 @@ use journal_session::{Applied, Applies};
 use sm_session::{LineEffect, Session};
 use std::alloc::{AllocError, Global};
 
-/// A session whose lines a journal keeps. Nothing is claimed of its state here: `Session::apply` says what a line changes.
+/// A session whose lines a journal keeps.
 pub struct Keeper {
     pub session: Session,
 }
@@ -25,14 +25,12 @@ impl Keeper {
 }
 
 impl Applies for Keeper {
-    ghost use Rattle.std.specs.Prelude.{[]};
+    ghost use Rattle.std.specs.Prelude.{◌≡◌};
     ghost use Rattle.journal_session.specs.declared.applies.Applied.TheVariants as effect;
+    ghost use Rattle.sm_session.specs.Changes.{SessionChanges};
 
-    ghost is_after = { λ _ _. ⊥ };
-
-    ghost effect_of = { λ _ _. effect.Unchanged };
-
-    ghost reply_to = { λ _ _. [] };
+    ghost takes = { λ old x new. (x.effect ≡ effect.Changed → SessionChanges old.session new.session)
+        × (x.effect ≡ effect.Unchanged → new.session ≡ old.session) };
 
     fn apply(
         &mut self,

@@ -1,4 +1,4 @@
-use Rattle.std.proofs.Common.{length, sym, ◌∙◌, ap, arith}
+use Rattle.std.proofs.Common.{length, sym, ◌∙◌, arith}
 use Rattle.std.proofs.lemmas.Bool.{eqb-true}
 use Rattle.journal_session.proofs.StoreSteps.{read_none, read_more_reads}
 use Rattle.journal_session.proofs.Fronts.{next_same, front_more, front_all, front_long, front_begins}

@@ -1,48 +1,51 @@
-use Rattle.std.proofs.Common.{◌≡◌, ◌++◌, [], ◌∷◌, ◌+◌, ◌-◌, ◌<◌, length, take, drop, sym, ◌∙◌, subst, arith}
+use Rattle.std.proofs.Common.{◌≡◌, ◌++◌, [], ◌∷◌, ◌+◌, ◌-◌, ◌<◌, length, take, drop, refl, sym, ◌∙◌, arith}
 use Rattle.std.proofs.lemmas.List.{length-take}
-use Rattle.journal_session.specs.declared.applies.Applied.{Applied}
-use Rattle.journal_session.specs.Commands.{entries_behind}
-use Rattle.journal_session.proofs.Replays.{batch_begins, begins_more, applied_more, applied_last, left_more, has_unchanged, batch_has_object}
+use Rattle.journal_session.proofs.Turns.{replays_none}
+use Rattle.journal_session.proofs.Replays.{batch_begins, begins_more, applied_last, left_more, replays_more, has_unchanged, batch_has_object}
 use Rattle.journal_session.proofs.replay.apply_batch.Goals as goal
 
+pub loop-length-init : goal.loop-length-init
+loop-length-init g c = (omega arith, [], replays_none g.A.Applies.takes _, λ commands batch is. (commands, batch, refl, is))
+
 pub returns-then-length-rest-clause-applied : goal.returns-then-length-rest-clause-applied
-returns-then-length-rest-clause-applied g c commands entries batch is after =
-    let so_far = c.loop-length.invariant.1 commands entries batch is after in
-    let begins = batch_begins c.loop-length.rest.now c.in-Some.length so_far.1 (sym c.in-Some.ensures.value) so_far.2 so_far.4 in
-    let whole : c.in-Some.length ≡ length c.loop-length.rest.now = omega arith in
-    subst (g.A.Applies.is_after c.apply.new.self) (applied_last entries so_far.0 commands c.loop-length.rest.now c.in-Some.length so_far.1 begins so_far.3 whole)
-    (subst (λ (a : Applied). g.A.Applies.is_after c.apply.new.self (entries_behind (entries ++ so_far.0) (take c.in-Some.length c.loop-length.rest.now) a))
-    (sym (c.in_ok-apply.ensures.effect (entries ++ so_far.0) so_far.5) ∙ c.in-Changed.is) (c.in_ok-apply.ensures.state (entries ++ so_far.0) so_far.5))
+returns-then-length-rest-clause-applied g c =
+    let so_far = c.loop-length.invariant in
+    let step = c.in_ok-apply.ensures.takes in (
+      so_far.1 ++ take c.in-Some.length c.loop-length.rest.now ∷ [],
+      replays_more g.A.Applies.takes _ _ _ so_far.1 (take c.in-Some.length c.loop-length.rest.now) step.0 _ so_far.2 step.2 c.in-Changed.is,
+      λ commands batch is.
+          let at = so_far.3 commands batch is in
+          let begins = batch_begins c.loop-length.rest.now c.in-Some.length at.0 (sym c.in-Some.ensures.value) at.1 at.3 in
+          let whole : c.in-Some.length ≡ length c.loop-length.rest.now = omega arith in
+          applied_last so_far.1 commands c.loop-length.rest.now c.in-Some.length at.0 begins at.2 whole,
+    )
 
 pub loop-length-preserved : goal.loop-length-preserved
-loop-length-preserved g c = (
-  omega (arith, c.loop-length.invariant.0, length-take (length c.loop-length.rest.now - (c.in-Some.length + 1)) (drop (c.in-Some.length + 1) c.loop-length.rest.now)),
-  λ commands entries batch is after.
-      let so_far = c.loop-length.invariant.1 commands entries batch is after in
-      let begins = batch_begins c.loop-length.rest.now c.in-Some.length so_far.1 (sym c.in-Some.ensures.value) so_far.2 so_far.4 in
-      let within : c.in-Some.length < length c.loop-length.rest.now = omega (arith, c.in-Some.ensures.within) in
-      let more = begins_more c.loop-length.rest.now c.in-Some.length so_far.1 begins within in (
-        so_far.0 ++ begins.first ∷ [],
-        begins.others,
-        more.0,
-        left_more so_far.0 commands c.loop-length.rest.now c.in-Some.length so_far.1 begins so_far.3,
-        more.1,
-        subst (g.A.Applies.is_after c.apply.new.self) (applied_more entries so_far.0 c.loop-length.rest.now c.in-Some.length so_far.1 begins)
-            (subst (λ (a : Applied). g.A.Applies.is_after c.apply.new.self (entries_behind (entries ++ so_far.0) (take c.in-Some.length c.loop-length.rest.now) a))
-            (sym (c.in_ok-apply.ensures.effect (entries ++ so_far.0) so_far.5) ∙ c.in-Changed.is) (c.in_ok-apply.ensures.state (entries ++ so_far.0) so_far.5)),
-      ),
-)
+loop-length-preserved g c =
+    let so_far = c.loop-length.invariant in
+    let step = c.in_ok-apply.ensures.takes in (
+      omega (arith, so_far.0, length-take (length c.loop-length.rest.now - (c.in-Some.length + 1)) (drop (c.in-Some.length + 1) c.loop-length.rest.now)),
+      so_far.1 ++ take c.in-Some.length c.loop-length.rest.now ∷ [],
+      replays_more g.A.Applies.takes _ _ _ so_far.1 (take c.in-Some.length c.loop-length.rest.now) step.0 _ so_far.2 step.2 c.in-Changed.is,
+      λ commands batch is.
+          let at = so_far.3 commands batch is in
+          let begins = batch_begins c.loop-length.rest.now c.in-Some.length at.0 (sym c.in-Some.ensures.value) at.1 at.3 in
+          let within : c.in-Some.length < length c.loop-length.rest.now = omega (arith, c.in-Some.ensures.within) in
+          let more = begins_more c.loop-length.rest.now c.in-Some.length at.0 begins within in
+          (begins.others, more.0, left_more so_far.1 commands c.loop-length.rest.now c.in-Some.length at.0 begins at.2, more.1),
+    )
 
 pub returns-in-Unchanged-clause-unfit : goal.returns-in-Unchanged-clause-unfit
-returns-in-Unchanged-clause-unfit g c commands entries batch is after other told =
-    let so_far = c.loop-length.invariant.1 commands entries batch is after in
-    let begins = batch_begins c.loop-length.rest.now c.in-Some.length so_far.1 (sym c.in-Some.ensures.value) so_far.2 so_far.4 in (
+returns-in-Unchanged-clause-unfit g c commands batch is other told =
+    let so_far = c.loop-length.invariant in
+    let step = c.in_ok-apply.ensures.takes in
+    let at = so_far.3 commands batch is in
+    let begins = batch_begins c.loop-length.rest.now c.in-Some.length at.0 (sym c.in-Some.ensures.value) at.1 at.3 in (
       cc told,
-      has_unchanged g.A.Applies.effect_of entries so_far.0 commands c.loop-length.rest.now c.in-Some.length so_far.1 begins so_far.3
-          (sym (c.in_ok-apply.ensures.effect (entries ++ so_far.0) so_far.5) ∙ c.in-Unchanged.is),
+      has_unchanged g.A.Applies.takes _ _ _ so_far.1 commands c.loop-length.rest.now step.0 _ c.in-Some.length at.0 begins at.2 so_far.2 step.2 c.in-Unchanged.is,
     )
 
 pub returns-clause-unfit : goal.returns-clause-unfit
-returns-clause-unfit g c commands entries batch is after other told =
-    let so_far = c.loop-length.invariant.1 commands entries batch is after in
-    absurd (batch_has_object c.loop-length.rest.now so_far.1 so_far.2 so_far.4 (sym c.object_length.ensures.value ∙ c.in_default.is))
+returns-clause-unfit g c commands batch is other told =
+    let at = c.loop-length.invariant.3 commands batch is in
+    absurd (batch_has_object c.loop-length.rest.now at.0 at.1 at.3 (sym c.object_length.ensures.value ∙ c.in_default.is))

@@ -4,28 +4,31 @@ use Rattle.journal_session.proofs.Turns.{text_begins, text_line, text_open, text
 use Rattle.journal_session.proofs.turn.Turn.take_piece.Goals as goal
 
 pub loop-used-init : goal.loop-used-init
-loop-used-init g c entries raw after one_line is =
-    (raw, [], raw, refl, text_begins g.A.Applies.effect_of g.A.Applies.reply_to g.A.Applies.is_after entries raw c.args.pending.now c.args.state.now c.args.self.now after one_line is)
+loop-used-init g c raw one_line is =
+    (raw, [], raw, [], refl, text_begins g.A.Applies.takes raw c.args.pending.now c.args.state.now c.args.self.now one_line is)
 
 pub loop-used-preserved : goal.loop-used-preserved
-loop-used-preserved g c entries raw after one_line is =
-    let so_far = c.loop-used.invariant entries raw after one_line is in
+loop-used-preserved g c raw one_line is =
+    let so_far = c.loop-used.invariant raw one_line is in
     let found = rw c.in-Some.is at c.in_ok-used.ensures.ended in
-    let ends = found.1 in (
+    let ends = found.1 in
+    let one = c.in_ok-take_line.ensures in (
       so_far.0 ++ found.0 ++ 10 ∷ [],
       so_far.1 ++ (so_far.2 ++ found.0) ∷ [],
       [],
-      text_goes raw _ so_far.0 c.loop-used.rest.now found.0 c.in-Some.used so_far.3 ends,
-      text_line g.A.Applies.effect_of g.A.Applies.reply_to g.A.Applies.is_after entries so_far.0 c.loop-used.rest.now found.0 c.deref.result.now c.in-Some.used so_far.1 so_far.2 _ _ _ _ _ _ _
-          so_far.4 ends (c.deref.ensures.value ∙ found.2 so_far.2 so_far.4.held) (λ now at. c.in_ok-take_line.ensures.state now at) (λ now at. c.in_ok-take_line.ensures.took now at) c.clear.ensures,
+      so_far.3 ++ one.0 ∷ [],
+      text_goes raw _ so_far.0 c.loop-used.rest.now found.0 c.in-Some.used so_far.4 ends,
+      text_line g.A.Applies.takes so_far.0 c.loop-used.rest.now found.0 c.deref.result.now c.in-Some.used so_far.1 so_far.2 so_far.3 _ _ _ _ _ _ _ _
+          so_far.5 ends (c.deref.ensures.value ∙ found.2 so_far.2 so_far.5.held) one.0 one.1 one.2 one.3 c.clear.ensures,
     )
 
 pub returns : goal.returns
-returns g c entries raw after one_line is =
-    let so_far = c.loop-used.invariant entries raw after one_line is in
+returns g c raw one_line is =
+    let so_far = c.loop-used.invariant raw one_line is in
     let found = rw c.in_default.is at c.in_ok-used.ensures.unended in (
       so_far.1,
       so_far.2 ++ c.loop-used.rest.now,
-      text_same g.A.Applies.effect_of g.A.Applies.reply_to g.A.Applies.is_after entries (so_far.0 ++ c.loop-used.rest.now) _ so_far.1 (so_far.2 ++ c.loop-used.rest.now) _ _ _ _ so_far.3
-          (text_open g.A.Applies.effect_of g.A.Applies.reply_to g.A.Applies.is_after entries so_far.0 c.loop-used.rest.now so_far.1 so_far.2 _ _ _ _ _ so_far.4 found.0 (found.1 so_far.2 so_far.4.held)),
+      so_far.3,
+      text_same g.A.Applies.takes (so_far.0 ++ c.loop-used.rest.now) _ so_far.1 (so_far.2 ++ c.loop-used.rest.now) so_far.3 _ _ _ _ _ so_far.4
+          (text_open g.A.Applies.takes so_far.0 c.loop-used.rest.now so_far.1 so_far.2 so_far.3 _ _ _ _ _ _ so_far.5 found.0 (found.1 so_far.2 so_far.5.held)),
     )

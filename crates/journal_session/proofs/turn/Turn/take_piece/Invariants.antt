@@ -1,12 +1,13 @@
 use Rattle.std.proofs.Common.{◌≡◌, ℕ, List, ◌++◌, length}
 use Rattle.journal_session.specs.Pieces.{IsOneLine}
+use Rattle.journal_session.specs.Trace.{Exchange}
 use Rattle.journal_session.specs.Turn.{kept_line, TookText}
 use Rattle.journal_session.proofs.turn.Turn.take_piece.Given as goal
 
 abbrev pub invariant-loop-used : goal.invariant-loop-used
-invariant-loop-used g l = (entries : List (List ℕ)) (raw : List ℕ) → g.A.Applies.is_after l.initial.state entries → IsOneLine raw → l.initial.pending.text.items ≡ kept_line raw
-    → (text : List ℕ) × (lines : List (List ℕ)) × (open_line : List ℕ) × (raw ++ l.initial.rest ≡ text ++ l.rest)
-    × TookText g.A.Applies.is_after g.A.Applies.effect_of g.A.Applies.reply_to entries text lines open_line l.pending l.state l.initial.self l.self
+invariant-loop-used g l = (raw : List ℕ) → IsOneLine raw → l.initial.pending.text.items ≡ kept_line raw
+    → (text : List ℕ) × (lines : List (List ℕ)) × (open_line : List ℕ) × (trace : List Exchange) × (raw ++ l.initial.rest ≡ text ++ l.rest)
+    × TookText g.A.Applies.takes text lines open_line trace l.pending l.initial.state l.state l.initial.self l.self
 
 abbrev pub decreases-loop-used : goal.decreases-loop-used
 decreases-loop-used g l = length l.rest
