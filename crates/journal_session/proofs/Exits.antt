@@ -6,7 +6,7 @@ use Rattle.std.specs.Io.KnownBytes.{Appends, Consumes}
 use Rattle.journal.specs.declared.journal.Journal.{Journal}
 use Rattle.journal_session.specs.declared.pending.Pending.{Pending}
 use Rattle.journal_session.specs.declared.turn.Turn.{Turn}
-use Rattle.journal_session.specs.Trace.{Exchange, lines_in, replies_in, LeadsTo}
+use Rattle.journal_session.specs.Trace.{Exchange, lines_in, replies_in, LeadsThrough}
 use Rattle.journal_session.specs.Turn.{kept_line, lines_taken, Took, TookText}
 use Rattle.journal_session.specs.Session.{GrowsWithin, HasServed, IsServed, AreSafe, IsBetween, HasChanges}
 use Rattle.journal_session.proofs.Lines.{splits_join}
@@ -65,11 +65,12 @@ module _ {A : Type 0} (takes : A → Exchange → A → Type 0) (text : List ℕ
       )
 
   -- the last turn
-  module _ (behind : List Exchange) (state' : A) (after : Option (List ℕ)) (took : Turn) (are : lines_in behind ≡ lines_taken open_line) (leads : LeadsTo takes state behind state')
+  module _ (behind : List Exchange) (state' : A) (after : Option (List ℕ)) (took : Turn) (are : lines_in behind ≡ lines_taken open_line) (leads : LeadsThrough takes state behind state')
       (lines' : Took behind turn took) where
     all_lines : lines_taken text ≡ lines_in (trace ++ behind)
     all_lines = all_at_end text lines open_line now.splits ∙ sym (lines_both trace behind (map kept_line lines) (lines_taken open_line) now.are are)
 
+    -- what was written is of the replies to all the exchanges
     pub end_served : GrowsWithin mid after took.replies.items → HasServed takes text before after first state' (trace ++ behind)
     end_served part = record {
       leads = leads_on takes first state state' trace behind now.leads leads;

@@ -14,7 +14,7 @@ use Rattle.journal_lines.proofs.ObjectTexts.{object_length-append}
 use Rattle.journal_session.specs.Pieces.{EndsLine}
 use Rattle.journal_session.specs.declared.applies.Applied.{Applied}
 use Rattle.journal_session.specs.declared.applies.Applied.TheVariants.{Changed, Unchanged}
-use Rattle.journal_session.specs.Trace.{Exchange, exchange, Replays}
+use Rattle.journal_session.specs.Trace.{Exchange, exchange, ReplaysCommands}
 use Rattle.journal_session.specs.Session.{commands_of}
 use Rattle.journal_session.specs.Recovery.{HasUnchanged, IsUnfit}
 use Rattle.journal_session.proofs.Turns.{replays_on, replays_one}
@@ -80,8 +80,8 @@ left_more done commands text n next b is =
     is ∙ ap (λ (l : List (List ℕ)). done ++ l) b.are ∙ sym (append_assoc done (b.first ∷ []) b.others) ∙ ap (λ (c : List ℕ). done ++ c ∷ [] ++ b.others) (sym b.front)
 
 -- one command more was replayed
-pub replays_more : {A : Type 0} (takes : A → Exchange → A → Type 0) (first old new : A) (done : List (List ℕ)) (command reply : List ℕ) (effect : Applied) → Replays takes done first old
-    → takes old (exchange command effect reply) new → effect ≡ Changed → Replays takes (done ++ command ∷ []) first new
+pub replays_more : {A : Type 0} (takes : A → Exchange → A → Type 0) (first old new : A) (done : List (List ℕ)) (command reply : List ℕ) (effect : Applied) → ReplaysCommands takes done first old
+    → takes old (exchange command effect reply) new → effect ≡ Changed → ReplaysCommands takes (done ++ command ∷ []) first new
 replays_more takes first old new done command reply effect so_far step is = replays_on takes first old new done (command ∷ []) so_far (replays_one takes old new command reply effect step is)
 
 -- a line that was taken whole
@@ -122,7 +122,7 @@ batch_has_object text (c ∷ cs) batch is none =
 
 -- a command that changed nothing
 pub has_unchanged : {A : Type 0} (takes : A → Exchange → A → Type 0) (first old new : A) (done commands : List (List ℕ)) (text reply : List ℕ) (effect : Applied) (n : ℕ) (next : List (List ℕ))
-    → Begins text n next → commands ≡ done ++ next → Replays takes done first old → takes old (exchange (take n text) effect reply) new → effect ≡ Unchanged → HasUnchanged takes first [] commands
+    → Begins text n next → commands ≡ done ++ next → ReplaysCommands takes done first old → takes old (exchange (take n text) effect reply) new → effect ≡ Unchanged → HasUnchanged takes first [] commands
 has_unchanged takes first old new done commands text reply effect n next b is so_far step same = record {
   front = done;
   command = take n text;
@@ -136,7 +136,7 @@ has_unchanged takes first old new done commands text reply effect n next b is so
 }
 
 -- such a command behind others
-pub unchanged_behind : {A : Type 0} (takes : A → Exchange → A → Type 0) (first mid : A) (entries commands : List (List ℕ)) → Replays takes entries first mid → HasUnchanged takes mid [] commands
+pub unchanged_behind : {A : Type 0} (takes : A → Exchange → A → Type 0) (first mid : A) (entries commands : List (List ℕ)) → ReplaysCommands takes entries first mid → HasUnchanged takes mid [] commands
     → HasUnchanged takes first entries commands
 unchanged_behind takes first mid entries commands so_far one = record {
   front = one.front;

@@ -9,7 +9,7 @@ use Rattle.journal_session.specs.declared.applies.Applied.TheVariants.{Changed, 
 use Rattle.journal_session.specs.declared.pending.Pending.{Pending}
 use Rattle.journal_session.specs.declared.turn.Turn.{Turn}
 use Rattle.journal_session.specs.Pieces.{IsOneLine, EndsLine}
-use Rattle.journal_session.specs.Trace.{Exchange, exchange, lines_in, changed_first, changes_in, replies_in, LeadsTo, Replays, IsDetermined}
+use Rattle.journal_session.specs.Trace.{Exchange, exchange, lines_in, changed_first, changes_in, replies_in, LeadsThrough, ReplaysCommands, IsDetermined}
 use Rattle.journal_session.specs.Turn.{kept_line, Took, TookText}
 use Rattle.journal_session.proofs.Lines.{splits_begin, splits_line, splits_open}
 
@@ -37,20 +37,20 @@ commas-append (x ∷ a) b = ap (λ (l : List ℕ). 44 ∷ (x ++ l)) (commas-appe
 
 module _ {A : Type 0} (takes : A → Exchange → A → Type 0) where
   -- exchanges that lead on
-  pub leads_on : (old mid new : A) (a b : List Exchange) → LeadsTo takes old a mid → LeadsTo takes mid b new → LeadsTo takes old (a ++ b) new
-  leads_on old mid new [] b one two = subst (λ (s : A). LeadsTo takes s b new) one two
+  pub leads_on : (old mid new : A) (a b : List Exchange) → LeadsThrough takes old a mid → LeadsThrough takes mid b new → LeadsThrough takes old (a ++ b) new
+  leads_on old mid new [] b one two = subst (λ (s : A). LeadsThrough takes s b new) one two
   leads_on old mid new (x ∷ a) b (next, step, rest) two = (next, step, leads_on next mid new a b rest two)
 
   -- one exchange
-  pub leads_one : (old new : A) (x : Exchange) → takes old x new → LeadsTo takes old (x ∷ []) new
+  pub leads_one : (old new : A) (x : Exchange) → takes old x new → LeadsThrough takes old (x ∷ []) new
   leads_one old new x step = (new, step, refl)
 
   -- no command was replayed
-  pub replays_none : (state : A) → Replays takes [] state state
+  pub replays_none : (state : A) → ReplaysCommands takes [] state state
   replays_none state = record { trace = []; leads = refl; are = refl; each = All-nil (λ (x : Exchange). x.effect ≡ Changed) }
 
   -- commands behind commands
-  pub replays_on : (old mid new : A) (a b : List (List ℕ)) → Replays takes a old mid → Replays takes b mid new → Replays takes (a ++ b) old new
+  pub replays_on : (old mid new : A) (a b : List (List ℕ)) → ReplaysCommands takes a old mid → ReplaysCommands takes b mid new → ReplaysCommands takes (a ++ b) old new
   replays_on old mid new a b one two = record {
     trace = one.trace ++ two.trace;
     leads = leads_on old mid new one.trace two.trace one.leads two.leads;
@@ -59,7 +59,7 @@ module _ {A : Type 0} (takes : A → Exchange → A → Type 0) where
   }
 
   -- one command
-  pub replays_one : (old new : A) (command reply : List ℕ) (effect : Applied) → takes old (exchange command effect reply) new → effect ≡ Changed → Replays takes (command ∷ []) old new
+  pub replays_one : (old new : A) (command reply : List ℕ) (effect : Applied) → takes old (exchange command effect reply) new → effect ≡ Changed → ReplaysCommands takes (command ∷ []) old new
   replays_one old new command reply effect step is = record {
     trace = exchange command effect reply ∷ [];
     leads = (new, step, refl);
@@ -68,11 +68,11 @@ module _ {A : Type 0} (takes : A → Exchange → A → Type 0) where
   }
 
   -- the same commands
-  pub replays_same : (old new : A) (a b : List (List ℕ)) → a ≡ b → Replays takes a old new → Replays takes b old new
-  replays_same old new a b is one = subst (λ (l : List (List ℕ)). Replays takes l old new) is one
+  pub replays_same : (old new : A) (a b : List (List ℕ)) → a ≡ b → ReplaysCommands takes a old new → ReplaysCommands takes b old new
+  replays_same old new a b is one = subst (λ (l : List (List ℕ)). ReplaysCommands takes l old new) is one
 
   -- where a state and a line determine what comes, the lines determine the exchanges
-  pub lines_determine : IsDetermined takes → (old one other : A) (a b : List Exchange) (others : List (List ℕ)) → LeadsTo takes old a one → LeadsTo takes old b other
+  pub lines_determine : IsDetermined takes → (old one other : A) (a b : List Exchange) (others : List (List ℕ)) → LeadsThrough takes old a one → LeadsThrough takes old b other
       → lines_in b ≡ lines_in a ++ others → take (length a) b ≡ a
   lines_determine fixed old one other [] b others leads leads' are = refl
   lines_determine fixed old one other (x ∷ a) [] others leads leads' are = absurd (cc)
@@ -80,11 +80,11 @@ module _ {A : Type 0} (takes : A → Exchange → A → Type 0) where
       let line : y.line ≡ x.line = cc in
       let lines : lines_in b ≡ lines_in a ++ others = cc in
       let same = fixed old next next' x y step step' line in
-      let from_next = subst (λ (s : A). LeadsTo takes s b other) same.1 rest' in
+      let from_next = subst (λ (s : A). LeadsThrough takes s b other) same.1 rest' in
       ap (λ (z : Exchange). z ∷ take (length a) b) same.0 ∙ ap (λ (l : List Exchange). x ∷ l) (lines_determine fixed next one other a b others rest from_next lines)
 
   -- and the state to which they lead
-  pub lines_determine_all : IsDetermined takes → (old one other : A) (a b : List Exchange) → LeadsTo takes old a one → LeadsTo takes old b other → lines_in b ≡ lines_in a → (b ≡ a) × (other ≡ one)
+  pub lines_determine_all : IsDetermined takes → (old one other : A) (a b : List Exchange) → LeadsThrough takes old a one → LeadsThrough takes old b other → lines_in b ≡ lines_in a → (b ≡ a) × (other ≡ one)
   lines_determine_all fixed old one other [] [] leads leads' are = (refl, leads' ∙ sym leads)
   lines_determine_all fixed old one other [] (y ∷ b) leads leads' are = absurd (cc)
   lines_determine_all fixed old one other (x ∷ a) [] leads leads' are = absurd (cc)
@@ -92,7 +92,7 @@ module _ {A : Type 0} (takes : A → Exchange → A → Type 0) where
       let line : y.line ≡ x.line = cc in
       let lines : lines_in b ≡ lines_in a = cc in
       let same = fixed old next next' x y step step' line in
-      let from_next = subst (λ (s : A). LeadsTo takes s b other) same.1 rest' in
+      let from_next = subst (λ (s : A). LeadsThrough takes s b other) same.1 rest' in
       let behind = lines_determine_all fixed next one other a b rest from_next lines in
       (ap (λ (z : Exchange). z ∷ b) same.0 ∙ ap (λ (l : List Exchange). x ∷ l) behind.0, behind.1)
 

@@ -10,7 +10,7 @@ use Rattle.journal_store.specs.Store.{written_now, MayLeave, Passes}
 use Rattle.journal_session.specs.declared.applies.Applied.TheVariants.{Unchanged}
 use Rattle.journal_session.specs.declared.recovery.Beginning.{Beginning}
 use Rattle.journal_session.specs.declared.recovery.Beginning.TheVariants.{Head, Other, NotBegun}
-use Rattle.journal_session.specs.Trace.{Exchange, exchange, Replays}
+use Rattle.journal_session.specs.Trace.{Exchange, exchange, ReplaysCommands}
 use Rattle.journal_session.specs.Session.{commands_of}
 
 -- the content is this text, or both recover to the same commands
@@ -34,7 +34,7 @@ pub record HasUnchanged {A : Type 0} (takes : A → Exchange → A → Type 0) (
   pub others : List (List ℕ)
   pub are : commands ≡ front ++ command ∷ others
   pub reached : A
-  pub replayed : Replays takes (entries ++ front) first reached
+  pub replayed : ReplaysCommands takes (entries ++ front) first reached
   pub reply : List ℕ
   pub next : A
   pub unchanged : takes reached (exchange command Unchanged reply) next

@@ -9,7 +9,7 @@ use Rattle.journal.specs.Journal.{IsOnDisk}
 use Rattle.journal_session.specs.declared.pending.Pending.{Pending}
 use Rattle.journal_session.specs.declared.turn.Turn.{Turn}
 use Rattle.journal_session.specs.Pieces.{Splits}
-use Rattle.journal_session.specs.Trace.{Exchange, lines_in, changes_in, replies_in, LeadsTo}
+use Rattle.journal_session.specs.Trace.{Exchange, lines_in, changes_in, replies_in, LeadsThrough}
 use Rattle.journal_session.specs.Turn.{kept_line, lines_taken}
 
 -- the commands of these batches, in their order
@@ -23,7 +23,7 @@ GrowsWithin old new text = (n : ℕ) × Appends old new (take n text)
 -- An input was served as far as these exchanges: step by step they lead from one state to another, their lines are the first of the input's, and what was
 -- written is of their replies.
 pub record HasServed {A : Type 0} (takes : A → Exchange → A → Type 0) (input : List ℕ) (before after : Option (List ℕ)) (old new : A) (trace : List Exchange) : Type 0 where
-  pub leads : LeadsTo takes old trace new
+  pub leads : LeadsThrough takes old trace new
   pub others : List (List ℕ)
   pub are : lines_taken input ≡ lines_in trace ++ others
   pub told : GrowsWithin before after (replies_in trace)
@@ -60,7 +60,7 @@ pub record IsBetween {A : Type 0} (takes : A → Exchange → A → Type 0) (tex
   pub splits : Splits text lines open_line
   pub held : pending.text.items ≡ kept_line open_line
   pub are : lines_in trace ≡ map kept_line lines
-  pub leads : LeadsTo takes first trace state
+  pub leads : LeadsThrough takes first trace state
   pub told : Appends before after (replies_in trace)
   pub changed : turn.changed.items ≡ []
   pub replies : turn.replies.items ≡ []

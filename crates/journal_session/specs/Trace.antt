@@ -33,14 +33,14 @@ replies_in [] = []
 replies_in (x ∷ trace) = x.reply ++ 10 ∷ replies_in trace
 
 -- Step by step, these exchanges lead from one state to another.
-abbrev pub LeadsTo : {A : Type 0} → (A → Exchange → A → Type 0) → A → List Exchange → A → Type 0
-LeadsTo {A} takes old [] new = new ≡ old
-LeadsTo {A} takes old (x ∷ trace) new = (next : A) × takes old x next × LeadsTo takes next trace new
+abbrev pub LeadsThrough : {A : Type 0} → (A → Exchange → A → Type 0) → A → List Exchange → A → Type 0
+LeadsThrough {A} takes old [] new = new ≡ old
+LeadsThrough {A} takes old (x ∷ trace) new = (next : A) × takes old x next × LeadsThrough takes next trace new
 
 -- Commands were applied again, and each of them changed something.
-pub record Replays {A : Type 0} (takes : A → Exchange → A → Type 0) (commands : List (List ℕ)) (old new : A) : Type 0 where
+pub record ReplaysCommands {A : Type 0} (takes : A → Exchange → A → Type 0) (commands : List (List ℕ)) (old new : A) : Type 0 where
   pub trace : List Exchange
-  pub leads : LeadsTo takes old trace new
+  pub leads : LeadsThrough takes old trace new
   pub are : lines_in trace ≡ commands
   pub each : All (λ x. x.effect ≡ Changed) trace
 

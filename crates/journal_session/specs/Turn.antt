@@ -4,7 +4,7 @@ use Rattle.journal_lines.specs.Objects.{IsObject, behind_commas}
 use Rattle.journal_session.specs.declared.pending.Pending.{Pending}
 use Rattle.journal_session.specs.declared.turn.Turn.{Turn}
 use Rattle.journal_session.specs.Pieces.{Splits, lines_of}
-use Rattle.journal_session.specs.Trace.{Exchange, lines_in, changes_in, replies_in, LeadsTo}
+use Rattle.journal_session.specs.Trace.{Exchange, lines_in, changes_in, replies_in, LeadsThrough}
 
 -- a line as far as it is kept: its first 64 MiB, and one byte that tells that there are more
 abbrev pub kept_line : List ℕ → List ℕ
@@ -26,5 +26,5 @@ pub record TookText {A : Type 0} (takes : A → Exchange → A → Type 0) (text
   pub splits : Splits text lines open_line
   pub held : pending.text.items ≡ kept_line open_line
   pub are : lines_in trace ≡ map kept_line lines
-  pub leads : LeadsTo takes first trace state
+  pub leads : LeadsThrough takes first trace state
   pub took : Took trace old new

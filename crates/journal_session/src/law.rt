@@ -1,15 +1,15 @@
 //! What the lines alone determine.
 ghost use Rattle.std.specs.Prelude.{◌≡◌, ℕ, List, ◌++◌, length, take};
-ghost use Rattle.journal_session.specs.Trace.{Exchange, IsDetermined, LeadsTo, lines_in};
+ghost use Rattle.journal_session.specs.Trace.{Exchange, IsDetermined, LeadsThrough, lines_in};
 
 use crate::applies::Applies;
 
 /// If a state and a line determine what comes of it, the lines determine the exchanges, and the state to which they lead.
 /// So it makes no difference in which pieces they came, and how many of them shared one sync.
 pub fn lines_determine_exchanges<A: Applies>()
-    ensures all { IsDetermined A.takes → (old one other : A) (a b : List Exchange) → LeadsTo A.takes old a one → LeadsTo A.takes old b other
+    ensures all { IsDetermined A.takes → (old one other : A) (a b : List Exchange) → LeadsThrough A.takes old a one → LeadsThrough A.takes old b other
         → lines_in b ≡ lines_in a → (b ≡ a) × (other ≡ one) }
     // The first lines determine the first exchanges.
-    ensures first { IsDetermined A.takes → (old one other : A) (a b : List Exchange) (others : List (List ℕ)) → LeadsTo A.takes old a one → LeadsTo A.takes old b other
+    ensures first { IsDetermined A.takes → (old one other : A) (a b : List Exchange) (others : List (List ℕ)) → LeadsThrough A.takes old a one → LeadsThrough A.takes old b other
         → lines_in b ≡ lines_in a ++ others → take (length a) b ≡ a }
 {}

@@ -6,7 +6,7 @@ ghost use Rattle.journal_lines.specs.Reading.{Reads};
 ghost use Rattle.journal_store.specs.Store.{written_now, IsSynced};
 ghost use Rattle.journal.specs.Journal.{IsOnDisk};
 ghost use Rattle.journal_session.specs.Pieces.{IsOneLine};
-ghost use Rattle.journal_session.specs.Trace.{Replays};
+ghost use Rattle.journal_session.specs.Trace.{ReplaysCommands};
 ghost use Rattle.journal_session.specs.Session.{commands_of};
 ghost use Rattle.journal_session.specs.Recovery.{KeepsJournal, IsUnfit, StartsAs, ComesNext, IsFront, WasRead, HasReplayed};
 
@@ -123,7 +123,7 @@ fn replay<S: Store, A: Applies>(
     ensures within { IfOk result (λ end. (reading.new.end ≤ end) × (end < 2 ^ 62)) }
     ensures read { S.keeps_word store.old → WasRead S.moment S.written_at S.left_at store.old store.new }
     ensures word { S.keeps_word store.old → OnOk result (S.keeps_word store.new) }
-    ensures replayed { IfOk result (λ end. (commands : List (List ℕ)) × Replays A.takes commands state.old state.new
+    ensures replayed { IfOk result (λ end. (commands : List (List ℕ)) × ReplaysCommands A.takes commands state.old state.new
         × (S.keeps_word store.old → take (length head) (written_now S.moment S.written_at store.old) ≡ head → Reads reading.old [] []
         → (end ≡ length (written_now S.moment S.written_at store.old))
         × (batches : List (List (List ℕ))) × (open_line : List ℕ) × IsOneLine open_line
@@ -158,7 +158,7 @@ fn recover_lines<S: Store, A: Applies>(
     journal: &mut Journal<S>,
     state: &mut A,
 ) -> Result<(), RecoverFault>
-    ensures recovered { OnOk result ((commands : List (List ℕ)) × Replays A.takes commands state.old state.new
+    ensures recovered { OnOk result ((commands : List (List ℕ)) × ReplaysCommands A.takes commands state.old state.new
         × (S.keeps_word journal.old.store → IsSynced S.moment S.written_at S.left_at journal.old.store
         → take (length head) (written_now S.moment S.written_at journal.old.store) ≡ head
         → (batches : List (List (List ℕ))) × HasBatches (written_now S.moment S.written_at journal.old.store) batches
@@ -192,7 +192,7 @@ pub fn recover<S: Store, A: Applies>(
 ) -> Result<(), RecoverFault>
     // Whatever the store gives, commands were applied that changed something. If it keeps its word, they are those that it has, and the journal of just these is
     // on the disk.
-    ensures recovered { OnOk result ((commands : List (List ℕ)) × Replays A.takes commands state.old state.new
+    ensures recovered { OnOk result ((commands : List (List ℕ)) × ReplaysCommands A.takes commands state.old state.new
         × (S.keeps_word journal.old.store → RecoversTo (written_now S.moment S.written_at journal.old.store) commands
         × (batches : List (List (List ℕ))) × IsOnDisk S.moment S.written_at S.left_at journal.new batches × (commands_of batches ≡ commands))) }
     // A crash at any moment of the call leaves what it might have left before, or the same journal: the next recovery finds the same. Damage stays as it is.

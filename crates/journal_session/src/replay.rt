@@ -4,7 +4,7 @@ ghost use Rattle.journal_lines.specs.Objects.{IsBatch, listed};
 ghost use Rattle.journal_lines.specs.Lines.{head};
 ghost use Rattle.journal_lines.specs.Journal.{IsDamaged};
 ghost use Rattle.journal_lines.specs.Reading.{Reads};
-ghost use Rattle.journal_session.specs.Trace.{Replays};
+ghost use Rattle.journal_session.specs.Trace.{ReplaysCommands};
 ghost use Rattle.journal_session.specs.Session.{commands_of};
 ghost use Rattle.journal_session.specs.Recovery.{HasUnchanged, IsUnfit};
 
@@ -21,7 +21,7 @@ fn apply_batch<A: Applies>(
     body: &[u8],
     number: u64,
 ) -> Result<(), RecoverFault>
-    ensures applied { OnOk result ((commands : List (List ℕ)) × Replays A.takes commands state.old state.new
+    ensures applied { OnOk result ((commands : List (List ℕ)) × ReplaysCommands A.takes commands state.old state.new
         × ((those : List (List ℕ)) → IsBatch those → body.now ≡ listed those → commands ≡ those)) }
     ensures undamaged { (other : ℕ) → result ≡ Err (RecoverFault.Damaged other) → ⊥ }
     ensures unfit { (commands : List (List ℕ)) → IsBatch commands → body.now ≡ listed commands
@@ -54,13 +54,13 @@ fn replay_line<A: Applies>(
     requires one_line { All (λ b. b ≡ 10 → ⊥) line.now }
     requires room { reading.old.end + length line.now < 2 ^ 63 }
     ensures within { OnOk result (reading.new.end ≤ reading.old.end + length line.now + 1) }
-    ensures reads { OnOk result ((commands : List (List ℕ)) × Replays A.takes commands state.old state.new
+    ensures reads { OnOk result ((commands : List (List ℕ)) × ReplaysCommands A.takes commands state.old state.new
         × ((text : List ℕ) (batches : List (List (List ℕ))) → Reads reading.old text batches
         → (next : List (List (List ℕ))) × Reads reading.new (text ++ line.now ++ 10 ∷ []) next × (commands_of next ≡ commands_of batches ++ commands))) }
     ensures damaged { (number : ℕ) → result ≡ Err (RecoverFault.Damaged number) → (text more : List ℕ) (batches : List (List (List ℕ)))
         → Reads reading.old text batches → IsDamaged (head ++ (text ++ line.now ++ 10 ∷ more)) number }
     ensures unfit { (number : ℕ) → result ≡ Err (RecoverFault.Unfit number) → (text more : List ℕ) (batches : List (List (List ℕ)))
-        → Reads reading.old text batches → (first : A) → Replays A.takes (commands_of batches) first state.old
+        → Reads reading.old text batches → (first : A) → ReplaysCommands A.takes (commands_of batches) first state.old
         → IsUnfit A.takes first (head ++ (text ++ line.now ++ 10 ∷ more)) number }
     ensures no_other { result ≡ Err RecoverFault.Foreign → ⊥ }
 {
@@ -86,14 +86,14 @@ pub fn replay_piece<A: Applies>(
     requires { reading.old.end + length pending.old.text.items + length piece.now < 2 ^ 63 }
     ensures within { OnOk result (reading.new.end + length pending.new.text.items
         ≤ reading.old.end + length pending.old.text.items + length piece.now) }
-    ensures reads { OnOk result ((commands : List (List ℕ)) × Replays A.takes commands state.old state.new
+    ensures reads { OnOk result ((commands : List (List ℕ)) × ReplaysCommands A.takes commands state.old state.new
         × ((text : List ℕ) (batches : List (List (List ℕ))) → Reads reading.old text batches
         → (read : List ℕ) × (next : List (List (List ℕ))) × (text ++ (pending.old.text.items ++ piece.now) ≡ read ++ pending.new.text.items)
         × Reads reading.new read next × (commands_of next ≡ commands_of batches ++ commands))) }
     ensures damaged { (number : ℕ) → result ≡ Err (RecoverFault.Damaged number) → (text more : List ℕ) (batches : List (List (List ℕ)))
         → Reads reading.old text batches → IsDamaged (head ++ (text ++ (pending.old.text.items ++ piece.now ++ more))) number }
     ensures unfit { (number : ℕ) → result ≡ Err (RecoverFault.Unfit number) → (text more : List ℕ) (batches : List (List (List ℕ)))
-        → Reads reading.old text batches → (first : A) → Replays A.takes (commands_of batches) first state.old
+        → Reads reading.old text batches → (first : A) → ReplaysCommands A.takes (commands_of batches) first state.old
         → IsUnfit A.takes first (head ++ (text ++ (pending.old.text.items ++ piece.now ++ more))) number }
     ensures no_other { result ≡ Err RecoverFault.Foreign → ⊥ }
 {

@@ -4,7 +4,7 @@ ghost use Rattle.std.specs.Io.KnownBytes.{Keeps};
 ghost use Rattle.journal_lines.specs.Journal.{RecoversTo, HasNoForged, IsDamaged};
 ghost use Rattle.journal_store.specs.Store.{written_now, MayLeave};
 ghost use Rattle.journal_session.specs.declared.resuming.ResumeFault.TheVariants.{Unrecovered, Unserved};
-ghost use Rattle.journal_session.specs.Trace.{Exchange, changes_in, Replays};
+ghost use Rattle.journal_session.specs.Trace.{Exchange, changes_in, ReplaysCommands};
 ghost use Rattle.journal_session.specs.Session.{HasServed, IsServed, RecoversBeyond};
 ghost use Rattle.journal_session.specs.Resume.{HasAtLeast, HasResumed};
 
@@ -62,7 +62,7 @@ pub fn resume<S: Store, A: Applies, R: Read, W: Write>(
     // replied.
     ensures resumed { (input : List ℕ) × IfSome (R.remaining reader.old) (λ bytes. input ≡ bytes) × (trace : List Exchange)
         × (((fault : RecoverFault) × (result ≡ Err (Unrecovered fault)) × (trace ≡ []) × Keeps (W.contents writer.old) (W.contents writer.new))
-        ⊎ ((commands : List (List ℕ)) × (reached : A) × (end : A) × Replays A.takes commands state.old reached
+        ⊎ ((commands : List (List ℕ)) × (reached : A) × (end : A) × ReplaysCommands A.takes commands state.old reached
         × (S.keeps_word journal.old.store → RecoversTo (written_now S.moment S.written_at journal.old.store) commands)
         × HasServed A.takes input (W.contents writer.old) (W.contents writer.new) reached end trace
         × OnOk result (IsServed input (W.contents writer.old) (W.contents writer.new) trace)

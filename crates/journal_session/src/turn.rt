@@ -1,7 +1,7 @@
 //! What one read brought, applied.
 ghost use Rattle.std.specs.Prelude.{◌≡◌, ℕ, List, [], ◌∷◌, ◌++◌, OnOk};
 ghost use Rattle.journal_session.specs.Pieces.{IsOneLine};
-ghost use Rattle.journal_session.specs.Trace.{Exchange, lines_in, LeadsTo};
+ghost use Rattle.journal_session.specs.Trace.{Exchange, lines_in, LeadsThrough};
 ghost use Rattle.journal_session.specs.Turn.{kept_line, lines_taken, Took, TookText};
 
 use crate::applies::{Applied, Applies};
@@ -89,7 +89,7 @@ impl Turn {
         pending: &Pending,
     ) -> Result<(), AllocError>
         ensures { (raw : List ℕ) → IsOneLine raw → pending.now.text.items ≡ kept_line raw
-            → OnOk result ((trace : List Exchange) × (lines_in trace ≡ lines_taken raw) × LeadsTo A.takes state.old trace state.new
+            → OnOk result ((trace : List Exchange) × (lines_in trace ≡ lines_taken raw) × LeadsThrough A.takes state.old trace state.new
             × Took trace self.old self.new) }
     {
         let text = pending.text.as_slice();

@@ -73,6 +73,7 @@ are_regions setup regions wide each = record {
 
 -- ---- regions in which servers lie that pass
 
+-- the lowest of the servers that pass in its region
 abbrev pub lowest : Setup → (ℕ → Bool) → ℕ → Bool
 lowest setup has v = has v && not (any_below v (λ u. has u && same_region setup u v))
 
