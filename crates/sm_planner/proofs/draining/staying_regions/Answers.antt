@@ -1,12 +1,9 @@
-use Rattle.std.proofs.Common.{ℕ, Bool, false, get_or, sym, subst}
+use Rattle.std.proofs.Common.{ℕ, Bool, false, get_or, subst}
 use Rattle.sm_placement.specs.Setup.{Setup}
 use Rattle.sm_placement.specs.Layout.{place_of}
-use Rattle.sm_planner.specs.Regions.{AreRegions, IsOccupied, stays}
+use Rattle.sm_planner.specs.Regions.{IsOccupied, stays}
 use Rattle.sm_planner.proofs.Numbering.{occupied_same}
 use Rattle.sm_planner.proofs.draining.staying_regions.Goals as goal
-
-pub occupied_by-kept-requires : goal.occupied_by-kept-requires
-occupied_by-kept-requires c = subst (λ (x : Setup). AreRegions x c.args.regions.now) (sym c.config-config.ensures.setup) c.requires.regions
 
 pub returns : goal.returns
 returns c =

@@ -1,15 +1,11 @@
-use Rattle.std.proofs.Common.{◌≡◌, ◌∙◌, sym, ap, subst, false, ℕ, get_or}
+use Rattle.std.proofs.Common.{◌≡◌, ◌∙◌, sym, ap, false, ℕ, get_or}
 use Rattle.std.specs.Prelude.{nat_lt, ◌==◌}
 use Rattle.std.specs.List.{list_any}
 use Rattle.sm_placement.specs.Setup.{Setup, ShardRow}
 use Rattle.sm_placement.specs.Layout.{place_of}
 use Rattle.sm_planner.specs.Spread.{region_count, spread_of, has_after}
-use Rattle.sm_planner.specs.Regions.{AreRegions}
 use Rattle.sm_planner.proofs.Regions.{same_regions, both_is}
 use Rattle.sm_planner.proofs.spread.is_too_close.Goals as goal
-
-pub occupied_by-held-requires : goal.occupied_by-held-requires
-occupied_by-held-requires c = subst (λ (x : Setup). AreRegions x c.args.regions.now) (sym c.config-config.ensures.setup) c.requires.regions
 
 pub returns : goal.returns
 returns c =
