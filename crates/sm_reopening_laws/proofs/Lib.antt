@@ -1,0 +1,6 @@
+mod Effects
+mod Standing
+mod Followed
+mod Numbers
+mod Watched
+mod Kept
