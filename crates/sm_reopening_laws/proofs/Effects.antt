@@ -118,6 +118,7 @@ module _ (x : Settling) where
   abbrev picked_slots : Base → (ℕ → Cell) → ℕ → Bool → At
   picked_slots base cells v b = record { base = if b then base else x.bases (Server v); cells = λ s. if b then cells s else x.world.net.cells s v }
 
+  -- a fence comes to a party
   pub fence_does : (p : Party) (number : ℕ) (reached : ℕ → Bool) → IsOneOf x.messages (Fence p number) → IsEffect x (fence_comes x p number reached)
   fence_does MapOwner number reached i = go (is_fenced_at number (after_fence (x.bases MapOwner) number x.nonces))
     where
@@ -143,6 +144,7 @@ module _ (x : Settling) where
       go true = record { sent = refl; nonces = omega arith; servers = there }
       go false = record { sent = refl; nonces = omega arith; servers = there }
 
+  -- a settle comes to a party
   pub settle_does : (p : Party) (number : ℕ) (nonce : Option ℕ) (s : Settlement) → IsOneOf x.messages (Settle p number nonce s) → IsEffect x (settle_comes x p number nonce s)
   settle_does MapOwner number asked s i = go (takes_settle number asked (x.bases MapOwner)) (is_settled_at number (x.bases MapOwner))
     where
@@ -165,6 +167,7 @@ module _ (x : Settling) where
       go false t true = record { sent = refl; nonces = omega arith; servers = λ v. Stays refl }
       go false t false = still x
 
+  -- a restore comes to a server
   pub restore_does : (u nonce number : ℕ) (sizes : Sizes) (cells : ℕ → Cell) → IsOneOf x.messages (Restore u nonce number sizes cells) → (b : Bool) → names_nonce (x.bases (Server u)).nonce (Some nonce) ≡ b →
       IsEffect x (if b then granted x u number sizes cells else x)
   restore_does u asked number sizes cells i false t = still x

@@ -25,6 +25,7 @@ IsPlain _ = Unit {0}
 
 -- ---- what is sent
 
+-- what holds of what is sent to each server holds of all of it
 pub all_to_each : (P : Message → Type 0) (n : ℕ) (f : ℕ → List Message) → ((v : ℕ) → AllByRecursion P (f v)) → AllByRecursion P (to_each n f)
 all_to_each P zero f all = tt
 all_to_each P (suc n) f all = all_append P (to_each n f) (f n) (all_to_each P n f all) (all n)

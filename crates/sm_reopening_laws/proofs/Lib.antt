@@ -4,3 +4,6 @@ mod Followed
 mod Numbers
 mod Watched
 mod Kept
+mod Within
+mod Permits
+mod Counted

@@ -5,10 +5,12 @@ use Rattle.std.proofs.lemmas.Bool.{and_parts, eqb-true, ltb-true}
 use Rattle.sm_protocol.proofs.Courses.{some_same}
 use Rattle.sm_network.specs.Reopening.{Base, after_fence, is_fenced_at, names_nonce, takes_number, takes_settle}
 
+-- a nonce is mapped to none if there is none
 pub map_none : (k : ℕ) (o : Option ℕ) → option_map (λ old. k) o ≡ None → o ≡ None
 map_none k None e = refl
 map_none k (Some n) e = absurd (cc)
 
+-- a new nonce replaces one that there was
 pub map_some : (k n : ℕ) (o : Option ℕ) → option_map (λ old. k) o ≡ Some n → k ≡ n
 map_some k n None e = absurd (cc)
 map_some k n (Some m) e = some_same k n e
@@ -17,6 +19,7 @@ none_where : (o : Option ℕ) → is_none o ≡ true → o ≡ None
 none_where None e = refl
 none_where (Some a) e = absurd (cc)
 
+-- there is something, or there is not
 pub none_or_some : (o : Option ℕ) → (o ≡ None) ⊎ ((n : ℕ) × (o ≡ Some n))
 none_or_some None = inl refl
 none_or_some (Some n) = inr (n, refl)
@@ -61,12 +64,14 @@ pub record IsTakenBy (b : Base) (number : ℕ) (nonce : Option ℕ) : Type 0 whe
   pub stands : b.number ≡ number
   pub meant : nonce ≡ b.nonce
 
+-- what names a nonce names that of the base
 pub named : (o asked : Option ℕ) → names_nonce o asked ≡ true → asked ≡ o
 named None None e = refl
 named None (Some n) e = absurd (cc)
 named (Some m) None e = absurd (cc)
 named (Some m) (Some n) e = ap (λ z. let o : Option ℕ = Some z in o) (sym (eqb-true m n e))
 
+-- a settle that is taken has met this
 pub taken_by : (b : Base) (number : ℕ) (nonce : Option ℕ) → takes_settle number nonce b ≡ true → IsTakenBy b number nonce
 taken_by b number asked e =
     let p = and_parts (is_fenced_at number b) (names_nonce b.nonce asked) e in
@@ -79,6 +84,7 @@ pub record IsTaking (b : Base) (number : ℕ) : Type 0 where
   pub taken : b.fenced ≡ false
   pub below : b.number < number
 
+-- an order that is taken has met this
 pub taking : (b : Base) (number : ℕ) → takes_number b number ≡ true → IsTaking b number
 taking b number e =
     let p = and_parts (is_none b.nonce) (not b.fenced && nat_lt b.number number) e in

@@ -527,12 +527,14 @@ watched_next low first x (Records (Confirm s)) fits h = (h.0, confirm_kept low f
 watched_next low first x (Records (Told p number i)) fits h = absurd fits
 watched_next low first x (Records (Took p number)) fits h = absurd fits
 
+-- so it stays along events
 pub watched_run : (low first : ℕ) (es : List SettlingEvent) (x : Settling) → AllSettlingFit es x → IsWatchedSince low first x → IsWatchedSince low first (settling_run es x)
 watched_run low first [] x fits h = h
 watched_run low first (e ∷ es) x fits h = watched_run low first es (settling_comes x e).1 fits.1 (watched_next low first x e fits.0 h)
 
 -- ---- the beginning
 
+-- so it is once the first reopening has begun
 pub watched_begun : (setup : Setup) (x : Settling) (o : IsOutset setup x) (base servers : ℕ) (lost : ℕ → Bool) → MayReopen x base lost → IsWatched (top o.world.net) x.nonces x.nonces (records x (Reopen base servers lost))
 watched_begun setup x o base servers lost m = record {
   above = above;

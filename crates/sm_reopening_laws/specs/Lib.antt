@@ -1,2 +1,4 @@
 pub mod Floors
 pub mod FloorsPlays
+pub mod Service
+pub mod ServiceLaws

@@ -1,12 +1,51 @@
 //! The laws.
 ghost use Rattle.sm_network.specs.ReopeningLaws.{EachSettling};
 ghost use Rattle.sm_reopening_laws.specs.Floors.{FloorsStay};
+ghost use Rattle.sm_reopening_laws.specs.Service.{EachService};
+ghost use Rattle.sm_reopening_laws.specs.ServiceLaws.{IsWithinLaws, PermitEndsOnce, ServiceIsSafe};
 
-use sm_network::opens_with_past;
+use sm_network::{
+    executes_at_one_server, executes_safely, fleet_is_safe, fleet_opens_after, loads_fit,
+    map_is_right, no_letter_is_refused, opens_with_past, permits_end_once, refuses_none,
+    shown_executes, some_fleet_can_go_on,
+};
 
 /// From the moment when a settlement is confirmed no shard has fewer replicas than the floor of the opening that comes of it.
 pub fn floors_stay()
     ensures { EachSettling FloorsStay }
 {
     opens_with_past();
+}
+
+/// Wherever events lead, reopenings among them, the service is at a fleet of which all laws of the fleet hold, or in a reopening of which
+/// all laws of reopenings hold.
+pub fn laws_hold()
+    ensures { EachService IsWithinLaws }
+{
+    fleet_opens_after();
+}
+
+/// Wherever events lead, reopenings among them, the service is safe.
+pub fn service_is_safe()
+    ensures { EachService ServiceIsSafe }
+{
+    fleet_opens_after();
+    fleet_is_safe();
+    executes_at_one_server();
+    no_letter_is_refused();
+    map_is_right();
+    some_fleet_can_go_on();
+    loads_fit();
+    floors_stay();
+    executes_safely();
+    refuses_none();
+    shown_executes();
+}
+
+/// A permit ends at most one restart, over all epochs and reopenings.
+pub fn permit_ends_once()
+    ensures { EachService PermitEndsOnce }
+{
+    fleet_opens_after();
+    permits_end_once();
 }

@@ -4,5 +4,5 @@
 mod law;
 mod play;
 
-pub use law::floors_stay;
+pub use law::{floors_stay, laws_hold, permit_ends_once, service_is_safe};
 pub use play::keeps_two;

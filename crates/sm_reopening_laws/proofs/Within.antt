@@ -1,0 +1,100 @@
+-- The service is always at a fleet that events of the fleet lead to, or in a reopening that events lead to.
+use Rattle.std.proofs.Common.{◌≡◌, ℕ, refl, sym, ap, ◌∙◌, subst, Bool, Option, Some, None, List, [], ◌∷◌, ◌++◌}
+use Rattle.sm_placement.specs.Setup.{Setup}
+use Rattle.sm_network.specs.World.{World}
+use Rattle.sm_network.specs.Fleet.{Fleet, FleetEvent, controller, fleet_comes, fleet_run}
+use Rattle.sm_network.specs.FleetLaws.{AllFleetFit, EachFleet, ExecutesAtOneServer, FleetIsSafe, IsFleetOpening, IsFleetReached, MapIsRight, NoLetterIsRefused, SomeFleetCanGoOn}
+use Rattle.sm_network.specs.Reopening.{Reopen, Settlement, Settling, SettlingEvent, records, settling_comes}
+use Rattle.sm_network.specs.ReopeningLaws.{EachSettling, ExecutesSafely, IsOutset, IsSettlingReached, LoadsFit, MayReopen, RefusesNone, SettlingFits, ShownExecutes}
+use Rattle.sm_network.specs.FleetReopening.{FleetOpensAfter, settling_of}
+use Rattle.sm_reopening_laws.specs.Floors.{FloorsStay}
+use Rattle.sm_reopening_laws.specs.Service.{AllServiceFit, Begins, EachService, Goes, IsServiceReached, MayBegin, MayOpen, Meets, Opens, Reopens, Runs, Service, ServiceEvent, ServiceFits, opened_on, service_comes, service_run}
+use Rattle.sm_reopening_laws.specs.ServiceLaws.{IsSafeFleet, IsSafeSettling, IsWithinLaws, ServiceIsSafe}
+use Rattle.sm_reopening_laws.proofs.Kept.{reached_on}
+
+-- ---- the fleet
+
+-- events after events
+pub run_append : (es fs : List FleetEvent) (f : Fleet) → fleet_run (es ++ fs) f ≡ fleet_run fs (fleet_run es f)
+run_append [] fs f = refl
+run_append (e ∷ es) fs f = run_append es fs (fleet_comes f e).1
+
+-- what fits after what fits
+pub fits_append : (setup : Setup) (es fs : List FleetEvent) (f : Fleet) → AllFleetFit setup f es → AllFleetFit setup (fleet_run es f) fs → AllFleetFit setup f (es ++ fs)
+fits_append setup [] fs f a b = b
+fits_append setup (e ∷ es) fs f a b = (a.0, fits_append setup es fs (fleet_comes f e).1 a.1 b)
+
+-- events lead on from what is reached
+pub fleet_on : (setup : Setup) (f : Fleet) (es : List FleetEvent) → IsFleetReached setup f → AllFleetFit setup f es → IsFleetReached setup (fleet_run es f)
+fleet_on setup f es r fit = record {
+  first = r.first;
+  opening = r.opening;
+  events = r.events ++ es;
+  fit = fits_append setup r.events es r.first r.fit (subst (λ g. AllFleetFit setup g es) r.state fit);
+  state = ap (fleet_run es) r.state ∙ sym (run_append r.events es r.first);
+}
+
+-- an opening is reached
+pub opening_reached : (setup : Setup) (f : Fleet) → IsFleetOpening setup f → IsFleetReached setup f
+opening_reached setup f o = record { first = f; opening = o; events = []; fit = tt; state = refl }
+
+-- ---- reopenings
+
+-- a reopening begins
+pub begun_reached : (setup : Setup) (f : Fleet) (world : World) (base servers : ℕ) (lost : ℕ → Bool) → MayBegin setup f world base lost → IsSettlingReached setup (records (settling_of f world) (Reopen base servers lost))
+begun_reached setup f world base servers lost m = record {
+  start = settling_of f world;
+  outset = subst (λ w. IsOutset setup (settling_of f w)) m.world_is m.over.outset;
+  base = base;
+  servers = servers;
+  lost = lost;
+  begun = m.may;
+  events = [];
+  fit = tt;
+  state = refl;
+}
+
+-- ---- all events
+
+-- an event leads on within the laws
+pub within_next : EachSettling FleetOpensAfter → (p : Service) (e : ServiceEvent) → ServiceFits p e → IsWithinLaws p → IsWithinLaws (service_comes p e)
+within_next opens (Runs setup f) (Goes e) fits w = fleet_on setup f (e ∷ []) w (fits, tt)
+within_next opens (Runs setup f) (Begins world base servers lost) fits w = (w, begun_reached setup f world base servers lost fits)
+within_next opens (Runs setup f) (Meets e) fits w = w
+within_next opens (Runs setup f) (Opens fleet) fits w = w
+within_next opens (Reopens setup f x) (Goes e) fits w = w
+within_next opens (Reopens setup f x) (Begins world base servers lost) fits w = w
+within_next opens (Reopens setup f x) (Meets e) fits w = (w.0, reached_on setup x (e ∷ []) w.1 (fits, tt))
+within_next opens (Reopens setup f x) (Opens fleet) fits w = subst (λ o. IsWithinLaws (opened_on (Reopens setup f x) fleet o)) (sym fits.settled)
+    (opening_reached fits.settlement.setup fleet (opens setup x w.1 fits.settlement fleet fits.settled fits.took fits.opens))
+
+pub within_run : EachSettling FleetOpensAfter → (es : List ServiceEvent) (p : Service) → AllServiceFit es p → IsWithinLaws p → IsWithinLaws (service_run es p)
+within_run opens [] p fit w = w
+within_run opens (e ∷ es) p fit w = within_run opens es (service_comes p e) fit.1 (within_next opens p e fit.0 w)
+
+-- it is always within the laws
+pub within_laws : EachSettling FleetOpensAfter → EachService IsWithinLaws
+within_laws opens p r = subst IsWithinLaws (sym r.state) (within_run opens r.events (Runs r.setup r.first) r.fit (opening_reached r.setup r.first r.opening))
+
+-- ---- so it is safe
+
+-- the laws that are put together
+pub record AreLaws : Type 0 where
+  pub safe : EachFleet FleetIsSafe
+  pub executes : EachFleet ExecutesAtOneServer
+  pub refuses : EachFleet NoLetterIsRefused
+  pub shown : EachFleet MapIsRight
+  pub goes_on : EachFleet SomeFleetCanGoOn
+  pub loads : EachSettling LoadsFit
+  pub floors : EachSettling FloorsStay
+  pub settling_executes : EachSettling ExecutesSafely
+  pub settling_refuses : EachSettling RefusesNone
+  pub settling_shows : EachSettling ShownExecutes
+
+safe_where : AreLaws → (p : Service) → IsWithinLaws p → ServiceIsSafe p
+safe_where l (Runs setup f) w = record { safe = l.safe setup f w; executes = l.executes setup f w; refuses = l.refuses setup f w; shown = l.shown setup f w; goes_on = l.goes_on setup f w }
+safe_where l (Reopens setup f x) w = record { loads = l.loads setup x w.1; floors = l.floors setup x w.1; executes = l.settling_executes setup x w.1; refuses = l.settling_refuses setup x w.1; shown = l.settling_shows setup x w.1 }
+
+-- so the service is safe
+pub service_is_safe : EachSettling FleetOpensAfter → AreLaws → EachService ServiceIsSafe
+service_is_safe opens l p r = safe_where l p (within_laws opens p r)
