@@ -1,22 +1,21 @@
 -- A permit ends at most one restart, along any list of what may happen to the service.
-use Rattle.std.proofs.Common.{◌≡◌, ◌≢◌, ◌≤◌, ◌<◌, ◌⊎◌, ℕ, suc, ◌+◌, ◌*◌, refl, sym, ap, ◌∙◌, inl, inr, subst, arith, Bool, true, false, Option, Some, None, List, [], ◌∷◌, ◌++◌}
-use Rattle.std.specs.Prelude.{if◌then◌else◌, is_none, is_some, slice_get, ◌==◌, ◌&&◌}
+use Rattle.std.proofs.Common.{◌≡◌, ◌≢◌, ◌≤◌, ◌<◌, ◌⊎◌, ℕ, suc, ◌+◌, refl, sym, ap, ◌∙◌, inl, inr, subst, arith, Bool, true, false, Option, Some, None, List, [], ◌∷◌, ◌++◌}
+use Rattle.std.specs.Prelude.{if◌then◌else◌, is_some, slice_get, ◌==◌, ◌&&◌}
 use Rattle.std.proofs.lemmas.Bool.{cases_lt}
-use Rattle.sm_placement.specs.Setup.{Setup, Sizes, sizes_of}
+use Rattle.sm_placement.specs.Setup.{Setup, sizes_of}
 use Rattle.sm_placement.specs.Sums.{bit}
-use Rattle.sm_protocol.specs.Laws.{MOST_PLACES}
-use Rattle.sm_network.specs.Net.{NetOutcome, Quiet}
-use Rattle.sm_network.specs.World.{World, WorldEvent, world_comes}
+use Rattle.sm_network.specs.Net.{Quiet}
+use Rattle.sm_network.specs.World.{World, world_comes}
 use Rattle.sm_network.specs.Controller.{Controller, EPOCH, JournalEntry, replayed}
 use Rattle.sm_network.specs.Fleet.{Fleet, FleetEvent, controller, fleet_comes, fleet_run}
 use Rattle.sm_network.specs.FleetLaws.{AllFleetFit, EachFleet, IsFleetReached, PermitsEndOnce, restarts_ended}
-use Rattle.sm_network.specs.Reopening.{Arrives, Comes, Confirm, Entry, Fence, Fenced, Forgets, Inventory, MapOwner, Message, Party, Records, Reopen, Reopening, Restore, Server, Settle, Settled, Settlement, Settling, SettlingEvent, Told, Took, after_fence, arrives, entered, fence_comes, granted, in_world, inventory_by, is_fenced_at, is_first, is_settled_at, is_taken, names_nonce, part_taken, put_party, records, settle_comes, settling_comes, takes_settle, with_messages}
+use Rattle.sm_network.specs.Reopening.{Arrives, Comes, Confirm, Fence, Fenced, Forgets, MapOwner, Message, Party, Records, Reopen, Restore, Server, Settle, Settled, Settlement, Settling, SettlingEvent, Told, Took, after_fence, arrives, fence_comes, granted, in_world, inventory_by, is_fenced_at, is_first, is_settled_at, is_taken, names_nonce, part_taken, put_party, settle_comes, settling_comes, takes_settle, with_messages}
 use Rattle.sm_network.specs.ReopeningLaws.{EachSettling, IsSettlingReached, SettlingFits}
-use Rattle.sm_network.specs.FleetReopening.{FleetOpensAfter, settling_of}
-use Rattle.sm_reopening_laws.specs.Service.{AllServiceFit, Begins, EachService, Goes, IsServiceReached, MayBegin, MayOpen, Meets, Opens, Reopens, Runs, Service, ServiceEvent, ServiceFits, opened_on, service_comes, service_run}
+use Rattle.sm_network.specs.FleetReopening.{FleetOpensAfter}
+use Rattle.sm_reopening_laws.specs.Service.{AllServiceFit, Begins, EachService, Goes, MayOpen, Meets, Opens, Reopens, Runs, Service, ServiceEvent, ServiceFits, opened_on, service_comes, service_run}
 use Rattle.sm_reopening_laws.specs.ServiceLaws.{IsWithinLaws, PermitEndsOnce, ended_by, ends_by}
 use Rattle.sm_reopening_laws.proofs.Within.{fits_append, fleet_on, opening_reached, run_append, within_laws, within_next}
-use Rattle.sm_reopening_laws.proofs.Permits.{AreHeld, IsSpent, ended_append, ended_lost, ended_low, reached_held, spent_ends_none}
+use Rattle.sm_reopening_laws.proofs.Permits.{IsSpent, ended_append, ended_lost, ended_low, reached_held, spent_ends_none}
 
 -- ---- the number of a reopening
 

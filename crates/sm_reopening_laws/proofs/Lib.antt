@@ -7,3 +7,6 @@ mod Kept
 mod Within
 mod Permits
 mod Counted
+mod Served
+mod Ordered
+mod OrderedRuns

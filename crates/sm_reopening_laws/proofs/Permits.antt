@@ -5,7 +5,7 @@ use Rattle.std.proofs.lemmas.Bool.{and_from, and_parts, eq-eqb, eqb-true}
 use Rattle.sm_placement.specs.Setup.{Setup, sizes_of}
 use Rattle.sm_placement.specs.Sums.{bit, put}
 use Rattle.sm_plan_code.specs.declared.limits.TheConstants.{MOST_PLACES}
-use Rattle.sm_protocol.specs.State.{State, opened}
+use Rattle.sm_protocol.specs.State.{opened}
 use Rattle.sm_protocol.specs.Happens.{Approve, Arrive, Begin, Done, Happening, Lose, PassOn, Refill, Step, engaged, happens}
 use Rattle.sm_protocol.proofs.Courses.{some_same}
 use Rattle.sm_agent.specs.declared.base.Reception.{Reception}
@@ -17,9 +17,9 @@ use Rattle.sm_agent.specs.Base.{restored}
 use Rattle.sm_agent.specs.Order.{committed, published as judged_by_owner}
 use Rattle.sm_network.specs.Net.{is_awaited}
 use Rattle.sm_network.specs.World.{is_answered_by, publication_of}
-use Rattle.sm_network.specs.Controller.{Answered, Controller, EPOCH, Ended, JournalEntry, Letter, Made, Notice, Opened, Restore, Restored, Stored, entry_recorded, goes_on, has_no_plan, is_permitted, needs_nobody, permits_after, replayed, rested, restore_for}
+use Rattle.sm_network.specs.Controller.{Answered, Controller, EPOCH, Ended, JournalEntry, Letter, Made, Notice, Opened, Restore, Restored, Stored, entry_recorded, goes_on, has_no_plan, is_permitted, needs_nobody, replayed, rested, restore_for}
 use Rattle.sm_network.specs.Fleet.{Abandon, Commit, End, Fleet, FleetEvent, FleetOutcome, Forget, HearAsk, HearOwner, HearServer, Judge, Make, Open, Publish, Receive, Recover, Seal, SendOrder, SendPublication, Serve, after_owner, after_reception, after_verdict, after_work, by_message, controller, fleet_comes, fleet_run, order_read, slot_for, notice_stamp, verdict_of}
-use Rattle.sm_network.specs.FleetLaws.{AllFleetFit, EachFleet, FleetFits, IsFleetOpening, IsFleetReached, PermitsEndOnce, ends_restart, restarts_ended}
+use Rattle.sm_network.specs.FleetLaws.{AllFleetFit, EachFleet, IsFleetOpening, IsFleetReached, PermitsEndOnce, ends_restart, restarts_ended}
 use Rattle.sm_network.proofs.Commands.{log_fits}
 use Rattle.sm_network.proofs.OfFleet.{fleet_is_reached}
 use Rattle.sm_network.proofs.Slots.{put_elim}

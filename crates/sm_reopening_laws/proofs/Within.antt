@@ -1,15 +1,15 @@
 -- The service is always at a fleet that events of the fleet lead to, or in a reopening that events lead to.
-use Rattle.std.proofs.Common.{◌≡◌, ℕ, refl, sym, ap, ◌∙◌, subst, Bool, Option, Some, None, List, [], ◌∷◌, ◌++◌}
+use Rattle.std.proofs.Common.{◌≡◌, ℕ, refl, sym, ap, ◌∙◌, subst, Bool, List, [], ◌∷◌, ◌++◌}
 use Rattle.sm_placement.specs.Setup.{Setup}
 use Rattle.sm_network.specs.World.{World}
-use Rattle.sm_network.specs.Fleet.{Fleet, FleetEvent, controller, fleet_comes, fleet_run}
+use Rattle.sm_network.specs.Fleet.{Fleet, FleetEvent, fleet_comes, fleet_run}
 use Rattle.sm_network.specs.FleetLaws.{AllFleetFit, EachFleet, ExecutesAtOneServer, FleetIsSafe, IsFleetOpening, IsFleetReached, MapIsRight, NoLetterIsRefused, SomeFleetCanGoOn}
-use Rattle.sm_network.specs.Reopening.{Reopen, Settlement, Settling, SettlingEvent, records, settling_comes}
-use Rattle.sm_network.specs.ReopeningLaws.{EachSettling, ExecutesSafely, IsOutset, IsSettlingReached, LoadsFit, MayReopen, RefusesNone, SettlingFits, ShownExecutes}
+use Rattle.sm_network.specs.Reopening.{Reopen, records}
+use Rattle.sm_network.specs.ReopeningLaws.{EachSettling, ExecutesSafely, IsOutset, IsSettlingReached, LoadsFit, RefusesNone, ShownExecutes}
 use Rattle.sm_network.specs.FleetReopening.{FleetOpensAfter, settling_of}
 use Rattle.sm_reopening_laws.specs.Floors.{FloorsStay}
-use Rattle.sm_reopening_laws.specs.Service.{AllServiceFit, Begins, EachService, Goes, IsServiceReached, MayBegin, MayOpen, Meets, Opens, Reopens, Runs, Service, ServiceEvent, ServiceFits, opened_on, service_comes, service_run}
-use Rattle.sm_reopening_laws.specs.ServiceLaws.{IsSafeFleet, IsSafeSettling, IsWithinLaws, ServiceIsSafe}
+use Rattle.sm_reopening_laws.specs.Service.{AllServiceFit, Begins, EachService, Goes, MayBegin, Meets, Opens, Reopens, Runs, Service, ServiceEvent, ServiceFits, opened_on, service_comes, service_run}
+use Rattle.sm_reopening_laws.specs.ServiceLaws.{IsWithinLaws, ServiceIsSafe}
 use Rattle.sm_reopening_laws.proofs.Kept.{reached_on}
 
 -- ---- the fleet

@@ -2,3 +2,4 @@ pub mod Floors
 pub mod FloorsPlays
 pub mod Service
 pub mod ServiceLaws
+pub mod OrderLaws

@@ -1,5 +1,5 @@
 -- The laws of the service over all its epochs.
-use Rattle.std.specs.Prelude.{◌≡◌, ◌≤◌, ◌<◌, ℕ, ◌+◌, Bool, false, List, [], ◌∷◌}
+use Rattle.std.specs.Prelude.{◌≤◌, ℕ, ◌+◌, Bool, false, List, [], ◌∷◌}
 use Rattle.sm_placement.specs.Sums.{bit}
 use Rattle.sm_network.specs.FleetLaws.{ExecutesAtOneServer, FleetIsSafe, IsFleetReached, MapIsRight, NoLetterIsRefused, SomeFleetCanGoOn, ends_restart}
 use Rattle.sm_network.specs.ReopeningLaws.{ExecutesSafely, IsSettlingReached, LoadsFit, RefusesNone, ShownExecutes}

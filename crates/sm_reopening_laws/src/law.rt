@@ -1,6 +1,7 @@
 //! The laws.
 ghost use Rattle.sm_network.specs.ReopeningLaws.{EachSettling};
 ghost use Rattle.sm_reopening_laws.specs.Floors.{FloorsStay};
+ghost use Rattle.sm_reopening_laws.specs.OrderLaws.{OldOrdersRest, OrderActsOnce};
 ghost use Rattle.sm_reopening_laws.specs.Service.{EachService};
 ghost use Rattle.sm_reopening_laws.specs.ServiceLaws.{IsWithinLaws, PermitEndsOnce, ServiceIsSafe};
 
@@ -48,4 +49,18 @@ pub fn permit_ends_once()
 {
     fleet_opens_after();
     permits_end_once();
+}
+
+/// No number has its effect twice on a cell, over all epochs, crashes, restores and reopenings.
+pub fn order_acts_once()
+    ensures { EachService OrderActsOnce }
+{
+    fleet_opens_after();
+}
+
+/// Once a controller opens on what a reopening has settled, no order that was sent before has an effect any more.
+pub fn old_orders_rest()
+    ensures { EachService OldOrdersRest }
+{
+    fleet_opens_after();
 }

@@ -4,5 +4,7 @@
 mod law;
 mod play;
 
-pub use law::{floors_stay, laws_hold, permit_ends_once, service_is_safe};
+pub use law::{
+    floors_stay, laws_hold, old_orders_rest, order_acts_once, permit_ends_once, service_is_safe,
+};
 pub use play::keeps_two;
