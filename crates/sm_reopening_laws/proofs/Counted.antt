@@ -11,7 +11,7 @@ use Rattle.sm_network.specs.Fleet.{Fleet, FleetEvent, controller, fleet_comes, f
 use Rattle.sm_network.specs.FleetLaws.{AllFleetFit, EachFleet, IsFleetReached, PermitsEndOnce, restarts_ended}
 use Rattle.sm_network.specs.Reopening.{Arrives, Comes, Confirm, Fence, Fenced, Forgets, MapOwner, Message, Party, Records, Reopen, Restore, Server, Settle, Settled, Settlement, Settling, SettlingEvent, Told, Took, after_fence, arrives, fence_comes, granted, in_world, inventory_by, is_fenced_at, is_first, is_settled_at, is_taken, names_nonce, part_taken, put_party, settle_comes, settling_comes, takes_settle, with_messages}
 use Rattle.sm_network.specs.ReopeningLaws.{EachSettling, IsSettlingReached, SettlingFits}
-use Rattle.sm_network.specs.FleetReopening.{FleetOpensAfter}
+use Rattle.sm_reopening_laws.specs.FleetInForce.{FleetOpensInForce}
 use Rattle.sm_reopening_laws.specs.Service.{AllServiceFit, Begins, EachService, Goes, MayOpen, Meets, Opens, Reopens, Runs, Service, ServiceEvent, ServiceFits, opened_on, service_comes, service_run}
 use Rattle.sm_reopening_laws.specs.ServiceLaws.{IsWithinLaws, PermitEndsOnce, ended_by, ends_by}
 use Rattle.sm_reopening_laws.proofs.Within.{fits_append, fleet_on, opening_reached, run_append, within_laws, within_next}
@@ -164,7 +164,7 @@ counted_open once setup permit n f x g m c high there = elim (cases_lt 0 n) [
 
 -- ---- all events
 
-tallied_next : EachFleet PermitsEndOnce → EachSettling FleetOpensAfter → (permit n : ℕ) (p : Service) (e : ServiceEvent) → ServiceFits p e → IsTallied permit n p → IsTallied permit (n + bit (ends_by permit p e)) (service_comes p e)
+tallied_next : EachFleet PermitsEndOnce → EachSettling FleetOpensInForce → (permit n : ℕ) (p : Service) (e : ServiceEvent) → ServiceFits p e → IsTallied permit n p → IsTallied permit (n + bit (ends_by permit p e)) (service_comes p e)
 tallied_next once opens permit n (Runs setup f) (Goes e) fits t = counted_next once setup permit n f e (fits, tt) t
 tallied_next once opens permit n (Runs setup f) (Begins world base servers lost) fits t =
     let same : n ≡ n + 0 = omega arith in
@@ -187,7 +187,7 @@ tallied_next once opens permit n (Reopens setup f x) (Opens g) fits t =
     (subst (λ o. IsTallied permit n (opened_on (Reopens setup f x) g o)) (sym fits.settled)
     (counted_open once setup permit n f x g fits t.0 t.2 (opening_reached fits.settlement.setup g (opens setup x t.1 fits.settlement g fits.settled fits.took fits.opens))))
 
-tallied_run : EachFleet PermitsEndOnce → EachSettling FleetOpensAfter → (permit n : ℕ) (es : List ServiceEvent) (p : Service) → AllServiceFit es p → IsTallied permit n p → n + ended_by permit es p ≤ 1
+tallied_run : EachFleet PermitsEndOnce → EachSettling FleetOpensInForce → (permit n : ℕ) (es : List ServiceEvent) (p : Service) → AllServiceFit es p → IsTallied permit n p → n + ended_by permit es p ≤ 1
 tallied_run once opens permit n [] p fit t = let a = most_of p t in omega arith
   where
     most_of : (p : Service) → IsTallied permit n p → n ≤ 1
@@ -222,7 +222,7 @@ tallied_none permit (Runs setup f) w a = counted_none setup permit f w
 tallied_none permit (Reopens setup f x) w a = (counted_none setup permit f w.0, w.1, a)
 
 -- a permit ends at most one restart
-pub permits_end_once : EachFleet PermitsEndOnce → EachSettling FleetOpensAfter → EachService PermitEndsOnce
+pub permits_end_once : EachFleet PermitsEndOnce → EachSettling FleetOpensInForce → EachService PermitEndsOnce
 permits_end_once once opens p r es permit fit =
     let w = within_laws opens p r in
     let a = subst IsAbove (sym r.state) (above_run r.events (Runs r.setup r.first) r.fit tt) in

@@ -1,3 +1,5 @@
+mod FleetInForce
+mod FleetThere
 mod Effects
 mod Standing
 mod Followed

@@ -15,7 +15,8 @@ use Rattle.sm_network.specs.Fleet.{Fleet, controller, has_lost}
 use Rattle.sm_network.specs.FleetLaws.{IsFleetReached}
 use Rattle.sm_network.specs.Reopening.{Reopen, Server, Settling, entered, records, sends}
 use Rattle.sm_network.specs.ReopeningLaws.{EachSettling, IsOutset, IsSettlingReached}
-use Rattle.sm_network.specs.FleetReopening.{FleetOpensAfter, base_by, bases_of, restore_seen, settling_of}
+use Rattle.sm_network.specs.FleetReopening.{base_by, bases_of, restore_seen, settling_of}
+use Rattle.sm_reopening_laws.specs.FleetInForce.{FleetOpensInForce}
 use Rattle.sm_network.proofs.Deliveries.{shade_of}
 use Rattle.sm_network.proofs.Lists.{all_append, all_at, all_map}
 use Rattle.sm_network.proofs.Overlay.{put2-at}
@@ -173,7 +174,7 @@ opened_closed s v number setup f x g m l = inl (
     omega arith
     )
 
-module _ (opens : EachSettling FleetOpensAfter) (s v number : ℕ) where
+module _ (opens : EachSettling FleetOpensInForce) (s v number : ℕ) where
   ordered_next : (n : ℕ) (p : Service) (e : ServiceEvent) → ServiceFits p e → IsOrdered s v number n p → IsOrdered s v number (n + count_by (is_for s v number) (effects_by p e)) (service_comes p e)
   ordered_next n (Runs setup f) (Goes e) fits o = elim o.so [
     | inl z ↦ elim (open_next s v number setup f o.reached e fits) [
@@ -240,7 +241,7 @@ module _ (opens : EachSettling FleetOpensAfter) (s v number : ℕ) where
 abbrev IsSoundService : Service → Type 0
 IsSoundService p = IsOrdered 0 0 0 0 p
 
-sound_run : EachSettling FleetOpensAfter → (es : List ServiceEvent) (p : Service) → AllServiceFit es p → (n : ℕ) → IsOrdered 0 0 0 n p → (k : ℕ) × IsOrdered 0 0 0 k (service_run es p)
+sound_run : EachSettling FleetOpensInForce → (es : List ServiceEvent) (p : Service) → AllServiceFit es p → (n : ℕ) → IsOrdered 0 0 0 n p → (k : ℕ) × IsOrdered 0 0 0 k (service_run es p)
 sound_run opens [] p fit n o = (n, o)
 sound_run opens (e ∷ es) p fit n o = sound_run opens es (service_comes p e) fit.1 (n + count_by (is_for 0 0 0) (effects_by p e)) (ordered_next opens 0 0 0 n p e fit.0 o)
 
@@ -249,14 +250,14 @@ start_over s v number k (Runs setup f) o = record { most = omega arith; reached 
 start_over s v number k (Reopens setup f x) o = record { most = omega arith; reached = o.reached; settling = o.settling; low = o.low; sound = o.sound; so = inl refl }
 
 -- each order has its effect at most once
-pub order_acts_once : EachSettling FleetOpensAfter → EachService OrderActsOnce
+pub order_acts_once : EachSettling FleetOpensInForce → EachService OrderActsOnce
 order_acts_once opens p r es s v number fit =
     let o = sound_run opens r.events (Runs r.setup r.first) r.fit 0 (record { most = omega arith; reached = opening_reached r.setup r.first r.opening; so = inl refl }) in
     let z = ordered_run opens s v number 0 es p fit (start_over s v number o.0 p (subst (IsOrdered 0 0 0 o.0) (sym r.state) o.1)) in
     omega arith
 
 -- and an old one has none
-pub old_orders_rest : EachSettling FleetOpensAfter → EachService OldOrdersRest
+pub old_orders_rest : EachSettling FleetOpensInForce → EachService OldOrdersRest
 old_orders_rest opens p r = by_service p (within_laws opens p r) (subst IsAbove (sym r.state) (above_run r.events (Runs r.setup r.first) r.fit tt))
   where
     by_service : (p : Service) → IsWithinLaws p → IsAbove p → OldOrdersRest p

@@ -6,7 +6,8 @@ use Rattle.sm_network.specs.Fleet.{Fleet, FleetEvent, fleet_comes, fleet_run}
 use Rattle.sm_network.specs.FleetLaws.{AllFleetFit, EachFleet, ExecutesAtOneServer, FleetIsSafe, IsFleetOpening, IsFleetReached, MapIsRight, NoLetterIsRefused, SomeFleetCanGoOn}
 use Rattle.sm_network.specs.Reopening.{Reopen, records}
 use Rattle.sm_network.specs.ReopeningLaws.{EachSettling, ExecutesSafely, IsOutset, IsSettlingReached, LoadsFit, RefusesNone, ShownExecutes}
-use Rattle.sm_network.specs.FleetReopening.{FleetOpensAfter, settling_of}
+use Rattle.sm_network.specs.FleetReopening.{settling_of}
+use Rattle.sm_reopening_laws.specs.FleetInForce.{FleetOpensInForce}
 use Rattle.sm_reopening_laws.specs.Floors.{FloorsStay}
 use Rattle.sm_reopening_laws.specs.Service.{AllServiceFit, Begins, EachService, Goes, MayBegin, Meets, Opens, Reopens, Runs, Service, ServiceEvent, ServiceFits, opened_on, service_comes, service_run}
 use Rattle.sm_reopening_laws.specs.ServiceLaws.{IsWithinLaws, ServiceIsSafe}
@@ -57,7 +58,7 @@ begun_reached setup f world base servers lost m = record {
 -- ---- all events
 
 -- an event leads on within the laws
-pub within_next : EachSettling FleetOpensAfter → (p : Service) (e : ServiceEvent) → ServiceFits p e → IsWithinLaws p → IsWithinLaws (service_comes p e)
+pub within_next : EachSettling FleetOpensInForce → (p : Service) (e : ServiceEvent) → ServiceFits p e → IsWithinLaws p → IsWithinLaws (service_comes p e)
 within_next opens (Runs setup f) (Goes e) fits w = fleet_on setup f (e ∷ []) w (fits, tt)
 within_next opens (Runs setup f) (Begins world base servers lost) fits w = (w, begun_reached setup f world base servers lost fits)
 within_next opens (Runs setup f) (Meets e) fits w = w
@@ -68,12 +69,12 @@ within_next opens (Reopens setup f x) (Meets e) fits w = (w.0, reached_on setup 
 within_next opens (Reopens setup f x) (Opens fleet) fits w = subst (λ o. IsWithinLaws (opened_on (Reopens setup f x) fleet o)) (sym fits.settled)
     (opening_reached fits.settlement.setup fleet (opens setup x w.1 fits.settlement fleet fits.settled fits.took fits.opens))
 
-pub within_run : EachSettling FleetOpensAfter → (es : List ServiceEvent) (p : Service) → AllServiceFit es p → IsWithinLaws p → IsWithinLaws (service_run es p)
+pub within_run : EachSettling FleetOpensInForce → (es : List ServiceEvent) (p : Service) → AllServiceFit es p → IsWithinLaws p → IsWithinLaws (service_run es p)
 within_run opens [] p fit w = w
 within_run opens (e ∷ es) p fit w = within_run opens es (service_comes p e) fit.1 (within_next opens p e fit.0 w)
 
 -- it is always within the laws
-pub within_laws : EachSettling FleetOpensAfter → EachService IsWithinLaws
+pub within_laws : EachSettling FleetOpensInForce → EachService IsWithinLaws
 within_laws opens p r = subst IsWithinLaws (sym r.state) (within_run opens r.events (Runs r.setup r.first) r.fit (opening_reached r.setup r.first r.opening))
 
 -- ---- so it is safe
@@ -96,5 +97,5 @@ safe_where l (Runs setup f) w = record { safe = l.safe setup f w; executes = l.e
 safe_where l (Reopens setup f x) w = record { loads = l.loads setup x w.1; floors = l.floors setup x w.1; executes = l.settling_executes setup x w.1; refuses = l.settling_refuses setup x w.1; shown = l.settling_shows setup x w.1 }
 
 -- so the service is safe
-pub service_is_safe : EachSettling FleetOpensAfter → AreLaws → EachService ServiceIsSafe
+pub service_is_safe : EachSettling FleetOpensInForce → AreLaws → EachService ServiceIsSafe
 service_is_safe opens l p r = safe_where l p (within_laws opens p r)

@@ -1,3 +1,4 @@
+pub mod FleetInForce
 pub mod Floors
 pub mod FloorsPlays
 pub mod Service

@@ -8,7 +8,8 @@ pub use Rattle.sm_network.specs.Fleet.{Fleet, FleetEvent, controller, fleet_come
 pub use Rattle.sm_network.specs.FleetLaws.{FleetFits, IsFleetOpening, IsFleetReached}
 pub use Rattle.sm_network.specs.Reopening.{Reopen, Settlement, Settling, SettlingEvent, records, settling_comes}
 pub use Rattle.sm_network.specs.ReopeningLaws.{AllTook, IsSettlingReached, MayReopen, SettlingFits}
-pub use Rattle.sm_network.specs.FleetReopening.{FleetCanReopen, IsFleetAfter, settling_of}
+pub use Rattle.sm_network.specs.FleetReopening.{FleetCanReopen, settling_of}
+pub use Rattle.sm_reopening_laws.specs.FleetInForce.{IsFleetInForce}
 
 -- What there is at a moment.
 pub data Service : Type 0 where
@@ -59,7 +60,7 @@ pub record MayOpen (setup : Setup) (before : Fleet) (x : Settling) (after : Flee
   pub settlement : Settlement
   pub settled : x.reopening.settlement ≡ Some settlement
   pub took : AllTook x.reopening
-  pub opens : IsFleetAfter x settlement after
+  pub opens : IsFleetInForce x settlement after
   pub permits : (v permit : ℕ) → after.start.permits v ≡ Some permit →
       ((v < (sizes_of setup).servers) × ((controller before).permits v ≡ Some permit)) ⊎ (x.reopening.base + MOST_PLACES < permit)
 

@@ -1,10 +1,10 @@
 -- The laws of the service over all its epochs.
-use Rattle.std.specs.Prelude.{◌≤◌, ℕ, ◌+◌, Bool, false, List, [], ◌∷◌}
+use Rattle.std.specs.Prelude.{◌≡◌, ◌≤◌, Some, ℕ, ◌+◌, Bool, false, List, [], ◌∷◌}
 use Rattle.sm_placement.specs.Sums.{bit}
 use Rattle.sm_network.specs.FleetLaws.{ExecutesAtOneServer, FleetIsSafe, IsFleetReached, MapIsRight, NoLetterIsRefused, SomeFleetCanGoOn, ends_restart}
 use Rattle.sm_network.specs.ReopeningLaws.{ExecutesSafely, IsSettlingReached, LoadsFit, RefusesNone, ShownExecutes}
 use Rattle.sm_reopening_laws.specs.Floors.{FloorsStay}
-use Rattle.sm_reopening_laws.specs.Service.{AllServiceFit, Fleet, Goes, Reopens, Runs, Service, ServiceEvent, Settling, Setup, service_comes}
+use Rattle.sm_reopening_laws.specs.Service.{AllServiceFit, AllTook, Fleet, Goes, MayOpen, Reopens, Runs, Service, ServiceEvent, Settlement, Settling, Setup, service_comes}
 
 -- The laws of one epoch hold wherever events of the fleet lead from an opening, and those of a reopening wherever events lead from its beginning.
 -- The service is always at one of these: so all of them hold of it.
@@ -32,6 +32,11 @@ pub record IsSafeSettling (x : Settling) : Type 0 where
 abbrev pub ServiceIsSafe : Service → Type 0
 ServiceIsSafe (Runs setup f) = IsSafeFleet setup f
 ServiceIsSafe (Reopens setup f x) = IsSafeSettling x
+
+-- once all have taken a settlement, there is a fleet on which a controller can open
+abbrev pub CanOpen : Service → Type 0
+CanOpen (Runs setup f) = Unit {0}
+CanOpen (Reopens setup f x) = (s : Settlement) → x.reopening.settlement ≡ Some s → AllTook x.reopening → (g : Fleet) × MayOpen setup f x g
 
 -- ---- permits
 

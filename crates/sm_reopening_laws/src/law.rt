@@ -3,12 +3,13 @@ ghost use Rattle.sm_network.specs.ReopeningLaws.{EachSettling};
 ghost use Rattle.sm_reopening_laws.specs.Floors.{FloorsStay};
 ghost use Rattle.sm_reopening_laws.specs.OrderLaws.{OldOrdersRest, OrderActsOnce};
 ghost use Rattle.sm_reopening_laws.specs.Service.{EachService};
-ghost use Rattle.sm_reopening_laws.specs.ServiceLaws.{IsWithinLaws, PermitEndsOnce, ServiceIsSafe};
+ghost use Rattle.sm_reopening_laws.specs.ServiceLaws.{CanOpen, IsWithinLaws, PermitEndsOnce, ServiceIsSafe};
 
+use crate::in_force::{fleet_is_there, fleet_opens_in_force};
 use sm_network::{
-    executes_at_one_server, executes_safely, fleet_is_safe, fleet_opens_after, loads_fit,
-    map_is_right, no_letter_is_refused, opens_with_past, permits_end_once, refuses_none,
-    shown_executes, some_fleet_can_go_on,
+    executes_at_one_server, executes_safely, fleet_is_safe, loads_fit, map_is_right,
+    no_letter_is_refused, opens_with_past, permits_end_once, refuses_none, shown_executes,
+    some_fleet_can_go_on,
 };
 
 /// From the moment when a settlement is confirmed no shard has fewer replicas than the floor of the opening that comes of it.
@@ -23,14 +24,22 @@ pub fn floors_stay()
 pub fn laws_hold()
     ensures { EachService IsWithinLaws }
 {
-    fleet_opens_after();
+    fleet_opens_in_force();
+}
+
+/// Once all parties of a reopening have taken its settlement, a controller can open on the fleet that comes of it.
+pub fn can_open()
+    ensures { EachService CanOpen }
+{
+    laws_hold();
+    fleet_is_there();
 }
 
 /// Wherever events lead, reopenings among them, the service is safe.
 pub fn service_is_safe()
     ensures { EachService ServiceIsSafe }
 {
-    fleet_opens_after();
+    fleet_opens_in_force();
     fleet_is_safe();
     executes_at_one_server();
     no_letter_is_refused();
@@ -47,7 +56,7 @@ pub fn service_is_safe()
 pub fn permit_ends_once()
     ensures { EachService PermitEndsOnce }
 {
-    fleet_opens_after();
+    fleet_opens_in_force();
     permits_end_once();
 }
 
@@ -55,12 +64,12 @@ pub fn permit_ends_once()
 pub fn order_acts_once()
     ensures { EachService OrderActsOnce }
 {
-    fleet_opens_after();
+    fleet_opens_in_force();
 }
 
 /// Once a controller opens on what a reopening has settled, no order that was sent before has an effect any more.
 pub fn old_orders_rest()
     ensures { EachService OldOrdersRest }
 {
-    fleet_opens_after();
+    fleet_opens_in_force();
 }
