@@ -5,7 +5,6 @@ use Rattle.std.proofs.lemmas.Bool.{cases_lt}
 use Rattle.std.proofs.Math.Path.{fun_ext}
 use Rattle.std.specs.List.{AllByRecursion}
 use Rattle.sm_server.specs.declared.call.Cell.{Cell}
-use Rattle.sm_placement.specs.Place.{Place}
 use Rattle.sm_agent.specs.declared.base.Base.{Base as AgentBase}
 use Rattle.sm_agent.specs.Base.{lacks_slots}
 use Rattle.sm_agent.specs.Order.{cell_load}
@@ -20,7 +19,7 @@ use Rattle.sm_network.specs.Fleet.{Fleet, controller, has_lost, held_cells}
 use Rattle.sm_network.specs.FleetLaws.{IsFleetOpening, IsKnown, world_of}
 use Rattle.sm_network.specs.FleetReopening.{IsOneOf, pass_seen}
 use Rattle.sm_network.specs.Reopening.{Base, Reopening, Server, Settlement, Settling}
-use Rattle.sm_network.specs.ReopeningLaws.{AllTook, EachSettling, OpensWithPast, in_force}
+use Rattle.sm_network.specs.ReopeningLaws.{EachSettling, OpensWithPast, in_force}
 use Rattle.sm_network.proofs.Lists.{all_at, all_map}
 use Rattle.sm_reopening_laws.specs.FleetInForce.{FleetOpensInForce, IsFleetInForce}
 

@@ -1,20 +1,17 @@
 -- There is a fleet as it is once a settlement is in force.
-use Rattle.std.proofs.Common.{◌≡◌, ◌≤◌, ◌<◌, ◌&&◌, ◌==◌, true≢false, ℕ, suc, refl, sym, ap, ◌∙◌, ap₂, inl, inr, subst, arith, rules, zero-add, Bool, true, false, is_some, Option, Some, None, List, [], if◌then◌else◌, slice_get}
-use Rattle.std.specs.List.{AllByRecursion, range_with_len}
+use Rattle.std.proofs.Common.{◌≡◌, ◌≤◌, ◌<◌, ◌&&◌, ◌==◌, true≢false, ℕ, suc, refl, sym, ap, ◌∙◌, ap₂, inl, inr, subst, arith, rules, zero-add, Bool, true, false, is_some, Option, Some, None, [], if◌then◌else◌, slice_get}
+use Rattle.std.specs.List.{range_with_len}
 use Rattle.std.proofs.lemmas.Bool.{cases_lt}
 use Rattle.std.proofs.lemmas.Option.{slice_get-get_or}
 use Rattle.std.proofs.lemmas.List.FromFn.{length-range_with_len, get_or-range_with_len}
 use Rattle.std.specs.Prelude.{nat_lt}
-use Rattle.sm_agent.specs.declared.base.Base.{Base as AgentBase}
-use Rattle.sm_agent.specs.declared.slot.Slot.{Slot}
 use Rattle.sm_agent.specs.Order.{cell_load}
 use Rattle.sm_network.specs.Words.{opened, sizes_of}
-use Rattle.sm_network.specs.Controller.{Controller}
 use Rattle.sm_network.specs.Fleet.{Fleet, Server as FleetServer, has_lost}
-use Rattle.sm_network.specs.FleetLaws.{ArePermits, HasAskedUnder}
+use Rattle.sm_network.specs.FleetLaws.{HasAskedUnder}
 use Rattle.sm_network.specs.FleetReopening.{IsSettledServer, agent_settled}
 use Rattle.sm_network.specs.Reopening.{Base, Server, Settlement, Settling, is_settled_at, settled_base}
-use Rattle.sm_network.specs.ReopeningLaws.{EachSettling, IsSettlingReached}
+use Rattle.sm_network.specs.ReopeningLaws.{EachSettling}
 use Rattle.sm_reopening_laws.specs.FleetInForce.{FleetIsThere, IsFleetInForce, IsNoServer}
 use Rattle.sm_reopening_laws.specs.Service.{EachService, Reopens, Runs}
 use Rattle.sm_reopening_laws.specs.ServiceLaws.{CanOpen, IsWithinLaws}
