@@ -17,7 +17,7 @@ use Rattle.sm_network.specs.Words.{IsOpening}
 use Rattle.sm_network.specs.Reopening.{Confirm, Entries, Fence, Fenced, Inventory, MapOwner, Message, Records, Reopen, Restore, Server, Settle, Settled, Settlement, Settling, SettlingEvent, Slots, Unknown, entered, records, sends, settle_by, settling_comes, settling_run, to_each}
 use Rattle.sm_network.specs.ReopeningLaws.{AllSettlingFit, EachSettling, IsSettlingReached, Keeps, MaySettle, OpensWithPast}
 use Rattle.sm_network.proofs.Lists.{all_append, all_map}
-use Rattle.sm_reopening_laws.specs.Floors.{AreUpKnown, ConfirmsNone, FloorsStay, counts_as, had_place, counts_at, replicas}
+use Rattle.sm_reopening_laws.specs.Floors.{AreUpKnown, ConfirmsNone, FloorsStay, counts_as, had_place, is_counted_at, replicas}
 use Rattle.sm_reopening_laws.proofs.Standing.{none_or_some}
 use Rattle.sm_reopening_laws.proofs.Followed.{Follows, IsCurrent, IsFollowed, all_to_each, followed_run}
 use Rattle.sm_reopening_laws.proofs.Numbers.{top}
@@ -202,7 +202,7 @@ module _ (setup : Setup) (x : Settling) (r : IsSettlingReached setup x) (s : Set
       ]
     ]
 
-    replica : (k v : ℕ) → v < length s.setup.servers → is_live (s.place.cells k) s.place.down v ≡ true → counts_at y s k v ≡ true
+    replica : (k v : ℕ) → v < length s.setup.servers → is_live (s.place.cells k) s.place.down v ≡ true → is_counted_at y s k v ≡ true
     replica k v l e =
         let p = and_parts (not (s.place.down v)) (is_secondary (s.place.cells k v) || serves_as (s.place.cells k) v (s.place.cells k v)) e in
         let up = not-true (s.place.down v) p.0 in
@@ -215,7 +215,7 @@ module _ (setup : Setup) (x : Settling) (r : IsSettlingReached setup x) (s : Set
     floor_under_way : (k : ℕ) → k < (sizes_of s.setup).shards → (sizes_of s.setup).floor k ≤ replicas y s k
     floor_under_way k l =
         let a = m.opening.settled.floors k l in
-        let b = count_more (length s.setup.servers) (is_live (s.place.cells k) s.place.down) (counts_at y s k) (λ v i e. replica k v i e) in
+        let b = count_more (length s.setup.servers) (is_live (s.place.cells k) s.place.down) (is_counted_at y s k) (λ v i e. replica k v i e) in
         omega arith
 
     floor_settled : ((k v : ℕ) → (y.bases (Server v)).nonce ≡ None → y.world.net.cells k v ≡ s.place.cells k v) → (k : ℕ) → k < (sizes_of s.setup).shards → (sizes_of s.setup).floor k ≤ live_at (sizes_of s.setup) (had_place y s) k

@@ -24,12 +24,12 @@ counts_as cell.Primary settled = true
 counts_as _ settled = is_primary settled
 
 -- a server is up by the settlement, has its slots, and has a replica of the shard that counts
-abbrev pub counts_at : Settling → Settlement → ℕ → ℕ → Bool
-counts_at x s k v = not (s.place.down v) && (is_none (x.bases (Server v)).nonce && counts_as (x.world.net.cells k v) (s.place.cells k v))
+abbrev pub is_counted_at : Settling → Settlement → ℕ → ℕ → Bool
+is_counted_at x s k v = not (s.place.down v) && (is_none (x.bases (Server v)).nonce && counts_as (x.world.net.cells k v) (s.place.cells k v))
 
 -- how many servers have one
 abbrev pub replicas : Settling → Settlement → ℕ → ℕ
-replicas x s k = count_below (length s.setup.servers) (counts_at x s k)
+replicas x s k = count_below (length s.setup.servers) (is_counted_at x s k)
 
 -- only servers that are down by the settlement have lost their slots, or wait for them
 abbrev pub AreUpKnown : Settling → Settlement → Type 0
