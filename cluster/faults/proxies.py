@@ -35,22 +35,30 @@ class Link:
         self.dice.counts[f"{self.dice.kind} {what}"] += 1
 
 
-async def send_late(writer: Writer, line: bytes, seconds: float) -> None:
-    """Writes a line later. Lines behind it may overtake it."""
+async def send_late(writer: Writer, line: bytes, seconds: float, link: Link | None) -> None:
+    """Writes a line later. Lines behind it may overtake it. If its connection has ended by then, it gets one of its own to the far end of a link."""
     await asyncio.sleep(seconds)
     if not writer.is_closing():
         writer.write(line)
+    elif link is not None and not link.is_cut and not link.holds(line[:40]):
+        try:
+            _, far_writer = await asyncio.open_connection(link.host, link.port)
+            far_writer.write(line)
+            await asyncio.sleep(1.0)
+            far_writer.close()
+        except OSError:
+            pass
 
 
-async def relay_lines(reader: Reader, writer: Writer, link: Link) -> None:
-    """Carries lines one way, each by its own luck."""
+async def relay_lines(reader: Reader, writer: Writer, link: Link, outlives: bool = False) -> None:
+    """Carries lines one way, each by its own luck. A late one may outlive the connection: it comes all the same when the far end runs again."""
     late: set[asyncio.Task[None]] = set()
 
     def send(line: bytes, seconds: float) -> None:
         if not seconds:
             writer.write(line)
             return
-        task = asyncio.create_task(send_late(writer, line, seconds))
+        task = asyncio.create_task(send_late(writer, line, seconds, link if outlives else None))
         late.add(task)
         task.add_done_callback(late.discard)
 
@@ -65,7 +73,7 @@ async def relay_lines(reader: Reader, writer: Writer, link: Link) -> None:
 
 async def relay_line_pairs(reader: Reader, writer: Writer, far: Reader, far_writer: Writer, link: Link) -> None:
     """Carries requests and replies, which are lines, both ways until one side ends."""
-    await until_one_ends(relay_lines(reader, far_writer, link), relay_lines(far, writer, link))
+    await until_one_ends(relay_lines(reader, far_writer, link, outlives=True), relay_lines(far, writer, link))
 
 
 async def relay_bytes(reader: Reader, writer: Writer, link: Link) -> None:

@@ -36,6 +36,35 @@ class ProxyTest(unittest.IsolatedAsyncioTestCase):
         link = Link("order k a", Dice(1, "order k a", Rates(), Counter()), "127.0.0.1", 1, held=(b'"order"',))
         self.assertEqual([link.holds(it) for it in (b'{"id":1,"order":{}}', b'{"id":2,"fence":{}}')], [True, False])
 
+    async def test_copy_outlives_connection(self):
+        ports, found = Ports(), []
+        far, near = ports.take(2)
+
+        async def once(reader, writer):
+            """Takes one line, and ends the connection."""
+            found.append(await reader.readline())
+            writer.close()
+
+        server = await asyncio.start_server(once, "127.0.0.1", far)
+        link = Link("order k a", Dice(1, "order k a", Rates(repeat=1.0, longest=0.02), Counter()), "127.0.0.1", far)
+        proxy = await open_proxy(near, RELAYS["lines"], link)
+        reader, writer = await asyncio.open_connection("127.0.0.1", near)
+        link.dice.lateness_of_copy = lambda: 0.3
+        writer.write(b"one\n")
+        await reader.read()
+        await asyncio.sleep(0.1)
+        self.assertEqual(found, [b"one\n"])
+        for _ in range(100):
+            if len(found) == 2:
+                break
+            await asyncio.sleep(0.05)
+        self.assertEqual(found, [b"one\n", b"one\n"])
+        await asyncio.sleep(1.1)
+        writer.close()
+        server.close()
+        proxy.close()
+        ports.end()
+
     async def lines_through(self, rates, count=200, seed=1):
         """What comes back of some lines."""
         counts = Counter()
