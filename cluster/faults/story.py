@@ -291,14 +291,14 @@ class Story:
         """Notes that a server goes down under its permit, or is up again."""
         self.permits.append({"server": name, "t": time.monotonic_ns(), "kind": "permit", "down": is_down})
 
-    async def approved(self, name: str, by: str, seconds: float = 12.0) -> int | None:
+    async def approved(self, name: str, by: str) -> int | None:
         """Asks for leave until it is given, while no new plan names the server; None if it is not given."""
         if "restart-without-approval" in self.cluster.bugs:
             return 0
         is_avoided = name in self.mover.avoided
         self.mover.avoided.add(name)
         try:
-            reply, until = {}, time.monotonic() + seconds
+            reply, until = {}, time.monotonic() + self.operator.patience / 6
             while time.monotonic() < until:
                 reply = await self.operator.do({"do": "approve", "server": name, "by": by})
                 if "approved" in reply:
