@@ -104,7 +104,8 @@ class Run:
         """Runs all of it, and ends every process."""
         try:
             await self.cluster.start()
-            self.tell(f"{self.settings.shape.servers} servers, {self.settings.shape.controllers} controllers and {len(self.cluster.members)} members of etcd run; "
+            shape = self.settings.shape
+            self.tell(f"{shape.servers} servers, {shape.controllers} controllers and {len(self.cluster.members)} members of etcd run; "
                       f"a page is at http://127.0.0.1:{next(iter(self.cluster.pages.values()))}/; the session is {self.cluster.program}")
             journal = os.urandom(JOURNAL_BITS // 8).hex().lstrip("0") or "1"
             await self.story.open(journal)

@@ -108,14 +108,20 @@ class Storm:
         self.sums.add(seed, result)
         faults = result.verdict.faults
         if told.figures is not None:
-            with told.figures.open("a") as file:
-                file.write(json.dumps({"seed": seed, "faults": faults, "situations": result.situations, "counts": result.counts + result.verdict.counts,
-                                       "failovers": result.failovers, "handovers": result.handovers, "clients": result.clients}) + "\n")
+            self.append_figures(seed, result)
         print(f"seed {seed}: {len(faults)} violations, {result.clients.get('requests', 0)} requests, {result.counts['moves']} moves, "
               f"{result.counts['restarts']} restarts, {len(result.situations)} situations, {time.monotonic() - begun:.0f} s" + "".join(f"\n    {it}" for it in faults[:5]), flush=True)
         if faults and told.keep:
             shutil.copytree(directory, told.keep / str(seed), dirs_exist_ok=True, ignore=shutil.ignore_patterns("*.sock", "etcd-*"))
         shutil.rmtree(directory, ignore_errors=True)
+
+    def append_figures(self, seed: int, result: Result) -> None:
+        """Appends the figures of a run to the file that was named."""
+        counts = result.counts + result.verdict.counts
+        figures = {"seed": seed, "faults": result.verdict.faults, "situations": result.situations, "counts": counts, "failovers": result.failovers,
+                   "handovers": result.handovers, "clients": result.clients}
+        with self.told.figures.open("a") as file:
+            file.write(json.dumps(figures) + "\n")
 
 
 def report(sums: Sums) -> str:
