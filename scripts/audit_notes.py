@@ -49,6 +49,7 @@ NOTES = {
     "permit_ends_once": "that a restart ends at all",
     "order_acts_once": "that an order has its effect at all",
     "old_orders_rest": "that servers answer such orders",
+    "can_open": "that a settlement is ever in force",
     "approved_where_reserved": NOTHING,
     "ends_are_reached": "that all plans are done some day",
     "decide": "that it looks at each shard once",
