@@ -364,16 +364,27 @@ class Story:
         self.tell(f"a new journal is opened without a reopening: {'opened' if 'opened' in told else told}")
 
     async def promote(self, state: Line) -> None:
-        """Makes a secondary the primary of each shard that a reopening left without one."""
-        streams = []
-        for shard in state["shards"]:
-            has = {it["server"]: it["state"] for it in shard["cells"]}
-            if has and "primary" not in has.values():
-                streams.append(promote_stream(shard, sorted(has)[0]))
+        """Makes the secondary that has most writes the primary of each shard that a reopening left without one."""
+        bare = [it for it in state["shards"] if it["cells"] and all(cell["state"] != "primary" for cell in it["cells"])]
+        positions = await self.positions() if bare else {}
+        streams = [promote_stream(shard, most_written(shard, positions)) for shard in bare]
         if streams:
             self.counts["secondaries promoted"] += len(streams)
             reply = await self.operator.do({"do": "begin", "plan": plan_of(streams), "name": self.name("promote")})
             self.tell(f"{len(streams)} shards without a primary: {'promoted' if 'begun' in reply else reply}")
+
+    async def positions(self) -> dict[tuple[str, str], int]:
+        """Returns the last write of each replica, by shard and server, as the servers tell it."""
+        found = {}
+        for name in sorted(self.alive):
+            channel = Channel(Address("127.0.0.1", self.cluster.ports[name].control))
+            try:
+                for slot in (await channel.ask(5.0, audit={}))["audit"]["slots"]:
+                    found[slot["shard"], name] = slot["position"]
+            except Failed:
+                pass
+            channel.close()
+        return found
 
     async def state(self) -> Line:
         """What is recorded, nothing if no epoch is in force."""
@@ -389,6 +400,11 @@ class Story:
                 return True
             await asyncio.sleep(0.05)
         return False
+
+
+def most_written(shard: Line, positions: dict[tuple[str, str], int]) -> str:
+    """Returns the server whose replica has most writes: another one would lack some that were executed."""
+    return max(sorted(it["server"] for it in shard["cells"]), key=lambda name: positions.get((shard["shard"], name), -1))
 
 
 def without(state: Line, document: Line, lost: set[str]) -> Line:
