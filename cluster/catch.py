@@ -43,7 +43,7 @@ RATES_OF = {"no-numbers": MANY_COPIES, "slot-deleted": MANY_COPIES}
 WORKERS_OF = {"fence-while-passed": 1, "cut-unheeded": 1, "commit-after-fence": 2, "settle-twice": 2}
 
 
-# What is told of a run that gave no verdict.
+# The words for a run that gave no verdict.
 NO_END = "the run did not come to its end"
 
 

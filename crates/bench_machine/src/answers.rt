@@ -45,7 +45,7 @@ fn begin(
     }
 }
 
-/// Answers what a stream stands before, if anything. Returns whether its step was made.
+/// Answers the present order of a stream, if it has one. Returns whether its step was made.
 fn answer(driver: &mut Driver, id: StreamId) -> bool {
     match driver.message(id) {
         Some(StreamMessage::Order(order)) => {
@@ -55,7 +55,7 @@ fn answer(driver: &mut Driver, id: StreamId) -> bool {
     }
 }
 
-/// Answers what each stream of so many plans stands before, once. Returns how many steps were made so.
+/// Answers the present order of each stream of these plans, once. Returns the number of steps made.
 fn answer_each(driver: &mut Driver, plans: u32, streams: u32) -> u64 {
     let mut made = 0u64;
     for plan in 0..plans {
@@ -68,7 +68,7 @@ fn answer_each(driver: &mut Driver, plans: u32, streams: u32) -> u64 {
     made
 }
 
-/// Counts the streams of so many plans that have made their end.
+/// Counts the streams of these plans that have ended.
 fn ended(driver: &Driver, plans: u32, streams: u32) -> u32 {
     let machine = driver.machine();
     let mut count = 0u32;
@@ -83,7 +83,7 @@ fn ended(driver: &Driver, plans: u32, streams: u32) -> u32 {
     count
 }
 
-/// Answers all orders of so many plans, which run side by side.
+/// Answers all orders of `plans` plans, which run side by side.
 fn answer_all(
     driver: &mut Driver,
     rt: &impl Clock,
@@ -108,7 +108,7 @@ fn answer_all(
     Ok(counted)
 }
 
-/// What the answers take to all orders of so many plans.
+/// Measures the answers to all orders of `plans` plans.
 pub(crate) fn answers_of(
     rt: &impl Clock,
     alloc: Global,

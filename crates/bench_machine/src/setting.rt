@@ -48,13 +48,13 @@ pub(crate) const DRIVEN: Setting = Setting {
     length: 64,
 };
 
-/// How many shards the streams touch, whatever their number is.
+/// The number of shards that the streams touch, however many streams there are.
 const TOUCHED: u32 = 4;
 
-/// How many calls a stream makes from one signal to the next, where it has any.
+/// The number of calls that a stream makes from one signal to the next, if it has any.
 const EVERY: u32 = 8;
 
-/// What stands in the codes of a plan's streams.
+/// The instructions that a plan's streams are made of.
 #[derive(Clone, Copy, PartialEq, Eq)]
 pub(crate) enum Codes {
     /// Calls alone.
@@ -132,7 +132,7 @@ fn cell_of(number: u32) -> (ShardId, ServerId) {
     )
 }
 
-/// How many signals go from an even stream of so many calls to the odd one behind it.
+/// Returns the number of signals from an even stream of `length` calls to the odd one behind it.
 const fn signals_between(length: u32) -> u32 {
     length.div_ceil(EVERY)
 }

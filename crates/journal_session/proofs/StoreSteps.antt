@@ -32,7 +32,7 @@ module _ {D : Type 0} (moment : D → ℕ) (written_at : D → ℕ → List ℕ)
       inr (subst (λ m. left_at old m content) same (passes.before (moment new) content past left)))
       (cases_lt (moment old) (moment new))
 
-  -- a store of which nothing was read
+  -- a store that was not read yet
   pub read_none : (store : D) → WasRead moment written_at left_at store store
   read_none store = record {
     same = refl;

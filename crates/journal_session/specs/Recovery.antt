@@ -1,4 +1,4 @@
--- What a recovery makes of a store, and what a crash leaves meanwhile. `StartsAs`, `ComesNext`, `IsFront`, `WasRead` and `HasReplayed` are steps of the code's own way:
+-- Recovery: the effect on a store, and the content that a crash leaves meanwhile. `StartsAs`, `ComesNext`, `IsFront`, `WasRead` and `HasReplayed` are steps of the code's own way:
 -- whoever reads the public contracts need not read them.
 use Rattle.std.specs.Prelude.{◌≡◌, ◌≤◌, ◌<◌, ◌⊎◌, ◌+◌, ℕ, List, [], ◌∷◌, ◌++◌, length, take, drop, All}
 use Rattle.journal_lines.specs.declared.reading.Reading.{Reading}
@@ -62,7 +62,7 @@ pub record ComesNext (text : List ℕ) (at : ℕ) (bytes : List ℕ) : Type 0 wh
   pub within : length bytes ≤ length (drop at text)
   pub last : length bytes ≡ 0 → length text ≤ at
 
--- a text begins with this front, which is all of it or has more than so many bytes
+-- a text begins with this front, which is the whole text or has more than `most` bytes
 pub record IsFront (text : List ℕ) (most : ℕ) (front : List ℕ) : Type 0 where
   pub is : front ≡ take (length front) text
   pub within : length front ≤ length text
@@ -73,7 +73,7 @@ pub record WasRead {D : Type 0} (moment : D → ℕ) (written_at : D → ℕ →
   pub same : written_now moment written_at new ≡ written_now moment written_at old
   pub time : Passes moment written_at left_at old new (written_now moment written_at old) (MayLeave moment left_at old)
 
--- so many bytes of a text were read: the head, lines that have these batches, and an open line
+-- the first `at` bytes of a text were read: the head, lines with these batches, and an open line
 pub record HasReplayed (text : List ℕ) (at : ℕ) (reading : Reading) (batches : List (List (List ℕ))) (open_line : List ℕ) : Type 0 where
   pub lines : List ℕ
   pub reads : Reads reading lines batches

@@ -10,7 +10,7 @@ use Rattle.journal_session.specs.Session.{GrowsWithin, RecoversBeyond}
 abbrev pub HasAtLeast : List (List ℕ) → List ℕ → Type 0
 HasAtLeast told content = (more : List (List ℕ)) × RecoversTo content (told ++ more)
 
--- What was found, and the first of these exchanges, so many, are safe: nothing was written but of their replies. If something was, a crash now leaves what was
+-- The commands found, and the first `safe` of these exchanges, are safe: nothing was written but of their replies. If something was, a crash now leaves what was
 -- found with what they changed. At each moment of the call a crash left what it might have left before, or what was found with what the first of the exchanges
 -- changed.
 pub record HasResumed {D : Type 0} (moment : D → ℕ) (written_at : D → ℕ → List ℕ) (left_at : D → ℕ → List ℕ → Type 0)

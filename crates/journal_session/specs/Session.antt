@@ -33,7 +33,7 @@ pub record IsServed (input : List ℕ) (before after : Option (List ℕ)) (trace
   pub are : lines_taken input ≡ lines_in trace
   pub told : Appends before after (replies_in trace)
 
--- the content recovers to these commands, and what the first of these exchanges changed, so many of them or more
+-- the content recovers to these commands, and the changes of the first `least` of these exchanges or of more
 abbrev pub RecoversBeyond : List (List ℕ) → List Exchange → ℕ → List ℕ → Type 0
 RecoversBeyond entries trace least content =
     (k : ℕ) × (least ≤ k) × (k ≤ length trace) × RecoversTo content (entries ++ changes_in (take k trace))
@@ -43,7 +43,7 @@ abbrev pub EachRecovers : {D : Type 0} → (D → ℕ) → (D → ℕ → List �
 EachRecovers {D} moment written_at left_at entries trace old new = (n : ℕ) (content : List ℕ) → moment old ≤ n → n ≤ moment new
     → left_at new n content → HasNoForged (written_at new n) content → RecoversBeyond entries trace 0 content
 
--- The first of these exchanges, so many, are safe: nothing was written but of their replies, what a crash now leaves has what they changed, and at each moment
+-- The first `safe` of these exchanges are safe: nothing was written but of their replies, what a crash now leaves has what they changed, and at each moment
 -- of the call a crash left what the first of the exchanges changed, none skipped and none in part. What was before the call is as it was.
 pub record AreSafe {D : Type 0} (moment : D → ℕ) (written_at : D → ℕ → List ℕ) (left_at : D → ℕ → List ℕ → Type 0)
     (entries : List (List ℕ)) (trace : List Exchange) (before after : Option (List ℕ)) (old new : D) (safe : ℕ) : Type 0 where
