@@ -34,15 +34,7 @@ are_done w e k l = none_pass (is_unfinished w) 0 (length w.plans) e k (omega ari
 -- so a placement at rest is settled
 pub rest_is_settled : (setup : Setup) (w : State) → IsReached setup w → AreDone w → IsSafePlace w.sizes w.place → shard_spent w ≡ None → IsSettled w.sizes w.place
 rest_is_settled setup w reached done safe none =
-    let rests = rests_settled setup w reached done safe in
-    record {
-      leads = rests.leads;
-      listed = rests.listed;
-      rooms = rests.rooms;
-      floors = rests.floors;
-      down = rests.down;
-      versions = λ s l. low s (nat_lt MOST_VERSION (w.place.version s)) refl (first_from_none spent 0 w.sizes.shards none s (omega arith) (omega arith));
-    }
+    rests_settled setup w reached done safe (λ s l. low s (nat_lt MOST_VERSION (w.place.version s)) refl (first_from_none spent 0 w.sizes.shards none s (omega arith) (omega arith)))
   where
     spent : ℕ → Option ℕ
     spent s = if nat_lt MOST_VERSION (w.place.version s) then Some s else None

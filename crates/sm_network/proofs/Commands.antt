@@ -1,8 +1,9 @@
 -- What the controller records keeps the fleet as its shade.
 use Rattle.std.proofs.Common.{◌≡◌, ℕ, ◌+◌, ◌≤◌, ◌<◌, refl, sym, ap, ◌∙◌, inl, inr, subst, arith, not, Bool, true, false, Option, Some, None, [], ◌∷◌, ◌++◌, length}
-use Rattle.std.specs.Prelude.{if◌then◌else◌, is_none, is_some, slice_get}
+use Rattle.std.specs.Prelude.{◌&&◌, if◌then◌else◌, is_none, is_some, nat_lt, slice_get}
 use Rattle.std.specs.List.{AllByRecursion}
-use Rattle.std.proofs.lemmas.Bool.{and_parts, not-true}
+use Rattle.std.proofs.lemmas.Bool.{and_parts, ltb-false, not-true}
+use Rattle.sm_placement.specs.declared.limits.TheConstants.{MOST_VERSION}
 use Rattle.sm_placement.specs.Setup.{Setup, Sizes, sizes_of}
 use Rattle.sm_placement.specs.Place.{Place, down_count}
 use Rattle.sm_protocol.proofs.Safety.{is_safe}
@@ -24,7 +25,7 @@ use Rattle.sm_protocol.proofs.SmallNumbers.{numbers_stay_small}
 use Rattle.sm_network.specs.Net.{Answer, Control, Net, Order, Quiet, answer_taken, at_place, call_now, cell_above, comes, instruction_call, controlled, is_awaited, is_own, order_of}
 use Rattle.sm_network.specs.World.{Inner, Publication, Stored as StoredEvent, World, acknowledged, by_place, is_answered_by, is_withheld, publication_by, publication_for, publication_now, publication_of, within, world_comes}
 use Rattle.sm_network.specs.WorldLaws.{IsWorldOpening, IsWorldReached, reopened_world}
-use Rattle.sm_network.specs.Controller.{Answered, Controller, EPOCH, Ended, JournalEntry, Made as MadeEntry, Opened, Restored, Stored, goes_on, has_no_plan, is_permitted, needs_nobody, permits_after, entry_recorded, rested, restore_for}
+use Rattle.sm_network.specs.Controller.{Answered, Controller, EPOCH, Ended, JournalEntry, Made as MadeEntry, Opened, Restored, Stored, goes_on, has_no_plan, is_permitted, needs_nobody, permits_after, are_versions_low, entry_recorded, restore_for}
 use Rattle.sm_network.specs.Fleet.{Fleet, controller, held_cells, written}
 use Rattle.sm_network.specs.FleetLaws.{HasAskedUnder}
 use Rattle.sm_network.proofs.Behind.{HasNoSteps, behind_all, behind_next, present_engages}
@@ -32,6 +33,7 @@ use Rattle.sm_network.proofs.Finish.{none_below}
 use Rattle.sm_network.proofs.GoingOn.{can_reopen_onward}
 use Rattle.sm_network.proofs.Lists.{all_map, all_push}
 use Rattle.sm_network.proofs.Logged.{told}
+use Rattle.sm_network.proofs.Numbered.{versions_rise}
 use Rattle.sm_network.proofs.Present.{AreInOrder, net_in_order}
 use Rattle.sm_network.proofs.Raised.{opened_plain, real_is_at_ends, real_is_near, record_is_reached}
 use Rattle.sm_network.proofs.Shade.{IsAmong, world_next}
@@ -281,6 +283,11 @@ restored_shadow setup low f k v nonce asked = restored_case setup low f k v nonc
 pub done_at_rest : (w : State) → has_no_plan w ≡ true → AreDone w
 done_at_rest w t i l = none_below (length w.plans) (is_unfinished w) (not-true (any_below (length w.plans) (is_unfinished w)) t) i l
 
+-- if versions are low, so is that of each shard
+versions_low : (w : State) → are_versions_low w ≡ true → (s : ℕ) → s < w.sizes.shards → w.place.version s ≤ MOST_PLACES
+versions_low w t s l = ltb-false MOST_PLACES (w.place.version s)
+    (none_below w.sizes.shards (λ s. nat_lt MOST_PLACES (w.place.version s)) (not-true (any_below w.sizes.shards (λ s. nat_lt MOST_PLACES (w.place.version s))) t) s l)
+
 -- then no stream publishes
 none_publishes_now : (base : ℕ) (w : State) → AreDone w → (id : StreamId) (p : Publication) → publication_of base w id ≡ Some p → ⊥
 none_publishes_now base w done id p e = go (is_running w id) refl e
@@ -316,61 +323,67 @@ higher setup x base o l = record {
 none_begun : (c : Sizes) (p : Place) (room : ℕ) (id : StreamId) → is_begun (opened c p room) id ≡ true → ⊥
 none_begun c p room id b = let l = (begun_parts (opened c p room) id b).0 in absurd (omega arith)
 
-epoch_case : (setup : Setup) (low : ℕ → ℕ → ℕ) (f : Fleet) (k : IsShadow setup low f) (room : ℕ) → (down_count (sizes_of setup) (controller f).w.place ≤ room) × (room ≤ MOST_PLACES) → (b : Bool) → has_no_plan (controller f).w ≡ b → IsShadow setup low (written f (Opened room))
+epoch_case : (setup : Setup) (low : ℕ → ℕ → ℕ) (f : Fleet) (k : IsShadow setup low f) (room : ℕ) → (down_count (sizes_of setup) (controller f).w.place ≤ room) × (room ≤ MOST_PLACES) → (b : Bool) → (has_no_plan (controller f).w && are_versions_low (controller f).w) ≡ b → IsShadow setup low (written f (Opened room))
 epoch_case setup low f k room opens false t = nothing_written setup low f (Opened room) k
-    (ap (λ b. if b then record (controller f) { w = opened (controller f).w.sizes (rested (controller f).w) room; base = (controller f).base + EPOCH } else controller f) t)
+    (ap (λ b. if b then record (controller f) { w = opened (controller f).w.sizes (controller f).w.place room; base = (controller f).base + EPOCH } else controller f) t)
 epoch_case setup low f k room opens true t =
-    to_controller setup low f (Opened room) k new (ap (λ b. if b then record (controller f) { w = opened (controller f).w.sizes (rested (controller f).w) room; base = (controller f).base + EPOCH } else controller f) t) going reached
+    to_controller setup low f (Opened room) k new (ap (λ b. if b then record (controller f) { w = opened (controller f).w.sizes (controller f).w.place room; base = (controller f).base + EPOCH } else controller f) t) going reached
     (restores_go setup low f (Opened room) k new going)
   where
     new : Controller
-    new = record (controller f) { w = opened (controller f).w.sizes (rested (controller f).w) room; base = (controller f).base + EPOCH }
+    new = record (controller f) { w = opened (controller f).w.sizes (controller f).w.place room; base = (controller f).base + EPOCH }
 
     x : World
     x = world_by (controller f) (held_cells f) f.shown k.shade
 
+    guards : (has_no_plan (controller f).w ≡ true) × (are_versions_low (controller f).w ≡ true)
+    guards = and_parts (has_no_plan (controller f).w) (are_versions_low (controller f).w) t
+
     done : AreDone (controller f).w
-    done = done_at_rest (controller f).w t
+    done = done_at_rest (controller f).w guards.0
+
+    low_versions : (s : ℕ) → s < (controller f).w.sizes.shards → (controller f).w.place.version s ≤ MOST_VERSION
+    low_versions s l = let a = versions_low (controller f).w guards.1 s l in omega arith
 
     fits : length (controller f).w.log ≤ MOST_PLACES
     fits = log_fits setup (controller f).w (state_reached setup low f k)
 
-    going : IsGoing (controller f) (record (controller f) { w = opened (controller f).w.sizes (rested (controller f).w) room; base = (controller f).base + EPOCH })
+    going : IsGoing (controller f) (record (controller f) { w = opened (controller f).w.sizes (controller f).w.place room; base = (controller f).base + EPOCH })
     going = record {
       journal = refl;
       fence = refl;
       sizes = refl;
       base = omega arith;
       top = (let a = fits in omega arith);
-      behind = λ v number top behind id b e. absurd (none_begun (controller f).w.sizes (rested (controller f).w) room id b);
+      behind = λ v number top behind id b e. absurd (none_begun (controller f).w.sizes (controller f).w.place room id b);
     }
 
-    opening : IsOpening setup (rested (controller f).w) room
-    opening = rests_opening setup (controller f).w (state_reached setup low f k) done (is_safe (controller f).w (reached_keeps setup (controller f).w (state_reached setup low f k)).0 (has_room setup (controller f).w (state_reached setup low f k))).place room
+    opening : IsOpening setup (controller f).w.place room
+    opening = rests_opening setup (controller f).w (state_reached setup low f k) done (is_safe (controller f).w (reached_keeps setup (controller f).w (state_reached setup low f k)).0 (has_room setup (controller f).w (state_reached setup low f k))).place low_versions room
         (subst (λ (z : Sizes). down_count z (controller f).w.place ≤ room) (sym k.sizes) opens.0) opens.1
 
     cells : (s v : ℕ) → held_cells f s v ≡ (controller f).w.place.cells s v
     cells s v =
         real_is_at_ends setup (world_by (controller f) (held_cells f) f.shown k.shade).net (net_is_reached setup (world_by (controller f) (held_cells f) f.shown k.shade) k.reached) done s v
         ∙ (ap (cell_above (controller f).base) (sym ((ends_are_reached setup (controller f).w (state_reached setup low f k) done).1.cells s v))
-        ∙ (opened_plain (controller f).base setup (rested (controller f).w) room opening s v).0)
+        ∙ (opened_plain (controller f).base setup (controller f).w.place room opening s v).0)
 
     listed : (s : ℕ) → (f.shown s).server ≡ (controller f).w.place.listed s
     listed s = (shown_is_recorded setup (world_by (controller f) (held_cells f) f.shown k.shade) k.reached (λ id p e h. none_publishes_now (controller f).base (controller f).w done id p e) s).server
 
-    first : IsWorldOpening setup (reopened_world (world_by (controller f) (held_cells f) f.shown k.shade) (sizes_of setup) (rested (controller f).w) room)
-    first = can_reopen_onward setup (world_by (controller f) (held_cells f) f.shown k.shade) k.reached done (rested (controller f).w) room opening cells listed (λ s. omega arith)
+    first : IsWorldOpening setup (reopened_world (world_by (controller f) (held_cells f) f.shown k.shade) (sizes_of setup) (controller f).w.place room)
+    first = can_reopen_onward setup (world_by (controller f) (held_cells f) f.shown k.shade) k.reached done (controller f).w.place room opening cells listed (versions_rise setup (controller f).w (state_reached setup low f k))
 
     start : World
     start = world_by new (held_cells f) f.shown k.shade
 
-    second : IsWorldOpening setup (world_by (record (controller f) { w = opened (controller f).w.sizes (rested (controller f).w) room; base = (controller f).base + EPOCH }) (held_cells f) f.shown k.shade)
-    second = subst (λ (c : Sizes). IsWorldOpening setup (world_by (record (controller f) { w = opened c (rested (controller f).w) room; base = (controller f).base + EPOCH }) (held_cells f) f.shown k.shade)) (sym k.sizes)
-        (higher setup (reopened_world (world_by (controller f) (held_cells f) f.shown k.shade) (sizes_of setup) (rested (controller f).w) room) ((controller f).base + EPOCH) first (let a = fits in omega arith))
+    second : IsWorldOpening setup (world_by (record (controller f) { w = opened (controller f).w.sizes (controller f).w.place room; base = (controller f).base + EPOCH }) (held_cells f) f.shown k.shade)
+    second = subst (λ (c : Sizes). IsWorldOpening setup (world_by (record (controller f) { w = opened c (controller f).w.place room; base = (controller f).base + EPOCH }) (held_cells f) f.shown k.shade)) (sym k.sizes)
+        (higher setup (reopened_world (world_by (controller f) (held_cells f) f.shown k.shade) (sizes_of setup) (controller f).w.place room) ((controller f).base + EPOCH) first (let a = fits in omega arith))
 
-    reached : IsWorldReached setup (world_by (record (controller f) { w = opened (controller f).w.sizes (rested (controller f).w) room; base = (controller f).base + EPOCH }) (held_cells f) f.shown k.shade)
-    reached = record { start = world_by (record (controller f) { w = opened (controller f).w.sizes (rested (controller f).w) room; base = (controller f).base + EPOCH }) (held_cells f) f.shown k.shade; opening = second; events = []; fit = tt; state = refl }
+    reached : IsWorldReached setup (world_by (record (controller f) { w = opened (controller f).w.sizes (controller f).w.place room; base = (controller f).base + EPOCH }) (held_cells f) f.shown k.shade)
+    reached = record { start = world_by (record (controller f) { w = opened (controller f).w.sizes (controller f).w.place room; base = (controller f).base + EPOCH }) (held_cells f) f.shown k.shade; opening = second; events = []; fit = tt; state = refl }
 
 -- the next epoch opens at rest, with all that was sent before still about
 pub epoch_shadow : (setup : Setup) (low : ℕ → ℕ → ℕ) (f : Fleet) (k : IsShadow setup low f) (room : ℕ) → (down_count (sizes_of setup) (controller f).w.place ≤ room) × (room ≤ MOST_PLACES) → IsShadow setup low (written f (Opened room))
-epoch_shadow setup low f k room opens = epoch_case setup low f k room opens (has_no_plan (controller f).w) refl
+epoch_shadow setup low f k room opens = epoch_case setup low f k room opens (has_no_plan (controller f).w && are_versions_low (controller f).w) refl

@@ -1,6 +1,6 @@
 -- Orders of the fleet have their effect once, and in the end servers have what is recorded.
 use Rattle.std.proofs.Common.{◌≡◌, ℕ, zero, suc, ◌+◌, ◌≤◌, ◌<◌, ◌⊎◌, refl, sym, ap, ◌∙◌, inl, inr, subst, arith, Bool, true, false, Option, Some, None, List, [], ◌∷◌, ◌++◌}
-use Rattle.std.specs.Prelude.{◌==◌, count_by, drop, if◌then◌else◌, is_none, nat_lt, slice_get, unwrap_or}
+use Rattle.std.specs.Prelude.{◌==◌, ◌&&◌, count_by, drop, if◌then◌else◌, is_none, nat_lt, slice_get, unwrap_or}
 use Rattle.std.proofs.lemmas.Bool.{and_parts, eqb-true, ltb-true}
 use Rattle.sm_placement.specs.Setup.{Setup, sizes_of}
 use Rattle.sm_placement.specs.Sums.{put, put2}
@@ -21,7 +21,7 @@ use Rattle.sm_agent.specs.Base.{restored}
 use Rattle.sm_network.specs.Net.{Deliver, Order, after_delivery, at_place, call_now, delivered, is_awaited, order_for, order_of}
 use Rattle.sm_network.specs.Laws.{IsFurther, is_for, led_to}
 use Rattle.sm_network.specs.World.{is_answered_by, publication_of}
-use Rattle.sm_network.specs.Controller.{Answered, Controller, EPOCH, Ended, JournalEntry, Letter, Made, Notice, Opened, Restore, Restored, Stored, entry_recorded, goes_on, has_no_plan, is_permitted, needs_nobody, replayed, rested, restore_for}
+use Rattle.sm_network.specs.Controller.{Answered, Controller, EPOCH, Ended, JournalEntry, Letter, Made, Notice, Opened, Restore, Restored, Stored, entry_recorded, are_versions_low, goes_on, has_no_plan, is_permitted, needs_nobody, replayed, restore_for}
 use Rattle.sm_network.specs.Fleet.{Abandon, Commit, End, Fleet, FleetEvent, FleetOutcome, Forget, HearAsk, HearOwner, HearServer, Judge, Make, Open, Publish, Receive, Recover, Seal, SendOrder, SendPublication, Serve, after_commit, after_notice, after_owner, after_reception, after_verdict, after_work, by_message, controller, fleet_comes, fleet_run, has_lost, held_cells, order_read, slot_for, notice_stamp, verdict_of}
 use Rattle.sm_network.specs.FleetLaws.{CommitsWhereUp, AllFleetFit, CommitsOncePerNumber, EachFleet, BeginningsAreHarmless, MapNeverGoesBack, OnlyPresentCommits, ServersAreAtEnds, ServersAreNear, ServersAreRecorded, order_committed, orders_committed}
 use Rattle.sm_network.proofs.AtServer.{IsAway, IsCommit, commit_is, turned}
@@ -331,9 +331,9 @@ entry_keeps c (Restored v nonce) k r e = go (is_none (engaged c.w v))
     go : (b : Bool) → slice_get (if b then record c { restores = c.restores ++ restore_for c v nonce ∷ [] } else c).restores k ≡ Some r
     go true = more c.restores k e
     go false = e
-entry_keeps c (Opened room) k r e = go (has_no_plan c.w)
+entry_keeps c (Opened room) k r e = go (has_no_plan c.w && are_versions_low c.w)
   where
-    go : (b : Bool) → slice_get (if b then record c { w = opened c.w.sizes (rested c.w) room; base = c.base + EPOCH } else c).restores k ≡ Some r
+    go : (b : Bool) → slice_get (if b then record c { w = opened c.w.sizes c.w.place room; base = c.base + EPOCH } else c).restores k ≡ Some r
     go true = e
     go false = e
 

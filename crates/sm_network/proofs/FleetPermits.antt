@@ -21,7 +21,7 @@ use Rattle.sm_agent.specs.Base.{restored}
 use Rattle.sm_agent.specs.Order.{committed, published as judged_by_owner}
 use Rattle.sm_network.specs.Net.{is_awaited}
 use Rattle.sm_network.specs.World.{is_answered_by, publication_of}
-use Rattle.sm_network.specs.Controller.{Answered, Controller, EPOCH, Ended, JournalEntry, Letter, Made, Notice, Opened, Restore, Restored, Stored, entry_recorded, goes_on, has_no_plan, is_permitted, needs_nobody, permits_after, replayed, rested, restore_for}
+use Rattle.sm_network.specs.Controller.{Answered, Controller, EPOCH, Ended, JournalEntry, Letter, Made, Notice, Opened, Restore, Restored, Stored, are_versions_low, entry_recorded, goes_on, has_no_plan, is_permitted, needs_nobody, permits_after, replayed, restore_for}
 use Rattle.sm_network.specs.Fleet.{Abandon, Commit, End, Fleet, FleetEvent, FleetOutcome, Forget, HearAsk, HearOwner, HearServer, Judge, Make, Open, Publish, Receive, Recover, Seal, SendOrder, SendPublication, Serve, after_owner, after_reception, after_verdict, after_work, by_message, controller, fleet_comes, fleet_run, order_read, slot_for, notice_stamp, verdict_of}
 use Rattle.sm_network.specs.FleetLaws.{AllFleetFit, EachFleet, PermitsEndOnce, ends_restart, restarts_ended}
 use Rattle.sm_network.proofs.Commands.{log_fits, log_grows, state_reached}
@@ -169,9 +169,9 @@ entry_on c (Restored v nonce) low most = go (is_none (engaged c.w v))
     go : (b : Bool) → IsOn c (if b then record c { restores = c.restores ++ restore_for c v nonce ∷ [] } else c)
     go true = record { top = omega arith; base = inl refl; step = Same refl }
     go false = on_still c
-entry_on c (Opened room) low most = go (has_no_plan c.w)
+entry_on c (Opened room) low most = go (has_no_plan c.w && are_versions_low c.w)
   where
-    go : (b : Bool) → IsOn c (if b then record c { w = opened c.w.sizes (rested c.w) room; base = c.base + EPOCH } else c)
+    go : (b : Bool) → IsOn c (if b then record c { w = opened c.w.sizes c.w.place room; base = c.base + EPOCH } else c)
     go true = record { top = omega arith; base = inr refl; step = Same refl }
     go false = on_still c
 

@@ -73,27 +73,35 @@ numbers_logged setup w r = by_events setup (λ u. (s : ℕ) → u.numbers s ≤ 
 
 -- ---- versions
 
-one_version : (f : ℕ → ℕ) (r s : ℕ) → put f r (suc (f r)) s ≤ f s + 1
+one_version : (f : ℕ → ℕ) (r s : ℕ) → (f s ≤ put f r (suc (f r)) s) × (put f r (suc (f r)) s ≤ f s + 1)
 one_version f r s = elim (cases_eq s r) [
-  | inl e ↦ (let a = put-here f r (suc (f r)) s e in let b = ap f e in omega arith)
-  | inr n ↦ (let a = put-apart f r (suc (f r)) s n in omega arith)
+  | inl e ↦ (let a = put-here f r (suc (f r)) s e in let b = ap f e in ((omega arith), (omega arith)))
+  | inr n ↦ (let a = put-apart f r (suc (f r)) s n in ((omega arith), (omega arith)))
 ]
 
-module _ (w : State) (most : ℕ → ℕ) (u : (s : ℕ) → w.place.version s ≤ most s + length w.log) where
-  later : (x : Event) (a : Played) (s : ℕ) → w.place.version s ≤ most s + length (logged w x a)
-  later x a s = let l = length_logged w x a in let b = u s in omega arith
+-- no version is below the first one, nor has it risen by more than the log is long
+abbrev AreRising : (ℕ → ℕ) → State → Type 0
+AreRising first w = (s : ℕ) → (first s ≤ w.place.version s) × (w.place.version s ≤ first s + length w.log)
 
-  called_later : (f : ℕ → ℕ) → f ≡ w.place.version → (x : Event) (a : Played) (s : ℕ) → f s ≤ most s + length (logged w x a)
-  called_later f e x a s = subst (λ (g : ℕ → ℕ). g s ≤ most s + length (logged w x a)) (sym e) (later x a s)
+module _ (w : State) (first : ℕ → ℕ) (u : AreRising first w) where
+  later : (x : Event) (a : Played) (s : ℕ) → (first s ≤ w.place.version s) × (w.place.version s ≤ first s + length (logged w x a))
+  later x a s = let l = length_logged w x a in let b = (u s).1 in ((u s).0, omega arith)
 
-  published_later : (r : ℕ) (x : Event) (a : Played) (s : ℕ) → put w.place.version r (suc (w.place.version r)) s ≤ most s + length (logged w x a)
-  published_later r x a s = let l = length_logged w x a in let b = u s in let c = one_version w.place.version r s in omega arith
+  called_later : (f : ℕ → ℕ) → f ≡ w.place.version → (x : Event) (a : Played) (s : ℕ) → (first s ≤ f s) × (f s ≤ first s + length (logged w x a))
+  called_later f e x a s = subst (λ (g : ℕ → ℕ). (first s ≤ g s) × (g s ≤ first s + length (logged w x a))) (sym e) (later x a s)
 
-  abbrev AreEarly : Outcome × State → Type 0
-  AreEarly o = (s : ℕ) → o.1.place.version s ≤ most s + length o.1.log
+  published_later : (r : ℕ) (x : Event) (a : Played) (s : ℕ) →
+      (first s ≤ put w.place.version r (suc (w.place.version r)) s) × (put w.place.version r (suc (w.place.version r)) s ≤ first s + length (logged w x a))
+  published_later r x a s =
+      let l = length_logged w x a in
+      let low = (u s).0 in
+      let high = (u s).1 in
+      let least = (one_version w.place.version r s).0 in
+      let most = (one_version w.place.version r s).1 in
+      ((omega arith), (omega arith))
 
-  versions_by_steps : (id : StreamId) (passage : Passage) → OfSteps w id passage AreEarly
-  versions_by_steps id passage = record {
+  rising_by_steps : (id : StreamId) (passage : Passage) → OfSteps w id passage (λ o. AreRising first o.1)
+  rising_by_steps id passage = record {
     idle = λ answer. u;
     refused = λ i x why t e. u;
     at_end = λ b. later _ _;
@@ -105,11 +113,11 @@ module _ (w : State) (most : ℕ → ℕ) (u : (s : ℕ) → w.place.version s �
     unanswered = λ i x effect t a p. called_later effect.place.version (of_call w.sizes w.place x.shard x.server x.call _ effect a).version _ _;
   }
 
-  stay_early : (e : Happening) → AreEarly (happens w e)
-  stay_early e = of_happens w (λ e o. AreEarly o) (record {
+  stay_rising : (e : Happening) → AreRising first (happens w e).1
+  stay_rising e = of_happens w (λ e o. AreRising first o.1) (record {
     idle = λ e answer n. u;
-    steps = λ id. versions_by_steps id _;
-    loses = λ id after. versions_by_steps id _;
+    steps = λ id. rising_by_steps id _;
+    loses = λ id after. rising_by_steps id _;
     refills = λ id more f. later _ _;
     arrives = λ s v f. later _ _;
     passes_on = λ t o f. later _ _;
@@ -118,7 +126,14 @@ module _ (w : State) (most : ℕ → ℕ) (u : (s : ℕ) → w.place.version s �
     starts = λ plan h f g. u;
   }) e
 
+are_rising : (setup : Setup) (w : State) → IsReached setup w → AreRising w.opening.version w
+are_rising setup w r = by_events setup (λ u. AreRising u.opening.version u) (λ p room o s. ((omega arith), (omega arith)))
+    (λ u e at fits low. subst (λ (m : ℕ → ℕ). AreRising m (happens u e).1) (ap (λ (p : Place). p.version) (sym (same_machine u e).opening)) (stay_rising u u.opening.version low e)) w r
+
+-- no version is below that of the opening
+pub versions_rise : (setup : Setup) (w : State) → IsReached setup w → (s : ℕ) → w.opening.version s ≤ w.place.version s
+versions_rise setup w r s = (are_rising setup w r s).0
+
 -- a shard's version has risen by no more than the log is long
 pub versions_logged : (setup : Setup) (w : State) → IsReached setup w → (s : ℕ) → w.place.version s ≤ w.opening.version s + length w.log
-versions_logged setup w r = by_events setup (λ u. (s : ℕ) → u.place.version s ≤ u.opening.version s + length u.log) (λ p room o s. omega arith)
-    (λ u e at fits low s. subst (λ (m : ℕ → ℕ). (happens u e).1.place.version s ≤ m s + length (happens u e).1.log) (ap (λ (p : Place). p.version) (sym (same_machine u e).opening)) (stay_early u u.opening.version low e s)) w r
+versions_logged setup w r s = (are_rising setup w r s).1

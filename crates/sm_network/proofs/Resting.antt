@@ -27,7 +27,6 @@ use Rattle.sm_protocol.proofs.LogRoom.{has_room}
 use Rattle.sm_protocol.proofs.Invariant.{IsKept}
 use Rattle.sm_protocol.proofs.Reached.{run_same}
 use Rattle.sm_protocol.proofs.Whole.{reached_keeps}
-use Rattle.sm_network.specs.Controller.{rested}
 
 -- the cell is in no handover
 abbrev IsOutside : Cell → Type 0
@@ -130,9 +129,9 @@ module _ (setup : Setup) (w : State) (r : IsReached setup w) (done : AreDone w) 
       go (cell.Prepared a n) q h t = absurd h
       go (cell.Forwarding a n) q h t = absurd (cc)
 
-  -- the placement is settled, with the opening's versions
-  pub rests_settled : IsSafePlace w.sizes w.place → IsSettled w.sizes (rested w)
-  rests_settled safe = record {
+  -- the placement is settled, if no version is too high
+  pub rests_settled : IsSafePlace w.sizes w.place → ((s : ℕ) → s < w.sizes.shards → w.place.version s ≤ MOST_VERSION) → IsSettled w.sizes w.place
+  rests_settled safe low = record {
     leads = λ s l. rests s;
     listed = λ s u l e. elim (safe.listed s u e) [
       | inl h ↦ primary s u h
@@ -141,24 +140,15 @@ module _ (setup : Setup) (w : State) (r : IsReached setup w) (done : AreDone w) 
     rooms = safe.rooms;
     floors = safe.floors;
     down = (has_room setup w r).cap;
-    versions = λ s l. subst (λ (p : Place). p.version s ≤ MOST_VERSION) (sym opening_is) (r.opening.settled.versions s (subst (λ (c : Sizes). s < c.shards) sizes_is l));
+    versions = low;
   }
 
   -- so a machine can open on it
-  pub rests_opening : IsSafePlace w.sizes w.place → (room : ℕ) → down_count w.sizes w.place ≤ room → room ≤ MOST_PLACES → IsOpening setup (rested w) room
-  rests_opening safe room least most =
-      let p = (reached_keeps setup w r).0.stage.placement in record {
-        rows = r.opening.rows;
-        placement = subst (λ c. IsPlacement c (rested w)) sizes_is (record {
-          no_server = p.no_server;
-          no_shard = p.no_shard;
-          no_entry = p.no_entry;
-          no_down = p.no_down;
-          known = p.known;
-          listed = p.listed;
-          rooms = p.rooms;
-        });
-        settled = subst (λ c. IsSettled c (rested w)) sizes_is (rests_settled safe);
-        least = subst (λ c. down_count c w.place ≤ room) sizes_is least;
-        most = most;
-      }
+  pub rests_opening : IsSafePlace w.sizes w.place → ((s : ℕ) → s < w.sizes.shards → w.place.version s ≤ MOST_VERSION) → (room : ℕ) → down_count w.sizes w.place ≤ room → room ≤ MOST_PLACES → IsOpening setup w.place room
+  rests_opening safe low room least most = record {
+    rows = r.opening.rows;
+    placement = subst (λ c. IsPlacement c w.place) sizes_is (reached_keeps setup w r).0.stage.placement;
+    settled = subst (λ c. IsSettled c w.place) sizes_is (rests_settled safe low);
+    least = subst (λ c. down_count c w.place ≤ room) sizes_is least;
+    most = most;
+  }

@@ -1,5 +1,5 @@
 -- The controller as its journal makes it: what it knows is what the entries of the journal say, and what it sends depends on that alone.
-use Rattle.std.specs.Prelude.{ℕ, ◌+◌, ◌*◌, ◌==◌, ◌&&◌, ◌++◌, Bool, false, not, Option, Some, None, List, [], ◌∷◌, length, is_none, option_map, if◌then◌else◌}
+use Rattle.std.specs.Prelude.{ℕ, ◌+◌, ◌*◌, ◌==◌, ◌&&◌, ◌++◌, Bool, false, not, nat_lt, Option, Some, None, List, [], ◌∷◌, length, is_none, option_map, if◌then◌else◌}
 use Rattle.sm_placement.specs.Sums.{any_below, put}
 use Rattle.sm_plan_code.specs.declared.limits.TheConstants.{MOST_PLACES}
 use Rattle.sm_protocol.specs.Happens.{engaged}
@@ -98,18 +98,20 @@ restored_at c v nonce = if is_none (engaged c.w v) then record c { restores = c.
 abbrev pub has_no_plan : State → Bool
 has_no_plan w = not (any_below (length w.plans) (is_unfinished w))
 
--- no log is longer than half of this, so bases that are so far apart keep the numbers of epochs apart
+-- no version of a shard is above the length of the longest log
+abbrev pub are_versions_low : State → Bool
+are_versions_low w = not (any_below w.sizes.shards (λ s. nat_lt MOST_PLACES (w.place.version s)))
+
+-- No log is longer than half of this, and no epoch but the first opens with a version above half of it: so bases that are so far apart keep
+-- the numbers and the versions of epochs apart.
 abbrev pub EPOCH : ℕ
 EPOCH = 2 * MOST_PLACES
 
--- the placement of the next epoch is the one that is recorded; versions and numbers are counted anew
-abbrev pub rested : State → Place
-rested w = record w.place { last = λ s v. 0; version = w.opening.version }
-
--- the next epoch opens where all plans are done
+-- The next epoch opens where all plans are done and versions are low, on the placement that is recorded. Versions stay, and numbers are
+-- counted anew.
 abbrev pub next_epoch : Controller → ℕ → Controller
 next_epoch c room =
-    if has_no_plan c.w then record c { w = opened c.w.sizes (rested c.w) room; base = c.base + EPOCH } else c
+    if has_no_plan c.w && are_versions_low c.w then record c { w = opened c.w.sizes c.w.place room; base = c.base + EPOCH } else c
 
 -- what an entry makes of the controller; one that does not fit changes nothing
 abbrev pub entry_recorded : Controller → JournalEntry → Controller

@@ -17,7 +17,7 @@ use Rattle.sm_agent.specs.Base.{restored}
 use Rattle.sm_agent.specs.Order.{committed, published as judged_by_owner}
 use Rattle.sm_network.specs.Net.{is_awaited}
 use Rattle.sm_network.specs.World.{is_answered_by, publication_of}
-use Rattle.sm_network.specs.Controller.{Answered, Controller, EPOCH, Ended, JournalEntry, Letter, Made, Notice, Opened, Restore, Restored, Stored, entry_recorded, goes_on, has_no_plan, is_permitted, needs_nobody, replayed, rested, restore_for}
+use Rattle.sm_network.specs.Controller.{Answered, Controller, EPOCH, Ended, JournalEntry, Letter, Made, Notice, Opened, Restore, Restored, Stored, are_versions_low, entry_recorded, goes_on, has_no_plan, is_permitted, needs_nobody, replayed, restore_for}
 use Rattle.sm_network.specs.Fleet.{Abandon, Commit, End, Fleet, FleetEvent, FleetOutcome, Forget, HearAsk, HearOwner, HearServer, Judge, Make, Open, Publish, Receive, Recover, Seal, SendOrder, SendPublication, Serve, after_owner, after_reception, after_verdict, after_work, by_message, controller, fleet_comes, fleet_run, order_read, slot_for, notice_stamp, verdict_of}
 use Rattle.sm_network.specs.FleetLaws.{AllFleetFit, EachFleet, IsFleetOpening, IsFleetReached, PermitsEndOnce, ends_restart, restarts_ended}
 use Rattle.sm_network.proofs.Commands.{log_fits}
@@ -87,9 +87,9 @@ entry_so c (Restored a nonce) = go (is_none (engaged c.w a))
     go : (b : Bool) → IsOn c (if b then record c { restores = c.restores ++ restore_for c a nonce ∷ [] } else c)
     go true = record { base = omega arith; fence = refl; permits = λ v permit e. inl e }
     go false = still c
-entry_so c (Opened room) = go (has_no_plan c.w)
+entry_so c (Opened room) = go (has_no_plan c.w && are_versions_low c.w)
   where
-    go : (b : Bool) → IsOn c (if b then record c { w = opened c.w.sizes (rested c.w) room; base = c.base + EPOCH } else c)
+    go : (b : Bool) → IsOn c (if b then record c { w = opened c.w.sizes c.w.place room; base = c.base + EPOCH } else c)
     go true = record { base = omega arith; fence = refl; permits = λ v permit e. inl e }
     go false = still c
 
