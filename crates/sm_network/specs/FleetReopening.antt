@@ -1,5 +1,5 @@
--- From the whole fleet to a reopening: wherever the fleet leads, one can begin.
-use Rattle.std.specs.Prelude.{◌≡◌, ◌⊎◌, ℕ, suc, pred, ◌&&◌, Bool, true, false, not, is_none, Option, Some, None, List, [], length, map, slice_get, slice_index_or, if◌then◌else◌}
+-- From the whole fleet to a reopening, which can begin wherever the fleet leads; and from what a reopening has settled to the fleet.
+use Rattle.std.specs.Prelude.{◌≡◌, ◌≤◌, ◌<◌, ◌⊎◌, ℕ, suc, pred, ◌&&◌, Bool, true, false, not, is_none, Option, Some, None, List, [], length, map, slice_get, slice_index_or, if◌then◌else◌}
 use Rattle.sm_agent.specs.declared.base.Base.{Base as AgentBase}
 use Rattle.sm_agent.specs.declared.base.Reopening.{Reopening as AgentReopening}
 use Rattle.sm_agent.specs.declared.base.Settlement.{Settlement as AgentSettlement}
@@ -86,16 +86,24 @@ pub record IsSettledServer (x : Settling) (s : Settlement) (f : Fleet) (v : ℕ)
   pub lasts : (k : ℕ) → ((f.servers v).slots k).last ≡ x.world.net.last k v
   pub loads : (k : ℕ) → ((f.servers v).slots k).load ≡ cell_load ((f.servers v).slots k).cell ((sizes_of s.setup).load k)
 
--- The fleet on which the controller opens once a settlement is in force: the number of the reopening is its base. Whoever has not taken its
--- part has lost its slots: it turns Unknown by the next message, and counts with what a restore will bring it.
-pub record IsFleetAfter (x : Settling) (s : Settlement) (f : Fleet) : Type 0 where
+-- A number that is no server's has what the placement says of it, which is nothing.
+pub record IsNoServer (x : Settling) (s : Settlement) (f : Fleet) (v : ℕ) : Type 0 where
+  pub base : (f.servers v).base ≡ agent_settled f.start.journal x.reopening.base
+  pub cells : (k : ℕ) → ((f.servers v).slots k).cell ≡ s.place.cells k v
+  pub lasts : (k : ℕ) → ((f.servers v).slots k).last ≤ x.reopening.base
+  pub loads : (k : ℕ) → ((f.servers v).slots k).load ≡ cell_load ((f.servers v).slots k).cell ((sizes_of s.setup).load k)
+
+-- The controller opens on this fleet: the number of the reopening is its base, and whatever was sent before may still come. A server that has
+-- not taken its part has lost its slots: it turns Unknown by the next message, and counts with what a restore will bring it.
+pub record IsFleetInForce (x : Settling) (s : Settlement) (f : Fleet) : Type 0 where
   pub journal : f.journal ≡ []
   pub record_is : f.start.w ≡ opened (sizes_of s.setup) s.place s.room
   pub base : f.start.base ≡ x.reopening.base
   pub fence : f.start.fence ≡ x.reopening.base
   pub restores : f.start.restores ≡ []
   pub permits : ArePermits f.start
-  pub known : (v : ℕ) → has_lost f v ≡ false → IsSettledServer x s f v
+  pub known : (v : ℕ) → v < x.reopening.servers → has_lost f v ≡ false → IsSettledServer x s f v
+  pub others : (v : ℕ) → x.reopening.servers ≤ v → IsNoServer x s f v
   pub had : (k v : ℕ) → has_lost f v ≡ true → f.had k v ≡ s.place.cells k v
   pub nonces : (v nonce : ℕ) → (f.servers v).base.nonce ≡ Some nonce → HasAskedUnder f.asks v nonce
   pub owner : f.owner ≡ agent_settled f.start.journal x.reopening.base
@@ -106,9 +114,10 @@ pub record IsFleetAfter (x : Settling) (s : Settlement) (f : Fleet) : Type 0 whe
   pub published : AllByRecursion (λ n. IsOneOf x.world.published n.publication) f.published
   pub stored : AllByRecursion (IsOneOf x.world.stored) f.stored
 
--- once a settlement is in force, the whole fleet opens on it: so all its laws hold from there on
-abbrev pub FleetOpensAfter : Settling → Type 0
-FleetOpensAfter x = (s : Settlement) (f : Fleet) → x.reopening.settlement ≡ Some s → AllTook x.reopening → IsFleetAfter x s f → IsFleetOpening s.setup f
+-- once a settlement is in force, the fleet opens on it: so all laws of the fleet hold from there on
+abbrev pub FleetOpensInForce : Settling → Type 0
+FleetOpensInForce x = (s : Settlement) (f : Fleet) → x.reopening.settlement ≡ Some s → AllTook x.reopening →
+    IsFleetInForce x s f → IsFleetOpening s.setup f
 
 -- ---- what agents do
 

@@ -30,9 +30,9 @@ pub use law::{
 };
 pub use map_owner::entry_after;
 pub use reopening_law::{
-    agents_do_so, can_begin, can_begin_again, executes_safely, fleet_can_reopen, fleet_opens_after,
-    loads_fit, opens_with_past, refuses_none, sends_from_beginnings, settles_fairly,
-    shown_executes, told_is_had,
+    agents_do_so, can_begin, can_begin_again, executes_safely, fleet_can_reopen,
+    fleet_opens_in_force, loads_fit, opens_with_past, refuses_none, sends_from_beginnings,
+    settles_fairly, shown_executes, told_is_had,
 };
 pub use reopening_play::{
     asks_newcomers, brings_back, carries_none_settled, moves_no_primary, takes_no_old_settle,

@@ -1,6 +1,6 @@
 //! The laws of a reopening: what holds while a controller fences and settles the servers anew.
 ghost use Rattle.sm_network.specs.FleetLaws.{EachFleet};
-ghost use Rattle.sm_network.specs.FleetReopening.{AgentsDoSo, FleetCanReopen, FleetOpensAfter};
+ghost use Rattle.sm_network.specs.FleetReopening.{AgentsDoSo, FleetCanReopen, FleetOpensInForce};
 ghost use Rattle.sm_network.specs.ReopeningLaws.{CanBegin, CanBeginAgain, EachSettling, ExecutesSafely, LoadsFit, OpensWithPast, RefusesNone, SendsFromBeginnings, SettlesFairly, ShownExecutes, ToldIsHad};
 
 /// A settlement keeps the cells of a shard with no handover under way, and gives one with a handover to a party, or to who has more of it.
@@ -64,6 +64,6 @@ pub fn agents_do_so()
 {}
 
 /// Once a settlement is in force, the whole fleet opens on it.
-pub fn fleet_opens_after()
-    ensures { EachSettling FleetOpensAfter }
+pub fn fleet_opens_in_force()
+    ensures { EachSettling FleetOpensInForce }
 {}

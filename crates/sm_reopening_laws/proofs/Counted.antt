@@ -11,7 +11,7 @@ use Rattle.sm_network.specs.Fleet.{Fleet, FleetEvent, controller, fleet_comes, f
 use Rattle.sm_network.specs.FleetLaws.{AllFleetFit, EachFleet, IsFleetReached, PermitsEndOnce, restarts_ended}
 use Rattle.sm_network.specs.Reopening.{Arrives, Comes, Confirm, Fence, Fenced, Forgets, MapOwner, Message, Party, Records, Reopen, Restore, Server, Settle, Settled, Settlement, Settling, SettlingEvent, Told, Took, after_fence, arrives, fence_comes, granted, in_world, inventory_by, is_fenced_at, is_first, is_settled_at, is_taken, names_nonce, part_taken, put_party, settle_comes, settling_comes, takes_settle, with_messages}
 use Rattle.sm_network.specs.ReopeningLaws.{EachSettling, IsSettlingReached, SettlingFits}
-use Rattle.sm_reopening_laws.specs.FleetInForce.{FleetOpensInForce}
+use Rattle.sm_network.specs.FleetReopening.{FleetOpensInForce}
 use Rattle.sm_reopening_laws.specs.Service.{AllServiceFit, Begins, EachService, Goes, MayOpen, Meets, Opens, Reopens, Runs, Service, ServiceEvent, ServiceFits, opened_on, service_comes, service_run}
 use Rattle.sm_reopening_laws.specs.ServiceLaws.{IsWithinLaws, PermitEndsOnce, ended_by, ends_by}
 use Rattle.sm_reopening_laws.proofs.Within.{fits_append, fleet_on, opening_reached, run_append, within_laws, within_next}

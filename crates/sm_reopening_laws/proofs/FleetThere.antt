@@ -9,10 +9,10 @@ use Rattle.sm_agent.specs.Order.{cell_load}
 use Rattle.sm_network.specs.Words.{opened, sizes_of}
 use Rattle.sm_network.specs.Fleet.{Fleet, Server as FleetServer, has_lost}
 use Rattle.sm_network.specs.FleetLaws.{HasAskedUnder}
-use Rattle.sm_network.specs.FleetReopening.{IsSettledServer, agent_settled}
+use Rattle.sm_network.specs.FleetReopening.{IsFleetInForce, IsNoServer, IsSettledServer, agent_settled}
 use Rattle.sm_network.specs.Reopening.{Base, Server, Settlement, Settling, is_settled_at, settled_base}
 use Rattle.sm_network.specs.ReopeningLaws.{EachSettling}
-use Rattle.sm_reopening_laws.specs.FleetInForce.{FleetIsThere, IsFleetInForce, IsNoServer}
+use Rattle.sm_reopening_laws.specs.FleetInForce.{FleetIsThere}
 use Rattle.sm_reopening_laws.specs.Service.{EachService, Reopens, Runs}
 use Rattle.sm_reopening_laws.specs.ServiceLaws.{CanOpen, IsWithinLaws}
 

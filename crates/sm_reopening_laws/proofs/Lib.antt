@@ -1,4 +1,3 @@
-mod FleetInForce
 mod FleetThere
 mod Effects
 mod Standing

@@ -15,8 +15,7 @@ use Rattle.sm_network.specs.Fleet.{Fleet, controller, has_lost}
 use Rattle.sm_network.specs.FleetLaws.{IsFleetReached}
 use Rattle.sm_network.specs.Reopening.{Reopen, Server, Settling, entered, records, sends}
 use Rattle.sm_network.specs.ReopeningLaws.{EachSettling, IsOutset, IsSettlingReached}
-use Rattle.sm_network.specs.FleetReopening.{base_by, bases_of, restore_seen, settling_of}
-use Rattle.sm_reopening_laws.specs.FleetInForce.{FleetOpensInForce}
+use Rattle.sm_network.specs.FleetReopening.{FleetOpensInForce, base_by, bases_of, restore_seen, settling_of}
 use Rattle.sm_network.proofs.Deliveries.{shade_of}
 use Rattle.sm_network.proofs.Lists.{all_append, all_at, all_map}
 use Rattle.sm_network.proofs.Overlay.{put2-at}

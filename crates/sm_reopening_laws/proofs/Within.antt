@@ -6,8 +6,7 @@ use Rattle.sm_network.specs.Fleet.{Fleet, FleetEvent, fleet_comes, fleet_run}
 use Rattle.sm_network.specs.FleetLaws.{AllFleetFit, EachFleet, ExecutesAtOneServer, FleetIsSafe, IsFleetOpening, IsFleetReached, MapIsRight, NoLetterIsRefused, SomeFleetCanGoOn}
 use Rattle.sm_network.specs.Reopening.{Reopen, records}
 use Rattle.sm_network.specs.ReopeningLaws.{EachSettling, ExecutesSafely, IsOutset, IsSettlingReached, LoadsFit, RefusesNone, ShownExecutes}
-use Rattle.sm_network.specs.FleetReopening.{settling_of}
-use Rattle.sm_reopening_laws.specs.FleetInForce.{FleetOpensInForce}
+use Rattle.sm_network.specs.FleetReopening.{FleetOpensInForce, settling_of}
 use Rattle.sm_reopening_laws.specs.Floors.{FloorsStay}
 use Rattle.sm_reopening_laws.specs.Service.{AllServiceFit, Begins, EachService, Goes, MayBegin, Meets, Opens, Reopens, Runs, Service, ServiceEvent, ServiceFits, opened_on, service_comes, service_run}
 use Rattle.sm_reopening_laws.specs.ServiceLaws.{IsWithinLaws, ServiceIsSafe}

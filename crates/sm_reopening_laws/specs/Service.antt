@@ -8,8 +8,7 @@ pub use Rattle.sm_network.specs.Fleet.{Fleet, FleetEvent, controller, fleet_come
 pub use Rattle.sm_network.specs.FleetLaws.{FleetFits, IsFleetOpening, IsFleetReached}
 pub use Rattle.sm_network.specs.Reopening.{Reopen, Settlement, Settling, SettlingEvent, records, settling_comes}
 pub use Rattle.sm_network.specs.ReopeningLaws.{AllTook, IsSettlingReached, MayReopen, SettlingFits}
-pub use Rattle.sm_network.specs.FleetReopening.{FleetCanReopen, settling_of}
-pub use Rattle.sm_reopening_laws.specs.FleetInForce.{IsFleetInForce}
+pub use Rattle.sm_network.specs.FleetReopening.{FleetCanReopen, IsFleetInForce, settling_of}
 
 -- What there is at a moment.
 pub data Service : Type 0 where

@@ -5,11 +5,11 @@ ghost use Rattle.sm_reopening_laws.specs.OrderLaws.{OldOrdersRest, OrderActsOnce
 ghost use Rattle.sm_reopening_laws.specs.Service.{EachService};
 ghost use Rattle.sm_reopening_laws.specs.ServiceLaws.{CanOpen, IsWithinLaws, PermitEndsOnce, ServiceIsSafe};
 
-use crate::in_force::{fleet_is_there, fleet_opens_in_force};
+use crate::in_force::fleet_is_there;
 use sm_network::{
-    executes_at_one_server, executes_safely, fleet_is_safe, loads_fit, map_is_right,
-    no_letter_is_refused, opens_with_past, permits_end_once, refuses_none, shown_executes,
-    some_fleet_can_go_on,
+    executes_at_one_server, executes_safely, fleet_is_safe, fleet_opens_in_force, loads_fit,
+    map_is_right, no_letter_is_refused, opens_with_past, permits_end_once, refuses_none,
+    shown_executes, some_fleet_can_go_on,
 };
 
 /// From the moment when a settlement is confirmed no shard has fewer replicas than the floor of the opening that comes of it.

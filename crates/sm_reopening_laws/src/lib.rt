@@ -1,11 +1,11 @@
-//! Laws that hold across reopenings: floors, restarts by permits and effects of orders; and the fleet that opens on a settlement.
+//! Laws that hold across reopenings: floors, restarts by permits and effects of orders; and that there is a fleet which opens on a settlement.
 #![tactic(auto)]
 
 mod in_force;
 mod law;
 mod play;
 
-pub use in_force::{fleet_is_there, fleet_opens_in_force};
+pub use in_force::fleet_is_there;
 pub use law::{
     can_open, floors_stay, laws_hold, old_orders_rest, order_acts_once, permit_ends_once,
     service_is_safe,
