@@ -45,12 +45,12 @@ pub mod FleetOpening
 mod Worked
 mod Bounds
 mod Fair
-mod Standing
-mod Reopened
+pub mod Standing
+pub mod Reopened
 mod Recorded
 mod Confirmed
 mod Coming
-mod Begun
+pub mod Begun
 mod Executing
 mod Opens
 mod Plays
