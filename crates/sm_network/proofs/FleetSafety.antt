@@ -1,7 +1,6 @@
 -- The fleet is safe: who serves, what loads there are, which replicas are live, and who executes a request.
-use Rattle.std.proofs.Common.{◌≡◌, ℕ, zero, suc, ◌≤◌, refl, sym, ap, ◌∙◌, subst, arith, not, Bool, true, false, Option, Some, None}
+use Rattle.std.proofs.Common.{◌≡◌, ℕ, zero, suc, ◌≤◌, ◌<◌, refl, sym, ap, ◌∙◌, subst, arith, not, Bool, true, false, Option, Some, None}
 use Rattle.std.specs.Prelude.{◌==◌, ◌&&◌, ◌||◌, if◌then◌else◌, nat_lt, option_map, slice_get}
-use Rattle.std.proofs.Math.Path.{fun_ext}
 use Rattle.std.proofs.lemmas.Bool.{and_parts, eq-eqb, eqb-true}
 use Rattle.sm_server.specs.declared.call.Cell.TheVariants as cell
 use Rattle.sm_server.specs.Cell.{is_secondary}
@@ -9,7 +8,8 @@ use Rattle.sm_placement.specs.Setup.{Setup, Sizes}
 use Rattle.sm_placement.specs.Place.{is_live_at, live_at, load_of, weight}
 use Rattle.sm_placement.specs.Rows.{forwards, serves, serves_as}
 use Rattle.sm_placement.specs.SafePlace.{IsSafePlace, IsServing}
-use Rattle.sm_placement.specs.Sums.{count_below, sum_below}
+use Rattle.sm_placement.proofs.Sums.{same_sum}
+use Rattle.sm_placement.specs.Sums.{bit, sum_below}
 use Rattle.sm_protocol.specs.Ticket.{Ticket}
 use Rattle.sm_protocol.specs.declared.event.Played.TheVariants as played
 use Rattle.sm_protocol.specs.Happens.{answer_by}
@@ -95,8 +95,8 @@ load_less c f v = go (has_lost f v) refl
 -- ---- floors
 
 -- if only servers that are recorded as down have lost their slots, a live replica is at one that has not
-all_known : (f : Fleet) → ((v : ℕ) → has_lost f v ≡ true → (controller f).w.place.down v ≡ true) → (s v : ℕ) → (is_live_at (held_place f) s v && not (has_lost f v)) ≡ is_live_at (held_place f) s v
-all_known f only s v = go (has_lost f v) refl
+all_known : (f : Fleet) → ((v : ℕ) → v < (controller f).w.sizes.servers → has_lost f v ≡ true → (controller f).w.place.down v ≡ true) → (s v : ℕ) → v < (controller f).w.sizes.servers → (is_live_at (held_place f) s v && not (has_lost f v)) ≡ is_live_at (held_place f) s v
+all_known f only s v l = go (has_lost f v) refl
   where
     keeps : (b : Bool) → (b && true) ≡ b
     keeps true = refl
@@ -107,7 +107,7 @@ all_known f only s v = go (has_lost f v) refl
     drops false = refl
 
     go : (b : Bool) → has_lost f v ≡ b → (is_live_at (held_place f) s v && not b) ≡ is_live_at (held_place f) s v
-    go true h = drops (is_live_at (held_place f) s v) ∙ sym (ap (λ d. not d && (is_secondary (held_cells f s v) || serves (held_cells f s) v)) (only v h))
+    go true h = drops (is_live_at (held_place f) s v) ∙ sym (ap (λ d. not d && (is_secondary (held_cells f s v) || serves (held_cells f s) v)) (only v l h))
     go false h = keeps (is_live_at (held_place f) s v)
 
 -- the fleet is safe
@@ -121,7 +121,7 @@ fleet_is_safe setup f r =
       rooms = λ v l. (let a = safe.rooms v l in let b = load_less (controller f).w.sizes f v in omega arith);
       floors = λ only s l.
           let a = safe.floors s l in
-          let b : live_and_known f s ≡ live_at (controller f).w.sizes (held_place f) s = ap (count_below (controller f).w.sizes.servers) (fun_ext (λ v. all_known f only s v)) in
+          let b : live_and_known f s ≡ live_at (controller f).w.sizes (held_place f) s = same_sum (controller f).w.sizes.servers _ _ (λ v i. ap bit (all_known f only s v i)) in
           omega arith;
     }
 

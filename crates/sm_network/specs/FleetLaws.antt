@@ -174,8 +174,8 @@ pub record FleetIsSafe (setup : Setup) (f : Fleet) : Type 0 where
   pub held : IsSafePlace (controller f).w.sizes (held_place f)
   pub serving : (s u v : ℕ) → serves (real_cells f s) u ≡ true → serves (real_cells f s) v ≡ true → u ≡ v
   pub rooms : (v : ℕ) → v < (controller f).w.sizes.servers → load_of (controller f).w.sizes (real_cells f) v ≤ (controller f).w.sizes.room v
-  pub floors : ((v : ℕ) → has_lost f v ≡ true → (controller f).w.place.down v ≡ true) → (s : ℕ) → s < (controller f).w.sizes.shards →
-      (controller f).w.sizes.floor s ≤ live_and_known f s
+  pub floors : ((v : ℕ) → v < (controller f).w.sizes.servers → has_lost f v ≡ true → (controller f).w.place.down v ≡ true) →
+      (s : ℕ) → s < (controller f).w.sizes.shards → (controller f).w.sizes.floor s ≤ live_and_known f s
 
 -- Who executes a request, which came from a client or was passed on however long ago, has its slots and is the one server that serves.
 abbrev pub ExecutesAtOneServer : Setup → Fleet → Type 0

@@ -122,7 +122,7 @@ row_recorded f s = map (λ v. (controller f).w.place.cells s v) (range_with_len 
 -- ---- plays
 
 -- A handover begins. The answer to its first order is lost, and the order comes again: it is answered again, and only then the step is
--- recorded. Much later the order comes once more, and is old.
+-- recorded. Much later the order comes once more, and is answered again.
 abbrev pub lost_answer : List FleetEvent
 lost_answer =
     Make (Begin (example_plan 0 0 1 4)) ∷ SendOrder 0 (stream_id 0 0) ∷ Judge 0 ∷ Commit 0 0 ∷ Judge 0 ∷ HearServer 1 ∷ Judge 0 ∷ []
