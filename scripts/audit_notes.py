@@ -46,6 +46,7 @@ NOTES = {
     "laws_hold": "what the laws of 16 say: that each of them holds there",
     "service_is_safe": "that requests are served, or plans go on, while a reopening is under way",
     "floors_stay": "floors before the first confirmation of a reopening",
+    "rules_keep_floors": "floors while a reopening is under way",
     "permit_ends_once": "that a restart ends at all",
     "order_acts_once": "that an order has its effect at all",
     "old_orders_rest": "that servers answer such orders",

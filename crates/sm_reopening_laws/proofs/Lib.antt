@@ -7,6 +7,7 @@ mod Watched
 mod Kept
 mod Within
 mod Permits
+mod Restarts
 mod Counted
 mod Served
 mod Ordered

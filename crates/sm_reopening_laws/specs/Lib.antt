@@ -1,6 +1,7 @@
 pub mod FleetInForce
 pub mod Floors
 pub mod FloorsPlays
+pub mod Restarts
 pub mod Service
 pub mod ServiceLaws
 pub mod OrderLaws

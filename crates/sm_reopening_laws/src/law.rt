@@ -1,7 +1,9 @@
 //! The laws.
+ghost use Rattle.sm_network.specs.FleetLaws.{EachFleet};
 ghost use Rattle.sm_network.specs.ReopeningLaws.{EachSettling};
 ghost use Rattle.sm_reopening_laws.specs.Floors.{FloorsStay};
 ghost use Rattle.sm_reopening_laws.specs.OrderLaws.{OldOrdersRest, OrderActsOnce};
+ghost use Rattle.sm_reopening_laws.specs.Restarts.{RulesKeepFloors};
 ghost use Rattle.sm_reopening_laws.specs.Service.{EachService};
 ghost use Rattle.sm_reopening_laws.specs.ServiceLaws.{CanOpen, IsWithinLaws, PermitEndsOnce, ServiceIsSafe};
 
@@ -17,6 +19,13 @@ pub fn floors_stay()
     ensures { EachSettling FloorsStay }
 {
     opens_with_past();
+}
+
+/// If servers lose their slots only while they are down, and come up only with slots, no shard has fewer live replicas than its floor.
+pub fn rules_keep_floors()
+    ensures { EachFleet RulesKeepFloors }
+{
+    fleet_is_safe();
 }
 
 /// Wherever events lead, reopenings among them, the service is at a fleet of which all laws of the fleet hold, or in a reopening of which
