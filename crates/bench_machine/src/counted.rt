@@ -12,7 +12,7 @@ use std::io;
 use std::rt::Clock;
 use std::time::{Duration, Instant};
 
-/// How many events were made, how many streams made their end, and how long it took.
+/// Counts the events that were made and the streams that finished, with the time that they took.
 #[derive(Clone, Copy)]
 pub(crate) struct Counted {
     pub events: u64,
@@ -26,7 +26,7 @@ pub(crate) const NOTHING: Counted = Counted {
     time: Duration::ZERO,
 };
 
-/// How many events are made where requests come between the steps.
+/// The number of events in the run whose steps have requests between them.
 pub(crate) const EVENTS: u64 = 1_000_000;
 
 /// A machine with the tokens and permits that it has given out, and the tickets that end with it.
@@ -37,14 +37,14 @@ struct Run {
     tickets: Vec<Ticket>,
 }
 
-/// The plan was checked for the machine's configuration.
+/// Tells whether a plan was checked for the machine's configuration.
 pub(crate) fn is_for(machine: &Machine, checked: &Checked) -> bool
     ensures { IsTrue result → checked.now.setup ≡ machine.now.placement.setup }
 {
     checked.config() == machine.config()
 }
 
-/// Takes tokens behind those that are there, for which there is room.
+/// Appends tokens. There is room for them.
 fn keep(all: &mut Vec<StreamToken>, mut tokens: Vec<StreamToken>)
     requires { vec_len all.old + vec_len tokens ≤ vec_capacity all.old }
 {
@@ -54,7 +54,7 @@ fn keep(all: &mut Vec<StreamToken>, mut tokens: Vec<StreamToken>)
     }
 }
 
-/// The request was answered by its server. A ticket is abandoned.
+/// Tells whether a server answered the request. Abandons a ticket.
 fn is_answered(answer: Answer) -> bool {
     match answer {
         Answer::Executed { server: _ } => true,
@@ -77,7 +77,7 @@ fn is_answered(answer: Answer) -> bool {
 }
 
 impl Run {
-    /// A plan of a setting begins. Returns the place of its first token.
+    /// Begins a plan of a setting. Returns the place of its first token.
     fn begin(
         &mut self,
         alloc: Global,
@@ -98,7 +98,7 @@ impl Run {
         Ok(first)
     }
 
-    /// Each stream from a token on makes a step.
+    /// Makes a step of each stream, from that of token `first` on.
     fn step_each(&mut self, first: usize, counted: &mut Counted) {
         for token in first..self.tokens.len() {
             if self.machine.step(&mut self.tokens[token]) == Step::Done {
@@ -108,7 +108,7 @@ impl Run {
         }
     }
 
-    /// So many requests come, each for another shard.
+    /// Makes `requests` requests arrive, each for another shard.
     fn ask(&mut self, setting: &Setting, requests: u32, counted: &mut Counted) {
         for request in 0..requests {
             let number = request % setting.shards.max(1);
@@ -123,7 +123,7 @@ impl Run {
         }
     }
 
-    /// The streams of a plan make all their steps in turn.
+    /// Makes all steps of a plan's streams, in turn.
     fn make_plan(
         &mut self,
         rt: &impl Clock,
@@ -141,7 +141,7 @@ impl Run {
         Ok(())
     }
 
-    /// The streams of a plan make all their steps in turn, with requests between.
+    /// Makes all steps of a plan's streams, in turn, with requests between them.
     fn make_all(
         &mut self,
         rt: &impl Clock,
@@ -191,7 +191,7 @@ fn open(alloc: Global, config: &Config, setting: &Setting) -> Result<Run, AllocE
     }
 }
 
-/// What the steps of so many plans take, one plan after another.
+/// Measures the steps of `plans` plans, one plan after another.
 pub(crate) fn steps_of(
     rt: &impl Clock,
     alloc: Global,
@@ -212,7 +212,7 @@ pub(crate) fn steps_of(
     Ok(counted)
 }
 
-/// What the steps of a plan take with requests between them.
+/// Measures the steps of a plan, with requests between them.
 pub(crate) fn events_of(rt: &impl Clock, alloc: Global, setting: &Setting) -> io::Result<Counted> {
     let config = config_of(alloc, setting)?;
     let mut run = open(alloc, &config, setting)?;

@@ -1,10 +1,10 @@
-//! What an event of a machine costs.
+//! Measures what an event of a machine costs.
 //!
-//! It prints the time of an event among 1,000,000 steps and requests, and that of a step where 64 streams of 4,096
-//! instructions run beside one where 4 streams of 64 do, and ends with status 1 where the former takes more than four times
-//! as long, or where not all events are made. Then it prints the time of an answer of a driver of 16 plans of 64 streams, and
-//! ends with status 1 where it is above 5 microseconds. With the argument `check` it prints no times, only whether all streams of
-//! small plans come to their end.
+//! It prints the time of an event among 1,000,000 steps and requests, then the time of a step of 64 streams of 4,096
+//! instructions, and of a step of 4 streams of 64 instructions. It ends with status 1 if the former step takes more than
+//! four times as long, or if not all events are made. Then it prints the time of an answer of a driver with 16 plans of
+//! 64 streams, and ends with status 1 if that is above 5 microseconds. With the argument `check` it prints no times, only
+//! whether all streams of small plans finish.
 #![tactic(auto)]
 
 mod answers;
@@ -20,10 +20,10 @@ use std::process::ExitCode;
 use std::rt::{Clock, Env};
 use std::{env, io};
 
-/// How many plans of few streams run one after another.
+/// The number of plans with few streams that run one after another.
 const PLANS: u32 = 200;
 
-/// How long an event takes on the average.
+/// Returns the average time of an event.
 fn nanoseconds(counted: Counted) -> u128 {
     counted.time.as_nanos() / u128::from(counted.events.max(1))
 }
@@ -31,7 +31,7 @@ fn nanoseconds(counted: Counted) -> u128 {
 /// The most nanoseconds that an answer may take, with all that follows it.
 const MOST_NANOSECONDS: u128 = 5_000;
 
-/// Whether each stream of so many plans of a setting has made its end once.
+/// Tells whether each stream of `plans` plans of a setting has finished once.
 fn all_end(counted: Counted, setting: &Setting, plans: u32) -> bool {
     counted.ended == setting.streams.wrapping_mul(plans)
 }
@@ -45,7 +45,7 @@ fn is_check(rt: &(impl Alloc + Env)) -> io::Result<bool> {
     })
 }
 
-/// Tells what an answer takes beside 16 plans of 64 streams, and whether that is little.
+/// Prints the time of an answer with 16 plans of 64 streams. Fails if that is too long.
 fn are_answers_quick(rt: &(impl Clock + Print), alloc: Global) -> io::Result<ExitCode> {
     let mut status = ExitCode::SUCCESS;
     for (codes, said) in [

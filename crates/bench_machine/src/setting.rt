@@ -6,13 +6,13 @@ use sm_server::{Cell, Role, ServerId, ShardId};
 use sm_verifier::{Checked, check};
 use std::alloc::{AllocError, Global};
 
-/// How large a machine and its plans are.
+/// The size of a machine and of its plans.
 #[derive(Clone, Copy)]
 pub(crate) struct Setting {
     pub servers: u32,
     pub shards: u32,
     pub streams: u32,
-    /// How many instructions a stream has.
+    /// The number of instructions of a stream.
     pub length: u32,
 }
 
@@ -32,7 +32,7 @@ pub(crate) const FEW: Setting = Setting {
     length: 64,
 };
 
-/// Small enough to be run where nothing is measured.
+/// A small machine, for a run that measures nothing.
 pub(crate) const CHECKED: Setting = Setting {
     servers: 16,
     shards: 32,
@@ -151,7 +151,7 @@ fn signal_before(stream: u32, at: u32, length: u32) -> Option<Instr> {
     })
 }
 
-/// A stream that adds a replica and drops it again, so many times.
+/// Returns a stream of `length` calls that add a replica and drop it again.
 fn stream_of(
     alloc: Global,
     codes: Codes,

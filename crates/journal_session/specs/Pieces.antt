@@ -7,7 +7,7 @@ use Rattle.std.specs.List.{flat_map}
 abbrev pub IsOneLine : List ℕ → Type 0
 IsOneLine text = All (λ b. b ≡ 10 → ⊥) text
 
--- a piece begins with the end of a line, this part and a line feed, so many bytes in all
+-- a piece begins with the end of a line, this part and a line feed: `used` bytes together
 pub record EndsLine (piece part : List ℕ) (used : ℕ) : Type 0 where
   pub one_line : IsOneLine part
   pub is : piece ≡ part ++ 10 ∷ drop used piece

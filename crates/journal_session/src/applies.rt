@@ -6,14 +6,14 @@ ghost use Rattle.journal_session.specs.Trace.{Exchange, exchange};
 
 use std::alloc::{AllocError, Global};
 
-/// What a line did.
+/// Tells whether a line changed something.
 #[derive(Clone, Copy, Debug, Drop, PartialEq, Eq)]
 pub enum Applied {
     Changed,
     Unchanged,
 }
 
-/// What lines are applied to.
+/// A state that lines are applied to.
 pub trait Applies {
     /// A line with this effect and this reply may lead from one state to another.
     ghost takes: { Self → Exchange → Self → Type 0 };

@@ -8,7 +8,7 @@ use journal_store::StoreFault;
 use std::alloc::AllocError;
 use thiserror::Error;
 
-/// Why a journal was not recovered.
+/// The reasons why a journal was not recovered.
 #[derive(Clone, Copy, Debug, Drop, PartialEq, Eq, Error)]
 pub enum RecoverFault {
     #[error("out of memory")]
@@ -44,7 +44,7 @@ impl From<StoreFault> for RecoverFault {
     }
 }
 
-/// Why a session ended before its input did.
+/// The reasons why a session ended before its input.
 #[derive(Clone, Copy, Debug, Drop, PartialEq, Eq, Error)]
 pub enum ServeFault {
     #[error("out of memory")]

@@ -4,8 +4,8 @@ ghost use Rattle.journal_session.specs.Trace.{Exchange, IsDetermined, LeadsThrou
 
 use crate::applies::Applies;
 
-/// If a state and a line determine what comes of it, the lines determine the exchanges, and the state to which they lead.
-/// So it makes no difference in which pieces they came, and how many of them shared one sync.
+/// If a state and a line determine what the line does, the lines determine the exchanges and the state at their end.
+/// Neither the pieces in which the lines came nor the lines that shared a sync make a difference.
 pub fn lines_determine_exchanges<A: Applies>()
     ensures all { IsDetermined A.takes → (old one other : A) (a b : List Exchange) → LeadsThrough A.takes old a one → LeadsThrough A.takes old b other
         → lines_in b ≡ lines_in a → (b ≡ a) × (other ≡ one) }

@@ -19,22 +19,22 @@ use journal_lines::{Reading, Sum, journal_head};
 use journal_store::{Store, StoreFault};
 use std::alloc::Global;
 
-/// How many bytes are read at once.
+/// The number of bytes that one read asks for.
 const PIECE: usize = 1 << 16;
 
-/// A journal that has more bytes than this is not read.
+/// The most bytes of a journal that is read.
 const LONGEST_JOURNAL: u64 = 1 << 62;
 
-/// How a store begins.
+/// The beginning of a store.
 #[derive(Clone, Copy, Debug, PartialEq, Eq)]
 enum Beginning {
     Head,
     Other,
-    /// There is no more than what a crash may have left of a head.
+    /// No more than a crash may have left of a head.
     NotBegun,
 }
 
-/// Reads what stands from a place on: nothing only behind the end.
+/// Reads from a place on. It finds nothing only at the end or behind it.
 fn read_at<S: Store>(alloc: Global, store: &mut S, at: u64) -> Result<Vec<u8>, StoreFault>
     ensures next { S.keeps_word store.old → IfOk result (λ bytes. ComesNext (written_now S.moment S.written_at store.old) at bytes.items) }
     ensures short { IfOk result (λ bytes. length bytes.items ≤ 65536) }
@@ -47,7 +47,7 @@ fn read_at<S: Store>(alloc: Global, store: &mut S, at: u64) -> Result<Vec<u8>, S
     Ok(piece)
 }
 
-/// Reads the front of a store: all that it has, or more bytes than so many.
+/// Reads the front of a store: all of it, or more than `most` bytes.
 fn read_front<S: Store>(alloc: Global, store: &mut S, most: usize) -> Result<Vec<u8>, StoreFault>
     ensures front { S.keeps_word store.old → IfOk result (λ text. IsFront (written_now S.moment S.written_at store.old) most text.items) }
     ensures read { S.keeps_word store.old → WasRead S.moment S.written_at S.left_at store.old store.new }
@@ -68,7 +68,7 @@ fn read_front<S: Store>(alloc: Global, store: &mut S, most: usize) -> Result<Vec
     Err(StoreFault::Failed)
 }
 
-/// Reads how a store begins.
+/// Reads the beginning of a store.
 fn read_head<S: Store>(alloc: Global, store: &mut S) -> Result<Beginning, StoreFault>
     ensures begins { S.keeps_word store.old → IfOk result (StartsAs (written_now S.moment S.written_at store.old)) }
     ensures read { S.keeps_word store.old → WasRead S.moment S.written_at S.left_at store.old store.new }

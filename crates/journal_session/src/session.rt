@@ -19,10 +19,10 @@ use journal_store::Store;
 use std::alloc::Global;
 use std::io::{ErrorKind, Read, Write};
 
-/// How many bytes are read at once.
+/// The number of bytes that one read asks for.
 const PIECE: usize = 1 << 16;
 
-/// Reads what is there into a piece that has nothing else, and returns how many bytes. None if the call was interrupted.
+/// Clears a piece, and reads into it. Returns the number of bytes, or `None` if the call was interrupted.
 fn read_piece<R: Read>(reader: &mut R, piece: &mut Vec<u8>) -> Result<Option<usize>, ServeFault>
     ensures count { IfOk result (λ found. IfSome found (λ count. length piece.new.items ≡ count)) }
     ensures read { IfOk result (λ found. IfSome found (λ count. Consumes (R.remaining reader.old) (R.remaining reader.new) piece.new.items)) }
@@ -85,7 +85,8 @@ pub fn serve<S: Store, A: Applies, R: Read, W: Write>(
     reader: &mut R,
     writer: &mut W,
 ) -> Result<(), ServeFault>
-    // What is written is the reply to each line in turn. However the call ends, what a crash leaves has what each line changed to which something was replied.
+    // It writes the reply to each line in turn. However the call ends, a crash leaves what a line changed if any of its reply was
+    // written.
     ensures { (input : List ℕ) × IfSome (R.remaining reader.old) (λ bytes. input ≡ bytes) × (trace : List Exchange) × (end : A)
         × HasServed A.takes input (W.contents writer.old) (W.contents writer.new) state.old end trace
         × OnOk result (IsServed input (W.contents writer.old) (W.contents writer.new) trace)

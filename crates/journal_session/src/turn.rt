@@ -8,7 +8,7 @@ use crate::applies::{Applied, Applies};
 use crate::pending::Pending;
 use std::alloc::{AllocError, Global};
 
-/// How many bytes of a line are kept. A longer one is told by its length.
+/// The most bytes that are kept of a line: 64 MiB, and one more that shows that a line is longer.
 pub const LONGEST: usize = 67_108_865;
 
 /// The commands of one read that changed something, each behind a comma, and the replies to all of its lines.

@@ -16,7 +16,7 @@ fn flush<W: Write>(writer: &mut W) -> Result<(), ServeFault>
     }
 }
 
-/// Writes some of these bytes, and returns how many. It is none if the call was interrupted.
+/// Writes some of these bytes. Returns their number, or 0 if the call was interrupted.
 fn write_some<W: Write>(writer: &mut W, bytes: &[u8]) -> Result<usize, ServeFault>
     ensures some { IfOk result (λ n. (n ≤ length bytes.now) × Appends (W.contents writer.old) (W.contents writer.new) (take n bytes.now)) }
     ensures none { OnErr result (Keeps (W.contents writer.old) (W.contents writer.new)) }
