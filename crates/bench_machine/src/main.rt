@@ -1,10 +1,10 @@
 //! Measures what an event of a machine costs.
 //!
 //! It prints the time of an event among 1,000,000 steps and requests, then the time of a step of 64 streams of 4,096
-//! instructions, and of a step of 4 streams of 64 instructions. It ends with status 1 if the former step takes more than
-//! four times as long, or if not all events are made. Then it prints the time of an answer of a driver with 16 plans of
-//! 64 streams, and ends with status 1 if that is above 5 microseconds. With the argument `check` it prints no times, only
-//! whether all streams of small plans finish.
+//! instructions, and of a step of 4 streams of 64 instructions. It ends with status 1 if the former step takes more
+//! than four times as long, or if not all events are made. Then it prints the time of an answer of a driver with 16
+//! plans of 64 streams, and ends with status 1 if that is above 5 microseconds. With the argument `check` it prints no
+//! times, only whether all streams of small plans finish.
 #![tactic(auto)]
 
 mod answers;

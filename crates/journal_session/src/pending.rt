@@ -40,8 +40,8 @@ impl Pending {
         Ok(())
     }
 
-    /// Takes what a piece has of the line, and keeps at most `most` bytes of the line. Returns the number of bytes of the
-    /// piece that were used, with the line feed, or none if the line goes on behind the piece.
+    /// Takes what a piece has of the line, and keeps at most `most` bytes of the line. Returns the number of bytes of
+    /// the piece that were used, with the line feed, or `None` if the line goes on behind the piece.
     pub fn take(&mut self, piece: &[u8], most: usize) -> Result<Option<usize>, AllocError>
         ensures ended { IfOk result (λ found. IfSome found (λ used. (part : List ℕ) × EndsLine piece.now part used
             × ((raw : List ℕ) → self.old.text.items ≡ take most raw → self.new.text.items ≡ take most (raw ++ part))

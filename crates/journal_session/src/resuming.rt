@@ -57,9 +57,9 @@ pub fn resume<S: Store, A: Applies, R: Read, W: Write>(
     reader: &mut R,
     writer: &mut W,
 ) -> Result<(), ResumeFault>
-    // Whatever the store gives, commands that changed something are replayed before anything is written; if the store keeps its
-    // word, they are those that it has. Then the reply to each line is written in turn. However the call ends, a crash leaves
-    // what was found, and what a line changed if any of its reply was written.
+    // Whatever the store gives, commands that changed something are replayed before anything is written; if the store
+    // keeps its word, they are those that it has. Then the reply to each line is written in turn. However the call
+    // ends, a crash leaves what was found, and what a line changed if any of its reply was written.
     ensures resumed { (input : List ℕ) × IfSome (R.remaining reader.old) (λ bytes. input ≡ bytes) × (trace : List Exchange)
         × (((fault : RecoverFault) × (result ≡ Err (Unrecovered fault)) × (trace ≡ []) × Keeps (W.contents writer.old) (W.contents writer.new))
         ⊎ ((commands : List (List ℕ)) × (reached : A) × (end : A) × ReplaysCommands A.takes commands state.old reached
@@ -70,8 +70,8 @@ pub fn resume<S: Store, A: Applies, R: Read, W: Write>(
         × (S.keeps_word journal.old.store → (found : List (List ℕ)) → RecoversTo (written_now S.moment S.written_at journal.old.store) found
         → (count : ℕ) × HasResumed S.moment S.written_at S.left_at found trace
         (W.contents writer.old) (W.contents writer.new) journal.old.store journal.new.store count) }
-    // What earlier runs have told is never lost: if what is read has it, and each content that a crash may leave before the
-    // call has it, then each content that a crash may leave during the call has it too.
+    // What earlier runs have told is never lost: if what is read has it, and each content that a crash may leave before
+    // the call has it, then each content that a crash may leave during the call has it too.
     ensures never_lost { S.keeps_word journal.old.store → (told : List (List ℕ))
         → HasAtLeast told (written_now S.moment S.written_at journal.old.store) → ((content : List ℕ) → MayLeave S.moment S.left_at journal.old.store content → HasAtLeast told content)
         → (n : ℕ) (content : List ℕ) → S.moment journal.old.store ≤ n → n ≤ S.moment journal.new.store → S.left_at journal.new.store n content

@@ -85,8 +85,8 @@ pub fn serve<S: Store, A: Applies, R: Read, W: Write>(
     reader: &mut R,
     writer: &mut W,
 ) -> Result<(), ServeFault>
-    // It writes the reply to each line in turn. However the call ends, a crash leaves what a line changed if any of its reply was
-    // written.
+    // It writes the reply to each line in turn. However the call ends, a crash leaves what a line changed if any of its
+    // reply was written.
     ensures { (input : List ℕ) × IfSome (R.remaining reader.old) (λ bytes. input ≡ bytes) × (trace : List Exchange) × (end : A)
         × HasServed A.takes input (W.contents writer.old) (W.contents writer.new) state.old end trace
         × OnOk result (IsServed input (W.contents writer.old) (W.contents writer.new) trace)
