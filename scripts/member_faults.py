@@ -1,6 +1,6 @@
 """Documents with one fault each: each member of each object of tests/documents/every-member.json, with each fault that it can have, and the answer.
 
-What objects there are, which members they have and which of these may be missing stands in docs/FORMATS.md, whose table is read here.
+What objects there are, which members they have and which of these may be missing stands in docs/FORMATS.md, whose list is read here.
 """
 import copy
 import functools
@@ -43,16 +43,16 @@ OTHER_VALUES = {"number": 0, "text": "a", "list": [], "object": {}, "flag": True
 
 
 def rows():
-    """The objects of the table of members, each by its word where it has one, and their members, with whether each may be missing."""
-    table = FORMATS[FORMATS.index("| object | member |"):].split("\n\n")[0].split("\n")[2:]
+    """The objects of the list of members, each by its word where it has one, and their members, with whether each may be missing."""
     kind, keys, found = None, [], {}
-    for names, members in (map(str.strip, line.split("|")[1:3]) for line in table):
-        words = re.findall(r"`(\w+)`", names)
-        if names:
+    for indent, names in re.findall(r"^( *)- ([^:\n]+)", FORMATS[FORMATS.index("\n- document\n"):].split("\n\n")[0], re.MULTILINE):
+        words = re.findall(r"`(\w+)`(\?)?", names)
+        if not indent:
             kind = kind if words else names
-            keys = [(kind, word) for word in words] or [(kind, None)]
+            keys = [(kind, word) for word, _ in words] or [(kind, None)]
+            continue
         for key in keys:
-            found.setdefault(key, {}).update((member, bool(mark)) for member, mark in re.findall(r"`(\w+)`( \?)?", members))
+            found.setdefault(key, {}).update((member, bool(mark)) for member, mark in words)
     return found
 
 

@@ -40,7 +40,7 @@ ANSWERS = [
 ]
 # Each member may be missing or of another type; these have a name or a signal as their value, and those a number. (Of the lists, each is too long in
 # a document of scripts/check-faults, which takes much memory and is not given to all commands.)
-MEMBERS = re.findall(r"^\|[^|]*\| (`.*?) \|", FORMATS[FORMATS.index("### Members"):FORMATS.index("### Faults")], re.MULTILINE)
+MEMBERS = re.findall(r"^  - (`.*?):", FORMATS[FORMATS.index("### Members"):FORMATS.index("### Faults")], re.MULTILINE)
 SHAPES = ["document", *dict.fromkeys(it for members in MEMBERS for it in re.findall(r"`(\w+)`", members))]
 NAMES = ["asks", "drain", "from", "listed", "other", "server", "shard", "signal", "to"]
 NUMBERS = ["amount", "budget", "cap", "format", "limit", "load", "log", "more", "number", "plan", "retries", "room", "signal", "spread", "stream",
@@ -130,7 +130,7 @@ def told():
             # (such a form stands for several others, and such a word in the place of WHY)
             if not form.endswith(": ..") and form not in WHY:
                 said = re.sub(r"\b[A-Z]+\d?\b", "0", form.replace("WHY", WHY[0]).removesuffix(" .."))
-                yield commands, f"event 0: {said}" if len(cells) == 3 else said
+                yield commands, f"event 0: {said}" if len(cells) == 3 or title.startswith("## An event") else said
 
 
 def wrong(cases):
