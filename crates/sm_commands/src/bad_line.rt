@@ -7,7 +7,7 @@ use json::Writer;
 use sm_plan_text::{Member, TextFault};
 use std::alloc::{AllocError, Global};
 
-/// Why a line is no command. Of several faults the one of the lowest number is told, and of one number the first.
+/// The fault for which a line is no command: of several the one of the lowest number, and of one number the first.
 #[derive(Clone, Copy, Debug, PartialEq, Eq)]
 pub enum BadLine {
     /// The line is not one JSON text in UTF-8, with nothing round it.
@@ -26,7 +26,7 @@ pub enum BadLine {
     TooMany(LinePart, CommandMember),
     /// The part's member is not a whole number within its limit.
     Number(LinePart, CommandMember),
-    /// What stands in the member is no document, or no plan.
+    /// The member's value is no document, or no plan.
     Within(CommandMember, TextFault),
 }
 

@@ -1,15 +1,15 @@
-//! What lines ask for.
+//! Commands: what lines ask for.
 
 use json_tree::Tree;
 
-/// By what a client tells its line.
+/// The mark by which a client tells its line.
 #[derive(Clone, Copy)]
 pub enum Id<'a> {
     Text(&'a str),
     Number(u64),
 }
 
-/// What a server, or the map's owner, tells once it is fenced.
+/// The answer of a server, or of the map's owner, to a fence.
 #[derive(Clone, Copy)]
 pub enum ToldText<'t, 'a> {
     /// The map's owner tells that it is fenced, and no more.
@@ -20,7 +20,7 @@ pub enum ToldText<'t, 'a> {
     Unknown { nonce: u64 },
 }
 
-/// What the state is asked of.
+/// The part of which the state is asked.
 #[derive(Clone, Copy)]
 pub enum StateOf<'a> {
     Whole,
@@ -28,7 +28,7 @@ pub enum StateOf<'a> {
     Plan(u32),
 }
 
-/// What a server has said to a present order in place of an answer.
+/// The word of a server to a present order in place of an answer.
 #[derive(Clone, Copy, Debug, PartialEq, Eq)]
 pub enum FailedAnswer {
     Old,
@@ -37,7 +37,7 @@ pub enum FailedAnswer {
     NotReady,
 }
 
-/// What a line asks for.
+/// The command of a line.
 #[derive(Clone, Copy)]
 pub enum LineCommand<'t, 'a> {
     /// To open a journal over the placement of a document.

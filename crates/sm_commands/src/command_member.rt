@@ -40,7 +40,7 @@ pub enum CommandMember {
     State,
 }
 
-/// How the members are written, in their order.
+/// The members as they are written, in their order.
 const TEXTS: [&str; 35] = [
     "command", "do", "id", "document", "journal", "epoch", "plan", "name", "stream", "number",
     "server", "shard", "moves", "from", "to", "by", "permit", "nonce", "lost", "why", "base",

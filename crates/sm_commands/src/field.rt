@@ -4,7 +4,7 @@ use crate::writing::{write_number, write_text};
 use json::Writer;
 use std::alloc::{AllocError, Global};
 
-/// What a refusal tells beside its kind.
+/// A member that a refusal has beside its kind.
 #[derive(Clone, Copy)]
 pub enum Field<'a> {
     /// A name, with what it names before it.

@@ -7,15 +7,15 @@ use json_tree::Tree;
 /// The greatest number in a line, so that a float of 64 bits holds each.
 pub const MOST_EXACT: u64 = 9_007_199_254_740_991;
 
-/// How many bytes a label has at most.
+/// The highest number of bytes of a label.
 const MOST_LABEL: usize = 64;
 
-/// The byte may stand in a label.
+/// Returns whether a byte may stand in a label.
 fn is_label_byte(byte: u8) -> bool {
     matches!(byte, b'A'..=b'Z' | b'a'..=b'z' | b'0'..=b'9' | b'.' | b'_' | b'-')
 }
 
-/// The text is a label: 1 to 64 letters, digits, dots, underscores and dashes.
+/// Returns whether a text is a label: 1 to 64 letters, digits, dots, underscores and dashes.
 pub fn is_label(text: &str) -> bool {
     let bytes = text.as_bytes();
     !bytes.is_empty() && bytes.len() <= MOST_LABEL && bytes.iter().all(|&byte| is_label_byte(byte))

@@ -246,7 +246,7 @@ impl<'t, 'a> Reader<'t, 'a> {
         u32::try_from(number).ok()
     }
 
-    /// Returns the list of at most so many entries that a member has to be.
+    /// Returns the list, up to a number of entries, that a member has to be.
     pub fn list(&mut self, row: Row, most: usize) -> Option<&'t [Tree<'a>]>
         ensures read { IsRead self.old.faults self.new.faults row (is_some result) }
         ensures most { IfSome result (λ entries. length entries.now ≤ most) }
@@ -260,7 +260,7 @@ impl<'t, 'a> Reader<'t, 'a> {
         Some(entries)
     }
 
-    /// Returns the list of at most so many names, known or not, that a member has to be.
+    /// Returns the list, up to a number of names, known or not, that a member has to be.
     pub fn names(&mut self, row: Row, most: usize) -> Option<&'t [Tree<'a>]>
         ensures read { IsRead self.old.faults self.new.faults row (is_some result) }
         ensures most { IfSome result (λ entries. length entries.now ≤ most) }

@@ -15,7 +15,7 @@ use json_tree::Tree;
 use sm_placement::MOST_SERVERS;
 use std::alloc::{AllocError, Global};
 
-/// How many bytes the reason of a reopening has at most.
+/// The highest number of bytes of a reopening's reason.
 const MOST_WHY: usize = 4_096;
 
 /// Checks the reason of a reopening.

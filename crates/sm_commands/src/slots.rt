@@ -13,7 +13,7 @@ use crate::row::Row;
 use json_tree::Tree;
 use std::alloc::{AllocError, Global};
 
-/// What a server has of a shard, without the other party of a handover.
+/// The kind of a server's cell of a shard, without the other party of a handover.
 #[derive(Clone, Copy, Debug, PartialEq, Eq)]
 pub enum CellKind {
     Absent,
@@ -31,7 +31,7 @@ pub enum PartyText<'a> {
     Name(&'a str),
 }
 
-/// What a server tells of a shard. Its names need not be known.
+/// A slot that a server tells. Its names need not be known.
 #[derive(Clone, Copy)]
 pub struct SlotText<'a> {
     pub shard: &'a str,

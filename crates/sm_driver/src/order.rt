@@ -24,11 +24,11 @@ pub struct StreamPublication {
     pub stream: StreamId,
     /// The shard whose entry changes.
     pub shard: ShardId,
-    /// What the map is to show, with the base added to its version.
+    /// The entry that the map is to show, with the base added to its version.
     pub entry: Entry,
 }
 
-/// What a stream stands before whose next step waits for an answer.
+/// The message that a stream stands before whose next step waits for an answer.
 #[derive(Clone, Copy, Debug, PartialEq, Eq)]
 pub enum StreamMessage {
     /// An order to a server.

@@ -50,7 +50,7 @@ fn opening_permit(
     permit_of(before, server).or(Some(new_permit))
 }
 
-/// Returns whether one of the first so many servers has this permit.
+/// Returns whether one of a number of first servers has this permit.
 fn is_given(permits: &[Option<u64>], servers: usize, permit: u64) -> bool
     requires { servers ≤ length permits.now }
     ensures { IsTrue result ↔ ((v : ℕ) × (v < servers) × (permit_of permits.now v ≡ Some permit)) }
@@ -114,7 +114,7 @@ impl Permits {
         }
     }
 
-    /// Returns the server, of so many, whose restart has this permit.
+    /// Returns the server, of this number of servers, whose restart has this permit.
     pub fn server(&self, servers: u32, permit: u64) -> Option<ServerId>
         requires { length self.now ≡ servers }
         ensures { result ≡ server_permitted self.now permit }

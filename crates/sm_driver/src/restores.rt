@@ -1,4 +1,4 @@
-//! What servers are told that have lost all they had.
+//! Restores: what servers are told that have lost all they had.
 ghost use Rattle.std.specs.Prelude.{◌≡◌, ◌≤◌, ◌<◌, IfOk, Some, None, length, replicate, slice_set};
 ghost use Rattle.std.specs.Option.{option_copied};
 ghost use Rattle.sm_protocol.specs.State.{numbers_end};
@@ -14,7 +14,7 @@ use std::alloc::{AllocError, Global};
 use std::marker::Model;
 use thiserror::Error;
 
-/// Why a server is not restored. Want of memory comes last.
+/// The reason why a server is not restored. Want of memory comes last.
 #[derive(Clone, Copy, Debug, PartialEq, Eq, Error)]
 pub enum RestoreFault {
     /// An unfinished stream names the server.
@@ -28,7 +28,7 @@ pub enum RestoreFault {
     NoMemory,
 }
 
-/// What a server is told that has lost all it had.
+/// The restore of a server that has lost all it had: its cells, and the number up to which orders are old to it.
 #[derive(Drop)]
 pub struct ServerRestore {
     nonce: u64,
@@ -45,7 +45,7 @@ impl Model for ServerRestore {
 }
 
 impl ServerRestore {
-    /// Puts together what a server is told.
+    /// Returns a restore of its parts.
     pub(crate) fn new(nonce: u64, number: u64, cells: Vec<Cell>) -> ServerRestore
         ensures { result ≡ record { nonce = nonce; number = number; cells = cells.items } }
     {
@@ -78,7 +78,7 @@ impl ServerRestore {
     }
 }
 
-/// What each server was told last, by the servers' numbers.
+/// The last restore of each server, by the servers' numbers.
 #[derive(Drop)]
 pub(crate) struct Restores {
     told: Vec<Option<ServerRestore>>,
@@ -94,7 +94,7 @@ impl Model for Restores {
 }
 
 impl Restores {
-    /// Returns the restores of so many servers: none was told anything.
+    /// Returns the restores of a number of servers: none was told anything.
     pub fn none(alloc: Global, servers: u32) -> Result<Restores, AllocError>
         ensures { IfOk result (λ restores. restores ≡ replicate servers None) }
     {

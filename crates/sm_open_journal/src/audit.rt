@@ -13,7 +13,7 @@ use sm_placement::Config;
 use sm_server::{Cell, ServerId, ShardId, serve};
 use std::alloc::{AllocError, Global};
 
-/// What stands against each other for a shard: the place of the slot that the server tells, and the present order to it.
+/// The two sides of a shard: the place of the slot that the server tells, and the present order to it.
 #[derive(Clone, Copy)]
 struct Facing {
     slot: Option<usize>,
@@ -109,7 +109,7 @@ fn write_difference(
     writer.end_object()
 }
 
-/// Returns room for what stands against each other for so many shards.
+/// Returns room for the two sides of each of a number of shards.
 fn facing_none(alloc: Global, shards: u32) -> Result<Vec<Facing>, AllocError> {
     let mut facing = Vec::new(alloc);
     for _ in 0..shards {

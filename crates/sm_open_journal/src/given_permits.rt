@@ -9,7 +9,7 @@ pub struct GivenPermit {
     pub permit: u64,
 }
 
-/// Which permit a name stands for: one of those of an epoch.
+/// The permit that a name stands for: one of those of an epoch.
 #[derive(Clone, Copy, Debug, PartialEq, Eq)]
 pub struct GivenAt {
     epoch: u32,

@@ -5,7 +5,7 @@ use sm_reservation::StreamId;
 use sm_server::{ServerId, ShardId};
 use std::alloc::{AllocError, Global};
 
-/// What a server has of a shard.
+/// The cell of a shard at a server.
 #[derive(Clone, Copy, Debug, PartialEq, Eq, Hash)]
 struct CellAt {
     shard: ShardId,
@@ -33,7 +33,7 @@ pub struct History {
 }
 
 impl History {
-    /// Returns the history of a journal that is opened over so many shards at a place.
+    /// Returns the history of a journal that is opened at a place, over a number of shards.
     pub fn new(alloc: Global, shards: u32, place: u64) -> Result<Self, AllocError> {
         let mut published = Vec::new(alloc);
         for _ in 0..shards {
@@ -53,7 +53,7 @@ impl History {
         self.plans.clear();
     }
 
-    /// Notes that the next plan has begun at a place, with so many streams.
+    /// Notes that the next plan has begun at a place, with a number of streams.
     pub fn note_begun(&mut self, place: u64, streams: u64) -> Result<(), AllocError> {
         let mut ordered = Vec::new(self.alloc);
         for _ in 0..streams {

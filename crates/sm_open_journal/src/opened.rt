@@ -19,7 +19,7 @@ pub struct Opened {
     pub driver: Driver,
     /// The journal, in hexadecimal digits.
     pub journal: String,
-    /// How many places the log has.
+    /// The number of the log's places.
     pub log_room: u32,
     /// The plans that have begun, each under its name.
     pub plans: Names<BegunPlan>,
@@ -27,11 +27,11 @@ pub struct Opened {
     pub approvals: Names<GivenAt>,
     pub permits: GivenPermits,
     pub history: History,
-    /// What servers were told in earlier epochs, if that was the last that they were told then.
+    /// The restores of earlier epochs, of each server the last one.
     pub told: Vec<ToldRestore>,
 }
 
-/// What is kept of a journal that is opened anew.
+/// The parts that are kept of a journal that is opened anew.
 #[derive(Drop)]
 struct Kept {
     plans: Names<BegunPlan>,

@@ -41,7 +41,7 @@ fn write_restore(
     writer.end_object()
 }
 
-/// What a server was told last in an earlier epoch.
+/// The last restore of a server in an earlier epoch.
 #[derive(Drop)]
 pub struct ToldRestore {
     server: String,

@@ -29,7 +29,7 @@ pub(crate) struct UnderWay {
     pub journal: String,
 }
 
-/// Which epoch a reopening opens, and of which journal.
+/// The epoch that a reopening opens, and its journal.
 #[derive(Clone, Copy)]
 struct NextEpoch {
     journal: u64,

@@ -18,10 +18,10 @@ use sm_placement::Config;
 use sm_reopening::SettledEffect;
 use std::alloc::{AllocError, Global};
 
-/// How many bytes a line has at most.
+/// The highest number of bytes of a line.
 const MOST_BYTES: usize = 67_108_864;
 
-/// What a line did.
+/// The effect of a line.
 #[derive(Clone, Copy, Debug, PartialEq, Eq)]
 pub enum LineEffect {
     Changed,
@@ -33,7 +33,7 @@ pub struct Session {
     pub(crate) opened: Option<Opened>,
     /// The reopening that is under way. As long as it is, what was opened before it stays, for questions alone.
     pub(crate) under_way: Option<UnderWay>,
-    /// How many commands have changed something.
+    /// The number of commands that have changed something.
     pub(crate) place: u64,
 }
 
