@@ -13,15 +13,12 @@ use crate::fault::ReopenFault;
 use crate::members::{first_lost, members_of};
 use crate::numbering::{no_config, number_servers, number_shards};
 use crate::roles::{Roles, role_of};
-use sm_driver::Driver;
+use sm_driver::{Driver, EPOCH_STEP};
 use sm_placement::{Config, ConfigFault, OpenFault, Placement};
 use sm_plan_text::Document;
 use sm_reopening::{Membership, OngoingReopening};
 use sm_server::{ServerId, ShardId};
 use std::alloc::{AllocError, Global};
-
-/// How far the bases of two epochs are apart: twice the places of the longest log.
-pub(crate) const EPOCH_STEP: u64 = 2_097_152;
 
 /// What all parties of a reopening are numbered by, and the document's roles.
 #[derive(Drop)]

@@ -8,13 +8,11 @@ ghost use Rattle.sm_driver.specs.Orders.{epoch_base};
 ghost use Rattle.sm_driver.specs.Permits.{AreEarlierPermits};
 ghost use Rattle.sm_document_reopening.specs.Begun.{BeginsUnder, IsBegun};
 
-use crate::beginning::{
-    Begun, EPOCH_STEP, Ground, begin_over_driver, begin_over_nothing, ground_of,
-};
+use crate::beginning::{Begun, Ground, begin_over_driver, begin_over_nothing, ground_of};
 use crate::fault::ReopenFault;
 use crate::roles::Roles;
 use crate::stray::Stray;
-use sm_driver::Driver;
+use sm_driver::{Driver, EPOCH_STEP};
 use sm_placement::{Config, Placement};
 use sm_plan_text::Document;
 use sm_reopening::OngoingReopening;

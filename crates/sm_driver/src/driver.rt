@@ -38,8 +38,8 @@ use sm_task_controller::{Denied, decide};
 use std::alloc::{AllocError, Global};
 use std::marker::Model;
 
-/// How far the bases of two epochs are apart: twice the places of the longest log.
-const EPOCH_STEP: u64 = 2_097_152;
+/// The distance of the bases of two epochs: twice the places of the longest log.
+pub const EPOCH_STEP: u64 = 2_097_152;
 
 /// What comes of an answer.
 #[derive(Clone, Copy, Debug, PartialEq, Eq)]

@@ -12,7 +12,7 @@ mod permits;
 mod restart;
 mod restores;
 
-pub use driver::{AnswerEffect, Driver};
+pub use driver::{AnswerEffect, Driver, EPOCH_STEP};
 pub use epoch::EpochFault;
 pub use order::{StreamMessage, StreamOrder, StreamPublication};
 pub use ordering::{awaiting, awaits, message_of, order_of, publication_of};
