@@ -1,13 +1,14 @@
 -- Where no plan is unfinished and no version is too high, the next epoch can open on the placement as it is recorded.
 use Rattle.std.proofs.Common.{◌≡◌, ◌∙◌, ◌+◌, ◌<◌, ◌≤◌, ℕ, zero, suc, Bool, true, false, Option, Some, None, ◌∷◌, length, refl, ap, arith, inl, inr}
-use Rattle.std.specs.Prelude.{nat_lt, slice_get, if◌then◌else◌}
+use Rattle.std.specs.Prelude.{nat_le, slice_get, if◌then◌else◌}
 use Rattle.std.specs.List.{filter, range_with_len}
-use Rattle.std.proofs.lemmas.Bool.{cases_eq, ltb-false}
+use Rattle.std.proofs.lemmas.Bool.{cases_eq, leb-false}
 use Rattle.sm_placement.specs.Setup.{Setup}
 use Rattle.sm_placement.specs.Lead.{IsSettled}
 use Rattle.sm_placement.specs.SafePlace.{IsSafePlace}
 use Rattle.sm_placement.specs.declared.limits.TheConstants.{MOST_VERSION}
 use Rattle.sm_placement.proofs.Searches.{first_from_none}
+use Rattle.sm_plan_code.specs.declared.limits.TheConstants.{MOST_PLACES}
 use Rattle.sm_protocol.specs.State.{State, is_unfinished}
 use Rattle.sm_protocol.specs.Next.{unfinished_plans}
 use Rattle.sm_protocol.specs.Laws.{AreDone, IsReached}
@@ -34,14 +35,14 @@ are_done w e k l = none_pass (is_unfinished w) 0 (length w.plans) e k (omega ari
 -- so a placement at rest is settled
 pub rest_is_settled : (setup : Setup) (w : State) → IsReached setup w → AreDone w → IsSafePlace w.sizes w.place → shard_spent w ≡ None → IsSettled w.sizes w.place
 rest_is_settled setup w reached done safe none =
-    rests_settled setup w reached done safe (λ s l. low s (nat_lt MOST_VERSION (w.place.version s)) refl (first_from_none spent 0 w.sizes.shards none s (omega arith) (omega arith)))
+    rests_settled setup w reached done safe (λ s l. low s (nat_le MOST_PLACES (w.place.version s)) refl (first_from_none spent 0 w.sizes.shards none s (omega arith) (omega arith)))
   where
     spent : ℕ → Option ℕ
-    spent s = if nat_lt MOST_VERSION (w.place.version s) then Some s else None
+    spent s = if nat_le MOST_PLACES (w.place.version s) then Some s else None
 
-    low : (s : ℕ) (b : Bool) → nat_lt MOST_VERSION (w.place.version s) ≡ b → (if b then Some s else None) ≡ None → w.place.version s ≤ MOST_VERSION
+    low : (s : ℕ) (b : Bool) → nat_le MOST_PLACES (w.place.version s) ≡ b → (if b then Some s else None) ≡ None → w.place.version s ≤ MOST_VERSION
     low s true e f = absurd (cc)
-    low s false e f = ltb-false MOST_VERSION (w.place.version s) e
+    low s false e f = let below = leb-false MOST_PLACES (w.place.version s) e in omega arith
 
 -- without a fault no plan is unfinished, the epoch is not the last, and no version is too high
 pub no_fault : (plan : Option ℕ) (last : Bool) (spent : Option ℕ) → fault_by plan last spent ≡ None → (plan ≡ None) × (last ≡ false) × (spent ≡ None)

@@ -1,8 +1,8 @@
 -- The next epoch: it opens over the placement as it is recorded, once all plans are finished.
 -- `fault_by` is a step on the way to `epoch_fault`.
-use Rattle.std.specs.Prelude.{◌≡◌, ℕ, ◌+◌, ◌==◌, Bool, true, false, Option, Some, None, nat_lt, slice_get, if◌then◌else◌}
+use Rattle.std.specs.Prelude.{◌≡◌, ℕ, ◌+◌, ◌==◌, Bool, true, false, Option, Some, None, nat_le, slice_get, if◌then◌else◌}
 use Rattle.sm_placement.specs.Sums.{first_from}
-use Rattle.sm_placement.specs.declared.limits.TheConstants.{MOST_VERSION}
+use Rattle.sm_plan_code.specs.declared.limits.TheConstants.{MOST_PLACES}
 use Rattle.sm_protocol.specs.Next.{unfinished_plans}
 use Rattle.sm_protocol.specs.State.{State, opened}
 use Rattle.sm_driver.specs.declared.epoch.EpochFault.{EpochFault}
@@ -13,9 +13,9 @@ use Rattle.sm_driver.specs.Driver.{DriverModel, record_of}
 abbrev pub last_epoch : ℕ
 last_epoch = 4294967295
 
--- the lowest shard whose version is above all that a placement may open with
+-- the lowest shard whose version a full log of the next epoch might take up to the base of the epoch behind it
 abbrev pub shard_spent : State → Option ℕ
-shard_spent w = first_from 0 w.sizes.shards (λ s. if nat_lt MOST_VERSION (w.place.version s) then Some s else None)
+shard_spent w = first_from 0 w.sizes.shards (λ s. if nat_le MOST_PLACES (w.place.version s) then Some s else None)
 
 -- by the lowest unfinished plan, whether the epoch is the last, and that shard
 abbrev pub fault_by : Option ℕ → Bool → Option ℕ → Option EpochFault

@@ -1,15 +1,15 @@
 //! Why an epoch does not follow another.
-ghost use Rattle.std.specs.Prelude.{◌≡◌, ◌≢◌, ◌<◌, ◌+◌, nat_lt};
-ghost use Rattle.sm_placement.specs.declared.limits.TheConstants.{MOST_VERSION};
+ghost use Rattle.std.specs.Prelude.{◌≡◌, ◌≢◌, ◌<◌, ◌+◌, nat_le};
+ghost use Rattle.sm_plan_code.specs.declared.limits.TheConstants.{MOST_PLACES};
 ghost use Rattle.sm_machine.specs.State.{state_of};
 ghost use Rattle.sm_driver.specs.Epochs.{fault_by, last_epoch, shard_spent};
 
 use sm_machine::Machine;
-use sm_placement::MOST_VERSION;
+use sm_plan_code::MOST_PLACES;
 use sm_server::ShardId;
 use thiserror::Error;
 
-/// Why the next epoch does not open. Of several reasons the first one in this order is given; want of memory comes last.
+/// The reason why the next epoch does not open: of several the first one in this order. Want of memory comes last.
 #[derive(Clone, Copy, Debug, PartialEq, Eq, Error)]
 pub enum EpochFault {
     /// A plan is unfinished.
@@ -21,8 +21,8 @@ pub enum EpochFault {
     /// The epoch is the last one that has a number.
     #[error("no epoch follows the last one")]
     LastEpoch,
-    /// An entry of the published map has changed too often.
-    #[error("the version of {shard} in the published map is above 2^40")]
+    /// An entry of the published map has changed too often since the last reopening, which counts anew.
+    #[error("the version of {shard} in the published map is 2^20 or more: a reopening counts anew")]
     VersionsSpent {
         /// The lowest such shard.
         shard: ShardId,
@@ -32,15 +32,15 @@ pub enum EpochFault {
     NoMemory,
 }
 
-/// Returns whether the version of a shard is above all that a placement may open with.
+/// Returns whether a full log might take the version of a shard up to the distance of two epochs' bases.
 fn is_spent(machine: &Machine, shard: u32) -> bool
     requires { shard < (state_of machine.now).sizes.shards }
-    ensures { result ≡ nat_lt MOST_VERSION ((state_of machine.now).place.version shard) }
+    ensures { result ≡ nat_le MOST_PLACES ((state_of machine.now).place.version shard) }
 {
-    machine.entry(ShardId::new(shard)).version > MOST_VERSION
+    MOST_PLACES as u64 <= machine.entry(ShardId::new(shard)).version
 }
 
-/// Returns the lowest such shard.
+/// Returns the lowest shard of which a full log might do so.
 pub(crate) fn shard_spent(machine: &Machine) -> Option<ShardId>
     ensures { result ≡ shard_spent (state_of machine.now) }
 {

@@ -1,8 +1,8 @@
 -- The lowest shard whose version is too high.
 use Rattle.std.proofs.Common.{◌≡◌, ◌∙◌, ◌<◌, ℕ, Option, Some, None, sym, ap, subst}
-use Rattle.std.specs.Prelude.{nat_lt, if◌then◌else◌}
+use Rattle.std.specs.Prelude.{nat_le, if◌then◌else◌}
 use Rattle.sm_placement.specs.Setup.{Sizes}
-use Rattle.sm_placement.specs.declared.limits.TheConstants.{MOST_VERSION}
+use Rattle.sm_plan_code.specs.declared.limits.TheConstants.{MOST_PLACES}
 use Rattle.sm_protocol.specs.State.{State}
 use Rattle.sm_machine.specs.State.{state_of}
 use Rattle.sm_machine.proofs.Engaged.{found, passed}
@@ -11,7 +11,7 @@ use Rattle.sm_driver.proofs.epoch.shard_spent.Goals as goal
 pub returns-then-is_spent : goal.returns-then-is_spent
 returns-then-is_spent c =
     let w : State = state_of c.args.machine.now in
-    let f : ℕ → Option ℕ = λ s. if nat_lt MOST_VERSION (w.place.version s) then Some s else None in
+    let f : ℕ → Option ℕ = λ s. if nat_le MOST_PLACES (w.place.version s) then Some s else None in
     let n : ℕ = c.loop-number.number in
     let same : c.shard_count-number-end.result ≡ w.sizes.shards = c.shard_count-number-end.ensures.count ∙ ap (λ (s : Sizes). s.shards) c.config.ensures.sizes in
     ap Some c.new.ensures
@@ -21,7 +21,7 @@ returns-then-is_spent c =
 pub loop-number-preserved : goal.loop-number-preserved
 loop-number-preserved c =
     let w : State = state_of c.args.machine.now in
-    let f : ℕ → Option ℕ = λ s. if nat_lt MOST_VERSION (w.place.version s) then Some s else None in
+    let f : ℕ → Option ℕ = λ s. if nat_le MOST_PLACES (w.place.version s) then Some s else None in
     let n : ℕ = c.loop-number.number in
     let same : c.shard_count-number-end.result ≡ w.sizes.shards = c.shard_count-number-end.ensures.count ∙ ap (λ (s : Sizes). s.shards) c.config.ensures.sizes in
     passed f w.sizes.shards n c.loop-number.invariant (subst (λ k. n < k) same c.loop-number-test.true)
