@@ -109,7 +109,7 @@ NOTES = {
     "Driver::begin": NOTHING,
     "Driver::answered": "that the server has done what it answers",
     "Driver::approve": "that the server goes down",
-    "Driver::restarted": "that the server is up",
+    "Driver::restarted": "that the server is up, and has this base",
     "Driver::restore": "that what it tells is sent",
     "Driver::reopen": "that the reopening was the one of the network",
     "Driver::new_epoch": NOTHING,

@@ -42,7 +42,7 @@ abbrev pub IsKnownCommand : Option (Bor Setup) → LineCommand → Type 0
 IsKnownCommand _ (line.Open _ journal _) = journal ≢ 0
 IsKnownCommand _ (line.Answered _ _ number) = number ≤ MOST_EXACT
 IsKnownCommand config (line.Approve server _) = IsServerOf config server.now
-IsKnownCommand _ (line.Restarted permit) = permit ≤ MOST_EXACT
+IsKnownCommand _ (line.Restarted permit base) = (permit ≤ MOST_EXACT) × IfSome base (λ number. number ≤ MOST_EXACT)
 IsKnownCommand config (line.Restore server nonce) = IsServerOf config server.now × (nonce ≢ 0)
 IsKnownCommand _ (line.Reopen _ lost journal epoch) =
     (length lost.now ≤ MOST_SERVERS) × IfSome journal (λ bits. bits ≢ 0) × IfSome epoch (λ number. number ≢ 0)

@@ -90,10 +90,11 @@ pub fn read_approve<'t, 'a>(
 pub fn read_restarted<'t, 'a>(line: &'t Tree<'a>) -> Result<LineCommand<'t, 'a>, BadLine>
     ensures { IfOk result IsKnownAnywhere }
 {
-    let mut reader = Reader::of_line(line, &[CommandMember::Permit]);
+    let mut reader = Reader::of_line(line, &[CommandMember::Permit, CommandMember::Base]);
     let permit = reader.number(Row::One(CommandMember::Permit), MOST_EXACT);
+    let base = reader.number_unless_null(Row::One(CommandMember::Base), MOST_EXACT);
     match permit {
-        Some(permit) => reader.finish(LineCommand::Restarted { permit }),
+        Some(permit) => reader.finish(LineCommand::Restarted { permit, base }),
         None => Err(reader.fault()),
     }
 }

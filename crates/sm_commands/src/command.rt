@@ -62,9 +62,10 @@ pub enum LineCommand<'t, 'a> {
         server: &'a str,
         by: &'a str,
     },
-    /// To take the end of the restart that has this permit.
+    /// To take the end of the restart that has this permit, of a server with this base.
     Restarted {
         permit: u64,
+        base: Option<u64>,
     },
     /// To give a server that has lost its slots what is recorded of them.
     Restore {

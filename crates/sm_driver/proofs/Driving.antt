@@ -100,27 +100,29 @@ permits_set w permits v given down new l is placed sizes x = record {
   ];
 }
 
--- carried servers are down as a server that is not carried over goes down or comes up, and one that does may be if it goes down
-carried_put : (w new : State) (carried : List Bool) (v : ℕ) (down : Bool) → (was_carried carried v ≡ true → down ≡ true) → new.place.down ≡ put w.place.down v down → new.sizes ≡ w.sizes →
-    AreCarriedDown w carried → AreCarriedDown new carried
-carried_put w new carried v down fits placed sizes x = record {
+-- carried servers are down as a server goes down
+carried_stay_down : (w new : State) (carried : List Bool) (v : ℕ) → new.place.down ≡ put w.place.down v true → new.sizes ≡ w.sizes → AreCarriedDown w carried → AreCarriedDown new carried
+carried_stay_down w new carried v placed sizes x = record {
   servers = x.servers ∙ ap (λ (c : Sizes). c.servers) (sym sizes);
   down = λ u m marked. ap (λ f. f u) placed ∙ (elim (cases_eq u v) [
-    | inl here ↦ put-here w.place.down v down u here ∙ fits (subst (λ k. was_carried carried k ≡ true) here marked)
-    | inr apart ↦ put-apart w.place.down v down u apart ∙ x.down u (subst (λ (c : Sizes). u < c.servers) sizes m) marked
+    | inl here ↦ put-here w.place.down v true u here
+    | inr apart ↦ put-apart w.place.down v true u apart ∙ x.down u (subst (λ (c : Sizes). u < c.servers) sizes m) marked
   ]);
 }
 
--- and where one of them is no longer carried over
-carried_cleared : (w : State) (carried : List Bool) (v : ℕ) → AreCarriedDown w carried → AreCarriedDown w (set carried v false)
-carried_cleared w carried v x = record {
-  servers = length-set carried v false ∙ x.servers;
-  down = λ u l marked. elim (cases_eq u v) [
+-- and as one comes up that is no longer carried over
+carried_cleared : (w new : State) (carried : List Bool) (v : ℕ) → v < w.sizes.servers → new.place.down ≡ put w.place.down v false → new.sizes ≡ w.sizes → AreCarriedDown w carried →
+    AreCarriedDown new (set carried v false)
+carried_cleared w new carried v l placed sizes x = record {
+  servers = length-set carried v false ∙ x.servers ∙ ap (λ (c : Sizes). c.servers) (sym sizes);
+  down = λ u m marked. elim (cases_eq u v) [
     | inl here ↦
-        let cleared = get_or-set_same carried v false false (subst (λ n. v < n) (sym x.servers) (subst (λ k. k < w.sizes.servers) here l)) in
+        let cleared = get_or-set_same carried v false false (subst (λ n. v < n) (sym x.servers) l) in
         let kept = subst (λ k. was_carried (set carried v false) k ≡ true) here marked in
         absurd (cc)
-    | inr apart ↦ x.down u l (sym (get_or-set_other carried v u false false apart) ∙ marked)
+    | inr apart ↦
+        ap (λ f. f u) placed ∙ put-apart w.place.down v false u apart
+        ∙ x.down u (subst (λ (c : Sizes). u < c.servers) sizes m) (sym (get_or-set_other carried v u false false apart) ∙ marked)
   ];
 }
 
@@ -138,15 +140,15 @@ approved_driving room d v new e l places x =
       permits = permits_set w d.permits v (Some (base d + length w.log + 1)) true (state_of new) l refl (ap (λ (s : State). s.place.down) is) (ap (λ (s : State). s.sizes) is) x.permits;
       given = subst (λ n. AreGivenPermits (base d) n (set d.permits v (Some (base d + length w.log + 1)))) (sym more)
           (given_more (base d) (length w.log) d.permits v (subst (λ n. v < n) (sym x.permits.servers) l) (omega arith) x.given);
-      carried = carried_put w (state_of new) d.carried v true (λ marked. refl) (ap (λ (s : State). s.place.down) is) (ap (λ (s : State). s.sizes) is) x.carried;
+      carried = carried_stay_down w (state_of new) d.carried v (ap (λ (s : State). s.place.down) is) (ap (λ (s : State). s.sizes) is) x.carried;
       restores = x.restores ∙ ap (λ (s : State). s.sizes.servers) (sym is);
       room = ap (λ (s : State). s.room) is ∙ x.room;
     }
 
 -- the end of a restart keeps it
 pub restarted_driving : (room : ℕ) (d : DriverModel) (v : ℕ) (answer : Played) (new : MachineModel) → happens (record_of d) (Done v) ≡ (Answered answer, state_of new) → v < (record_of d).sizes.servers →
-    (record_of d).place.down v ≡ true → was_carried d.carried v ≡ false → IsDriving room d → IsDriving room (record d { machine = new; permits = set d.permits v None })
-restarted_driving room d v answer new e l down settled x =
+    (record_of d).place.down v ≡ true → IsDriving room d → IsDriving room (record d { machine = new; permits = set d.permits v None; carried = set d.carried v false })
+restarted_driving room d v answer new e l down x =
     let w : State = record_of d in
     let is = (restart_is w (state_of new) v answer e down).1 in
     let longer = one_more w (state_of new) (event.Done v) played.Up (ap (λ (s : State). s.log) is) (λ id after same. absurd (cc)) in
@@ -155,19 +157,19 @@ restarted_driving room d v answer new e l down settled x =
       unlost = longer.unlost x.unlost;
       permits = permits_set w d.permits v None false (state_of new) l refl (ap (λ (s : State). s.place.down) is) (ap (λ (s : State). s.sizes) is) x.permits;
       given = given_on (base d) _ _ _ longer.log (given_less (base d) (length w.log) d.permits v (subst (λ n. v < n) (sym x.permits.servers) l) x.given);
-      carried = carried_put w (state_of new) d.carried v false (λ marked. absurd (cc)) (ap (λ (s : State). s.place.down) is) (ap (λ (s : State). s.sizes) is) x.carried;
+      carried = carried_cleared w (state_of new) d.carried v l (ap (λ (s : State). s.place.down) is) (ap (λ (s : State). s.sizes) is) x.carried;
       restores = x.restores ∙ ap (λ (s : State). s.sizes.servers) (sym is);
       room = ap (λ (s : State). s.room) is ∙ x.room;
     }
 
 -- a restore keeps it
-pub told_driving : (room : ℕ) (d : DriverModel) (v : ℕ) (told : Option RestoreModel) → IsDriving room d → IsDriving room (record d { carried = set d.carried v false; restores = set d.restores v told })
+pub told_driving : (room : ℕ) (d : DriverModel) (v : ℕ) (told : Option RestoreModel) → IsDriving room d → IsDriving room (record d { restores = set d.restores v told })
 told_driving room d v told x = record {
   free = x.free;
   unlost = x.unlost;
   permits = x.permits;
   given = x.given;
-  carried = carried_cleared (record_of d) d.carried v x.carried;
+  carried = x.carried;
   restores = length-set d.restores v told ∙ x.restores;
   room = x.room;
 }

@@ -1,6 +1,6 @@
 -- A driver, and what its commands make of what is recorded.
 -- `IsDriving` and `HasLostNone` are the driver's own: whoever reads public contracts need not read them.
-use Rattle.std.specs.Prelude.{◌≡◌, ℕ, ◌+◌, ◌==◌, ◌||◌, Bool, false, List, Option, Some, None, length, nat_lt, slice_set, ◌&&◌}
+use Rattle.std.specs.Prelude.{◌≡◌, ℕ, ◌+◌, ◌==◌, ◌||◌, Bool, false, true, List, Option, Some, None, length, nat_lt, slice_set, ◌&&◌}
 use Rattle.sm_reservation.specs.declared.stream_id.StreamId.{StreamId}
 use Rattle.sm_plan_code.specs.Plan.{PlanModel}
 use Rattle.sm_protocol.specs.declared.event.Played.TheVariants as played
@@ -14,7 +14,7 @@ use Rattle.sm_machine.specs.State.{state_of}
 use Rattle.sm_driver.specs.Advance.{IsAdvanced, next_free}
 use Rattle.sm_driver.specs.Carried.{AreCarriedDown}
 use Rattle.sm_driver.specs.Orders.{awaits, epoch_base}
-use Rattle.sm_driver.specs.Permits.{AreGivenPermits, ArePermitsOfDown}
+use Rattle.sm_driver.specs.Permits.{AreGivenPermits, ArePermitsOfDown, is_settled, server_permitted}
 use Rattle.sm_driver.specs.declared.restart.RestartEffect.{RestartEffect}
 use Rattle.sm_driver.specs.declared.restart.RestartEffect.TheVariants.{Old, Unsettled, Up}
 use Rattle.sm_driver.specs.Restores.{RestoreModel, restore_now}
@@ -26,8 +26,8 @@ pub record DriverModel : Type 0 where
   pub epoch : ℕ
   -- the base of the journal's last reopening, 0 before any
   pub fence : ℕ
-  -- by the servers' numbers: of each that is down the permit of its restart, and whether it was carried over and took no settle since;
-  -- what each was told last after it had lost all it had
+  -- by the servers' numbers: of each that is down the permit of its restart, and whether a reopening carried it over; what each was told
+  -- last after it had lost all it had
   pub permits : List (Option ℕ)
   pub carried : List Bool
   pub restores : List (Option RestoreModel)
@@ -104,22 +104,21 @@ pub record HasApproved (v permit : ℕ) (old new : DriverModel) : Type 0 where
   pub permits : new.permits ≡ slice_set old.permits v (Some permit)
   pub journal : IsOfJournal old new
 
--- The restart of a server has ended, and its permit with it.
-pub record HasEndedRestart (v : ℕ) (old new : DriverModel) : Type 0 where
+-- The restart of a settled server has ended by its permit, which is gone. The server is no longer carried over.
+pub record HasEndedRestart (v permit : ℕ) (server_base : Option ℕ) (old new : DriverModel) : Type 0 where
+  pub permitted : server_permitted old.permits permit ≡ Some v
+  pub settled : is_settled old.fence server_base ≡ true
   pub event : happens (record_of old) (Done v) ≡ (Answered played.Up, record_of new)
   pub permits : new.permits ≡ slice_set old.permits v None
-  pub journal : IsOfJournal old new
+  pub journal : IsOfJournal (record old { carried = slice_set old.carried v false }) new
 
 -- What the end of a restart comes to: the server's restart has ended, or all is as it was.
-abbrev pub HasCome : RestartEffect → DriverModel → DriverModel → Type 0
-HasCome (Up v) old new = HasEndedRestart v old new
-HasCome (Unsettled v) old new = new ≡ old
-HasCome Old old new = new ≡ old
+abbrev pub HasCome : RestartEffect → ℕ → Option ℕ → DriverModel → DriverModel → Type 0
+HasCome (Up v) permit server_base old new = HasEndedRestart v permit server_base old new
+HasCome (Unsettled v) permit server_base old new = new ≡ old
+HasCome Old permit server_base old new = new ≡ old
 
--- A server is restored that no unfinished stream names. It is no longer carried over.
+-- A server is told its cells that no unfinished stream names. Whether it takes them is not known.
 pub record HasRestored (v nonce : ℕ) (old new : DriverModel) : Type 0 where
   pub disengaged : engaged (record_of old) v ≡ None
-  pub told : new ≡ record old {
-    carried = slice_set old.carried v false;
-    restores = slice_set old.restores v (Some (restore_now (base old) (record_of old) v nonce));
-  }
+  pub told : new ≡ record old { restores = slice_set old.restores v (Some (restore_now (base old) (record_of old) v nonce)) }

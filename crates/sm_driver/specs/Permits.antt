@@ -1,6 +1,6 @@
 -- Permits of restarts: each server that is down has one, and its restart ends by that one alone.
 -- `AreGivenPermits` is the driver's own: whoever reads public contracts need not read it.
-use Rattle.std.specs.Prelude.{◌≡◌, ◌≤◌, ◌<◌, ◌⊎◌, ℕ, ◌+◌, ◌*◌, Bool, Option, Some, None, List, is_some, length, map, slice_index_or, if◌then◌else◌}
+use Rattle.std.specs.Prelude.{◌≡◌, ◌≤◌, ◌<◌, ◌⊎◌, ℕ, ◌+◌, ◌*◌, Bool, false, Option, Some, None, List, is_some, length, map, nat_le, slice_index_or, if◌then◌else◌}
 use Rattle.std.specs.List.{range_with_len}
 use Rattle.std.specs.Option.{option_or}
 use Rattle.sm_placement.specs.Sums.{first_from}
@@ -9,7 +9,6 @@ use Rattle.sm_protocol.specs.State.{State}
 use Rattle.sm_network.specs.Controller.{is_permitted}
 use Rattle.sm_driver.specs.declared.restart.RestartEffect.{RestartEffect}
 use Rattle.sm_driver.specs.declared.restart.RestartEffect.TheVariants.{Old, Unsettled, Up}
-use Rattle.sm_driver.specs.Carried.{was_carried}
 
 -- the permit of a server, of these permits by the servers' numbers; none if it is not down
 abbrev pub permit_of : List (Option ℕ) → ℕ → Option ℕ
@@ -19,10 +18,15 @@ permit_of permits v = slice_index_or permits v None
 abbrev pub server_permitted : List (Option ℕ) → ℕ → Option ℕ
 server_permitted permits permit = first_from 0 (length permits) (λ v. if is_permitted (permit_of permits v) permit then Some v else None)
 
--- what comes of the end of a restart, if its permit is this server's, or no server's: one that is carried over does not come up
-abbrev pub restart_effect : List Bool → Option ℕ → RestartEffect
-restart_effect carried None = Old
-restart_effect carried (Some v) = if was_carried carried v then Unsettled v else Up v
+-- a server with this base was settled or restored at or above the fence; one without a base was not
+abbrev pub is_settled : ℕ → Option ℕ → Bool
+is_settled fence None = false
+is_settled fence (Some number) = nat_le fence number
+
+-- what comes of the end of a restart, if its permit is this server's, or no server's: a server that is not settled does not come up
+abbrev pub restart_effect : ℕ → Option ℕ → Option ℕ → RestartEffect
+restart_effect fence server_base None = Old
+restart_effect fence server_base (Some v) = if is_settled fence server_base then Up v else Unsettled v
 
 -- the permit that a server gets at an opening: one above all that the log of this base can give
 abbrev pub new_permit : ℕ → ℕ → ℕ

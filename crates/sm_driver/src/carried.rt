@@ -8,7 +8,7 @@ use sm_server::ServerId;
 use std::alloc::{AllocError, Global};
 use std::marker::Model;
 
-/// Which servers are carried over, by the servers' numbers.
+/// Marks of the servers that are carried over, by the servers' numbers.
 #[derive(Drop)]
 pub(crate) struct CarriedServers {
     marks: Vec<bool>,
@@ -55,14 +55,6 @@ impl CarriedServers {
         ensures { result.now ≡ self.now }
     {
         self.marks.as_slice()
-    }
-
-    /// Returns whether a server is carried over.
-    pub fn has(&self, server: ServerId) -> bool
-        requires { server < length self.now }
-        ensures { result ≡ was_carried self.now server }
-    {
-        self.marks[server.number() as usize]
     }
 
     /// Takes a server's mark away.

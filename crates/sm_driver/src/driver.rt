@@ -28,7 +28,7 @@ use crate::order::{StreamMessage, StreamOrder, StreamPublication};
 use crate::ordering::{awaiting, message_of, order_of, publication_of};
 use crate::own_steps::{advance, advance_plan};
 use crate::permits::Permits;
-use crate::restart::RestartEffect;
+use crate::restart::{RestartEffect, is_settled};
 use crate::restores::{RestoreFault, Restores, ServerRestore, cells_told};
 use sm_machine::{BeginFault, Director, Event, Machine, ReadyPlan};
 use sm_placement::Placement;
@@ -41,7 +41,7 @@ use std::marker::Model;
 /// The distance of the bases of two epochs: twice the places of the longest log.
 pub const EPOCH_STEP: u64 = 2_097_152;
 
-/// What comes of an answer.
+/// The effect of an answer.
 #[derive(Clone, Copy, Debug, PartialEq, Eq)]
 pub enum AnswerEffect {
     /// The stream has made its step.
@@ -211,7 +211,7 @@ impl Driver {
     }
 
     /// Returns which servers a reopening has carried over, by the servers' numbers: such a server is down, did not answer the reopening,
-    /// and has been told nothing since.
+    /// and its restart has not ended since.
     pub fn carried(&self) -> &[bool]
         ensures carried { result.now ≡ self.now.carried }
         ensures down { AreCarriedDown (record_of self.now) self.now.carried }
@@ -249,26 +249,27 @@ impl Driver {
         Ok(permit)
     }
 
-    /// Ends the restart that has this permit: the server is up. No other permit ends anything, nor does that of a carried server. A full
-    /// log is no hindrance.
-    pub fn restarted(&mut self, permit: u64) -> RestartEffect
-        ensures effect { result ≡ restart_effect self.old.carried (server_permitted self.old.permits permit) }
-        ensures come { HasCome result self.old self.new }
+    /// Ends the restart that has this permit, if the number of the server's base is at or above the fence: the server is up, and no longer
+    /// carried over. A server has no base if it is Unknown, or fenced. No other permit ends anything. A full log is no hindrance.
+    pub fn restarted(&mut self, permit: u64, base: Option<u64>) -> RestartEffect
+        ensures effect { result ≡ restart_effect self.old.fence base (server_permitted self.old.permits permit) }
+        ensures come { HasCome result permit base self.old self.new }
     {
         let servers = self.machine().config().server_count();
         let Some(server) = self.permits.server(servers, permit) else {
             return RestartEffect::Old;
         };
-        if self.carried.has(server) {
+        if !is_settled(self.fence, base) {
             return RestartEffect::Unsettled(server);
         }
         let _ = self.director.play(Event::Done { server });
         self.permits.set(server, None);
+        self.carried.clear(server);
         RestartEffect::Up(server)
     }
 
-    /// Restores a server that has lost all it had, and asks under a nonce: keeps what it is told, and returns true. The server is no
-    /// longer carried over. If it was told under this nonce last, returns false, and nothing changes.
+    /// Restores a server that has lost all it had, and asks under a nonce: keeps what it is told, and returns true. If it was told under
+    /// this nonce last, returns false, and nothing changes.
     pub fn restore(
         &mut self,
         alloc: Global,
@@ -295,7 +296,6 @@ impl Driver {
         };
         self.restores
             .set(server, ServerRestore::new(nonce, number, cells));
-        self.carried.clear(server);
         Ok(true)
     }
 

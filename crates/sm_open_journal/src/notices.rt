@@ -16,7 +16,7 @@ fn write_notice(opened: &Opened, writer: &mut Writer, server: ServerId) -> Resul
     writer.end_object()
 }
 
-/// Writes, as a member, the notices to the servers that were carried over and have not been restored since.
+/// Writes, as a member, the notices to the servers that were carried over and have not come up since.
 pub fn write_notices(opened: &Opened, writer: &mut Writer) -> Result<(), AllocError> {
     let mut number = 0;
     writer.key("notice")?;

@@ -40,9 +40,9 @@ TakesAnswer old new = (id : StreamId) × (number : ℕ) × (is_due old id number
 abbrev pub ApprovesRestart : DriverModel → DriverModel → Type 0
 ApprovesRestart old new = (server : ℕ) × (permit : ℕ) × HasApproved server permit old new
 
--- a restart has ended
-abbrev pub EndsRestart : DriverModel → DriverModel → Type 0
-EndsRestart old new = (server : ℕ) × HasEndedRestart server old new
+-- a restart has ended by this permit, of a server with this base
+abbrev pub EndsRestart : ℕ → Option ℕ → DriverModel → DriverModel → Type 0
+EndsRestart permit base old new = (server : ℕ) × HasEndedRestart server permit base old new
 
 -- a server was restored
 abbrev pub RestoresServer : DriverModel → DriverModel → Type 0
@@ -53,7 +53,7 @@ pub data Changes (old new : DriverModel) : Type 0 where
   Begins : BeginsPlan old new → Changes old new
   Takes : TakesAnswer old new → Changes old new
   Approves : ApprovesRestart old new → Changes old new
-  Ends : EndsRestart old new → Changes old new
+  Ends : (permit : ℕ) (base : Option ℕ) → EndsRestart permit base old new → Changes old new
   Restores : RestoresServer old new → Changes old new
   OpensEpoch : HasOpenedEpoch old new → Changes old new
 

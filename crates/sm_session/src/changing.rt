@@ -35,7 +35,9 @@ pub fn change(
             number,
         } => answered(opened, at, alloc, writer, StreamId { plan, stream }, number),
         LineCommand::Approve { server, by } => approve(opened, at, alloc, writer, server, by),
-        LineCommand::Restarted { permit } => restarted(opened, at, alloc, writer, permit),
+        LineCommand::Restarted { permit, base } => {
+            restarted(opened, at, alloc, writer, permit, base)
+        }
         LineCommand::Restore { server, nonce } => restore(opened, at, alloc, writer, server, nonce),
         LineCommand::NewEpoch => open_next(opened, at, alloc, writer),
         _ => Ok(false),

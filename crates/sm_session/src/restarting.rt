@@ -24,15 +24,17 @@ fn wait_for_reopening(
     }
 }
 
-/// Ends the restart that has this permit, unless a reopening is under way, writes the reply, and tells whether its server is up now.
+/// Ends the restart that has this permit, of a server with this base, unless a reopening is under way, writes the reply, and tells whether the
+/// server is up now.
 pub fn restarted(
     opened: &mut Opened,
     at: Standing,
     alloc: Global,
     writer: &mut Writer,
     permit: u64,
+    base: Option<u64>,
 ) -> Result<bool, AllocError>
-    ensures ended { IfOk result (λ ended. ended ≡ true → EndsRestart opened.old.driver opened.new.driver) }
+    ensures ended { IfOk result (λ ended. ended ≡ true → EndsRestart permit base opened.old.driver opened.new.driver) }
     ensures unchanged { IfOk result (λ ended. ended ≡ false → opened.new ≡ opened.old) }
     ensures in_force { IfOk result (λ ended. ended ≡ true → at.is_reopening ≡ false) }
 {
@@ -40,7 +42,7 @@ pub fn restarted(
         wait_for_reopening(opened, alloc, writer, permit)?;
         return Ok(false);
     }
-    match opened.driver.restarted(permit) {
+    match opened.driver.restarted(permit, base) {
         RestartEffect::Up(server) => {
             let config = opened.driver.machine().config();
             write_text(writer, "up", server_name(config, server))?;

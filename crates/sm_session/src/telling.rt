@@ -15,6 +15,9 @@ use sm_open_journal::{
 use sm_reservation::StreamId;
 use std::alloc::{AllocError, Global};
 
+/// The number of the form of lines and replies, which rises if lines that were right no longer are.
+const FORMAT: u64 = 2;
+
 /// Writes a member that is a list of nothing.
 pub fn write_no_list(writer: &mut Writer, name: &str) -> Result<(), AllocError> {
     writer.key(name)?;
@@ -101,7 +104,7 @@ impl Session {
         writer.key("hello")?;
         writer.begin_object()?;
         write_text(writer, "program", "smpland")?;
-        write_number(writer, "format", 1)?;
+        write_number(writer, "format", FORMAT)?;
         self.write_place(writer)?;
         writer.end_object()
     }
