@@ -8,7 +8,7 @@ from driving_model.commands import (
 )
 from driving_model.controller import Controller, replayed
 from driving_model.decisions import MOST_PLANS
-from driving_model.messages import BASE_STEP, Fence, LAST_EPOCH, LONGEST_LOG, MAP, Order, Publication, Unknown
+from driving_model.messages import BASE_STEP, Fence, LAST_EPOCH, LONGEST_LOG, MAP, Notice, Order, Publication, Unknown
 from driving_model.plans import Plan, RoomRight, Stream, publish
 from driving_model.replies import (
     Approved, Begun, Fencing, Ignored, Moved, Opened, PermitEnded, Proposal, Refused, Restoring, Settling, Up, Waiting,
@@ -155,24 +155,31 @@ class Restarts(ControllerTest):
         self.assert_reply(controller, Approve(0, "b"), Refused("AlreadyDown", server=0))
         self.assert_reply(controller, Approve(2, "b"), Refused("GlobalCap"))
         self.assert_reply(controller, Approve(3, "b"), Refused("UnknownServer", server=3))
-        self.assert_reply(controller, Restarted(2), Ignored("old"))
-        self.assert_reply(controller, Restarted(1), Up(0))
-        self.assert_reply(controller, Restarted(1), Ignored("old"))
+        self.assert_reply(controller, Restarted(2, 0), Ignored("old"))
+        self.assert_reply(controller, Restarted(1, 0), Up(0))
+        self.assert_reply(controller, Restarted(1, 0), Ignored("old"))
         self.assert_reply(controller, Approve(0, "a"), PermitEnded(0, 1))
         self.assert_reply(controller, Approve(0, "b"), Approved(0, 3))
+
+    def test_a_restart_ends_with_a_base_alone(self):
+        controller = opened()
+        controller.apply(Approve(0, "a"))
+        self.assert_reply(controller, Restarted(2, None), Ignored("old"))
+        self.assert_reply(controller, Restarted(1, None), Refused("Unsettled", server=0))
+        self.assert_reply(controller, Restarted(1, 0), Up(0))
 
     def test_permits_are_kept_across_epochs(self):
         controller = opened()
         controller.apply(Approve(0, "a"))
         self.assert_reply(controller, NewEpoch(), Opened(9, 1, ((0, 1),)))
-        self.assert_reply(controller, Restarted(1), Up(0))
+        self.assert_reply(controller, Restarted(1, 0), Up(0))
 
     def test_a_document_that_calls_a_server_down_gives_it_a_permit(self):
         controller = Controller()
         document = replace(DOCUMENT, down=frozenset({0}))
         permit = LONGEST_LOG + 1
         self.assert_reply(controller, Open(document, 9, 0), Opened(9, 0, ((0, permit),)))
-        self.assert_reply(controller, Restarted(permit), Up(0))
+        self.assert_reply(controller, Restarted(permit, 0), Up(0))
 
     def test_a_server_that_a_stream_names_is_engaged(self):
         controller = opened()
@@ -188,7 +195,7 @@ class Restarts(ControllerTest):
         restore = outcome.reply.restore
         self.assertEqual((restore.nonce, restore.base, restore.fence), (77, BASE_STEP + 1, 0))
         self.assertEqual([it.cell for it in restore.slots], [PRIMARY, ABSENT])
-        controller.apply(Restarted(BASE_STEP + 1))
+        controller.apply(Restarted(BASE_STEP + 1, BASE_STEP + 1))
         self.assert_reply(controller, RestoreServer(0, 77), Restoring(restore))
         self.assertEqual(controller.apply(RestoreServer(0, 78)).reply.restore.base, BASE_STEP + 2)
 
@@ -303,9 +310,13 @@ class Epochs(ControllerTest):
         for server in (MAP, 1, 2):
             controller.apply(settled(server))
         self.assertEqual([it.server for it in controller.outgoing()], [0])
-        self.assert_reply(controller, Restarted(1), Refused("Unsettled", server=0))
+        for base in (None, 0, BASE_STEP - 1):
+            self.assert_reply(controller, Restarted(1, base), Refused("Unsettled", server=0))
         controller.apply(RestoreServer(0, 3))
-        self.assert_reply(controller, Restarted(1), Up(0))
+        self.assert_reply(controller, Restarted(1, None), Refused("Unsettled", server=0))
+        self.assertIn(Notice(0, 9, BASE_STEP), controller.outgoing())
+        self.assert_reply(controller, Restarted(1, BASE_STEP), Up(0))
+        self.assertNotIn(Notice(0, 9, BASE_STEP), controller.outgoing())
 
     def test_who_was_sent_a_settle_is_not_carried_over(self):
         controller = opened()

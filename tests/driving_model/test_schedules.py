@@ -14,9 +14,9 @@ STEPS = 220
 RUNS = {"": 600} | {it: 150 for it in PROFILES if it != "any"}
 # What happens in some schedule of these.
 MET = (
-    "acknowledged", "approved", "carried over", "crashed at work", "executed", "fence met work", "forgot",
-    "journal replaced", "left out", "lost for good", "passed executed", "reopened", "reopening replaced", "restored",
-    "settled", "turned Unknown",
+    "a late ask", "acknowledged", "approved", "carried over", "crashed at work", "executed", "fence met work",
+    "forgot", "journal replaced", "left out", "lost for good", "passed executed", "reopened", "reopening replaced",
+    "restored", "settled", "turned Unknown",
 )
 
 

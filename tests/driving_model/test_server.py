@@ -170,6 +170,17 @@ class Reopening(unittest.TestCase):
         self.assertFalse(it.is_known)
 
 
+    def test_the_base_that_ends_a_restart(self):
+        it = server(SECONDARY)
+        self.assertEqual(it.settled_base(), 100)
+        it.fence(Fence(1, BASE_STEP, 9), NOBODY, [0])
+        self.assertIsNone(it.settled_base())
+        self.assertTrue(it.settle(Settle(1, BASE_STEP, 9, (SlotTold(SECONDARY, 4),), None)))
+        self.assertEqual(it.settled_base(), BASE_STEP)
+        it.forget()
+        self.assertIsNone(it.settled_base())
+
+
 class TheMap(unittest.TestCase):
     """The map's owner."""
 

@@ -65,9 +65,10 @@ class Approve:
 
 @dataclass(frozen=True, slots=True)
 class Restarted:
-    """The restart with this permit has ended."""
+    """The restart with this permit has ended. The server has this base, or is Unknown."""
 
     permit: int
+    base: int | None
 
 
 @dataclass(frozen=True, slots=True)

@@ -285,9 +285,11 @@ class Controller:
         if server is None:
             raise Answer(Ignored("old"))
         record = self.need_open()
-        if self.rules.restart_settled and server in self.carried:
+        is_settled = command.base is not None and command.base >= self.fence
+        if self.rules.restart_settled and not is_settled:
             raise refuse("Unsettled", server=server)
         del record.permits[server]
+        self.carried.discard(server)
         record.log += 1
         return Outcome(replies.Up(server), has_changed=True)
 
@@ -316,7 +318,6 @@ class Controller:
         if engaging and self.rules.restore_disengaged:
             raise refuse("Engaged", server=command.server, plan=engaging[0], stream=engaging[1])
         self.restores[command.server] = self.restore_of(command.server, command.nonce)
-        self.carried.discard(command.server)
         return Outcome(replies.Restoring(self.restores[command.server]), has_changed=True)
 
     # Epochs.

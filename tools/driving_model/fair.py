@@ -72,11 +72,11 @@ def ask_and_return(world: World) -> None:
     """Whoever is Unknown asks, and whoever is recorded down is called up."""
     for host in world.hosts:
         if not host.is_lost and not host.server.is_known:
-            world.do(commands.RestoreServer(host.number, host.server.nonce))
+            world.do(host.ask())
     record = world.controller.record
     for server, permit in sorted(record.permits.items()) if record and world.controller.is_open else ():
         if world.hosts[server].is_up:
-            world.do(commands.Restarted(permit))
+            world.do(world.hosts[server].restarted(permit))
 
 
 def go_on(world: World, operator: Operator) -> None:

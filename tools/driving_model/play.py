@@ -109,7 +109,7 @@ class Play:
         """A server forgets, and asks for its slots."""
         host = self.world.hosts[server]
         self.world.lose(host)
-        self.do(commands.RestoreServer(server, host.server.nonce))
+        self.do(host.ask())
 
     def write(self, identity: int, copies: tuple[int, ...], primary: int = 0) -> None:
         """The primary executes a write, which comes to these servers and is acknowledged if they are enough."""

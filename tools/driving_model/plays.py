@@ -89,13 +89,51 @@ def restart_of_a_server_carried_over(rules: Rules) -> None:
     play.turn(silent=frozenset({1}))
     play.confirm(PRIMARY, SECONDARY, SECONDARY)
     play.turn(silent=frozenset({1}))
-    play.do(commands.Restarted(approved.permit))
+    play.do(play.world.hosts[1].restarted(approved.permit))
     play.do(commands.Approve(2, "another"))
     code = (unlist(0), change(0, 0, Kind.SECONDARY), change(0, 1, Kind.PRIMARY))
     crown = Crown(Lead(Stage.AT, 0), 0)
     play.begin(code, (CellRight(0, 1), SECONDARY), (CrownRight(0), crown))
     for _ in range(3):
         play.turn()
+
+
+def late_ask_of_a_server_carried_over(rules: Rules) -> None:
+    """A server that is down by leave loses its slots twice, and is carried over by a reopening. Then its first ask comes
+    late: the restore that is told has an old nonce, and the server stays Unknown. It is no live replica."""
+    play = Play(rules, (PRIMARY, SECONDARY, SECONDARY), want=3, cap=1)
+    approved = play.do(commands.Approve(1, "by"))
+    assert isinstance(approved, Approved)
+    host = play.world.hosts[1]
+    play.world.lose(host)
+    late = host.ask()
+    play.world.lose(host)
+    play.reopen()
+    play.turn(silent=frozenset({1}))
+    play.confirm(PRIMARY, SECONDARY, SECONDARY)
+    play.turn(silent=frozenset({1}))
+    play.do(late)
+    for restore in play.sent_to(1, Restore):
+        play.deliver(restore)
+    play.do(host.restarted(approved.permit))
+    play.do(commands.Approve(2, "another"))
+    play.finish_all()
+
+
+def late_fence_before_a_restart_ends(rules: Rules) -> None:
+    """A server that was carried over meets the fence of the opening in force, and is called up with its old slots."""
+    play = Play(rules, (PRIMARY, SECONDARY, SECONDARY), want=3, cap=1)
+    approved = play.do(commands.Approve(1, "by"))
+    assert isinstance(approved, Approved)
+    play.reopen()
+    play.turn(silent=frozenset({1}))
+    play.confirm(PRIMARY, SECONDARY, SECONDARY)
+    play.turn(silent=frozenset({1}))
+    play.deliver(play.sent_to(1, Fence)[0])
+    play.do(play.world.hosts[1].restarted(approved.permit))
+    play.do(commands.Approve(2, "another"))
+    play.turn()
+    play.finish_all()
 
 
 def fence_while_a_passed_request_runs(rules: Rules) -> None:
@@ -339,6 +377,8 @@ PLAYS = (
     Worked(late_fence_of_an_opening, "fenced_is_stale"),
     Worked(late_fence_of_an_opening, "stale_unknown"),
     Worked(restart_of_a_server_carried_over, "restart_settled"),
+    Worked(late_ask_of_a_server_carried_over, "restart_settled"),
+    Worked(late_fence_before_a_restart_ends, "restart_unfenced"),
     Worked(fence_while_a_passed_request_runs, "fence_waits"),
     Worked(order_before_a_restore, "restore_base_high"),
     Worked(restore_in_a_reopening, "restore_at_rest"),

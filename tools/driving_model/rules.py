@@ -61,9 +61,8 @@ class Rules:
     )
     # Restarts.
     permit_named: bool = rule("The end of a restart names its permit, so a second one ends nothing.")
-    restart_settled: bool = rule(
-        "The restart of a server that was carried over ends only when it was restored or settled."
-    )
+    restart_settled: bool = rule("A restart ends only with a base of the server at or above the last reopening.")
+    restart_unfenced: bool = rule("A server that is Unknown or fenced has no base to end its restart with.")
     # Reopening.
     fence_first: bool = rule("A reopening fences every server before it settles anything.")
     fence_ends_work: bool = rule("A fence ends what is at work, so nothing begun before it commits.")

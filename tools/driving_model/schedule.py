@@ -76,8 +76,9 @@ class Schedule:
         self.chances = Chances.drawn(self.dice, self.profile)
         self.world = World(document, rules, seed, keeps_trace)
         self.operator = Operator(self.world, self.dice)
+        self.rare = random.Random(seed)
         self.plans = self.bys = self.events = 0
-        self.restarted: list[int] = []
+        self.restarted: list[commands.Restarted] = []
         self.begun: list[commands.Begin] = []
         self.kinds = list(WEIGHTS)
 
@@ -170,15 +171,22 @@ class Schedule:
         self.world.coverage["approved"] += outcome.has_changed
 
     def on_ask(self) -> None:
-        """A server without slots asks for them."""
+        """A server without slots asks for them, or what was asked comes late or again."""
+        asks = self.world.network.asks.items
+        if asks and self.rules.restore_whole_journal and self.rare.random() < 0.3:
+            late = self.rare.choice(asks)
+            self.world.coverage["a late ask"] += self.world.hosts[late.server].server.nonce != late.nonce
+            self.world.do(late)
         self.ask(self.dice.choice(self.world.hosts))
 
     def ask(self, host: Host) -> None:
-        """A server asks for its slots, if it has none."""
+        """A server asks for its slots, if it has none. What it asks may come now, or later."""
         if not host.answers or host.server.is_known:
             return
         if self.rules.restore_whole_journal:
-            self.world.do(commands.RestoreServer(host.number, host.server.nonce))
+            self.world.network.asks.add(host.ask())
+            if self.rare.random() < 0.8:
+                self.world.do(host.ask())
             return
         restore = self.unrecorded_restore(host.server)
         if restore:
@@ -191,7 +199,6 @@ class Schedule:
             controller = self.world.replay(self.dice.randrange(1, len(self.world.journal) + 1))
         if not controller.is_open or server.number not in controller.record.document.servers:
             return None
-        self.controller.carried.discard(server.number)
         is_engaged = controller.record.engaging(server.number)
         return None if is_engaged else controller.restore_of(server.number, server.nonce)
 
@@ -242,7 +249,7 @@ class Schedule:
         permits = self.controller.record.permits if self.controller.record else {}
         if not permits or self.chance(0.3):
             if self.restarted and self.chance(0.5):
-                self.end_restart(self.pick(self.restarted, 3))
+                self.world.do(self.pick(self.restarted, 3))
             return
         number = self.dice.choice(sorted(permits))
         host, away = self.world.hosts[number], self.world.away
@@ -256,14 +263,10 @@ class Schedule:
             self.world.say("server", number, "goes down by leave")
         elif draw < 0.6 and not host.is_alive:
             self.come_back(host, forgets=self.chance(0.6))
-        elif number in away and host.is_alive and host.server.is_known:
-            self.restarted.append(permits[number])
-            if self.end_restart(permits[number]):
+        elif number in away and host.is_alive:
+            self.restarted.append(host.restarted(permits[number]))
+            if isinstance(self.world.do(self.restarted[-1]).reply, replies.Up):
                 away.discard(number)
-
-    def end_restart(self, permit: int) -> bool:
-        """The end of a restart comes to the controller."""
-        return isinstance(self.world.do(commands.Restarted(permit)).reply, replies.Up)
 
     def come_back(self, host: Host, forgets: bool) -> None:
         """A server starts, with or without its slots."""

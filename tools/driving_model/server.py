@@ -105,6 +105,11 @@ class Server:
         """What it has of a shard, as far as it knows."""
         return self.slots[shard].cell if self.is_known else ABSENT
 
+    def settled_base(self) -> int | None:
+        """The base that it tells at the end of its restart, if it has one."""
+        is_fenced = self.is_fenced and self.rules.restart_unfenced
+        return self.base if self.is_known and not is_fenced else None
+
     # Orders.
 
     def turns_unknown(self, fence: int) -> bool:

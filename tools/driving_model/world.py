@@ -52,6 +52,14 @@ class Host:
         """Its work and its requests end; its slots stay."""
         self.workers, self.running = [], []
 
+    def ask(self) -> commands.RestoreServer:
+        """What it asks, being Unknown."""
+        return commands.RestoreServer(self.number, self.server.nonce)
+
+    def restarted(self, permit: int) -> commands.Restarted:
+        """The end of its restart, with the base that it tells."""
+        return commands.Restarted(permit, None if self.is_lost else self.server.settled_base())
+
     def positions(self) -> list[int]:
         """How many writes it has of each shard."""
         return [len(it) for it in self.data]
@@ -96,7 +104,7 @@ class World:
         self.map_owner.entries = [Entry(it) for it in self.controller.record.listed]
         self.shown = list(self.map_owner.entries)
         for host in self.hosts:
-            reply = self.do(commands.RestoreServer(host.number, host.server.nonce)).reply
+            reply = self.do(host.ask()).reply
             assert isinstance(reply, replies.Restoring)
             host.server.restore(reply.restore)
 
