@@ -181,7 +181,8 @@ class Run:
             case "approve":
                 return [self.line("approve", server=self.dice.choice(IDLE), by=f"by-{len(self.sent)}")]
             case "restarted":
-                return [self.line("restarted", permit=self.dice.choice(self.permits))] if self.permits else []
+                base = self.dice.choice([0, 0, 7, None])
+                return [self.line("restarted", permit=self.dice.choice(self.permits), base=base)] if self.permits else []
             case "restore":
                 return [self.line("restore", server=self.dice.choice(IDLE), nonce=f"{len(self.sent) + 1:x}")]
             case do:

@@ -19,7 +19,7 @@ BASE = 2_097_152
 # The members of each command, which may have one of several forms. A member with a question mark may be missing.
 MEMBERS = {
     "open": "document journal epoch", "begin": "plan name", "answered": "plan_number stream number",
-    "approve": "server by", "restarted": "permit", "restore": "server nonce",
+    "approve": "server by", "restarted": "permit base", "restore": "server nonce",
     "reopen": "document lost? why? journal? fence?",
     "fenced": "party base slots | party base unknown | party base slots? unknown?",
     "confirm": "base choices", "settled": "party base", "hello": "", "orders": "", "map": "",

@@ -138,7 +138,7 @@ def command_json(command: commands.Command) -> Json:
         case commands.Approve():
             return {"do": "approve", "server": server_name(command.server), "by": command.by}
         case commands.Restarted():
-            return {"do": "restarted", "permit": command.permit}
+            return {"do": "restarted", "permit": command.permit, "base": command.base}
         case commands.RestoreServer():
             return {"do": "restore", "server": server_name(command.server), "nonce": f"{command.nonce:x}"}
         case commands.NewEpoch():

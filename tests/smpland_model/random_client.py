@@ -178,10 +178,12 @@ class Client:
         return line
 
     def restarted(self) -> Json:
-        """Ends a restart: one that is under way, or one that has ended."""
-        record = self.session.controller.record
-        permits = list(record.permits.values()) if record else []
-        return {"do": "restarted", "permit": self.dice.choice(permits if permits and self.chance(0.7) else self.permits)}
+        """Ends a restart: one that is under way, or one that has ended. Some servers are Unknown or behind the fence."""
+        controller = self.session.controller
+        permits = list(controller.record.permits.values()) if controller.record else []
+        permit = self.dice.choice(permits if permits and self.chance(0.7) else self.permits)
+        base = self.dice.choice([controller.base, controller.fence, controller.fence, max(0, controller.fence - 1), None])
+        return {"do": "restarted", "permit": permit, "base": base}
 
     def restore(self) -> Json:
         """Asks for slots, under a new nonce or the last one."""

@@ -169,7 +169,7 @@ def tables(names: Names) -> dict[str, list[Row]]:
         "begin": [one("plan", object_here), one("name", label)],
         "answered": stream,
         "approve": [server, one("by", label)],
-        "restarted": [one("permit", EXACT)],
+        "restarted": [one("permit", EXACT), one("base", or_null(EXACT))],
         "restore": [server, one("nonce", random_bits)],
         "new_epoch": [],
         "reopen": [

@@ -163,7 +163,7 @@ class Session:
 
     def restarted(self, command: Json) -> Outcome:
         """Takes the end of a restart."""
-        return self.controller.restarted(commands.Restarted(command["permit"]))
+        return self.controller.restarted(commands.Restarted(command["permit"], command["base"]))
 
     def restore(self, command: Json) -> Outcome:
         """Restores a server."""
