@@ -82,6 +82,11 @@ class Fleet:
         reply = await self.ask(notice["server"], notice={"journal": notice["journal"], "fence": notice["fence"]})
         return DONE if "noticed" in reply else reply.get("said", "no answer")
 
+    async def base(self, server: str) -> int | None:
+        """Asks a server for the number of its base."""
+        told = (await self.ask(server, audit={})).get("audit", {})
+        return told["base"] if told.get("known") and not told["fenced"] else None
+
     def close(self) -> None:
         """Ends all connections."""
         for channel in self.channels.values():

@@ -267,25 +267,25 @@ class Story:
             await self.cluster.processes[name].kill()
             await asyncio.sleep(self.dice.uniform(0.2, 0.8))
             await self.cluster.processes[name].start(*(["--lose-slots"] if lose else []))
-            await self.wait_until_known(name)
-            for _ in range(self.dice.randint(1, 2)):
-                await self.operator.do({"do": "restarted", "permit": permit})
+            if not await self.is_up(name, permit):
+                return False
+            for _ in range(self.dice.randint(0, 1)):
+                await self.operator.restarted(permit)
             self.note_permit(name, False)
             self.counts["restarts"] += 1
             return True
 
-    async def wait_until_known(self, name: str) -> None:
-        """Waits until a server has its slots. Before that it is not told to be up: a plan that names it would keep it from being restored."""
-        channel = Channel(Address("127.0.0.1", self.cluster.ports[name].control))
+    async def is_up(self, name: str, permit: int) -> bool:
+        """Ends a restart, which is refused as long as the server has no slots: a plan that names it would keep it from being restored. Tells whether it is up."""
         until = time.monotonic() + self.operator.patience
         while time.monotonic() < until:
-            try:
-                if (await channel.ask(5.0, audit={}))["audit"]["known"]:
-                    break
-            except Failed:
-                pass
+            reply = await self.operator.restarted(permit)
+            if "refused" not in reply and "fault" not in reply:
+                return True
             await asyncio.sleep(0.2)
-        channel.close()
+        self.tell(f"the restart of {name} does not come to its end: {reply}")
+        self.counts["restarts without an end"] += 1
+        return False
 
     def note_permit(self, name: str, is_down: bool) -> None:
         """Notes that a server goes down under its permit, or is up again."""

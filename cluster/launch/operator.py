@@ -28,18 +28,22 @@ class Operator:
         except Failure:
             return None
 
-    async def do(self, line: Line, timeout: float = 2.5) -> Line:
+    async def do(self, line: Line, timeout: float = 2.5, path: str = "/do") -> Line:
         """Has the leader store and feed a line, and returns the reply. It goes to the next controller if none comes within the timeout."""
         try:
             async with asyncio.timeout(self.patience):
                 while True:
-                    reply = await self.post(self.leader, "/do", line, timeout)
+                    reply = await self.post(self.leader, path, line, timeout)
                     if reply is not None:
                         return reply
                     self.turn()
                     await asyncio.sleep(0.05)
         except TimeoutError:
-            raise NoLeader(f"no controller took the line {line.get('do')} within {self.patience:g} s") from None
+            raise NoLeader(f"no controller took the line {line.get('do', path)} within {self.patience:g} s") from None
+
+    async def restarted(self, permit: int) -> Line:
+        """Has the leader ask the server that has this permit for its base, and end the restart."""
+        return await self.do({"permit": permit}, path="/restarted")
 
     async def reopen(self, line: Line) -> Line:
         """Has a reopening begun. Each further `reopen` begins it anew, so this one goes to who leads, and waits long for the reply."""

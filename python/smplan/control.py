@@ -57,6 +57,9 @@ class Servers(Protocol):
     async def notice(self, notice: Line) -> str:
         """Tells a server that was carried over of the last reopening."""
 
+    async def base(self, server: str) -> Optional[int]:
+        """Asks a server for the number of its base; none if it is Unknown or fenced, or does not answer."""
+
 
 @dataclass(frozen=True)
 class Pace:
@@ -200,6 +203,19 @@ class Controller:
         self.queue.append((text, waiting))
         self.has_lines.set()
         return await waiting
+
+    async def restarted(self, permit: int) -> Line:
+        """Asks the server that has this permit for its base, and then stores and feeds that its restart has ended."""
+        state = (await self.session.ask({"do": "state"})).get("state", {})
+        server = next((it["server"] for it in state.get("servers", []) if it["permit"] == permit), None)
+        return await self.do({"do": "restarted", "permit": permit, "base": None if server is None else await self.base_of(server)})
+
+    async def base_of(self, server: str) -> Optional[int]:
+        """Returns the base that a server tells, none if it tells none in time."""
+        try:
+            return await asyncio.wait_for(self.servers.base(server), self.pace.timeout)
+        except (asyncio.TimeoutError, OSError):
+            return None
 
     async def write(self) -> None:
         """Stores and feeds what is queued, all that came together at once, until the store is lost."""

@@ -2,7 +2,7 @@
 from __future__ import annotations
 
 import json
-from typing import Any, Dict
+from typing import Any, Awaitable, Dict
 
 from .control import ASKING, Controller, Line, Outgoing, SessionEnded, StoreLost
 from .control_http import Page, Route
@@ -15,15 +15,24 @@ def told_of(kind: str, outgoing: Outgoing) -> Dict[str, Any]:
 
 
 def routes_of(controller: Controller) -> Dict[str, Route]:
-    """Returns the routes: `POST /do` stores and feeds a line, `POST /ask` feeds one that only asks."""
-    async def do(body: bytes) -> Page:
+    """Returns the routes: `POST /do` stores and feeds a line, `POST /ask` feeds one that only asks, `POST /restarted` ends a restart, `{"permit":7}`."""
+    async def told(doing: Awaitable[Line]) -> Page:
         try:
-            line: Line = json.loads(body)
-            return Page.of(await controller.do(line))
+            return Page.of(await doing)
         except (StoreLost, SessionEnded) as why:
             return Page.of({"fault": str(why)}, 409)
+
+    async def do(body: bytes) -> Page:
+        try:
+            return await told(controller.do(json.loads(body)))
         except ValueError as why:
             return Page.of({"fault": str(why)}, 400)
+
+    async def restarted(body: bytes) -> Page:
+        try:
+            return await told(controller.restarted(json.loads(body)["permit"]))
+        except (ValueError, KeyError, TypeError) as why:
+            return Page.of({"fault": f"this is no permit: {why}"}, 400)
 
     async def ask(body: bytes) -> Page:
         try:
@@ -42,4 +51,4 @@ def routes_of(controller: Controller) -> Dict[str, Route]:
     async def metrics(_: bytes) -> Page:
         return Page((await metrics_of(controller)).encode(), "text/plain; version=0.0.4; charset=utf-8")
 
-    return {"POST /do": do, "POST /ask": ask, "GET /outgoing": outgoing, "GET /metrics": metrics}
+    return {"POST /do": do, "POST /ask": ask, "POST /restarted": restarted, "GET /outgoing": outgoing, "GET /metrics": metrics}
