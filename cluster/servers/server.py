@@ -238,7 +238,7 @@ class Server:
     # -- asking for slots
 
     async def ask_for_slots(self) -> None:
-        """While it is Unknown it asks one controller after the other."""
+        """While it is Unknown it asks one controller after the other, also if it is fenced: a late fence of the opening in force is followed by no settle."""
         turn = random.randrange(1 << 16)
         controllers = {name: Channel(address) for name, address in self.cluster.controllers.items()}
         names = sorted(controllers)
@@ -247,10 +247,9 @@ class Server:
             turn += 1
             asked = {"server": self.name, "nonce": hexadecimal(self.store.base.nonce)}
             try:
-                if not self.store.base.fenced:
-                    reply = await controllers[name].ask(limits.STEP, restore=asked)
-                    if isinstance(reply.get("restore"), dict) and "slots" in reply["restore"]:
-                        await self.reopenings.restore(reply["restore"])
+                reply = await controllers[name].ask(limits.STEP, restore=asked)
+                if isinstance(reply.get("restore"), dict) and "slots" in reply["restore"]:
+                    await self.reopenings.restore(reply["restore"])
             except Failed:
                 pass
             await asyncio.sleep(limits.ASKING)

@@ -1,0 +1,55 @@
+"""A server that has lost its slots asks for them until it has them, also when a late fence of the opening in force has come
+to it: no settle follows that fence.
+
+`python3 tests/cluster/asks.py`
+"""
+from __future__ import annotations
+
+import asyncio
+import sys
+
+from scripted import JOURNAL, Scripted
+
+CELLS = {"s": {"a": "primary", "c": "secondary"}}
+SECONDS = 10.0
+
+
+async def nonce_of(it: Scripted, server: str, other_than: str | None) -> str:
+    """The nonce under which a server asks, once it is another one than this."""
+    async with asyncio.timeout(SECONDS):
+        while it.asked.get(server, other_than) == other_than:
+            await asyncio.sleep(0.05)
+    return it.asked[server]
+
+
+async def asks_behind_a_fence() -> bool:
+    """Whether the server asks again behind the fence, and then takes its slots."""
+    it = Scripted("ac")
+    try:
+        await it.start()
+        await it.open(CELLS)
+        it.kill("c")
+        await it.start("c", loses_slots=True)
+        first = await nonce_of(it, "c", None)
+        told = (await it.channels["c"].ask(5, fence={"server": "c", "base": it.base, "journal": JOURNAL}))["fenced"]
+        nonce = await nonce_of(it, "c", first)
+        restore = {"server": "c", "nonce": nonce, "journal": JOURNAL, "fence": it.base, "base": it.number, "slots": it.slots("c", CELLS)}
+        await it.channels["c"].ask(5, restore=restore)
+        audit = (await it.channels["c"].ask(5, audit={}))["audit"]
+        return int(nonce, 16) == int(told["unknown"], 16) and audit["known"] and not audit["fenced"]
+    finally:
+        it.close()
+
+
+def main() -> int:
+    """Runs it, and returns 0 if it is so."""
+    try:
+        is_so = asyncio.run(asks_behind_a_fence())
+    except TimeoutError:
+        is_so = False
+    print(f"an Unknown server that a late fence has come to {'asks on, and is restored' if is_so else 'DOES NOT ASK ON'}")
+    return 0 if is_so else 1
+
+
+if __name__ == "__main__":
+    sys.exit(main())
