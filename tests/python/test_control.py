@@ -22,6 +22,8 @@ for line in sys.stdin:
     begun = begun or told["do"] == "begin"
     if told["do"] in ("begin", "orders"):
         reply["orders"] = [order] if begun and not answered else []
+    if told["do"] == "state":
+        reply["state"] = {"servers": [{"server": "a", "permit": None}, {"server": "b", "permit": 7}]}
     if told["do"] == "answered":
         answered = True
         reply["moved"] = {}
@@ -109,6 +111,26 @@ class ControlTest(unittest.IsolatedAsyncioTestCase):
         await self.until_idle(controller)
         await controller.rest()
         self.assertEqual(len(servers.orders), 3)
+
+    async def test_restart_ends_with_the_base_that_the_server_tells(self):
+        class Based(FakeServers):
+            told = [8, None, OSError("gone"), TimeoutError()]
+
+            async def base(self, server):
+                self.orders.append(server)
+                found = self.told.pop(0)
+                if isinstance(found, Exception):
+                    raise found
+                return found
+
+        servers = Based()
+        controller = await self.led(servers)
+        for permit in (7, 7, 7, 7, 9):
+            await controller.restarted(permit)
+        await controller.rest()
+        lines = [json.loads(it) for it in self.stored]
+        self.assertEqual([(it["permit"], it["base"]) for it in lines], [(7, 8), (7, None), (7, None), (7, None), (9, None)])
+        self.assertEqual(servers.orders, ["b"] * 4)
 
     async def test_age_is_kept_when_a_message_comes_anew(self):
         controller = await self.led(FakeServers(tries=1000))
