@@ -46,6 +46,19 @@ class Refusals(unittest.TestCase):
         reply(session, do="answered", plan=3, stream=0, number=1)
         self.assertEqual(reply(session, do="begin", plan=adding("s16"), name="p16")["begun"]["plan"], 16)
 
+    def test_a_version_is_spent(self) -> None:
+        """No epoch follows at rest once an entry of the map has changed as often as a log has places."""
+        session = Session()
+        reply(session, do="open", document=many_shards(2), journal="1", epoch=0)
+        reply(session, do="begin", plan=adding("s0"), name="p")
+        session.controller.record.versions[1] = (1 << 20) - 1
+        self.assertEqual(reply(session, do="new_epoch")["refused"]["kind"], "Running")
+        reply(session, do="answered", plan=0, stream=0, number=1)
+        self.assertEqual(reply(session, do="new_epoch")["opened"]["epoch"], 1)
+        session.controller.record.versions[1] += 1
+        told = {"kind": "VersionsSpent", "shard": "s1", "text": "refused: VersionsSpent shard s1"}
+        self.assertEqual(reply(session, do="new_epoch")["refused"], told)
+
     def test_a_refusal_tells_the_pairs_of_its_line(self) -> None:
         """Names stay texts, and numbers become numbers."""
         cases: dict[str, Json] = {

@@ -11,8 +11,8 @@ from session_files import FOLDER, Program, exchanges, fault_of, subject, texts
 # (a program that does not know all commands yet is compared by test_program alone)
 PROGRAM = [] if os.environ.get("SMPLAND_DOES") else os.environ.get("SMPLAND", "").split()
 FILES = sorted(FOLDER.glob("*.session"))
-# The refusals that need as many plans as may run, or the planner: test_refusals and test_planning have them.
-ELSEWHERE = {"TooManyPlans", "NotThere", "Held", "NoRoom", "NoPlace", "Spread", "TooMany", "NoProgram"}
+# The refusals that need as many plans or publications as there may be, or the planner: test_refusals and test_planning have them.
+ELSEWHERE = {"TooManyPlans", "VersionsSpent", "NotThere", "Held", "NoRoom", "NoPlace", "Spread", "TooMany", "NoProgram"}
 
 
 # The words of bad lines, which have a table of their own.

@@ -11,7 +11,7 @@ from driving_model import commands, replies
 from driving_model.cells import Cell
 from driving_model.controller import Answer, Controller, Named
 from driving_model.decisions import MOST_PLANS
-from driving_model.messages import Inventory, MAP, Unknown
+from driving_model.messages import Inventory, LAST_EPOCH, LONGEST_LOG, MAP, Unknown
 from driving_model.plans import CellRight, Hold, Key, Plan, RoomRight, SpareRight, is_amount
 from driving_model.record import Record
 from driving_model.replies import Ignored, Outcome
@@ -234,8 +234,12 @@ class NamedController(Controller):
     # Epochs.
 
     def new_epoch(self, command: commands.NewEpoch) -> Outcome:
-        """Opens the next epoch at rest. Versions of the map go on, as the driver has it."""
+        """Opens the next epoch at rest. Versions of the map go on, as the driver has it, up to a log's length."""
         versions = self.record.versions if self.record else []
+        spent = next((it for it, version in enumerate(versions) if version >= LONGEST_LOG), None)
+        is_at_rest = self.is_open and all(it.is_done for it in self.record.plans)
+        if spent is not None and is_at_rest and self.epoch < LAST_EPOCH:
+            raise refuse("VersionsSpent", shard=self.shard_name(spent))
         outcome = super().new_epoch(command)
         self.record.versions = versions
         return outcome
