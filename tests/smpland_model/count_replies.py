@@ -22,6 +22,8 @@ COMMANDS = set(tables(Names()))
 DOCUMENT = Path(__file__).resolve().parents[2] / "docs" / "SMPLAND.md"
 # What random sessions do not reach: sessions worked by hand, or test_planning, have it.
 ELSEWHERE = {
+    # (a million publications of a shard)
+    ("VersionsSpent", "new_epoch"),
     # (a plan of more than 256 signals)
     ("TooMany", "moves"), ("TooMany", "drain"),
     # (the chosen cells are read as what may not have a server twice, lists nothing, and has the floor that is live)
