@@ -104,14 +104,20 @@ module _ (w : State) (base v number : ℕ) (behind : IsBehind w base v number) (
     | inr (inr q) ↦ subst (λ (u : State). IsBehind u base v number) (sym q.state) (start_behind q.plan)
   ]
 
--- if no stream names the server, all that will stand behind the log's end
-pub behind_all : (w : State) (base v number : ℕ) → engaged w v ≡ None → IsBehind w base v number
-behind_all w base v number none id b e =
-    let p = begun_parts w id b in
-    let f = free_streams w v none id (record { plan = p.0; stream = p.1 }) in
-    absurd (let z : true ≡ false = sym e ∙ f in cc)
+-- no unfinished stream names the server
+abbrev pub IsUnnamed : State → ℕ → Type 0
+IsUnnamed w v = (id : StreamId) → is_begun w id ≡ true → engages w v id ≡ false
 
-any_at : {T : Type 0} (t : T → Bool) (xs : List T) (n : ℕ) (x : T) → slice_get xs n ≡ Some x → t x ≡ true → list_any t xs ≡ true
+-- so it is if none is found
+pub unnamed : (w : State) (v : ℕ) → engaged w v ≡ None → IsUnnamed w v
+unnamed w v none id b = let p = begun_parts w id b in free_streams w v none id (record { plan = p.0; stream = p.1 })
+
+-- then all that will name it stand behind the log's end
+pub behind_all : (w : State) (base v number : ℕ) → IsUnnamed w v → IsBehind w base v number
+behind_all w base v number free id b e = absurd (let z : true ≡ false = sym e ∙ free id b in cc)
+
+-- one that passes at a place
+pub any_at : {T : Type 0} (t : T → Bool) (xs : List T) (n : ℕ) (x : T) → slice_get xs n ≡ Some x → t x ≡ true → list_any t xs ≡ true
 any_at t [] n x h e = absurd (cc)
 any_at t (y ∷ ys) zero x h e = let a : t y ≡ true = ap t (some_same y x h) ∙ e in rw a refl
 any_at t (y ∷ ys) (suc n) x h e = ap (λ b. t y || b) (any_at t ys n x h e) ∙ or_true (t y)
@@ -137,3 +143,10 @@ present_engages base w id o e = go (is_running w id) (call_now w id) refl refl e
         let g : engages w x.server id ≡ true = and_from (not (progress_of w id).done) _ p.1 code in
         let same = some_same _ o e in
         (p.0, ap (λ (z : Order). engages w z.call.server id) (sym same) ∙ g, ap (λ (z : Order). z.number) (sym same))
+
+-- if no stream names a server, none has an order for it
+pub none_for : (base : ℕ) (w : State) (v : ℕ) → IsUnnamed w v → (id : StreamId) (o : Order) → order_of base w id ≡ Some o → o.call.server ≡ v → ⊥
+none_for base w v free id o e server =
+    let p = present_engages base w id o e in
+    let g : engages w v id ≡ true = subst (λ u. engages w u id ≡ true) server p.1 in
+    absurd (let z : true ≡ false = sym g ∙ free id p.0 in cc)

@@ -15,12 +15,11 @@ use Rattle.sm_plan_code.specs.declared.instruction.Instr.TheVariants as instr
 use Rattle.sm_reservation.specs.declared.stream_id.StreamId.{StreamId}
 use Rattle.sm_plan_code.specs.declared.limits.TheConstants.{MOST_PLACES}
 use Rattle.sm_protocol.specs.State.{State, is_begun, is_running, is_unfinished, next_instruction, opened, progress_of, stream_count}
-use Rattle.sm_protocol.specs.Happens.{Approve, Arrive, Begin, Done, Happening, Lose, PassOn, Refill, Step, engaged, engages, happens}
+use Rattle.sm_protocol.specs.Happens.{Approve, Arrive, Begin, Done, Happening, Lose, PassOn, Refill, Step, engaged, happens}
 use Rattle.sm_protocol.specs.Laws.{AreDone, FitsConfig, IsOpening, IsReached}
 use Rattle.sm_protocol.proofs.EndsReached.{ends_are_reached}
 use Rattle.sm_protocol.proofs.LogRoom.{begun_parts, has_room, length_logged}
 use Rattle.sm_protocol.proofs.Reached.{run_same, same_machine}
-use Rattle.sm_protocol.proofs.Restarts.{free_streams}
 use Rattle.sm_protocol.proofs.SmallNumbers.{numbers_stay_small}
 use Rattle.sm_network.specs.Net.{Answer, Control, Net, Order, Quiet, answer_taken, at_place, call_now, cell_above, comes, instruction_call, controlled, is_awaited, is_own, order_of}
 use Rattle.sm_network.specs.World.{Inner, Publication, Stored as StoredEvent, World, acknowledged, by_place, is_answered_by, is_withheld, publication_by, publication_for, publication_now, publication_of, within, world_comes}
@@ -28,7 +27,7 @@ use Rattle.sm_network.specs.WorldLaws.{IsWorldOpening, IsWorldReached, reopened_
 use Rattle.sm_network.specs.Controller.{Answered, Controller, EPOCH, Ended, JournalEntry, Made as MadeEntry, Opened, Restored, Stored, goes_on, has_no_plan, is_permitted, needs_nobody, permits_after, are_versions_low, entry_recorded, restore_for}
 use Rattle.sm_network.specs.Fleet.{Fleet, controller, held_cells, written}
 use Rattle.sm_network.specs.FleetLaws.{HasAskedUnder}
-use Rattle.sm_network.proofs.Behind.{HasNoSteps, behind_all, behind_next, present_engages}
+use Rattle.sm_network.proofs.Behind.{HasNoSteps, IsUnnamed, behind_all, behind_next, none_for, unnamed}
 use Rattle.sm_network.proofs.Finish.{none_below}
 use Rattle.sm_network.proofs.GoingOn.{can_reopen_onward}
 use Rattle.sm_network.proofs.Lists.{all_map, all_push}
@@ -212,17 +211,8 @@ stored_shadow setup low f k p among = stored_case setup low f k p among (is_answ
 
 -- ---- restores
 
--- if no stream names a server, none has an order for it
-none_for : (base : ℕ) (w : State) (v : ℕ) → engaged w v ≡ None → (id : StreamId) (o : Order) → order_of base w id ≡ Some o → o.call.server ≡ v → ⊥
-none_for base w v none id o e server =
-    let p = present_engages base w id o e in
-    let b = begun_parts w id p.0 in
-    let f = free_streams w v none id (record { plan = b.0; stream = b.1 }) in
-    let g : engages w v id ≡ true = subst (λ u. engages w u id ≡ true) server p.1 in
-    absurd (let z : true ≡ false = sym g ∙ f in cc)
-
--- then the server has what is recorded, and its last numbers are no higher than the log is long
-as_recorded : (setup : Setup) (low : ℕ → ℕ → ℕ) (f : Fleet) (k : IsShadow setup low f) (v : ℕ) → engaged (controller f).w v ≡ None → (s : ℕ) →
+-- If no stream names a server, it has what is recorded, and its last numbers are no higher than the log is long.
+as_recorded : (setup : Setup) (low : ℕ → ℕ → ℕ) (f : Fleet) (k : IsShadow setup low f) (v : ℕ) → IsUnnamed (controller f).w v → (s : ℕ) →
     (cell_above (controller f).base ((controller f).w.place.cells s v) ≡ held_cells f s v) × (k.shade.last s v ≤ (controller f).base + length (controller f).w.log)
 as_recorded setup low f k v none s = (cell, last)
   where
@@ -269,8 +259,8 @@ restored_case setup low f k v nonce asked true t =
       loads = refl;
       server = v;
       asked = asked;
-      behind = behind_all (controller f).w (controller f).base v ((controller f).base + length (controller f).w.log) none;
-      cells = λ h s. as_recorded setup low f k v none s;
+      behind = behind_all (controller f).w (controller f).base v ((controller f).base + length (controller f).w.log) (unnamed (controller f).w v none);
+      cells = λ h s. as_recorded setup low f k v (unnamed (controller f).w v none) s;
     }
 
 -- a restore is recorded, or refused

@@ -61,7 +61,8 @@ step_by w id = record {
   unanswered = λ i x effect t a p. goes_by w _ id _ (omega arith) (λ e. e) refl (λ j. refl);
 }
 
-abbrev IsStepOf : Happening → Type 0
+-- it is a step of a stream
+abbrev pub IsStepOf : Happening → Type 0
 IsStepOf (Step id) = Unit {0}
 IsStepOf _ = ⊥
 
@@ -135,7 +136,7 @@ run_append [] fs n = refl
 run_append (e ∷ es) fs n = run_append es fs (comes n e).1
 
 -- what moves lead to is reached too
-reached_on : (setup : Setup) (n : Net) (es : List NetEvent) → IsNetReached setup n → AllByRecursion IsAdvance es → IsNetReached setup (net_run es n)
+pub reached_on : (setup : Setup) (n : Net) (es : List NetEvent) → IsNetReached setup n → AllByRecursion IsAdvance es → IsNetReached setup (net_run es n)
 reached_on setup n es r all = record {
   start = r.start;
   opening = r.opening;

@@ -1,27 +1,20 @@
 -- Wherever events lead, events can lead on until all plans are done.
-use Rattle.std.proofs.Common.{◌≡◌, ◌≢◌, ℕ, zero, suc, ◌≤◌, ◌<◌, ◌⊎◌, refl, sym, ap, ◌∙◌, inl, inr, subst, arith, not, Bool, true, false, Option, Some, None, List, [], ◌∷◌, ◌++◌, length}
+use Rattle.std.proofs.Common.{◌≡◌, ℕ, zero, suc, ◌≤◌, ◌<◌, ◌⊎◌, refl, sym, ap, ◌∙◌, inl, inr, subst, arith, Bool, true, false, Option, Some, None, List, [], ◌∷◌, ◌++◌, length}
 use Rattle.std.specs.Prelude.{◌-◌, IsSome, if◌then◌else◌, is_some, slice_get}
-use Rattle.std.specs.List.{list_any}
 use Rattle.std.specs.Option.{option_to_list}
-use Rattle.std.proofs.lemmas.Bool.{and_from, and_parts, cases_Bool, eq-eqb, le-leb, not-true}
+use Rattle.std.proofs.lemmas.Bool.{cases_Bool, eq-eqb, le-leb}
 use Rattle.sm_server.specs.declared.call.Cell.{Cell}
 use Rattle.sm_server.specs.declared.call.Cell.TheVariants as cell
-use Rattle.sm_server.specs.declared.call.Call.{Call}
 use Rattle.sm_server.specs.declared.call.Call.TheVariants as call
 use Rattle.sm_server.specs.declared.call.Role.TheVariants as role
 use Rattle.sm_server.specs.Call.{led_to}
 use Rattle.sm_placement.specs.Setup.{Setup}
-use Rattle.sm_placement.specs.Lead.{Describes, IsPlain}
-use Rattle.sm_placement.specs.declared.lead.Lead.{Lead}
-use Rattle.sm_placement.specs.declared.lead.Lead.TheVariants.{Gone, At, Ready, Handing, Handed}
-use Rattle.sm_placement.specs.Rows.{serves_as}
 use Rattle.sm_placement.proofs.Calls.{served_ok}
-use Rattle.sm_placement.specs.Sums.{any_below, put, put2}
-use Rattle.sm_verifier.proofs.OnePlace.{put2_cases, some_below}
+use Rattle.sm_placement.specs.Sums.{any_below, put}
+use Rattle.sm_verifier.proofs.OnePlace.{some_below}
 use Rattle.sm_reservation.specs.declared.stream_id.StreamId.{StreamId}
-use Rattle.sm_plan_code.specs.Instr.{is_mentioned}
-use Rattle.sm_protocol.specs.State.{Start, State, is_begun, is_running, is_unfinished, progress_of, stream_id, stream_parts}
-use Rattle.sm_protocol.specs.Happens.{Step, engages, happens}
+use Rattle.sm_protocol.specs.State.{State, is_running, is_unfinished, progress_of, stream_id}
+use Rattle.sm_protocol.specs.Happens.{Step, happens}
 use Rattle.sm_protocol.specs.Laws.{AreDone}
 use Rattle.sm_protocol.proofs.Courses.{some_same}
 use Rattle.sm_protocol.proofs.Whole.{reached_keeps}
@@ -32,30 +25,28 @@ use Rattle.sm_agent.specs.declared.order.Verdict.TheVariants as verdict
 use Rattle.sm_agent.specs.declared.request.Routing.TheVariants as routing
 use Rattle.sm_agent.specs.declared.request.Request.TheVariants.{Direct}
 use Rattle.sm_agent.specs.Base.{lacks_slots}
-use Rattle.sm_agent.specs.Order.{abandoned, begun_slot, committed, cut_by, is_at_work, is_done, cell_load, sealed}
+use Rattle.sm_agent.specs.Order.{abandoned, begun_slot, committed, is_at_work, is_done, sealed}
 use Rattle.sm_network.specs.Laws.{HasMovedOn}
 use Rattle.sm_network.specs.Net.{Order}
 use Rattle.sm_network.specs.World.{Publication, is_answered_by, publication_for, publication_now, publication_of}
 use Rattle.sm_network.specs.Controller.{Answered, Letter, Made, Notice, Stored, entry_recorded, goes_on, letter_of, needs_nobody, replayed}
 use Rattle.sm_network.specs.Words.{Entry}
 use Rattle.sm_network.specs.Fleet.{Server, Silent, Abandon, Commit, Fleet, FleetEvent, FleetOutcome, Handoff, HearOwner, HearServer, Judge, Make, Publish, Seal, SendOrder, SendPublication, Serve, after_commit, after_letter, after_notice, after_owner, after_seal, after_verdict, after_work, by_message, controller, fleet_comes, fleet_run, handoff_by, has_lost, held_cells, load_used, order_read, owner_verdict, request_routing, slot_for, verdict_of, with_slot, written}
-use Rattle.sm_network.specs.FleetLaws.{AllFleetFit, AreNamedKnown, AreOwnersReady, EachFleet, FleetCanFinish, FleetGoesOn, GoesByPublication}
+use Rattle.sm_network.specs.FleetLaws.{AllFleetFit, AreNamedKnown, EachFleet, FleetCanFinish, FleetGoesOn, GoesByPublication}
 use Rattle.sm_network.proofs.AtServer.{IsAway, IsBySlot, IsCommit, IsHeard, Lower, Refuses, Same, Serves, commit_is, judged_is}
 use Rattle.sm_network.proofs.Behind.{present_engages}
 use Rattle.sm_network.proofs.Commands.{state_reached}
-use Rattle.sm_network.proofs.Deliveries.{abandon_shadow, committed_above, effect_shadow, held_put, seal_shadow, shade_of}
-use Rattle.sm_network.proofs.Described.{net_described}
+use Rattle.sm_network.proofs.Deliveries.{abandon_shadow, seal_shadow}
+use Rattle.sm_network.proofs.Forwarders.{done_or, owner_forwards}
 use Rattle.sm_network.proofs.FleetProgress.{awaits, commits_when_done, some_goes}
-use Rattle.sm_network.proofs.FleetSafety.{held_safe}
 use Rattle.sm_network.proofs.Finish.{GoesOn, left, left_drops, none_below, step_goes}
-use Rattle.sm_network.proofs.OfFleet.{net_of, present_heard}
+use Rattle.sm_network.proofs.OfFleet.{present_heard}
 use Rattle.sm_network.proofs.Onward.{slice_get_push}
+use Rattle.sm_network.proofs.ReadyOwners.{AreOwnersReady, forwards_cut, owners_ready}
 use Rattle.sm_network.proofs.Reaching.{comes_shadow, fleet_shadow, run_shadow}
 use Rattle.sm_network.proofs.Shadow.{IsShadow, letter_says, notice_says}
 use Rattle.sm_network.proofs.Slots.{put_elim}
-use Rattle.sm_network.specs.FleetLaws.{held_place}
-use Rattle.sm_placement.specs.SafePlace.{IsSafePlace, IsServing}
-use Rattle.std.proofs.lemmas.Bool.{cases_eq}
+use Rattle.sm_network.proofs.Unnamed.{begun_before, named_before}
 
 -- ---- a run that goes on from a fleet
 
@@ -183,26 +174,6 @@ trip_publication setup f id d o g s = trip_before setup f (SendPublication 0 id)
 
 -- ---- an order
 
--- a call that leads to a cell that forwards tells the cut
-forwards_cut : (x : Call) (c : Cell) (to number at : ℕ) → led_to x c ≡ Some (cell.Forwarding to number) → IsSome (cut_by x at)
-forwards_cut (call.PrepareDrop a n) c to number at e = refl
-forwards_cut (call.Add role.Primary) cell.Absent to number at e = absurd (cc)
-forwards_cut (call.Add role.Secondary) cell.Absent to number at e = absurd (cc)
-forwards_cut (call.Add role.Primary) (cell.Prepared a n) to number at e = absurd (cc)
-forwards_cut (call.Add role.Secondary) (cell.Prepared a n) to number at e = absurd (cc)
-forwards_cut (call.Add r) cell.Secondary to number at e = absurd (cc)
-forwards_cut (call.Add r) cell.Primary to number at e = absurd (cc)
-forwards_cut (call.Add r) (cell.Forwarding a n) to number at e = absurd (cc)
-forwards_cut call.Drop cell.Absent to number at e = absurd (cc)
-forwards_cut call.Drop cell.Secondary to number at e = absurd (cc)
-forwards_cut call.Drop cell.Primary to number at e = absurd (cc)
-forwards_cut call.Drop (cell.Prepared a n) to number at e = absurd (cc)
-forwards_cut call.Drop (cell.Forwarding a n) to number at e = absurd (cc)
-forwards_cut (call.Change role.Secondary role.Primary) cell.Secondary to number at e = absurd (cc)
-forwards_cut (call.Change role.Primary role.Secondary) cell.Primary to number at e = absurd (cc)
-forwards_cut (call.PrepareAdd a n) cell.Absent to number at e = absurd (cc)
-forwards_cut _ _ to number at e = absurd (cc)
-
 -- an order whose work is not at work is begun or answered again
 module _ (setup : Setup) (low : ℕ → ℕ → ℕ) (f : Fleet) (k : IsShadow setup low f) (l : Letter) (present : letter_of (controller f) l.order.stream ≡ Some l) (known : has_lost f l.order.call.server ≡ false) where
   -- what a server makes of a present order, if nothing is at work at its slot
@@ -322,7 +293,7 @@ module _ (setup : Setup) (low : ℕ → ℕ → ℕ) (f : Fleet) (k : IsShadow s
 
 -- ---- the cut of a handover
 
--- a prepared server that is to take over is the new owner of a handover, whose old owner forwards to it
+-- the old owner tells the cut, and the new one takes over
 module _ (setup : Setup) (low : ℕ → ℕ → ℕ) (f : Fleet) (k : IsShadow setup low f) (l : Letter) (present : letter_of (controller f) l.order.stream ≡ Some l) (known : has_lost f l.order.call.server ≡ false)
     (is_add : l.order.call.call ≡ call.Add role.Primary) (a n : ℕ) (prepared : (slot_for f l).cell ≡ cell.Prepared a n) (above : (slot_for f l).last < l.order.number) where
   abbrev s : ℕ
@@ -331,91 +302,18 @@ module _ (setup : Setup) (low : ℕ → ℕ → ℕ) (f : Fleet) (k : IsShadow s
   abbrev v : ℕ
   v = l.order.call.server
 
-  held_here : held_cells f s v ≡ cell.Prepared a n
-  held_here = ap (λ b. if b then f.had s v else (slot_for f l).cell) known ∙ prepared
+  there : held_cells f s a ≡ cell.Forwarding v n
+  there = owner_forwards setup low f k l present known is_add a n prepared above
 
-  -- the server as it would be
-  abbrev taken_over : Slot
-  taken_over = record { cell = cell.Primary; last = l.order.number; at_work = None; load = cell_load cell.Primary l.load; cut = cut_by l.order.call.call 0 }
-
-  commits : IsCommit (f.servers v).base (slot_for f l) (order_read l) 0 taken_over
-  commits = record {
-    heard = (present_heard setup low f k l present known).0;
-    above = above;
-    led = ap (λ x. led_to x (slot_for f l).cell) is_add ∙ ap (led_to (call.Add role.Primary)) prepared;
-    last = refl;
-    load = refl;
-    cut = refl;
-  }
-
-  -- so the old owner is no primary any more
-  no_primary : (u : ℕ) → held_cells f s u ≡ cell.Primary → u ≢ v → ⊥
-  no_primary u e other = other (safe.serving s u v there here)
-    where
-      after : IsShadow setup (put2 low l.order.call.shard l.order.call.server l.order.number) (record (with_slot f l.order.call.shard l.order.call.server taken_over) { answers = f.answers ++ l.order ∷ [] })
-      after = effect_shadow setup low f k l 0 taken_over (k.letters zero l.order.stream l present) commits (committed_above setup low f k l 0 taken_over commits)
-
-      safe : IsSafePlace (controller f).w.sizes (held_place (record (with_slot f l.order.call.shard l.order.call.server taken_over) { answers = f.answers ++ l.order ∷ [] }))
-      safe = held_safe setup (put2 low l.order.call.shard l.order.call.server l.order.number) (record (with_slot f l.order.call.shard l.order.call.server taken_over) { answers = f.answers ++ l.order ∷ [] }) after
-
-      primary_serves : (u : ℕ) → held_cells (with_slot f s v taken_over) s u ≡ cell.Primary → IsServing (held_place (with_slot f s v taken_over)) s u
-      primary_serves u q = ap (serves_as (held_cells (with_slot f s v taken_over) s) u) q
-
-      here : IsServing (held_place (with_slot f s v taken_over)) s v
-      here = primary_serves v (held_put f s v taken_over known s v ∙ elim (put2_cases (held_cells f) s v cell.Primary s v) [ inl c ↦ c.2 | inr c ↦ absurd (c.0 (refl, refl)) ])
-
-      there : IsServing (held_place (with_slot f s v taken_over)) s u
-      there = primary_serves u (held_put f s v taken_over known s u ∙ elim (put2_cases (held_cells f) s v cell.Primary s u) [ inl c ↦ absurd (other c.1) | inr c ↦ c.1 ∙ e ])
-
-  -- it forwards to the new one
-  owner_forwards : held_cells f s a ≡ cell.Forwarding v n
-  owner_forwards = let d = net_described setup (shade_of f k).net (net_of f k) s in go d.0 d.1 d.2
-    where
-      not_plain : (c : Cell) → c ≡ cell.Prepared a n → IsPlain c → ⊥
-      not_plain c e h = absurd (subst IsPlain e h)
-
-      go : (lead : Lead) (m : ℕ) → Describes lead m (held_cells f s) → held_cells f s a ≡ cell.Forwarding v n
-      go Gone m d = absurd (not_plain (held_cells f s v) held_here (d v))
-      go (At u) m d = elim (cases_eq v u) [
-        | inl e ↦ absurd (let z : cell.Prepared a n ≡ cell.Primary = sym held_here ∙ (ap (held_cells f s) e ∙ d.0) in cc)
-        | inr e ↦ absurd (not_plain (held_cells f s v) held_here (d.1 v e))
-      ]
-      go (Ready u w) m d = elim (cases_eq v u) [
-        | inl e ↦ absurd (let z : cell.Prepared a n ≡ cell.Primary = sym held_here ∙ (ap (held_cells f s) e ∙ d.1) in cc)
-        | inr e ↦ elim (cases_eq v w) [
-          | inl q ↦ absurd (no_primary u d.1 (λ p. e (sym p)))
-          | inr q ↦ absurd (not_plain (held_cells f s v) held_here (d.3 v e q))
-        ]
-      ]
-      go (Handing u w) m d = elim (cases_eq v u) [
-        | inl e ↦ absurd (let z : cell.Prepared a n ≡ cell.Forwarding w m = sym held_here ∙ (ap (held_cells f s) e ∙ d.1) in cc)
-        | inr e ↦ elim (cases_eq v w) [
-          | inl q ↦
-              let z : cell.Prepared a n ≡ cell.Prepared u m = sym held_here ∙ (ap (held_cells f s) q ∙ d.2) in
-              let p : a ≡ u = cc in
-              let number : n ≡ m = cc in
-              ap (held_cells f s) p ∙ (d.1 ∙ (ap (λ x. cell.Forwarding x m) (sym q) ∙ ap (cell.Forwarding v) (sym number)))
-          | inr q ↦ absurd (not_plain (held_cells f s v) held_here (d.3 v e q))
-        ]
-      ]
-      go (Handed u w) m d = elim (cases_eq v u) [
-        | inl e ↦ absurd (let z : cell.Prepared a n ≡ cell.Forwarding w m = sym held_here ∙ (ap (held_cells f s) e ∙ d.1) in cc)
-        | inr e ↦ elim (cases_eq v w) [
-          | inl q ↦ absurd (let z : cell.Prepared a n ≡ cell.Primary = sym held_here ∙ (ap (held_cells f s) q ∙ d.2) in cc)
-          | inr q ↦ absurd (not_plain (held_cells f s v) held_here (d.3 v e q))
-        ]
-      ]
-
-  -- the old owner tells the cut, and the new one takes over
   module _ (free : (slot_for f l).at_work ≡ None) (owners : AreOwnersReady f) where
     trip_add : IsTrip setup f (happens (controller f).w (Step l.order.stream)).1
-    trip_add = with_cut ((f.servers a).slots s).cut refl (owners s a v n owner_forwards).1
+    trip_add = with_cut ((f.servers a).slots s).cut refl (owners s a v n there).1
       where
         ready_owner : has_lost f a ≡ false
-        ready_owner = (owners s a v n owner_forwards).0
+        ready_owner = (owners s a v n there).0
 
         cell_a : ((f.servers a).slots s).cell ≡ cell.Forwarding v n
-        cell_a = sym (ap (λ b. if b then f.had s a else ((f.servers a).slots s).cell) ready_owner) ∙ owner_forwards
+        cell_a = sym (ap (λ b. if b then f.had s a else ((f.servers a).slots s).cell) ready_owner) ∙ there
 
         passes : (c : ℕ) → ((f.servers a).slots s).cut ≡ Some c → request_routing f s a 0 Direct ≡ routing.PassOn v n c
         passes c e = rw (ready_owner, cell_a, (k.servers a ready_owner).taken, e) refl
@@ -468,19 +366,6 @@ module _ (setup : Setup) (low : ℕ → ℕ → ℕ) (f : Fleet) (k : IsShadow s
 
 -- ---- every order
 
--- work can be done at once, but for a new owner that takes over
-done_or : (x : Call) (c : Cell) → ((a : ℕ) × (n : ℕ) × (x ≡ call.Add role.Primary) × (c ≡ cell.Prepared a n)) ⊎ ((cut : Option ℕ) (at : ℕ) → is_done x c cut at ≡ true)
-done_or (call.Add role.Primary) (cell.Prepared a n) = inl (a, n, refl, refl)
-done_or (call.Add role.Primary) cell.Absent = inr (λ cut at. refl)
-done_or (call.Add role.Primary) cell.Secondary = inr (λ cut at. refl)
-done_or (call.Add role.Primary) cell.Primary = inr (λ cut at. refl)
-done_or (call.Add role.Primary) (cell.Forwarding a n) = inr (λ cut at. refl)
-done_or (call.Add role.Secondary) c = inr (λ cut at. refl)
-done_or call.Drop c = inr (λ cut at. refl)
-done_or (call.Change a b) c = inr (λ cut at. refl)
-done_or (call.PrepareAdd a n) c = inr (λ cut at. refl)
-done_or (call.PrepareDrop a n) c = inr (λ cut at. refl)
-
 -- the order of a stream makes its way
 trip_order : (setup : Setup) (low : ℕ → ℕ → ℕ) (f : Fleet) (k : IsShadow setup low f) (l : Letter) → letter_of (controller f) l.order.stream ≡ Some l → has_lost f l.order.call.server ≡ false → AreOwnersReady f →
     IsTrip setup f (happens (controller f).w (Step l.order.stream)).1
@@ -509,26 +394,6 @@ trip_order setup low f k l present known owners =
     go (inl b) (Begins e above next led) = trip_add setup low given_up shadow l present known_after b.2 b.0 b.1 b.3 above free owners_after
 
 -- ---- to the end
-
--- a stream that names a server then named it before
-named_before : (w new : State) (g : GoesOn w new) (v : ℕ) (id : StreamId) → engages new v id ≡ true → engages w v id ≡ true
-named_before w new g v id e = go (progress_of w id).done refl
-  where
-    with_plans : List Start → State
-    with_plans plans = record w { plans = plans }
-
-    p : (not (progress_of new id).done ≡ true) × (list_any (is_mentioned v) (stream_parts new id).code ≡ true)
-    p = and_parts (not (progress_of new id).done) (list_any (is_mentioned v) (stream_parts new id).code) e
-
-    code : list_any (is_mentioned v) (stream_parts w id).code ≡ true
-    code = ap (λ (plans : List Start). let u : State = record w { plans = plans } in list_any (is_mentioned v) (stream_parts u id).code) (sym g.plans) ∙ p.1
-
-    go : (b : Bool) → (progress_of w id).done ≡ b → engages w v id ≡ true
-    go true d = absurd (let z : (progress_of new id).done ≡ true = g.done id d in let q = not-true (progress_of new id).done p.0 in cc)
-    go false d = and_from (not (progress_of w id).done) _ (ap not d) code
-
-begun_before : (w new : State) (g : GoesOn w new) (id : StreamId) → is_begun new id ≡ true → is_begun w id ≡ true
-begun_before w new g id b = ap (λ (plans : List Start). let u : State = record w { plans = plans } in is_begun u id) (sym g.plans) ∙ b
 
 -- the publication of a stream names it
 publication_stream : (base : ℕ) (w : State) (id : StreamId) (p : Publication) → publication_of base w id ≡ Some p → p.stream ≡ id
@@ -586,7 +451,7 @@ record IsFewer (setup : Setup) (f : Fleet) : Type 0 where
 
 fewer_left : (setup : Setup) (low : ℕ → ℕ → ℕ) (f : Fleet) (k : IsShadow setup low f) → AreNamedKnown f → AreOwnersReady f → (j : ℕ) → j < length (controller f).w.plans → is_unfinished (controller f).w j ≡ true → IsFewer setup f
 fewer_left setup low f k named owners j l unfinished =
-    let s = some_goes setup low f k named j l unfinished in
+    let s = some_goes setup low f k named owners j l unfinished in
     let id = stream_id j s.0 in
     let w = (controller f).w in
     let x = stepped setup low f k named owners id s.2 s.3 in
@@ -620,4 +485,4 @@ ending setup (suc m) f k named owners l = elim (cases_Bool (any_below (length (c
 
 -- wherever events lead, events can lead on until all plans are done
 pub fleet_can_finish : EachFleet FleetCanFinish
-fleet_can_finish setup f r named owners = ending setup (left (controller f).w) f (fleet_shadow setup f r) named owners (omega arith)
+fleet_can_finish setup f r named = ending setup (left (controller f).w) f (fleet_shadow setup f r) named (owners_ready setup f r named) (omega arith)

@@ -31,9 +31,11 @@ use Rattle.sm_network.proofs.Calm.{IsCalm, ready}
 use Rattle.sm_network.proofs.Commands.{publisher_steps, state_reached}
 use Rattle.sm_network.proofs.Deliveries.{shade_of}
 use Rattle.sm_network.proofs.Events.{at_call_of}
+use Rattle.sm_network.proofs.Forwarders.{can_be_done}
 use Rattle.sm_network.proofs.OfFleet.{net_of, present_heard}
 use Rattle.sm_network.proofs.Raised.{net_is_calm, some_can_go_on}
 use Rattle.sm_network.proofs.Reaching.{fleet_shadow}
+use Rattle.sm_network.proofs.ReadyOwners.{AreOwnersReady, owners_ready}
 use Rattle.sm_network.proofs.Shadow.{IsShadow}
 
 -- ---- orders
@@ -77,23 +79,17 @@ no_trip n id e =
     ∙ (ap (λ a. (net_run (Answer (length n.answers) ∷ []) (at_place (record n { sent = n.sent ++ [] }) delivered a).1).w) (behind_end n.sent)
     ∙ ap (λ a. (at_place (record n { sent = n.sent ++ [] }) answer_taken a).1.w) (at_end n.answers))
 
--- a present order that has not had its effect is committed, once its work is begun and done
-pub commits_when_done : (setup : Setup) (low : ℕ → ℕ → ℕ) (f : Fleet) (k : IsShadow setup low f) (l : Letter) → letter_of (controller f) l.order.stream ≡ Some l → has_lost f l.order.call.server ≡ false → (at : ℕ) →
-    is_done l.order.call.call (slot_for f l).cell (slot_for f l).cut at ≡ true → verdict_of f l ≢ verdict.Again → IsSome (committed (f.servers l.order.call.server).base (begun_slot (slot_for f l) (order_read l)) (order_read l) at)
-commits_when_done setup low f k l present known at done new = go (verdict_of f l) new h.1 (judged_is (f.servers l.order.call.server).base (slot_for f l) (load_used f l.order.call.server) (order_read l))
+-- A present order that has not had its effect is new to its server, and its call is served there.
+record IsNew (f : Fleet) (l : Letter) : Type 0 where
+  pub above : (slot_for f l).last < l.order.number
+  pub next : Cell
+  pub led : led_to l.order.call.call (slot_for f l).cell ≡ Some next
+
+is_new : (setup : Setup) (low : ℕ → ℕ → ℕ) (f : Fleet) (k : IsShadow setup low f) (l : Letter) → letter_of (controller f) l.order.stream ≡ Some l → has_lost f l.order.call.server ≡ false → verdict_of f l ≢ verdict.Again → IsNew f l
+is_new setup low f k l present known new = go (verdict_of f l) new (present_heard setup low f k l present known).1 (judged_is (f.servers l.order.call.server).base (slot_for f l) (load_used f l.order.call.server) (order_read l))
   where
-    h : IsHeard (f.servers l.order.call.server).base (order_read l).stamp × ((verdict_of f l ≡ verdict.Begin) ⊎ ((verdict_of f l ≡ verdict.Working) ⊎ (verdict_of f l ≡ verdict.Again)))
-    h = present_heard setup low f k l present known
-
-    committing : (slot_for f l).last < l.order.number → (next : Cell) → led_to l.order.call.call (slot_for f l).cell ≡ Some next → IsSome (committed (f.servers l.order.call.server).base (begun_slot (slot_for f l) (order_read l)) (order_read l) at)
-    committing above next led =
-        let away = heard (f.servers l.order.call.server).base (order_read l).stamp (present_heard setup low f k l present known).0 in
-        let new = lt-ltb (slot_for f l).last l.order.number above in
-        let work = eq-eqb l.order.number l.order.number refl in
-        rw (away, new, work, done, led) refl
-
     go : (x : Verdict) → x ≢ verdict.Again → (x ≡ verdict.Begin) ⊎ ((x ≡ verdict.Working) ⊎ (x ≡ verdict.Again)) → IsAway x ⊎ (IsHeard (f.servers l.order.call.server).base (order_read l).stamp × IsBySlot (slot_for f l) (load_used f l.order.call.server) (order_read l) x) →
-        IsSome (committed (f.servers l.order.call.server).base (begun_slot (slot_for f l) (order_read l)) (order_read l) at)
+        IsNew f l
     go x n (inl b) (inl (inl a)) = absurd (let z = sym a ∙ b in cc)
     go x n (inl b) (inl (inr (inl a))) = absurd (let z = sym a ∙ b in cc)
     go x n (inl b) (inl (inr (inr a))) = absurd (let z = sym a ∙ b in cc)
@@ -107,11 +103,22 @@ commits_when_done setup low f k l present known at done new = go (verdict_of f l
     go x n (inr (inl b)) (inr (g, Same m a)) = absurd (let z = sym a ∙ b in cc)
     go x n (inl b) (inr (g, Refuses m why s a)) = absurd (let z = sym a ∙ b in cc)
     go x n (inr (inl b)) (inr (g, Refuses m why s a)) = absurd (let z = sym a ∙ b in cc)
-    go x n b (inr (g, Serves m next s a)) = committing m next (served_ok (slot_for f l).cell (l.room - load_used f l.order.call.server) l.load true l.order.call.call next s).1
+    go x n b (inr (g, Serves m next s a)) = record { above = m; next = next; led = (served_ok (slot_for f l).cell (l.room - load_used f l.order.call.server) l.load true l.order.call.call next s).1 }
+
+-- it is committed, once its work is begun and done
+pub commits_when_done : (setup : Setup) (low : ℕ → ℕ → ℕ) (f : Fleet) (k : IsShadow setup low f) (l : Letter) → letter_of (controller f) l.order.stream ≡ Some l → has_lost f l.order.call.server ≡ false → (at : ℕ) →
+    is_done l.order.call.call (slot_for f l).cell (slot_for f l).cut at ≡ true → verdict_of f l ≢ verdict.Again → IsSome (committed (f.servers l.order.call.server).base (begun_slot (slot_for f l) (order_read l)) (order_read l) at)
+commits_when_done setup low f k l present known at done new =
+    let n = is_new setup low f k l present known new in
+    let away = heard (f.servers l.order.call.server).base (order_read l).stamp (present_heard setup low f k l present known).0 in
+    let above = lt-ltb (slot_for f l).last l.order.number n.above in
+    let work = eq-eqb l.order.number l.order.number refl in
+    let led = n.led in
+    rw (away, above, work, done, led) refl
 
 -- ---- streams
 
-module _ (setup : Setup) (low : ℕ → ℕ → ℕ) (f : Fleet) (k : IsShadow setup low f) (named : AreNamedKnown f) (id : StreamId) (left : (progress_of (controller f).w id).done ≡ false) where
+module _ (setup : Setup) (low : ℕ → ℕ → ℕ) (f : Fleet) (k : IsShadow setup low f) (named : AreNamedKnown f) (owners : AreOwnersReady f) (id : StreamId) (left : (progress_of (controller f).w id).done ≡ false) where
   abbrev c : Controller
   c = controller f
 
@@ -130,11 +137,14 @@ module _ (setup : Setup) (low : ℕ → ℕ → ℕ) (f : Fleet) (k : IsShadow s
       let a = awaits c.base c.w id o e in
       let p = present_engages c.base c.w id o e in
       let says : letter_of c id ≡ Some (letter c o) = ap (option_map (letter c)) e in
+      let present : letter_of c o.stream ≡ Some (letter c o) = subst (λ i. letter_of c i ≡ Some (letter c o)) (sym a.1) says in
+      let known = named id o.call.server p.0 p.1 in
       record {
         letter = letter c o;
         present = says;
-        heard = (present_heard setup low f k (letter c o) (subst (λ i. letter_of c i ≡ Some (letter c o)) (sym a.1) says) (named id o.call.server p.0 p.1)).1;
-        commits = λ at done new. commits_when_done setup low f k (letter c o) (subst (λ i. letter_of c i ≡ Some (letter c o)) (sym a.1) says) (named id o.call.server p.0 p.1) at done new;
+        heard = (present_heard setup low f k (letter c o) present known).1;
+        done = λ new. can_be_done setup low f k (letter c o) present known owners (is_new setup low f k (letter c o) present known new).above;
+        commits = λ at done new. commits_when_done setup low f k (letter c o) present known at done new;
         answered = subst (λ (u : State). HasMovedOn c.w id u) (sym (ap (λ b. (if b then goes_on c (Step o.stream) else c).w) a.0 ∙ ap (λ i. (happens c.w (Step i)).1) a.1)) (order_moves c.base c.w kept calm id o e);
       }
 
@@ -224,9 +234,9 @@ module _ (setup : Setup) (low : ℕ → ℕ → ℕ) (f : Fleet) (k : IsShadow s
           inr (inr (with_publication p current m))
 
 -- some stream of an unfinished plan can go on
-pub some_goes : (setup : Setup) (low : ℕ → ℕ → ℕ) (f : Fleet) (k : IsShadow setup low f) → AreNamedKnown f → (j : ℕ) → j < length (controller f).w.plans → is_unfinished (controller f).w j ≡ true →
+pub some_goes : (setup : Setup) (low : ℕ → ℕ → ℕ) (f : Fleet) (k : IsShadow setup low f) → AreNamedKnown f → AreOwnersReady f → (j : ℕ) → j < length (controller f).w.plans → is_unfinished (controller f).w j ≡ true →
     (i : ℕ) × (i < stream_count (controller f).w j) × (((controller f).w.progress j i).done ≡ false) × FleetGoesOn f (stream_id j i)
-some_goes setup low f k named j l unfinished =
+some_goes setup low f k named owners j l unfinished =
     let s = some_can_go_on setup (shade_of f k).net (net_of f k) j l unfinished in
     let id = stream_id j s.0 in
     let w = (controller f).w in
@@ -235,11 +245,11 @@ some_goes setup low f k named j l unfinished =
       s.1,
       s.2,
       elim s.3 [
-        | inl m ↦ by_step setup low f k named id s.2 runs m
-        | inr m ↦ inr (inl (by_trip setup low f k named id s.2 m))
+        | inl m ↦ by_step setup low f k named owners id s.2 runs m
+        | inr m ↦ inr (inl (by_trip setup low f k named owners id s.2 m))
       ],
     )
 
 -- some stream of each unfinished plan can go on
 pub some_fleet_can_go_on : EachFleet SomeFleetCanGoOn
-some_fleet_can_go_on setup f r named j l unfinished = some_goes setup (λ s v. 0) f (fleet_shadow setup f r) named j l unfinished
+some_fleet_can_go_on setup f r named j l unfinished = some_goes setup (λ s v. 0) f (fleet_shadow setup f r) named (owners_ready setup f r named) j l unfinished

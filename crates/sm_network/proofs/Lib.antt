@@ -39,6 +39,9 @@ pub mod OfFleet
 pub mod FleetSafety
 pub mod FleetOnce
 pub mod FleetPermits
+pub mod Unnamed
+pub mod ReadyOwners
+pub mod Forwarders
 pub mod FleetProgress
 pub mod FleetFinish
 pub mod FleetOpening

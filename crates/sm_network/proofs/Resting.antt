@@ -29,13 +29,13 @@ use Rattle.sm_protocol.proofs.Reached.{run_same}
 use Rattle.sm_protocol.proofs.Whole.{reached_keeps}
 
 -- the cell is in no handover
-abbrev IsOutside : Cell → Type 0
+abbrev pub IsOutside : Cell → Type 0
 IsOutside (cell.Prepared a n) = ⊥
 IsOutside (cell.Forwarding a n) = ⊥
 IsOutside _ = Unit {0}
 
 -- all cells of a placement are
-abbrev AreOutside : Place → Type 0
+abbrev pub AreOutside : Place → Type 0
 AreOutside p = (s v : ℕ) → IsOutside (p.cells s v)
 
 by_crown : (o : Option (Lead × Option ℕ)) (v : ℕ) (c : Cell) → IsOutside c → IsOutside (cell_by_crown o v c)
@@ -66,7 +66,6 @@ ends_outside : (c : Sizes) (plans : List PlanModel) (p : Place) → AreOutside p
 ends_outside c [] p a = a
 ends_outside c (plan ∷ plans) p a = ends_outside c plans (end_of c plan p) (streams_outside c plan (length plan.streams) p a)
 
--- the cells of an opening are in no handover
 plain_outside : (c : Cell) → IsPlain c → IsOutside c
 plain_outside cell.Absent h = tt
 plain_outside cell.Secondary h = tt
@@ -74,7 +73,8 @@ plain_outside cell.Primary h = absurd h
 plain_outside (cell.Prepared a n) h = absurd h
 plain_outside (cell.Forwarding a n) h = absurd h
 
-opening_outside : (setup : Setup) (p : Place) (room : ℕ) → IsOpening setup p room → AreOutside p
+-- the cells of an opening are in no handover
+pub opening_outside : (setup : Setup) (p : Place) (room : ℕ) → IsOpening setup p room → AreOutside p
 opening_outside setup p room o s v = elim (cases_lt s (sizes_of setup).shards) [
   | inl l ↦ let d = o.settled.leads s l in go d.0 d.1 d.2
   | inr l ↦ subst IsOutside (sym (o.placement.no_shard s v l)) tt
@@ -97,7 +97,8 @@ module _ (setup : Setup) (w : State) (r : IsReached setup w) (done : AreDone w) 
   opening_is : w.opening ≡ (opened (sizes_of setup) r.place r.room).opening
   opening_is = ap (λ (u : State). u.opening) r.state ∙ (run_same r.events (opened (sizes_of setup) r.place r.room)).opening
 
-  outside : AreOutside w.place
+  -- no cell is in a handover
+  pub outside : AreOutside w.place
   outside s v = subst IsOutside (sym ((ends_are_reached setup w r done).1.cells s v))
       (ends_outside w.sizes (map (λ x. x.plan) w.plans) w.opening (subst AreOutside (sym opening_is) (opening_outside setup r.place r.room r.opening)) s v)
 

@@ -1,6 +1,6 @@
 -- The laws of the fleet, behind their premises.
 use Rattle.std.specs.Prelude.{◌≡◌, ◌≢◌, ◌≤◌, ◌<◌, ◌⊎◌, ℕ, suc, ◌+◌, ◌==◌, ◌&&◌, ◌++◌, Bool, true, false, not, if◌then◌else◌, Some, List, [], ◌∷◌, IsSome, count_by, length, map, slice_get}
-use Rattle.sm_server.specs.declared.call.Cell.TheVariants.{Absent, Forwarding}
+use Rattle.sm_server.specs.declared.call.Cell.TheVariants.{Absent, Forwarding, Prepared}
 use Rattle.sm_server.specs.declared.call.Refusal.{Refusal}
 use Rattle.sm_server.specs.Call.{led_to}
 use Rattle.sm_placement.specs.Rows.{serves}
@@ -242,12 +242,27 @@ MapIsRight setup f = (s u : ℕ) → (f.shown s).server ≡ Some u →
 abbrev pub AreNamedKnown : Fleet → Type 0
 AreNamedKnown f = (id : StreamId) (v : ℕ) → is_begun (controller f).w id ≡ true → engages (controller f).w v id ≡ true → has_lost f v ≡ false
 
--- The order of a stream is heard when it comes. If it has not had its effect, its work is committed once it is begun and done; and
--- once it is answered, the stream moves on.
+-- A new owner waits for the cut of the old one, which has its slots, forwards to the new one and knows the cut.
+pub record TellsCut (f : Fleet) (l : Letter) : Type 0 where
+  pub owner : ℕ
+  pub number : ℕ
+  pub cut : ℕ
+  pub prepared : (slot_for f l).cell ≡ Prepared owner number
+  pub known : has_lost f owner ≡ false
+  pub forwards : ((f.servers owner).slots l.order.call.shard).cell ≡ Forwarding l.order.call.server number
+  pub told : ((f.servers owner).slots l.order.call.shard).cut ≡ Some cut
+
+-- the work of an order can be done once some writes are applied; or that of a new owner once it hears the cut, too
+abbrev pub CanBeDone : Fleet → Letter → Type 0
+CanBeDone f l = ((at : ℕ) × (is_done l.order.call.call (slot_for f l).cell (slot_for f l).cut at ≡ true)) ⊎ TellsCut f l
+
+-- The order of a stream is heard when it comes. If it has not had its effect, its work can be done, and is committed once it is begun and
+-- done; and once it is answered, the stream moves on.
 pub record GoesByOrder (f : Fleet) (id : StreamId) : Type 0 where
   pub letter : Letter
   pub present : letter_of (controller f) id ≡ Some letter
   pub heard : (verdict_of f letter ≡ verdict.Begin) ⊎ ((verdict_of f letter ≡ verdict.Working) ⊎ (verdict_of f letter ≡ verdict.Again))
+  pub done : verdict_of f letter ≢ verdict.Again → CanBeDone f letter
   pub commits : (at : ℕ) → is_done letter.order.call.call (slot_for f letter).cell (slot_for f letter).cut at ≡ true → verdict_of f letter ≢ verdict.Again →
       IsSome (committed (f.servers letter.order.call.server).base (begun_slot (slot_for f letter) (order_read letter)) (order_read letter) at)
   pub answered : HasMovedOn (controller f).w id (entry_recorded (controller f) (Answered letter.order)).w
@@ -269,13 +284,7 @@ abbrev pub SomeFleetCanGoOn : Setup → Fleet → Type 0
 SomeFleetCanGoOn setup f = AreNamedKnown f → (k : ℕ) → k < length (controller f).w.plans → is_unfinished (controller f).w k ≡ true →
     (i : ℕ) × (i < stream_count (controller f).w k) × (((controller f).w.progress k i).done ≡ false) × FleetGoesOn f (stream_id k i)
 
--- each server that forwards, or did so before it forgot, has its slots and knows its cut
-abbrev pub AreOwnersReady : Fleet → Type 0
-AreOwnersReady f = (s u to number : ℕ) → held_cells f s u ≡ Forwarding to number →
-    (has_lost f u ≡ false) × IsSome ((f.servers u).slots s).cut
-
--- If each server that unfinished plans name has its slots, and so has each that forwards, events can lead on until all plans are done,
--- whatever is under way or was lost.
+-- If each server that unfinished plans name has its slots, events can lead on until all plans are done, whatever is under way or was lost.
 abbrev pub FleetCanFinish : Setup → Fleet → Type 0
-FleetCanFinish setup f = AreNamedKnown f → AreOwnersReady f →
+FleetCanFinish setup f = AreNamedKnown f →
     (es : List FleetEvent) × AllFleetFit setup f es × AreDone (controller (fleet_run es f)).w

@@ -1,7 +1,7 @@
 -- The protocol over a network. The controller holds no lock while a call is under way: it sends orders, which may come to their
 -- servers late, in any order, many times or never, and so may the answers. What it has recorded is a state of the protocol, in
 -- which a call has its effect only once its answer has come; what the servers have is beside it.
-use Rattle.std.specs.Prelude.{ℕ, ◌+◌, ◌==◌, ◌&&◌, ◌++◌, ◌-◌, Bool, true, false, Option, Some, None, List, [], ◌∷◌, is_some, is_none, slice_get, slice_index_or, if◌then◌else◌}
+use Rattle.std.specs.Prelude.{ℕ, ◌+◌, ◌==◌, ◌&&◌, ◌++◌, ◌-◌, Bool, true, false, Option, Some, None, List, [], ◌∷◌, is_some, is_none, slice_get, if◌then◌else◌}
 use Rattle.sm_server.specs.declared.call.Cell.TheVariants as cell
 use Rattle.sm_server.specs.declared.call.Call.{Call}
 use Rattle.sm_server.specs.declared.call.Call.TheVariants as call

@@ -76,7 +76,7 @@ pub fn beginnings_are_harmless()
     ensures { EachFleet BeginningsAreHarmless }
 {}
 
-/// If each server that unfinished plans name has its slots, and so has each that forwards, events can lead on until all plans are done.
+/// If each server that unfinished plans name has its slots, events can lead on until all plans are done.
 pub fn fleet_can_finish()
     ensures { EachFleet FleetCanFinish }
 {}
