@@ -142,6 +142,9 @@ WRONG = {
     "Driver::answered": "sm_driver/answered_takes_an_answer_twice",
     "Driver::restarted": "sm_driver/restarted_by_an_old_permit",
     "Driver::new_epoch": "sm_driver/new_epoch_while_a_plan_runs",
+    "DocumentReopening::begin": "sm_document_reopening/a_lost_server_is_asked",
+    "DocumentReopening::confirm": "sm_document_reopening/another_primary",
+    "DocumentReopening::put_in_force": "sm_document_reopening/a_permit_is_lost",
     "OngoingReopening::fenced": "sm_reopening/earlier_inventory_taken",
     "OngoingReopening::confirm": "sm_reopening/primary_moved",
 }
