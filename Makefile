@@ -93,14 +93,14 @@ check-program:
 	python3 tests/cluster/checker_cases.py
 	scripts/check-memory
 	scripts/check-threads
-	scripts/storm 20
+	scripts/check-storm 20
 	crates/board_trials/out/board_trials looks check
 
 check-tests:
 	$(MAKE) agent vectors
 	scripts/check-agent
 	scripts/check-memory-tests sm_tests_json sm_tests_placement sm_tests_rights sm_tests_text sm_tests sm_tests_machine sm_tests_plans sm_tests_play sm_tests_board sm_tests_planner sm_map
-	scripts/refused-programs
+	scripts/check-refused-programs
 
 edits: ## tries all wrong versions, over what make test has proved: hours of a processor
 	@mkdir -p build
@@ -121,7 +121,7 @@ page-test: ## loads the tools' pages in Debian's chromium, and writes pictures t
 # (over the program as it is now, and not as the gate may have built it before)
 storm: ## makes 1,000 runs of a plan of 64 streams, beside clients and restarts; kills build/smpland 1,000 times, refuses each of its calls, spoils 100,000 lines
 	rm -f crates/board_trials/out/board_trials
-	scripts/storm
+	scripts/check-storm
 	scripts/check-smpland-kills 1000
 	scripts/check-smpland-faults
 	scripts/check-smpland build/smpland 100000
