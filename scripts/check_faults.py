@@ -182,14 +182,14 @@ def cut_and_nested():
 
 
 def entries(count, entry):
-    """So many entries of a list; {n} in an entry is its number."""
+    """Returns `count` entries of a list; {n} in an entry is its number."""
     if "{n}" in entry:
         return ",".join(entry.replace("{n}", str(n)) for n in range(count))
     return ",".join([entry] * count)
 
 
 def document(servers="", shards="", **others):
-    """A document with these entries and members."""
+    """Returns a document with these entries and members."""
     members = "".join(f',"{name}":{value}' for name, value in others.items())
     return f'{{"limit":0,"servers":[{servers}],"shards":[{shards}]{members}}}'.encode()
 
@@ -203,7 +203,7 @@ def shard_entries(count):
 
 
 def with_cells(first, second):
-    """A server, and two shards with so many cells."""
+    """Returns a document of a server, and two shards with `first` and `second` cells."""
     cell = '{"server":"0","state":"secondary"}'
     shard = '{"name":"%d","load":0,"want":0,"cap":0,"spread":0,"cells":[%s]}'
     return document(server_entries(1), ",".join([shard % (0, entries(first, cell)), shard % (1, entries(second, cell))]))
@@ -215,18 +215,18 @@ def with_plan(signals=0, streams=1, code="", holds="{}", **lists):
 
 
 def with_rights(count):
-    """Rights to so many cells, each of another shard or server."""
+    """Returns a document with rights to `count` cells, each of another shard or server."""
     rights = ",".join(f'{{"shard":"{n // 64}","server":"{n % 64}","state":"absent"}}' for n in range(count))
     return with_plan(holds=f'{{"cells":[{rights}]}}', servers=server_entries(64), shards=shard_entries(65))
 
 
 def of_each_shard(kind, entry):
-    """A parcel with an entry for each of 4096 shards."""
+    """Returns a document with a parcel that has an entry for each of 4096 shards."""
     return with_plan(holds=f'{{"{kind}":[{entries(4096, entry)}]}}', shards=shard_entries(4096))
 
 
 def listed(name, count, entry):
-    """A server, a shard, and so many entries of one of the document's lists."""
+    """Returns a document of a server, a shard, and `count` entries of one of its lists."""
     return document(server_entries(1), shard_entries(1), **{name: f"[{entries(count, entry)}]"})
 
 

@@ -83,7 +83,7 @@ ELSEWHERE = {
     "not run: 4 Spent": "no call is lost on the board of a report",
     "not run: 5 NoCaller": "a board gives out more callers than a document may have asks",
     "not run: 6 OtherAsk": "a client asks for the shard that it was made for",
-    "not run: 7 NotClosed": "a board on which each stream has made its end is closed",
+    "not run: 7 NotClosed": "a board on which each stream has finished is closed",
     "not run: 8 OtherEvents": "nothing but the run and the asks happens on the board of a report",
     "ask I: too many hops": "eight servers in turn send the client on while streams run, as the schedule is; sm_tests_board has it",
 }

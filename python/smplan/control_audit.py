@@ -17,7 +17,7 @@ Line = Dict[str, Any]
 
 HEAD = '{"journal":"smpland","format":1}'
 NO_SUM = "0" * 64
-# At most so many plans stand in a document of `smplan play`.
+# The most plans in a document of `smplan play`.
 MOST_PLANS = 16
 
 

@@ -27,7 +27,7 @@ def moves_of(plan: Line, server: str) -> List[Line]:
 
 @dataclass
 class Campaign:
-    """A drain: at most so many moves at once, a rest between plans, and no further plan once one takes longer than `patience`."""
+    """A drain: a limit on moves at once, a rest between plans, and no further plan once one takes longer than `patience`."""
 
     post: Post
     server: str

@@ -9,14 +9,14 @@ from .reports import Report, read_report
 from .restart import reason
 from .words import counted
 
-# So many answers are looked into; for each the events up to it are played once more.
+# The most answers that are looked into; for each the events up to it are played once more.
 MOST_EVENTS = 20
 # The answers that say that what the event speaks of was done.
 DONE = re.compile(r"moved|done|executed at .*|passed to .*|approved|up|refilled|lost|begun: .*")
 
 
 def played(document: Document, path: str, count: Optional[int] = None) -> Report:
-    """Returns the report of the first so many events, or of all."""
+    """Returns the report of the first `count` events, or of all."""
     events = (document.events or [])[:count]
     answer = program.run(path, "play", json.dumps(document.value | {"events": events}).encode())
     return read_report(answer.report, "the report")

@@ -166,6 +166,6 @@ def add_parser(subparsers: Any) -> None:
     )
     program.add_option(parser)
     parser.add_argument("--command", choices=COMMANDS, help="what smplan COMMAND answers (default: all that the document has)")
-    parser.add_argument("--most", type=int, default=20, metavar="N", help="show so many at most (20)")
+    parser.add_argument("--most", type=int, default=20, metavar="N", help="show N at most (20)")
     parser.add_argument("document", nargs="?", default="-", metavar="DOCUMENT", help="a document (standard input)")
     parser.set_defaults(run=explain)

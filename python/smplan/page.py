@@ -18,7 +18,7 @@ FOLDER = Path(__file__).parent
 # The sizes of the lanes, in pixels; page.css has the heights too. A box is as wide as its text, within limits.
 LANE, BOX_HEIGHT, GAP = 54, 42, 18
 NARROWEST, WIDEST, LETTER = 124, 250, 6.5
-# From so many columns on, an overview stands above the lanes; it is so wide.
+# The number of columns from which an overview stands above the lanes, and its width.
 MANY_COLUMNS, OVERVIEW_WIDTH = 9, 1340
 # How many servers and shards are seen at once; the others are folded away.
 SEEN = 24

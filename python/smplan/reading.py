@@ -162,7 +162,7 @@ def word(*words: str) -> Test:
 
 
 def list_of(limit: int) -> Test:
-    """Tests for a list of at most so many entries."""
+    """Tests for a list of at most `limit` entries."""
 
     def test(value: Any, place: str, member: str) -> Iterator[Fault]:
         if not isinstance(value, list):
@@ -186,7 +186,7 @@ def plan_format(value: Any, place: str, member: str) -> Iterator[Fault]:
 
 
 def below(count: int) -> Test:
-    """Tests for the number of one of so many signals."""
+    """Tests for the number of one of `count` signals."""
 
     def test(value: Any, place: str, member: str) -> Iterator[Fault]:
         number = whole(value)

@@ -5,7 +5,7 @@ STREAMS, LAYERS, SIGNALS = 64, 8, 256
 
 
 def wired(streams: int = STREAMS, layers: int = LAYERS, signals: int = SIGNALS) -> Dict[str, Any]:
-    """Returns a document whose plan has so many streams and signals. The streams stand in layers; each moves a secondary, and those of one layer hand the room
+    """Returns a document whose plan has `streams` streams and `signals` signals. The streams stand in layers; each moves a secondary, and those of one layer hand the room
     that they free on to those of the next."""
     servers = [{"name": f"rack-{n:02}", "region": f"zone-{n % 4}", "room": 40} for n in range(2 * streams)]
     shards = [
@@ -46,7 +46,7 @@ def holds_of(n: int, streams: int) -> Dict[str, Any]:
 
 
 def draining(replicas: int = STREAMS) -> Dict[str, Any]:
-    """Returns a document in which a server with so many replicas is to be emptied: half of them primaries."""
+    """Returns a document in which a server with `replicas` replicas is to be emptied: half of them primaries."""
     servers = [{"name": "old-server", "region": "zone-0", "room": 20 * replicas}]
     servers += [{"name": f"new-{n}", "region": f"zone-{n % 3}", "room": 500} for n in range(6)]
     shards = []

@@ -65,7 +65,7 @@ def arguments(words: list[str]) -> argparse.Namespace:
     profiles = ["", *PROFILES]
     parser.add_argument("--profile", default="", choices=profiles, help="what the schedules are about (all of them)")
     parser.add_argument("--jobs", type=int, default=1, help="how many processes (1)")
-    parser.add_argument("--seconds", type=float, default=0, help="stop after so many seconds")
+    parser.add_argument("--seconds", type=float, default=0, help="stop after SECONDS seconds")
     parser.add_argument("--trace", action="store_true", help="tell the shortest schedule that broke a law")
     return parser.parse_args(words)
 
