@@ -76,7 +76,7 @@ def counted(seeds: range, program: str | None = None, plans_often: float = 0.1) 
 def documented() -> set[tuple[str, str]]:
     """Returns the refusals that the document has, each with a command; with none if any command may be refused so."""
     pairs = set()
-    for kinds, commands in re.findall(r"^\| (`[A-Z][A-Za-z`, ]+`) \| ([^|]+) \|", DOCUMENT.read_text(), re.M):
+    for kinds, commands in re.findall(r"^- (`[A-Z][A-Za-z`, ]+`) \(([^)]+)\):", DOCUMENT.read_text(), re.M):
         for kind in re.findall(r"`(\w+)`", kinds):
             pairs |= {(kind, it) for it in re.findall(r"`(\w+)`", commands) or [""]}
     return pairs

@@ -20,10 +20,10 @@ BAD = {"NotJson", "Shape", "UnknownName", "Number"}
 
 
 def documented() -> set[str]:
-    """Returns the refusals that docs/SMPLAND.md has, a row each."""
+    """Returns the refusals that docs/SMPLAND.md lists."""
     text = (Path(__file__).resolve().parents[2] / "docs" / "SMPLAND.md").read_text()
-    rows = re.findall(r"^\| ((?:`[A-Za-z]+`(?:, )?)+) \|", text, re.M)
-    return {word for row in rows for word in re.findall(r"`([A-Z][A-Za-z]+)`", row)}
+    items = re.findall(r"^- ((?:`[A-Za-z]+`(?:, )?)+) \(", text, re.M)
+    return {word for item in items for word in re.findall(r"`([A-Z][A-Za-z]+)`", item)}
 
 
 class Sessions(unittest.TestCase):
