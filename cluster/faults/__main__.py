@@ -11,7 +11,21 @@ from pathlib import Path
 from cluster.wire import Address, Failed, Message, listen
 
 from .dice import Dice, Rates
-from .proxies import RELAYS, Link, open_proxy
+from .proxies import RELAYS, Link, open_proxy, send_by_itself
+
+
+# The copies that are on their way.
+sending: set[asyncio.Task[None]] = set()
+
+
+def release(link: Link) -> None:
+    """Has the copies that a link kept come now, and keeps no more."""
+    for line in link.copies or []:
+        link.count("copied")
+        task = asyncio.create_task(send_by_itself(line, link))
+        sending.add(task)
+        task.add_done_callback(sending.discard)
+    link.copies = None
 
 
 async def run(told: dict) -> None:
@@ -33,6 +47,10 @@ async def run(told: dict) -> None:
                     link.is_cut = bool(message["cut"])
                 elif "hold" in message:
                     link.held = tuple(it.encode() for it in message["hold"])
+                elif message.get("copies"):
+                    link.copies = link.copies or []
+                elif "copies" in message:
+                    release(link)
                 elif "rates" in message:
                     link.dice.rates = replace(link.dice.rates, **message["rates"])
                 else:

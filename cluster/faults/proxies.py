@@ -17,7 +17,7 @@ Relay = Callable[[Reader, Writer, Reader, Writer, "Link"], Awaitable[None]]
 @dataclass
 class Link:
     """A way through a proxy: whose dice are rolled, and whether it is cut, so that nothing gets through. Of messages that are held, those that have all these texts,
-    lines do not get through and requests of HTTP wait."""
+    lines do not get through and requests of HTTP wait. If there are `copies`, each message that is seldom sent is kept among them, to come again."""
 
     name: str
     dice: Dice
@@ -25,6 +25,7 @@ class Link:
     port: int
     is_cut: bool = False
     held: tuple[bytes, ...] = ()
+    copies: list[bytes] | None = None
 
     def holds(self, message: bytes) -> bool:
         """Whether a message is one of those that are held."""
@@ -41,13 +42,23 @@ async def send_late(writer: Writer, line: bytes, seconds: float, link: Link | No
     if not writer.is_closing():
         writer.write(line)
     elif link is not None and not link.is_cut and not link.holds(line[:40]):
-        try:
-            _, far_writer = await asyncio.open_connection(link.host, link.port)
-            far_writer.write(line)
-            await asyncio.sleep(1.0)
-            far_writer.close()
-        except OSError:
-            pass
+        await send_by_itself(line, link)
+
+
+async def send_by_itself(line: bytes, link: Link) -> None:
+    """Sends a line to the far end of a link, by a connection of its own."""
+    try:
+        _, far_writer = await asyncio.open_connection(link.host, link.port)
+        far_writer.write(line)
+        await asyncio.sleep(1.0)
+        far_writer.close()
+    except OSError:
+        pass
+
+
+def is_rare(line: bytes) -> bool:
+    """Whether a line is of those that are seldom sent."""
+    return any(it in line[:40] for it in RARE)
 
 
 async def relay_lines(reader: Reader, writer: Writer, link: Link, outlives: bool = False) -> None:
@@ -66,7 +77,9 @@ async def relay_lines(reader: Reader, writer: Writer, link: Link, outlives: bool
         if link.is_cut or link.holds(line[:40]) or link.dice.drops():
             continue
         send(line, link.dice.lateness())
-        if link.dice.repeats(is_rare=any(it in line[:40] for it in RARE)):
+        if outlives and link.copies is not None and is_rare(line):
+            link.copies.append(line)
+        if link.dice.repeats(is_rare(line)):
             send(line, link.dice.lateness_of_copy())
         await writer.drain()
 

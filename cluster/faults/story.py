@@ -6,7 +6,7 @@ import random
 import signal
 import time
 from collections import Counter
-from collections.abc import AsyncIterator, Callable
+from collections.abc import AsyncIterator, Awaitable, Callable
 from contextlib import asynccontextmanager
 from typing import Any
 
@@ -236,26 +236,36 @@ class Story:
             channel.close()
 
     async def forget_twice(self) -> None:
-        """Restarts a server twice, without its slots, while copies of messages to it come late: the first restore, too."""
+        """Restarts a server twice, without its slots, while copies of messages to it come late. Those about the first restore come once it has lost its slots again."""
         server = self.dice.choice(self.alive)
         self.mover.avoided.add(server)
         await self.copy_late(server, True)
-        for _ in range(2):
-            await self.restart_server(True, server)
-            await asyncio.sleep(self.dice.uniform(0.2, 0.8))
+        await self.cluster.tell_proxies(links=self.links_with(server), copies=True)
+        await self.restart_server(True, server)
+        await asyncio.sleep(self.dice.uniform(0.2, 0.8))
+        await self.restart_server(True, server, self.release_copies)
+        await self.release_copies(server)
         self.mover.avoided.discard(server)
         await asyncio.sleep(2.0)
         await self.copy_late(server, False)
 
+    async def release_copies(self, name: str) -> None:
+        """Has the copies that were kept on links to a server come now."""
+        await self.cluster.tell_proxies(links=self.links_with(name), copies=False)
+
+    def links_with(self, name: str) -> list[str]:
+        """The links on which a server and controllers speak, about its slots too."""
+        return [*self.orders_to(name), f"ask {name} "]
+
     async def copy_late(self, name: str, is_late: bool) -> None:
         """Has a copy of each message to a server come late, or as many as usual."""
-        links = [f"{kind} {it} {name}" for kind in ("order", "ask") for it in self.cluster.shape.controller_names]
-        links.append(f"ask {name} ")
+        links = self.links_with(name)
         usual = self.cluster.proxies.rates.get("order", {"repeat": 0.0, "rare": 0.0})
         await self.cluster.tell_proxies(links=links, rates={"repeat": 1.0, "rare": 1.0, "longest": 0.8} if is_late else usual)
 
-    async def restart_server(self, lose_slots: bool | None = None, server: str | None = None) -> bool:
-        """Asks for leave to restart a server, kills it, starts it again with or without its slots, and tells that it is up."""
+    async def restart_server(self, lose_slots: bool | None = None, server: str | None = None, started: Callable[[str], Awaitable[None]] | None = None) -> bool:
+        """Asks for leave to restart a server, kills it, starts it again with or without its slots, does what is named once it has `started`, and tells that it
+        is up."""
         async with self.restarting:
             name = server if server in self.alive else self.dice.choice(self.alive)
             permit = await self.approved(name, self.name("rollout"))
@@ -267,6 +277,8 @@ class Story:
             await self.cluster.processes[name].kill()
             await asyncio.sleep(self.dice.uniform(0.2, 0.8))
             await self.cluster.processes[name].start(*(["--lose-slots"] if lose else []))
+            if started is not None:
+                await started(name)
             if not await self.is_up(name, permit):
                 return False
             for _ in range(self.dice.randint(0, 1)):

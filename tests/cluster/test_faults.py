@@ -5,6 +5,7 @@ import logging
 import unittest
 from collections import Counter
 
+from cluster.faults.__main__ import release, sending
 from cluster.faults.dice import Dice, Rates
 from cluster.faults.proxies import RELAYS, Link, open_proxy
 from cluster.launch.figures import handover_waits
@@ -35,6 +36,40 @@ class ProxyTest(unittest.IsolatedAsyncioTestCase):
     def test_held(self):
         link = Link("order k a", Dice(1, "order k a", Rates(), Counter()), "127.0.0.1", 1, held=(b'"order"',))
         self.assertEqual([link.holds(it) for it in (b'{"id":1,"order":{}}', b'{"id":2,"fence":{}}')], [True, False])
+
+    async def test_kept_copies_come_when_they_are_released(self):
+        ports, found = Ports(), []
+        far, near = ports.take(2)
+
+        async def take(reader, writer):
+            """Takes all lines of a connection."""
+            while line := await reader.readline():
+                found.append(line)
+            writer.close()
+
+        server = await asyncio.start_server(take, "127.0.0.1", far)
+        link = Link("order k a", Dice(1, "order k a", Rates(), Counter()), "127.0.0.1", far, copies=[])
+        proxy = await open_proxy(near, RELAYS["lines"], link)
+        _, writer = await asyncio.open_connection("127.0.0.1", near)
+        lines = [b'{"id":1,"restore":{}}\n', b'{"id":2,"order":{}}\n']
+        writer.writelines(lines)
+        await self.until(lambda: len(found) == 2)
+        self.assertEqual(link.copies, lines[:1])
+        writer.close()
+        release(link)
+        await self.until(lambda: len(found) == 3)
+        self.assertEqual((found[2], link.copies), (lines[0], None))
+        await asyncio.gather(*sending)
+        await asyncio.sleep(0.1)
+        server.close()
+        proxy.close()
+        ports.end()
+
+    async def until(self, is_so):
+        """Waits until something is so."""
+        async with asyncio.timeout(5):
+            while not is_so():
+                await asyncio.sleep(0.01)
 
     async def test_copy_outlives_connection(self):
         ports, found = Ports(), []
