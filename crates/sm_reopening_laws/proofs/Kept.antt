@@ -31,7 +31,7 @@ bit_more true b h = let e = ap bit (h refl) in omega arith
 bit_more false b h = omega arith
 
 -- where more passes no fewer are counted
-count_more : (n : ℕ) (t u : ℕ → Bool) → ((k : ℕ) → k < n → t k ≡ true → u k ≡ true) → count_below n t ≤ count_below n u
+pub count_more : (n : ℕ) (t u : ℕ → Bool) → ((k : ℕ) → k < n → t k ≡ true → u k ≡ true) → count_below n t ≤ count_below n u
 count_more zero t u h = omega arith
 count_more (suc n) t u h = let a = count_more n t u (λ k l e. h k (omega arith) e) in let b = bit_more (t n) (u n) (h n (omega arith)) in omega arith
 

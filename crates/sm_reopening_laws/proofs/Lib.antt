@@ -5,6 +5,7 @@ mod Followed
 mod Numbers
 mod Watched
 mod Kept
+mod Remaining
 mod Within
 mod Permits
 mod Restarts

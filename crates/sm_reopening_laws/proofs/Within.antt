@@ -8,6 +8,7 @@ use Rattle.sm_network.specs.Reopening.{Reopen, records}
 use Rattle.sm_network.specs.ReopeningLaws.{EachSettling, ExecutesSafely, IsOutset, IsSettlingReached, LoadsFit, RefusesNone, ShownExecutes}
 use Rattle.sm_network.specs.FleetReopening.{FleetOpensInForce, settling_of}
 use Rattle.sm_reopening_laws.specs.Floors.{FloorsStay}
+use Rattle.sm_reopening_laws.specs.FloorsBegun.{FloorsRemain}
 use Rattle.sm_reopening_laws.specs.Service.{AllServiceFit, Begins, EachService, Goes, MayBegin, Meets, Opens, Reopens, Runs, Service, ServiceEvent, ServiceFits, opened_on, service_comes, service_run}
 use Rattle.sm_reopening_laws.specs.ServiceLaws.{IsWithinLaws, ServiceIsSafe}
 use Rattle.sm_reopening_laws.proofs.Kept.{reached_on}
@@ -86,6 +87,7 @@ pub record AreLaws : Type 0 where
   pub shown : EachFleet MapIsRight
   pub goes_on : EachFleet SomeFleetCanGoOn
   pub loads : EachSettling LoadsFit
+  pub floors_before : EachSettling FloorsRemain
   pub floors : EachSettling FloorsStay
   pub settling_executes : EachSettling ExecutesSafely
   pub settling_refuses : EachSettling RefusesNone
@@ -93,7 +95,7 @@ pub record AreLaws : Type 0 where
 
 safe_where : AreLaws → (p : Service) → IsWithinLaws p → ServiceIsSafe p
 safe_where l (Runs setup f) w = record { safe = l.safe setup f w; executes = l.executes setup f w; refuses = l.refuses setup f w; shown = l.shown setup f w; goes_on = l.goes_on setup f w }
-safe_where l (Reopens setup f x) w = record { loads = l.loads setup x w.1; floors = l.floors setup x w.1; executes = l.settling_executes setup x w.1; refuses = l.settling_refuses setup x w.1; shown = l.settling_shows setup x w.1 }
+safe_where l (Reopens setup f x) w = record { loads = l.loads setup x w.1; floors_before = l.floors_before setup x w.1; floors = l.floors setup x w.1; executes = l.settling_executes setup x w.1; refuses = l.settling_refuses setup x w.1; shown = l.settling_shows setup x w.1 }
 
 -- so the service is safe
 pub service_is_safe : EachSettling FleetOpensInForce → AreLaws → EachService ServiceIsSafe

@@ -1,5 +1,6 @@
 pub mod FleetInForce
 pub mod Floors
+pub mod FloorsBegun
 pub mod FloorsPlays
 pub mod Restarts
 pub mod Service

@@ -4,6 +4,7 @@ use Rattle.sm_placement.specs.Sums.{bit}
 use Rattle.sm_network.specs.FleetLaws.{ExecutesAtOneServer, FleetIsSafe, IsFleetReached, MapIsRight, NoLetterIsRefused, SomeFleetCanGoOn, ends_restart}
 use Rattle.sm_network.specs.ReopeningLaws.{ExecutesSafely, IsSettlingReached, LoadsFit, RefusesNone, ShownExecutes}
 use Rattle.sm_reopening_laws.specs.Floors.{FloorsStay}
+use Rattle.sm_reopening_laws.specs.FloorsBegun.{FloorsRemain}
 use Rattle.sm_reopening_laws.specs.Service.{AllServiceFit, AllTook, Fleet, Goes, MayOpen, Reopens, Runs, Service, ServiceEvent, Settlement, Settling, Setup, service_comes}
 
 -- The laws of one epoch hold wherever events of the fleet lead from an opening, and those of a reopening wherever events lead from its beginning.
@@ -20,9 +21,11 @@ pub record IsSafeFleet (setup : Setup) (f : Fleet) : Type 0 where
   pub shown : MapIsRight setup f
   pub goes_on : SomeFleetCanGoOn setup f
 
--- so it is while a reopening is under way; and floors are those of the opening that comes of it
+-- So it is while a reopening is under way. Floors are those of the record until a settlement is confirmed, and from then on those of the
+-- opening that comes of it.
 pub record IsSafeSettling (x : Settling) : Type 0 where
   pub loads : LoadsFit x
+  pub floors_before : FloorsRemain x
   pub floors : FloorsStay x
   pub executes : ExecutesSafely x
   pub refuses : RefusesNone x

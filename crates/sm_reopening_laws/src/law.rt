@@ -2,6 +2,7 @@
 ghost use Rattle.sm_network.specs.FleetLaws.{EachFleet};
 ghost use Rattle.sm_network.specs.ReopeningLaws.{EachSettling};
 ghost use Rattle.sm_reopening_laws.specs.Floors.{FloorsStay};
+ghost use Rattle.sm_reopening_laws.specs.FloorsBegun.{FloorsRemain};
 ghost use Rattle.sm_reopening_laws.specs.OrderLaws.{OldOrdersRest, OrderActsOnce};
 ghost use Rattle.sm_reopening_laws.specs.Restarts.{RulesKeepFloors};
 ghost use Rattle.sm_reopening_laws.specs.Service.{EachService};
@@ -13,6 +14,11 @@ use sm_network::{
     map_is_right, no_letter_is_refused, opens_with_past, permits_end_once, refuses_none,
     shown_executes, some_fleet_can_go_on,
 };
+
+/// Until a settlement is confirmed no shard has fewer live replicas than the floor of the record that the reopening began over.
+pub fn floors_remain()
+    ensures { EachSettling FloorsRemain }
+{}
 
 /// From the moment when a settlement is confirmed no shard has fewer replicas than the floor of the opening that comes of it.
 pub fn floors_stay()
@@ -55,6 +61,7 @@ pub fn service_is_safe()
     map_is_right();
     some_fleet_can_go_on();
     loads_fit();
+    floors_remain();
     floors_stay();
     executes_safely();
     refuses_none();

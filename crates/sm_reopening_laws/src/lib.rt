@@ -7,7 +7,7 @@ mod play;
 
 pub use in_force::fleet_is_there;
 pub use law::{
-    can_open, floors_stay, laws_hold, old_orders_rest, order_acts_once, permit_ends_once,
-    rules_keep_floors, service_is_safe,
+    can_open, floors_remain, floors_stay, laws_hold, old_orders_rest, order_acts_once,
+    permit_ends_once, rules_keep_floors, service_is_safe,
 };
 pub use play::keeps_two;

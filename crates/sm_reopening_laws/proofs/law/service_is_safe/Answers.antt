@@ -10,6 +10,7 @@ returns c = service_is_safe c.fleet_opens_in_force.ensures (record {
   shown = c.map_is_right.ensures;
   goes_on = c.some_fleet_can_go_on.ensures;
   loads = c.loads_fit.ensures;
+  floors_before = c.floors_remain.ensures;
   floors = c.floors_stay.ensures;
   settling_executes = c.executes_safely.ensures;
   settling_refuses = c.refuses_none.ensures;
