@@ -95,7 +95,7 @@ def lacking(counts: Counter[tuple[str, str]], has_program: bool) -> set[str]:
 
 def main() -> None:
     """Prints the table."""
-    first, last = map(int, sys.argv[1:3]) if len(sys.argv) > 2 else (0, 60)
+    first, last = map(int, sys.argv[1:3]) if len(sys.argv) > 2 else (0, 110)
     program = None if len(sys.argv) < 4 else sys.argv[3]
     counts = counted(range(first, last), program)
     for (kind, command), count in sorted(counts.items()):

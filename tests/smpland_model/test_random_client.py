@@ -11,7 +11,7 @@ from count_replies import counted, documented, lacking
 from random_client import Client
 
 PROGRAM = program.find_program(os.environ.get("SMPLAN"))
-SEEDS = range(60)
+SEEDS = range(110)
 
 
 class Replies(unittest.TestCase):
