@@ -10,7 +10,6 @@ from dataclasses import dataclass
 from smplan.control import Line
 
 from cluster.launch.plans import move_stream, plan_of
-from cluster.wire import Address, Channel, Failed
 
 from .story import Story, without
 
@@ -62,13 +61,8 @@ class HandoverStory(Story):
         """The replicas as the servers have them: the shard, the state and the last write."""
         found = []
         for name in self.alive:
-            channel = Channel(Address("127.0.0.1", self.cluster.ports[name].control))
-            try:
-                slots = (await channel.ask(5.0, audit={}))["audit"]["slots"]
-                found += [(it["shard"], it["state"], it["position"]) for it in slots]
-            except Failed:
-                pass
-            channel.close()
+            slots = (await self.tell_server(name, audit={})).get("audit", {}).get("slots", [])
+            found += [(it["shard"], it["state"], it["position"]) for it in slots]
         return found
 
     async def lose_in_handover(self, target: str | None, is_fenced: bool) -> Handovers | None:

@@ -243,11 +243,28 @@ class Story:
         await self.cluster.tell_proxies(links=self.links_with(server), copies=True)
         await self.restart_server(True, server)
         await asyncio.sleep(self.dice.uniform(0.2, 0.8))
-        await self.restart_server(True, server, self.release_copies)
+        await self.restart_server(True, server, self.hear_late)
         await self.release_copies(server)
         self.mover.avoided.discard(server)
         await asyncio.sleep(2.0)
         await self.copy_late(server, False)
+
+    async def hear_late(self, name: str) -> None:
+        """Has the copies that were kept come to a server, and each second time the fence of the last reopening once more, for which nobody settles it."""
+        await self.release_copies(name)
+        state = await self.state()
+        if state and self.dice.random() < 0.5:
+            await self.tell_server(name, fence={"server": name, "journal": state["journal"], "base": state["fence"]})
+
+    async def tell_server(self, name: str, **message: Line) -> Line:
+        """Sends a server a message without proxies; returns nothing if there is no answer."""
+        channel = Channel(Address("127.0.0.1", self.cluster.ports[name].control))
+        try:
+            return await channel.ask(5.0, **message)
+        except Failed:
+            return {}
+        finally:
+            channel.close()
 
     async def release_copies(self, name: str) -> None:
         """Has the copies that were kept on links to a server come now."""
@@ -389,13 +406,8 @@ class Story:
         """Returns the last write of each replica, by shard and server, as the servers tell it."""
         found = {}
         for name in sorted(self.alive):
-            channel = Channel(Address("127.0.0.1", self.cluster.ports[name].control))
-            try:
-                for slot in (await channel.ask(5.0, audit={}))["audit"]["slots"]:
-                    found[slot["shard"], name] = slot["position"]
-            except Failed:
-                pass
-            channel.close()
+            for slot in (await self.tell_server(name, audit={})).get("audit", {}).get("slots", []):
+                found[slot["shard"], name] = slot["position"]
         return found
 
     async def state(self) -> Line:

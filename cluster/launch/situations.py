@@ -8,7 +8,7 @@ from collections.abc import Iterable
 # Every situation that a storm is to meet.
 SITUATIONS = (
     "an order answered again after its stream went on", "an order answered old", "a restore that comes late", "a restore of an earlier restart that comes late",
-    "a second restarted",
+    "a restore behind a late fence", "a second restarted",
     "a passed request after its handover ended", "an append that timed out and went through", "a map write of a deposed leader",
     "a repetition while work runs", "a repetition while a copy runs", "a server that crashed without leave", "a leader killed between an order and its answer's entry",
     "a leader killed between an entry and its write of the map", "a fence that meets an order at work", "a crash while at work", "a late fence", "a late inventory",
@@ -67,6 +67,20 @@ def earlier_restores(events: list[dict]) -> int:
     return found
 
 
+def restores_behind_fences(events: list[dict]) -> int:
+    """How many servers without slots were fenced, and then restored and not settled."""
+    fenced: set[str] = set()
+    found = 0
+    for event in events:
+        server = event["server"]
+        if event["kind"] == "fence" and int(event["nonce"], 16):
+            fenced.add(server)
+        elif event["kind"] in ("start", "forget", "settle", "restore"):
+            found += event["kind"] == "restore" and server in fenced
+            fenced.discard(server)
+    return found
+
+
 def situations_of(events: list[dict], replies: Counter[str], counts: Counter[str]) -> Counter[str]:
     """How often each situation came up."""
     ordered = sorted((it for it in events if "t" in it), key=lambda it: it["t"])
@@ -76,6 +90,7 @@ def situations_of(events: list[dict], replies: Counter[str], counts: Counter[str
     found["an order answered old"] = kinds["order-old"]
     found["a restore that comes late"] = kinds["restore-ignored"]
     found["a restore of an earlier restart that comes late"] = earlier_restores(ordered)
+    found["a restore behind a late fence"] = restores_behind_fences(ordered)
     found["a second restarted"] = replies["restarted: ignored"]
     found["a passed request after its handover ended"] = kinds["passed-late"]
     found["an append that timed out and went through"] = counts["appends that went through unanswered"]

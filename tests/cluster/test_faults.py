@@ -199,17 +199,19 @@ class SituationsTest(unittest.TestCase):
             self.event(1, "begin", call="prepare_drop", **order), self.event(3, "commit", call="prepare_drop", **order),
             self.event(4, "seal"), self.event(5, "order-again", number=5),
             self.event(6, "begin", call="drop", **{**order, "number": 7}), self.event(8, "commit", call="drop", **{**order, "number": 7}),
-            self.event(9, "order-again", number=5), self.event(10, "begin", call="add", number=9), self.event(11, "fence"),
+            self.event(9, "order-again", number=5), self.event(10, "begin", call="add", number=9), self.event(11, "fence", nonce="0000"),
             self.event(12, "begin", call="add", number=11), self.event(13, "start", nonce="7"), self.event(14, "order-old", number=5),
             self.event(15, "forget", nonce="8"), self.event(16, "restore-ignored", nonce="0007", known=False), self.event(17, "restore-ignored", nonce="8", known=True),
             self.event(18, "order-at-work", call="add", number=13), self.event(19, "order-at-work", call="drop", number=15),
+            self.event(20, "fence", nonce="9"), self.event(21, "settle"), self.event(22, "restore", nonce="0"),
+            self.event(23, "forget", nonce="a"), self.event(24, "fence", nonce="b"), self.event(25, "restore", nonce="b"),
         ]
         found = situations_of(events, Counter({"restarted: ignored": 2}), Counter())
         self.assertEqual(found["an order answered again after its stream went on"], 1)
         self.assertEqual(found["a fence that meets an order at work"], 1)
         self.assertEqual(found["a crash while at work"], 1)
         self.assertEqual(found["an order answered old"], 1)
-        self.assertEqual(found["a second restarted"], 2)
+        self.assertEqual((found["a second restarted"], found["a restore behind a late fence"]), (2, 1))
         self.assertEqual((found["a restore that comes late"], found["a restore of an earlier restart that comes late"]), (2, 1))
         self.assertEqual((found["a repetition while work runs"], found["a repetition while a copy runs"]), (2, 1))
         self.assertLessEqual(set(found), set(SITUATIONS))
