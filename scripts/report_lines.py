@@ -118,19 +118,20 @@ def faults():
 
 
 def told():
-    """The lines in the tables and lists of both, with 0 for each word in capitals, and the commands that print each."""
+    """The lines in the lists of both, with 0 for each word in capitals, and the commands that print each."""
     title = ""
     for line in (FORMATS[FORMATS.index("## The report"):] + TROUBLE).splitlines():
         title = line if line.startswith("#") else title
         item = ITEM.match(line)
-        cells = line.strip("| ").split(" | ") if line.startswith("| `") else [item[1], item[2]] if item else [""]
-        of = re.match(r"(`\w+`(, )?)+(?=:)", cells[-1])
+        if not item:
+            continue
+        of = re.match(r"(`\w+`(, )?)+(?=:)", item[2])
         commands = re.findall(r"\w+", of[0]) if of else re.findall("`(check|plan|play|run)`", title) or ["calls"]
-        for form in re.findall("`(.*?)`", cells[0]):
+        for form in re.findall("`(.*?)`", item[1]):
             # (such a form stands for several others, and such a word in the place of WHY)
             if not form.endswith(": ..") and form not in WHY:
                 said = re.sub(r"\b[A-Z]+\d?\b", "0", form.replace("WHY", WHY[0]).removesuffix(" .."))
-                yield commands, f"event 0: {said}" if len(cells) == 3 or title.startswith("## An event") else said
+                yield commands, f"event 0: {said}" if re.match("#+ (An event gets|Answers to events)", title) else said
 
 
 def wrong(cases):
@@ -145,7 +146,7 @@ def wrong(cases):
         yield from (f"{command}: a case has a line {form!r}, of which it is said that none has" for form in ELSEWHERE if (command, form) in had)
     lines_told = [*told()]
     if not lines_told:
-        yield "the documents have no line of a report in their tables and lists, as they are read here"
+        yield "the documents have no line of a report in their lists, as they are read here"
     for commands, line in lines_told:
         yield from (f"the documents tell of {line!r} of {it}, which has no form here" for it in commands if not forms_of(it, line))
 
