@@ -5,7 +5,7 @@
  * definitions of crates/sm_agent and crates/sm_agent_c say. docs/YOUR-SERVERS.md tells what a server has to do with the answers.
  *
  * Each pointer points to one whole struct of its type, aligned for it, and no two pointers of one call to the same struct. Any values
- * may stand there: where a kind or a flag is out of range, the answer is SM_BAD, and nothing is changed. All functions may be called by
+ * may stand there: if a kind or a flag is out of range, the answer is SM_BAD, and nothing is changed. All functions may be called by
  * any thread; a struct is given to one call at a time. `reserved` members are written as 0 and not read.
  */
 #ifndef SM_AGENT_H
@@ -17,7 +17,7 @@
 extern "C" {
 #endif
 
-/* What a function answers. */
+/* The answers of the functions. */
 enum sm_answer {
   SM_BAD = 0,           /* a kind or a flag is out of range */
   SM_BEGIN = 1,         /* order: begin its work; publication: show its entry from now on */
@@ -106,7 +106,7 @@ typedef struct {
   uint64_t version;
 } sm_publication;
 
-/* How a client's request comes to a server. */
+/* The ways in which a client's request comes to a server. */
 typedef struct {
   uint64_t handover;    /* if passed: the handover's number */
   uint64_t cut;         /* if passed: the old owner's cut */
