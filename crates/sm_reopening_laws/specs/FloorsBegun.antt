@@ -17,10 +17,10 @@ abbrev pub present_place : Settling → Place
 present_place x = record x.world.net.w.place { cells = x.world.net.cells }
 
 -- how many replicas of a shard are live at servers that are neither recorded as down nor have lost their slots
-abbrev pub live_there : Settling → ℕ → ℕ
-live_there x k = count_below x.world.net.w.sizes.servers (λ v. is_live_at (present_place x) k v && is_none (x.bases (Server v)).nonce)
+abbrev pub live_in_fact : Settling → ℕ → ℕ
+live_in_fact x k = count_below x.world.net.w.sizes.servers (λ v. is_live_at (present_place x) k v && is_none (x.bases (Server v)).nonce)
 
 -- Until a settlement is confirmed no fewer replicas are live than the floor of the record that the reopening began over, whatever comes, as
 -- long as only servers that are recorded as down have lost their slots.
 abbrev pub FloorsRemain : Settling → Type 0
-FloorsRemain x = HasSettledNone x → AreOthersKnown x → (k : ℕ) → k < x.world.net.w.sizes.shards → x.world.net.w.sizes.floor k ≤ live_there x k
+FloorsRemain x = HasSettledNone x → AreOthersKnown x → (k : ℕ) → k < x.world.net.w.sizes.shards → x.world.net.w.sizes.floor k ≤ live_in_fact x k
