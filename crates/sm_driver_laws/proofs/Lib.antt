@@ -1,0 +1,4 @@
+mod Searches
+mod FreeEntries
+mod Controls
+mod Commands

@@ -1,0 +1,10 @@
+//! Laws that join the driver to the laws of the network: it is their controller, whatever commands it takes.
+#![tactic(auto)]
+
+mod control;
+mod driven;
+
+pub use control::{answers_have_entries, commands_are_entries};
+pub use driven::{
+    commands_are_events, driven_is_controlled, driven_is_safe, drivers_open, sends_as_driven,
+};
