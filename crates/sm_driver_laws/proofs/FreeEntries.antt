@@ -2,7 +2,7 @@
 use Rattle.std.proofs.Common.{◌≡◌, ◌∙◌, ◌∷◌, ◌++◌, [], Bool, true, false, not, Option, Some, None, List, length, map, reverse, refl, sym, ap, subst}
 use Rattle.std.specs.Prelude.{◌&&◌, is_none, if◌then◌else◌}
 use Rattle.std.proofs.lemmas.Bool.{and_from, and_parts}
-use Rattle.std.proofs.lemmas.List.{reverse-append}
+use Rattle.std.proofs.lemmas.List.{map-append, reverse-append}
 use Rattle.sm_placement.specs.Sums.{first_from}
 use Rattle.sm_reservation.specs.declared.stream_id.StreamId.{StreamId}
 use Rattle.sm_plan_code.specs.declared.instruction.Instr.{Instr}
@@ -59,13 +59,9 @@ pub replayed_then : (c : Controller) (xs ys : List JournalEntry) → replayed c 
 replayed_then c [] ys = refl
 replayed_then c (x ∷ xs) ys = ap (λ k. entry_recorded k x) (replayed_then c xs ys)
 
-map_then : {A B : Type 0} (f : A → B) (xs ys : List A) → map f (xs ++ ys) ≡ map f xs ++ map f ys
-map_then f [] ys = refl
-map_then f (x ∷ xs) ys = ap (λ zs. f x ∷ zs) (map_then f xs ys)
-
 -- the first of several steps is the last in the list
 step_last : (id : StreamId) (ids : List StreamId) → free_steps (id ∷ ids) ≡ free_steps ids ++ Made (Step id) ∷ []
-step_last id ids = ap (map (λ x. Made (Step x))) (reverse-append (id ∷ []) ids) ∙ map_then (λ x. Made (Step x)) (reverse ids) (id ∷ [])
+step_last id ids = ap (map (λ x. Made (Step x))) (reverse-append (id ∷ []) ids) ∙ map-append (λ x. Made (Step x)) (reverse ids) (id ∷ [])
 
 -- steps that need nobody, made in turn
 free_taken : (ids : List StreamId) (c : Controller) → AreNextFree ids c.w → replayed c (free_steps ids) ≡ recording c (run (map Step ids) c.w)
