@@ -190,7 +190,7 @@ approve_is old new c is v permit l h =
     ∙ placed old new c.restores h.journal.journal h.journal.epoch h.journal.fence)
 
 -- the server that a permit names has it, and is known
-permit_is : (permits : List (Option ℕ)) (permit v : ℕ) → server_permitted permits permit ≡ Some v → (is_permitted (permit_of permits v) permit ≡ true) × (v < length permits)
+pub permit_is : (permits : List (Option ℕ)) (permit v : ℕ) → server_permitted permits permit ≡ Some v → (is_permitted (permit_of permits v) permit ≡ true) × (v < length permits)
 permit_is permits permit v e =
     let at = found_at (λ u. if is_permitted (permit_of permits u) permit then Some u else None) 0 (length permits) v e in
     let here = passed (is_permitted (permit_of permits at.0) permit) at.0 v at.2 in

@@ -60,7 +60,7 @@ replayed_then c [] ys = refl
 replayed_then c (x ∷ xs) ys = ap (λ k. entry_recorded k x) (replayed_then c xs ys)
 
 -- the first of several steps is the last in the list
-step_last : (id : StreamId) (ids : List StreamId) → free_steps (id ∷ ids) ≡ free_steps ids ++ Made (Step id) ∷ []
+pub step_last : (id : StreamId) (ids : List StreamId) → free_steps (id ∷ ids) ≡ free_steps ids ++ Made (Step id) ∷ []
 step_last id ids = ap (map (λ x. Made (Step x))) (reverse-append (id ∷ []) ids) ∙ map-append (λ x. Made (Step x)) (reverse ids) (id ∷ [])
 
 -- steps that need nobody, made in turn

@@ -2,3 +2,5 @@ mod Searches
 mod FreeEntries
 mod Controls
 mod Commands
+mod Events
+mod Turns
