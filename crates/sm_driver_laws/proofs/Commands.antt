@@ -67,9 +67,11 @@ none_pass t a (suc n) e k low high = go (none_pass t (a + 1) n) (t a) refl e
       | inr apart ↦ rest none k (omega arith) (omega arith)
     ]
 
+-- no plan is unfinished
 none_unfinished : (w : State) → slice_get (unfinished_plans w) 0 ≡ None → any_below (length w.plans) (is_unfinished w) ≡ false
 none_unfinished w e = any_none_from (length w.plans) (is_unfinished w) (λ k l. none_pass (is_unfinished w) 0 (length w.plans) e k (omega arith) (omega arith))
 
+-- no version is too high
 none_spent : (w : State) → shard_spent w ≡ None → any_below w.sizes.shards (λ s. nat_lt MOST_PLACES (w.place.version s)) ≡ false
 none_spent w e = any_none_from w.sizes.shards (λ s. nat_lt MOST_PLACES (w.place.version s)) (λ s l. low s (nat_le MOST_PLACES (w.place.version s)) refl (first_from_none spent 0 w.sizes.shards e s (omega arith) (omega arith)))
   where

@@ -4,3 +4,5 @@ mod Controls
 mod Commands
 mod Events
 mod Turns
+mod Sends
+mod Opening

@@ -22,7 +22,7 @@ use Rattle.sm_network.specs.Fleet.{Abandon, Commit, End, Fleet, FleetEvent, Flee
 use Rattle.sm_network.specs.FleetLaws.{AllFleetFit, EachFleet, FleetFits, FleetIsReached, IsFleetOpening, IsFleetReached}
 use Rattle.sm_driver.specs.Driver.{DriverModel, record_of}
 use Rattle.sm_driver_laws.specs.Control.{ApproveRestart, BeginPlan, Command, EndRestart, IsAnswer, IsCallable, IsControllerOf, OpenEpoch, RestoreServer, TakeAnswer, Writes}
-use Rattle.sm_driver_laws.specs.Driven.{AllTurnsFit, Driven, EachDriven, Goes, IsDrivenOpening, IsDrivenReached, IsTrue, Takes, Turn, TurnFits, WritesNothing, setup_of, turned, turned_all, with_entries}
+use Rattle.sm_driver_laws.specs.Driven.{AllTurnsFit, Driven, EachDriven, Goes, IsDrivenOpening, IsDrivenReached, HasHappened, Takes, Turn, TurnFits, WritesNothing, setup_of, turned, turned_all, with_entries}
 use Rattle.sm_driver_laws.specs.DrivenLaws.{CommandsAreEvents, IsFleetDriven}
 use Rattle.sm_driver_laws.proofs.Commands.{commands_are_entries, permit_is}
 use Rattle.sm_driver_laws.proofs.Controls.{sizes_are}
@@ -129,8 +129,8 @@ written_is laws x command driver es driven fits = go command fits.0 fits.1
     is : IsControllerOf d (controller x.fleet)
     is = driven.1
 
-    true_of : (xs : List JournalEntry) (e : JournalEntry) → es ≡ xs ++ e ∷ [] → IsTrue x.fleet e
-    true_of xs e same = last_true (IsTrue x.fleet) xs e (subst (AllByRecursion (IsTrue x.fleet)) same fits.2)
+    true_of : (xs : List JournalEntry) (e : JournalEntry) → es ≡ xs ++ e ∷ [] → HasHappened x.fleet e
+    true_of xs e same = last_true (HasHappened x.fleet) xs e (subst (AllByRecursion (HasHappened x.fleet)) same fits.2)
 
     go : (c : Command) → IsCallable d c → Writes c d driver es → AreEvents setup x.fleet es
     go (BeginPlan plan) callable h = subst (AreEvents setup x.fleet) (sym h.2)

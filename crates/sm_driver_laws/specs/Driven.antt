@@ -43,17 +43,17 @@ WritesNothing (HearOwner k) = ⊥
 WritesNothing (HearAsk k) = ⊥
 WritesNothing _ = Unit {0}
 
--- what an entry says of others is so: the answer was given, and the server has asked under this nonce
-abbrev pub IsTrue : Fleet → JournalEntry → Type 0
-IsTrue f (Answered o) = IsOneOf f.answers o
-IsTrue f (Stored p) = IsOneOf f.stored p
-IsTrue f (Restored v nonce) = HasAskedUnder f.asks v nonce
-IsTrue f _ = Unit {0}
+-- what an entry tells of others has happened: the answer was given, or the server has asked under this nonce
+abbrev pub HasHappened : Fleet → JournalEntry → Type 0
+HasHappened f (Answered o) = IsOneOf f.answers o
+HasHappened f (Stored p) = IsOneOf f.stored p
+HasHappened f (Restored v nonce) = HasAskedUnder f.asks v nonce
+HasHappened f _ = Unit {0}
 
 -- Commands are given as they have to be, and only after what they tell has happened.
 abbrev pub TurnFits : Driven → Turn → Type 0
 TurnFits x (Goes e) = WritesNothing e
-TurnFits x (Takes command driver es) = IsCallable x.driver command × Writes command x.driver driver es × AllByRecursion (IsTrue x.fleet) es
+TurnFits x (Takes command driver es) = IsCallable x.driver command × Writes command x.driver driver es × AllByRecursion (HasHappened x.fleet) es
 
 -- each of these turns is so when it comes
 abbrev pub AllTurnsFit : List Turn → Driven → Type 0

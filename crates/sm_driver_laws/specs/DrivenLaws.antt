@@ -1,16 +1,19 @@
 -- The laws of a driver and its fleet, behind their premises.
-use Rattle.std.specs.Prelude.{◌≡◌, ℕ, ◌++◌, None, List, [], option_map, replicate, length}
+use Rattle.std.specs.Prelude.{◌≡◌, ℕ, ◌++◌, Option, Some, None, List, [], option_map, replicate, length}
 use Rattle.std.specs.Option.{option_to_list}
 use Rattle.sm_placement.specs.Setup.{sizes_of}
-use Rattle.sm_placement.specs.Layout.{PlacementModel, place_of}
+use Rattle.sm_placement.specs.Place.{Place}
 use Rattle.sm_protocol.specs.State.{opened}
 use Rattle.sm_protocol.specs.Laws.{IsOpening}
 use Rattle.sm_network.specs.Controller.{Letter, Notice, Order, Publication, StreamId, order_of, publication_of}
 use Rattle.sm_network.specs.Fleet.{SendOrder, SendPublication, fleet_run}
-use Rattle.sm_network.specs.FleetLaws.{AllFleetFit, BeginningsAreHarmless, ExecutesAtOneServer, FleetIsReached, FleetIsSafe, MapIsRight, NoLetterIsRefused, OnlyPresentCommits, ServersAreNear, SomeFleetCanGoOn}
+use Rattle.sm_network.specs.FleetLaws.{AllFleetFit, BeginningsAreHarmless, CommitsOncePerNumber, CommitsWhereUp, ExecutesAtOneServer, FleetCanFinish, FleetIsReached, FleetIsSafe, MapIsRight, NoLetterIsRefused, OnlyPresentCommits, PermitsEndOnce, PresentIsHeard, ServersAreAtEnds, ServersAreNear, ServersAreRecorded, SomeFleetCanGoOn}
+use Rattle.sm_network.specs.FleetReopening.{IsFleetInForce}
+use Rattle.sm_network.specs.Reopening.{Settlement, Settling}
+use Rattle.sm_network.specs.ReopeningLaws.{AllTook}
 use Rattle.sm_driver.specs.Driver.{base, record_of}
-use Rattle.sm_driver.specs.Permits.{opening_permits}
-use Rattle.sm_driver_laws.specs.Driven.{Command, Driven, DriverModel, Fleet, FleetEvent, IsControllerOf, IsDrivenOpening, IsFleetReached, JournalEntry, Takes, TurnFits, controller, fleet_comes, setup_of, with_entries}
+use Rattle.sm_driver.specs.Permits.{AreEarlierPermits, opening_permits}
+use Rattle.sm_driver_laws.specs.Driven.{Command, Driven, DriverModel, Fleet, FleetEvent, IsControllerOf, IsDrivenOpening, IsFleetReached, JournalEntry, Setup, Takes, TurnFits, controller, fleet_comes, setup_of, with_entries}
 
 -- The fleet is one that the laws of the fleet are about, and the driver is its controller.
 abbrev pub IsFleetDriven : Driven → Type 0
@@ -21,17 +24,24 @@ abbrev pub CommandsAreEvents : Driven → Type 0
 CommandsAreEvents x = (command : Command) (driver : DriverModel) (es : List JournalEntry) → TurnFits x (Takes command driver es) →
     (events : List FleetEvent) × AllFleetFit (setup_of x) x.fleet events × (fleet_run events x.fleet ≡ with_entries x.fleet es)
 
--- So whatever the laws of the fleet say holds of the fleet of a driver.
+-- So all laws of the fleet hold of the fleet of a driver.
 pub record IsDrivenSafely (x : Driven) : Type 0 where
   pub reached : FleetIsReached (setup_of x) x.fleet
   pub safe : FleetIsSafe (setup_of x) x.fleet
   pub executes : ExecutesAtOneServer (setup_of x) x.fleet
   pub refuses : NoLetterIsRefused (setup_of x) x.fleet
+  pub hears : PresentIsHeard (setup_of x) x.fleet
   pub commits : OnlyPresentCommits (setup_of x) x.fleet
+  pub once : CommitsOncePerNumber (setup_of x) x.fleet
+  pub up : CommitsWhereUp (setup_of x) x.fleet
+  pub permits : PermitsEndOnce (setup_of x) x.fleet
   pub near : ServersAreNear (setup_of x) x.fleet
+  pub recorded : ServersAreRecorded (setup_of x) x.fleet
+  pub ends : ServersAreAtEnds (setup_of x) x.fleet
   pub shown : MapIsRight (setup_of x) x.fleet
   pub beginnings : BeginningsAreHarmless (setup_of x) x.fleet
   pub goes_on : SomeFleetCanGoOn (setup_of x) x.fleet
+  pub finishes : FleetCanFinish (setup_of x) x.fleet
 
 -- ---- what the driver sends
 
@@ -58,16 +68,21 @@ pub record SendsAsDriven (x : Driven) : Type 0 where
 
 -- ---- openings
 
--- The driver has just been opened over a placement, for the first epochs of a journal.
-pub record HasJustOpened (p : PlacementModel) (room : ℕ) (d : DriverModel) : Type 0 where
-  pub opening : IsOpening p.setup (place_of p) room
-  pub state : record_of d ≡ opened (sizes_of p.setup) (place_of p) room
-  pub setup : d.machine.placement.setup ≡ p.setup
-  pub fence : d.fence ≡ 0
-  pub permits : d.permits ≡ opening_permits (base d) [] (length p.setup.servers) (place_of p).down
-  pub restores : d.restores ≡ replicate (length p.setup.servers) None
+-- By its contract, a driver has just been opened over this placement, with these permits of before, if any.
+pub record HasOpened (rows : Setup) (p : Place) (room : ℕ) (before : List (Option ℕ)) (d : DriverModel) : Type 0 where
+  pub state : record_of d ≡ opened (sizes_of rows) p room
+  pub setup : d.machine.placement.setup ≡ rows
+  pub permits : d.permits ≡ opening_permits (base d) before (length rows.servers) p.down
+  pub restores : d.restores ≡ replicate (length rows.servers) None
 
--- A driver that has just been opened is the controller of a fleet that opens, whose servers have the cells of the placement.
+-- The first driver of a journal is the controller of a fleet that opens, whose servers have the cells of the placement.
 abbrev pub DriversOpen : Type 0
-DriversOpen = (p : PlacementModel) (room : ℕ) (d : DriverModel) → HasJustOpened p room d →
-    (f : Fleet) × IsDrivenOpening (record { driver = d; fleet = f }) × ((s v : ℕ) → ((f.servers v).slots s).cell ≡ (place_of p).cells s v)
+DriversOpen = (setup : Setup) (p : Place) (room : ℕ) (d : DriverModel) → IsOpening setup p room → HasOpened setup p room [] d → d.fence ≡ 0 →
+    (f : Fleet) × IsDrivenOpening (record { driver = d; fleet = f }) × ((s v : ℕ) → ((f.servers v).slots s).cell ≡ p.cells s v)
+
+-- If a fleet is in force that a reopening has settled, the driver that opens on the settlement, with permits of before, is the controller of such
+-- a fleet.
+abbrev pub ReopenedDriversOpen : Settling → Type 0
+ReopenedDriversOpen x = (s : Settlement) (f : Fleet) (before : List (Option ℕ)) (d : DriverModel) → x.reopening.settlement ≡ Some s → AllTook x.reopening → IsFleetInForce x s f →
+    HasOpened s.setup s.place s.room before d → AreEarlierPermits (base d) before → base d ≡ x.reopening.base → d.fence ≡ x.reopening.base →
+    (g : Fleet) × IsFleetInForce x s g × IsDrivenOpening (record { driver = d; fleet = g })

@@ -1,13 +1,14 @@
 //! A driver and its fleet.
+ghost use Rattle.sm_network.specs.ReopeningLaws.{EachSettling};
 ghost use Rattle.sm_driver_laws.specs.Driven.{EachDriven};
-ghost use Rattle.sm_driver_laws.specs.DrivenLaws.{CommandsAreEvents, DriversOpen, IsDrivenSafely, IsFleetDriven, SendsAsDriven};
+ghost use Rattle.sm_driver_laws.specs.DrivenLaws.{CommandsAreEvents, DriversOpen, IsDrivenSafely, IsFleetDriven, ReopenedDriversOpen, SendsAsDriven};
 
 use sm_network::{
-    beginnings_are_harmless, executes_at_one_server, fleet_is_reached, fleet_is_safe, map_is_right,
-    no_letter_is_refused, only_present_commits, servers_are_near, some_fleet_can_go_on,
+    beginnings_are_harmless, commits_once_per_number, commits_where_up, executes_at_one_server, fleet_can_finish, fleet_is_reached, fleet_is_safe, map_is_right, no_letter_is_refused, only_present_commits, permits_end_once, present_is_heard, servers_are_at_ends, servers_are_near, servers_are_recorded, some_fleet_can_go_on, fleet_opens_in_force,
 };
 
-/// Whatever commands come, and whatever else happens to servers and network, the fleet is one of the laws, and the driver is its controller.
+/// Whatever commands come, and whatever else happens to servers and network, the fleet is one that its laws are about, and the driver is
+/// its controller.
 pub fn driven_is_controlled()
     ensures { EachDriven IsFleetDriven }
 {
@@ -22,7 +23,7 @@ pub fn commands_are_events()
     fleet_is_reached();
 }
 
-/// So the laws of the fleet hold of the fleet of a driver.
+/// All laws of the fleet hold of the fleet of a driver.
 pub fn driven_is_safe()
     ensures { EachDriven IsDrivenSafely }
 {
@@ -31,11 +32,18 @@ pub fn driven_is_safe()
     fleet_is_safe();
     executes_at_one_server();
     no_letter_is_refused();
+    present_is_heard();
     only_present_commits();
+    commits_once_per_number();
+    commits_where_up();
+    permits_end_once();
     servers_are_near();
+    servers_are_recorded();
+    servers_are_at_ends();
     map_is_right();
     beginnings_are_harmless();
     some_fleet_can_go_on();
+    fleet_can_finish();
 }
 
 /// What the controller of the fleet sends is what the driver hands out.
@@ -45,7 +53,14 @@ pub fn sends_as_driven()
     driven_is_controlled();
 }
 
-/// A driver that has just been opened is the controller of a fleet that opens.
+/// The first driver of a journal is the controller of a fleet that opens.
 pub fn drivers_open()
     ensures { DriversOpen }
 {}
+
+/// The driver that opens on the settlement of a reopening is the controller of a fleet in force.
+pub fn reopened_drivers_open()
+    ensures { EachSettling ReopenedDriversOpen }
+{
+    fleet_opens_in_force();
+}
