@@ -1,5 +1,5 @@
 -- Each command is its entries.
-use Rattle.std.proofs.Common.{◌≡◌, ◌≤◌, ◌<◌, ◌∙◌, ◌+◌, ◌*◌, ◌∷◌, ◌++◌, [], ℕ, zero, suc, Bool, true, false, not, Option, Some, None, List, length, set, refl, sym, ap, subst, arith, inl, inr}
+use Rattle.std.proofs.Common.{◌≡◌, ◌≤◌, ◌<◌, ◌∙◌, ◌+◌, ◌∷◌, ◌++◌, [], ℕ, zero, suc, Bool, true, false, not, Option, Some, None, List, length, set, refl, sym, ap, subst, arith, inl, inr}
 use Rattle.std.specs.Prelude.{◌==◌, ◌&&◌, ◌||◌, IsSome, is_none, is_some, slice_get, nat_lt, nat_le, if◌then◌else◌}
 use Rattle.std.specs.Option.{option_or}
 use Rattle.std.specs.List.{filter, range_with_len}
@@ -31,10 +31,10 @@ use Rattle.sm_driver.specs.Driver.{DriverModel, HasApproved, HasBegunPlan, HasEn
 use Rattle.sm_driver.specs.Epochs.{HasOpenedEpoch, epoch_fault, fault_by, last_epoch, shard_spent}
 use Rattle.sm_driver.specs.Orders.{epoch_base}
 use Rattle.sm_driver.specs.Permits.{permit_of, server_permitted}
-use Rattle.sm_driver.specs.Restores.{RestoreModel, restore_at, restore_now}
-use Rattle.sm_driver_laws.specs.Control.{ApproveRestart, BeginPlan, EndRestart, IsAnswer, IsControllerOf, IsTold, OpenEpoch, RestoreServer, TakeAnswer, Writes, free_steps}
+use Rattle.sm_driver.specs.Restores.{RestoreModel, restore_now}
+use Rattle.sm_driver_laws.specs.Control.{ApproveRestart, BeginPlan, EndRestart, IsAnswerEntry, IsControllerOf, IsTold, OpenEpoch, RestoreServer, TakeAnswer, Writes, free_steps}
 use Rattle.sm_driver_laws.specs.ControlLaws.{AnswersHaveEntries, CommandsAreEntries}
-use Rattle.sm_driver_laws.proofs.Controls.{controller_of, is_that, next_control, sizes_stay, told_on}
+use Rattle.sm_driver_laws.proofs.Controls.{controller_of, is_that, next_control}
 use Rattle.sm_driver_laws.proofs.FreeEntries.{advanced, recording}
 use Rattle.sm_driver_laws.proofs.Searches.{found_at, get_before, get_last, passed, put_set, set_cases}
 
@@ -122,7 +122,7 @@ of_stream base w id p e = go (is_running w id) (publication_now w id) e
     go false o f = absurd (cc)
 
 -- an answer that is due is taken
-answer_is : (old : DriverModel) (given : List Restore) (id : StreamId) (number : ℕ) (e : JournalEntry) → is_due old id number ≡ true → IsAnswer old id number e →
+answer_is : (old : DriverModel) (given : List Restore) (id : StreamId) (number : ℕ) (e : JournalEntry) → is_due old id number ≡ true → IsAnswerEntry old id number e →
     entry_recorded (controller_of old given) e ≡ recording (controller_of old given) (happens (record_of old) (Step id)).1
 answer_is old given id number (Answered o) due h =
     let w : State = record_of old in
@@ -146,7 +146,7 @@ answer_is old given id number (Ended v permit) due h = absurd h
 answer_is old given id number (Restored v nonce) due h = absurd h
 answer_is old given id number (Opened room) due h = absurd h
 
-taken_is : (old new : DriverModel) (c : Controller) (is : IsControllerOf old c) (id : StreamId) (number : ℕ) (h : HasTakenStep id old new) (e : JournalEntry) → is_due old id number ≡ true → IsAnswer old id number e →
+taken_is : (old new : DriverModel) (c : Controller) (is : IsControllerOf old c) (id : StreamId) (number : ℕ) (h : HasTakenStep id old new) (e : JournalEntry) → is_due old id number ≡ true → IsAnswerEntry old id number e →
     IsControllerOf new (replayed c (free_steps h.advanced.streams ++ e ∷ []))
 taken_is old new c is id number h e due answers =
     let first = controller_of old c.restores in

@@ -1,20 +1,15 @@
 -- The controller that a driver is, by what the driver has.
-use Rattle.std.proofs.Common.{◌≡◌, ◌∙◌, ℕ, Option, Some, None, List, length, map, refl, sym, ap, subst}
+use Rattle.std.proofs.Common.{◌≡◌, ◌∙◌, List, length, map, refl, sym, ap}
 use Rattle.std.specs.Prelude.{slice_get}
 use Rattle.std.specs.List.{range_with_len}
 use Rattle.std.proofs.Math.Path.{fun_ext}
 use Rattle.sm_placement.specs.Setup.{Sizes, sizes_of}
-use Rattle.sm_protocol.specs.State.{State}
-use Rattle.sm_machine.specs.Machine.{MachineModel}
-use Rattle.sm_machine.specs.State.{state_of, whole_of}
-use Rattle.sm_network.specs.Net.{cell_above}
+use Rattle.sm_machine.specs.State.{whole_of}
 use Rattle.sm_network.specs.Controller.{Controller, Restore}
-use Rattle.sm_driver.specs.Driver.{DriverModel, IsOfJournal, base, record_of}
-use Rattle.sm_driver.specs.Orders.{epoch_base}
+use Rattle.sm_driver.specs.Driver.{DriverModel, base, record_of}
 use Rattle.sm_driver.specs.Permits.{permit_of}
 use Rattle.sm_driver.specs.Restores.{RestoreModel, restore_at}
 use Rattle.sm_driver_laws.specs.Control.{IsControllerOf, IsTold}
-use Rattle.sm_driver_laws.proofs.FreeEntries.{recording}
 
 -- the controller that has given these restores
 abbrev pub controller_of : DriverModel → List Restore → Controller

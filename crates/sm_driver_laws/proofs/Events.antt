@@ -1,5 +1,5 @@
 -- What a command writes is a list of events of the fleet, which all fit.
-use Rattle.std.proofs.Common.{◌≡◌, ◌≤◌, ◌<◌, ◌∙◌, ◌∷◌, ◌++◌, [], ℕ, suc, Option, Some, None, List, map, refl, sym, ap, subst, append_assoc}
+use Rattle.std.proofs.Common.{◌≡◌, ◌≤◌, ◌<◌, ◌∙◌, ◌∷◌, ◌++◌, [], suc, Option, Some, List, map, refl, sym, ap, append_assoc}
 use Rattle.std.specs.Prelude.{slice_get}
 use Rattle.std.specs.List.{AllByRecursion}
 use Rattle.sm_placement.specs.Setup.{Setup, sizes_of}
@@ -12,7 +12,7 @@ use Rattle.sm_network.specs.Controller.{Answered, Ended, JournalEntry, Made, Ope
 use Rattle.sm_network.specs.Fleet.{End, Fleet, FleetEvent, HearAsk, HearOwner, HearServer, Make, Open, Silent, by_message, controller, fleet_comes, fleet_run, written}
 use Rattle.sm_network.specs.FleetLaws.{AllFleetFit, FleetFits}
 use Rattle.sm_driver_laws.specs.Control.{free_steps}
-use Rattle.sm_driver_laws.specs.Driven.{HasHappened, with_entries}
+use Rattle.sm_driver_laws.specs.Driven.{TellsTruth, with_entries}
 use Rattle.sm_driver_laws.proofs.FreeEntries.{step_last}
 
 -- Events of the fleet lead to these entries of its journal.
@@ -47,7 +47,7 @@ heard : {A : Type 0} (f : Fleet) (e : A → JournalEntry) (o : Option A) (x : A)
 heard f e o x is = ap (λ z. (by_message f (λ y. (Silent, written f (e y))) z).1) is
 
 -- an entry that says what is so is that of an event
-event_of : (setup : Setup) (f : Fleet) (e : JournalEntry) → HasHappened f e → EntryFits setup f e → (event : FleetEvent) × FleetFits setup f event × ((fleet_comes f event).1 ≡ written f e)
+event_of : (setup : Setup) (f : Fleet) (e : JournalEntry) → TellsTruth f e → EntryFits setup f e → (event : FleetEvent) × FleetFits setup f event × ((fleet_comes f event).1 ≡ written f e)
 event_of setup f (Made e) so fits = (Make e, fits, refl)
 event_of setup f (Ended v permit) so fits = (End v permit, fits, refl)
 event_of setup f (Opened room) so fits = (Open room, fits, refl)
@@ -56,7 +56,7 @@ event_of setup f (Stored p) so fits = (HearOwner so.0, tt, heard f Stored (slice
 event_of setup f (Restored v nonce) so fits = (HearAsk so.0, tt, heard f (λ u. Restored u (suc so.0)) (slice_get f.asks so.0) v so.2 ∙ ap (λ n. written f (Restored v n)) (sym so.1))
 
 -- so is an entry with the steps that need nobody behind it
-pub are_events : (setup : Setup) (f : Fleet) (e : JournalEntry) (ids : List StreamId) → HasHappened f e → EntryFits setup f e → AreEvents setup f (free_steps ids ++ e ∷ [])
+pub are_events : (setup : Setup) (f : Fleet) (e : JournalEntry) (ids : List StreamId) → TellsTruth f e → EntryFits setup f e → AreEvents setup f (free_steps ids ++ e ∷ [])
 are_events setup f e ids so fits =
     let first = event_of setup f e so fits in
     record {

@@ -1,16 +1,16 @@
 -- A driver that has just been opened is the controller of a fleet that opens.
-use Rattle.std.proofs.Common.{◌≡◌, ◌≤◌, ◌<◌, ◌⊎◌, ◌∙◌, ◌+◌, [], ℕ, Bool, true, false, Option, Some, None, List, length, refl, sym, ap, subst, arith, inl, inr}
+use Rattle.std.proofs.Common.{◌≡◌, ◌≤◌, ◌<◌, ◌⊎◌, ◌∙◌, [], ℕ, Bool, true, false, Option, Some, None, List, length, refl, sym, ap, subst, arith, inl, inr}
 use Rattle.std.specs.Prelude.{replicate, if◌then◌else◌}
 use Rattle.std.specs.Option.{option_or}
 use Rattle.std.proofs.lemmas.Bool.{cases_lt}
 use Rattle.std.proofs.lemmas.List.{get_or_past, get_or-replicate, length-replicate}
 use Rattle.std.proofs.lemmas.List.FromFn.{length-map-range_with_len, get_or-map-range_with_len}
-use Rattle.sm_placement.specs.Setup.{Setup, sizes_of}
+use Rattle.sm_placement.specs.Setup.{Setup}
 use Rattle.sm_placement.specs.Place.{Place, entry_at}
 use Rattle.sm_placement.specs.declared.limits.TheConstants.{MOST_SERVERS}
 use Rattle.sm_agent.specs.declared.base.Base.{Base}
 use Rattle.sm_agent.specs.Order.{cell_load}
-use Rattle.sm_protocol.specs.State.{State, opened}
+use Rattle.sm_protocol.specs.State.{State}
 use Rattle.sm_protocol.specs.Laws.{IsOpening}
 use Rattle.sm_network.specs.WorldLaws.{IsWorldOpening}
 use Rattle.sm_network.specs.Fleet.{Fleet}
@@ -22,22 +22,21 @@ use Rattle.sm_driver.specs.Driver.{DriverModel, base, record_of}
 use Rattle.sm_driver.specs.Permits.{AreEarlierPermits, new_permit, opening_permit, opening_permits, permit_of}
 use Rattle.sm_driver.specs.Restores.{RestoreModel, restore_at}
 use Rattle.sm_driver_laws.specs.Control.{IsControllerOf}
-use Rattle.sm_driver_laws.specs.Driven.{IsDrivenOpening}
-use Rattle.sm_driver_laws.specs.DrivenLaws.{DriversOpen, HasOpened, ReopenedDriversOpen}
+use Rattle.sm_driver_laws.specs.DrivenLaws.{DriversOpen, IsJustOpened, ReopenedDriversOpen}
 use Rattle.sm_driver_laws.proofs.Controls.{controller_of}
 
 -- a server's base that turns nothing away
 abbrev first_base : ℕ → Base
 first_base journal = record { journal = journal; number = 0; fenced = false; nonce = None }
 
-module _ (setup : Setup) (place : Place) (room : ℕ) (before : List (Option ℕ)) (d : DriverModel) (is : HasOpened setup place room before d) where
+module _ (setup : Setup) (place : Place) (room : ℕ) (before : List (Option ℕ)) (d : DriverModel) (is : IsJustOpened setup place room before d) where
   -- a permit of the opening is one of before, or a new one of a server that is known
   origin : (v permit : ℕ) → permit_of d.permits v ≡ Some permit → (permit_of before v ≡ Some permit) ⊎ ((v < length setup.servers) × (permit ≡ new_permit (base d) v))
   origin v permit e = elim (cases_lt v (length setup.servers)) [
     | inl l ↦ by_down l (place.down v) (sym (get_or-map-range_with_len (opening_permit (base d) before place.down) 0 (length setup.servers) v v None l (omega arith)) ∙ same)
     | inr past ↦ absurd (
         let none = get_or_past (opening_permits (base d) before (length setup.servers) place.down) v None
-            (let n = length-map-range_with_len (opening_permit (base d) before place.down) 0 (length setup.servers) in omega arith) in cc
+        (let n = length-map-range_with_len (opening_permit (base d) before place.down) 0 (length setup.servers) in omega arith) in cc
         )
   ]
     where
@@ -96,7 +95,7 @@ module _ (setup : Setup) (place : Place) (room : ℕ) (before : List (Option ℕ
 
 -- ---- the first driver
 
-module _ (setup : Setup) (place : Place) (room : ℕ) (d : DriverModel) (rows : IsOpening setup place room) (is : HasOpened setup place room [] d) (fence_is : d.fence ≡ 0) where
+module _ (setup : Setup) (place : Place) (room : ℕ) (d : DriverModel) (rows : IsOpening setup place room) (is : IsJustOpened setup place room [] d) (fence_is : d.fence ≡ 0) where
   abbrev first : Fleet
   first = record {
     start = controller_of d [];
@@ -151,7 +150,7 @@ drivers_open setup place room d rows is fence = (
 
 -- ---- after a reopening
 
-module _ (x : Settling) (s : Settlement) (f : Fleet) (before : List (Option ℕ)) (d : DriverModel) (force : IsFleetInForce x s f) (is : HasOpened s.setup s.place s.room before d)
+module _ (x : Settling) (s : Settlement) (f : Fleet) (before : List (Option ℕ)) (d : DriverModel) (force : IsFleetInForce x s f) (is : IsJustOpened s.setup s.place s.room before d)
     (base_is : base d ≡ x.reopening.base) (fence_is : d.fence ≡ x.reopening.base) (permits : ArePermits (controller_of d [])) where
   -- the same fleet under the driver's journal
   abbrev under : Fleet
@@ -188,8 +187,7 @@ reopened_drivers_open opens setup x reached s f before d settled took force is e
     let rows = (opens setup x reached s f settled took force).world.net.opening.rows in
     let permits = permits_are s.setup s.place s.room before d is rows.servers earlier in
     let here = in_force x s f before d force is base_is fence_is permits in
-    let fleet = under x s f before d force is base_is fence_is permits in
-    (
+    let fleet = under x s f before d force is base_is fence_is permits in (
       fleet,
       here,
       record {

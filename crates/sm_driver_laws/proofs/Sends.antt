@@ -1,9 +1,9 @@
 -- What the controller of the fleet sends is what the driver hands out.
-use Rattle.std.proofs.Common.{◌≡◌, ◌∙◌, ◌++◌, Option, List, refl, sym, ap}
+use Rattle.std.proofs.Common.{◌∙◌, ◌++◌, Option, ap}
 use Rattle.std.specs.Prelude.{option_map}
 use Rattle.std.specs.Option.{option_to_list}
 use Rattle.sm_placement.specs.Setup.{Sizes}
-use Rattle.sm_network.specs.Controller.{Controller, Letter, Notice, letter_of, notice_of, order_of}
+use Rattle.sm_network.specs.Controller.{Letter, Notice, letter_of, notice_of, order_of}
 use Rattle.sm_network.specs.Fleet.{controller}
 use Rattle.sm_driver.specs.Driver.{base, record_of}
 use Rattle.sm_driver_laws.specs.Driven.{EachDriven}

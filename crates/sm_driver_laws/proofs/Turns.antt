@@ -1,5 +1,5 @@
 -- Whatever turns lead to, the fleet is one that its laws are about, and the driver is its controller.
-use Rattle.std.proofs.Common.{◌≡◌, ◌≤◌, ◌<◌, ◌∙◌, ◌∷◌, ◌++◌, [], ℕ, Bool, Option, Some, None, List, length, refl, sym, ap, subst, arith}
+use Rattle.std.proofs.Common.{◌≡◌, ◌≤◌, ◌<◌, ◌∙◌, ◌∷◌, ◌++◌, [], ℕ, Option, Some, None, List, refl, sym, ap, subst, arith}
 use Rattle.std.specs.Prelude.{slice_get}
 use Rattle.std.specs.List.{AllByRecursion}
 use Rattle.sm_placement.specs.Setup.{Setup, Sizes, sizes_of}
@@ -16,13 +16,13 @@ use Rattle.sm_protocol.specs.Happens.{Approve, Begin}
 use Rattle.sm_protocol.specs.Laws.{IsReached, FitsConfig}
 use Rattle.sm_protocol.proofs.LogRoom.{has_room}
 use Rattle.sm_protocol.proofs.Reached.{of_opening}
-use Rattle.sm_network.specs.Controller.{Answered, Controller, Ended, JournalEntry, Letter, Made, Opened, Restore, Restored, Stored, replayed}
+use Rattle.sm_network.specs.Controller.{Answered, Ended, JournalEntry, Letter, Made, Opened, Restore, Restored, Stored, replayed}
 use Rattle.sm_network.specs.World.{Publication}
 use Rattle.sm_network.specs.Fleet.{Abandon, Commit, End, Fleet, FleetEvent, FleetOutcome, Forget, HearAsk, HearOwner, HearServer, Judge, Make, Open, Publish, Receive, Recover, Seal, SendOrder, SendPublication, Serve, after_owner, after_reception, after_verdict, after_work, by_message, controller, fleet_comes, fleet_run}
-use Rattle.sm_network.specs.FleetLaws.{AllFleetFit, EachFleet, FleetFits, FleetIsReached, IsFleetOpening, IsFleetReached}
+use Rattle.sm_network.specs.FleetLaws.{AllFleetFit, EachFleet, FleetFits, FleetIsReached, IsFleetReached}
 use Rattle.sm_driver.specs.Driver.{DriverModel, record_of}
-use Rattle.sm_driver_laws.specs.Control.{ApproveRestart, BeginPlan, Command, EndRestart, IsAnswer, IsCallable, IsControllerOf, OpenEpoch, RestoreServer, TakeAnswer, Writes}
-use Rattle.sm_driver_laws.specs.Driven.{AllTurnsFit, Driven, EachDriven, Goes, IsDrivenOpening, IsDrivenReached, HasHappened, Takes, Turn, TurnFits, WritesNothing, setup_of, turned, turned_all, with_entries}
+use Rattle.sm_driver_laws.specs.Control.{ApproveRestart, BeginPlan, Command, EndRestart, IsAnswerEntry, IsCallable, IsControllerOf, OpenEpoch, RestoreServer, TakeAnswer, Writes}
+use Rattle.sm_driver_laws.specs.Driven.{AllTurnsFit, Driven, EachDriven, Goes, IsDrivenOpening, TellsTruth, Takes, Turn, TurnFits, WritesNothing, driver_setup, after_turn, after_turns, with_entries}
 use Rattle.sm_driver_laws.specs.DrivenLaws.{CommandsAreEvents, IsFleetDriven}
 use Rattle.sm_driver_laws.proofs.Commands.{commands_are_entries, permit_is}
 use Rattle.sm_driver_laws.proofs.Controls.{sizes_are}
@@ -108,7 +108,7 @@ goes_fit setup f e h = tt
 room_is : (setup : Setup) (w : State) → IsReached setup w → (down_count w.sizes w.place ≤ w.room) × (w.room ≤ MOST_PLACES)
 room_is setup w reached = ((let r = (has_room setup w reached).room in omega arith), (of_opening setup w reached).is_opening.most)
 
-answer_fits : (setup : Setup) (f : Fleet) (d : DriverModel) (e : JournalEntry) → (id : StreamId) (number : ℕ) → IsAnswer d id number e → EntryFits setup f e
+answer_fits : (setup : Setup) (f : Fleet) (d : DriverModel) (e : JournalEntry) → (id : StreamId) (number : ℕ) → IsAnswerEntry d id number e → EntryFits setup f e
 answer_fits setup f d (Answered o) id number h = tt
 answer_fits setup f d (Stored p) id number h = tt
 answer_fits setup f d (Made e) id number h = absurd h
@@ -117,11 +117,11 @@ answer_fits setup f d (Restored v nonce) id number h = absurd h
 answer_fits setup f d (Opened room) id number h = absurd h
 
 -- what a command writes is what events lead to
-written_is : EachFleet FleetIsReached → (x : Driven) (command : Command) (driver : DriverModel) (es : List JournalEntry) → IsFleetDriven x → TurnFits x (Takes command driver es) → AreEvents (setup_of x) x.fleet es
+written_is : EachFleet FleetIsReached → (x : Driven) (command : Command) (driver : DriverModel) (es : List JournalEntry) → IsFleetDriven x → TurnFits x (Takes command driver es) → AreEvents (driver_setup x) x.fleet es
 written_is laws x command driver es driven fits = go command fits.0 fits.1
   where
     setup : Setup
-    setup = setup_of x
+    setup = driver_setup x
 
     d : DriverModel
     d = x.driver
@@ -129,8 +129,8 @@ written_is laws x command driver es driven fits = go command fits.0 fits.1
     is : IsControllerOf d (controller x.fleet)
     is = driven.1
 
-    true_of : (xs : List JournalEntry) (e : JournalEntry) → es ≡ xs ++ e ∷ [] → HasHappened x.fleet e
-    true_of xs e same = last_true (HasHappened x.fleet) xs e (subst (AllByRecursion (HasHappened x.fleet)) same fits.2)
+    true_of : (xs : List JournalEntry) (e : JournalEntry) → es ≡ xs ++ e ∷ [] → TellsTruth x.fleet e
+    true_of xs e same = last_true (TellsTruth x.fleet) xs e (subst (AllByRecursion (TellsTruth x.fleet)) same fits.2)
 
     go : (c : Command) → IsCallable d c → Writes c d driver es → AreEvents setup x.fleet es
     go (BeginPlan plan) callable h = subst (AreEvents setup x.fleet) (sym h.2)
@@ -165,22 +165,21 @@ setup_stays (RestoreServer v nonce) old new es h = ap (λ (d : DriverModel). d.m
 setup_stays OpenEpoch old new es h = h.0.setup
 
 -- a turn leads on
-turn_is : EachFleet FleetIsReached → (x : Driven) (t : Turn) → IsFleetDriven x → TurnFits x t → IsFleetDriven (turned x t)
+turn_is : EachFleet FleetIsReached → (x : Driven) (t : Turn) → IsFleetDriven x → TurnFits x t → IsFleetDriven (after_turn x t)
 turn_is laws x (Goes e) driven fits = (
-  reached_then (setup_of x) x.fleet (e ∷ []) driven.0 (goes_fit (setup_of x) x.fleet e fits, tt),
+  reached_then (driver_setup x) x.fleet (e ∷ []) driven.0 (goes_fit (driver_setup x) x.fleet e fits, tt),
   subst (IsControllerOf x.driver) (sym (goes_before x.fleet e fits)) driven.1,
 )
 turn_is laws x (Takes command driver es) driven fits =
-    let events = written_is laws x command driver es driven fits in
-    (
+    let events = written_is laws x command driver es driven fits in (
       subst (λ s. IsFleetReached s (with_entries x.fleet es)) (sym (setup_stays command x.driver driver es fits.1))
-          (subst (IsFleetReached (setup_of x)) events.run (reached_then (setup_of x) x.fleet events.events driven.0 events.fit)),
+          (subst (IsFleetReached (driver_setup x)) events.run (reached_then (driver_setup x) x.fleet events.events driven.0 events.fit)),
       subst (IsControllerOf driver) (sym (replayed_then x.fleet.start es x.fleet.journal)) (commands_are_entries command x.driver driver es (controller x.fleet) driven.1 fits.0 fits.1),
     )
 
-turns_are : EachFleet FleetIsReached → (ts : List Turn) (x : Driven) → IsFleetDriven x → AllTurnsFit ts x → IsFleetDriven (turned_all ts x)
+turns_are : EachFleet FleetIsReached → (ts : List Turn) (x : Driven) → IsFleetDriven x → AllTurnsFit ts x → IsFleetDriven (after_turns ts x)
 turns_are laws [] x driven fit = driven
-turns_are laws (t ∷ ts) x driven fit = turns_are laws ts (turned x t) (turn_is laws x t driven fit.0) fit.1
+turns_are laws (t ∷ ts) x driven fit = turns_are laws ts (after_turn x t) (turn_is laws x t driven fit.0) fit.1
 
 -- an opening is so
 opening_is : (x : Driven) → IsDrivenOpening x → IsFleetDriven x

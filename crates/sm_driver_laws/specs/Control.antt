@@ -1,7 +1,6 @@
 -- The driver is the controller of the network's laws, and its commands are entries of that controller's journal.
-use Rattle.std.specs.Prelude.{◌≡◌, ℕ, ◌++◌, Bool, true, Option, Some, None, List, [], ◌∷◌, IsSome, length, map, reverse, slice_get}
+use Rattle.std.specs.Prelude.{◌≡◌, ℕ, ◌++◌, true, Option, Some, None, List, [], ◌∷◌, IsSome, length, map, reverse, slice_get}
 use Rattle.std.specs.List.{range_with_len}
-use Rattle.sm_agent.specs.declared.base.Restoration.{Restoration}
 pub use Rattle.sm_plan_code.specs.Plan.{PlanModel}
 use Rattle.sm_protocol.specs.Next.{next_call_of}
 use Rattle.sm_protocol.specs.Laws.{FitsConfig}
@@ -42,10 +41,10 @@ pub data Command : Type 0 where
 
 -- An entry for an answer that a stream waits for: the answer to an order of the stream with this number, if it stands before a call; otherwise
 -- that to the publication that it stands before.
-abbrev pub IsAnswer : DriverModel → StreamId → ℕ → JournalEntry → Type 0
-IsAnswer d id number (Answered o) = (o.stream ≡ id) × (o.number ≡ number) × IsSome (next_call_of (record_of d) id)
-IsAnswer d id number (Stored p) = publication_of (base d) (record_of d) id ≡ Some p
-IsAnswer d id number _ = ⊥
+abbrev pub IsAnswerEntry : DriverModel → StreamId → ℕ → JournalEntry → Type 0
+IsAnswerEntry d id number (Answered o) = (o.stream ≡ id) × (o.number ≡ number) × IsSome (next_call_of (record_of d) id)
+IsAnswerEntry d id number (Stored p) = publication_of (base d) (record_of d) id ≡ Some p
+IsAnswerEntry d id number _ = ⊥
 
 -- steps that need nobody, as entries, the latest first
 abbrev pub free_steps : List StreamId → List JournalEntry
@@ -56,7 +55,7 @@ free_steps ids = map (λ id. Made (Step id)) (reverse ids)
 abbrev pub Writes : Command → DriverModel → DriverModel → List JournalEntry → Type 0
 Writes (BeginPlan plan) old new es = (number : ℕ) × (begun : HasBegunPlan plan number old new) × (es ≡ free_steps begun.advanced.streams ++ Made (Begin plan) ∷ [])
 Writes (TakeAnswer id number) old new es =
-    (taken : HasTakenStep id old new) × (e : JournalEntry) × (is_due old id number ≡ true) × IsAnswer old id number e × (es ≡ free_steps taken.advanced.streams ++ e ∷ [])
+    (taken : HasTakenStep id old new) × (e : JournalEntry) × (is_due old id number ≡ true) × IsAnswerEntry old id number e × (es ≡ free_steps taken.advanced.streams ++ e ∷ [])
 Writes (ApproveRestart v) old new es = (permit : ℕ) × HasApproved v permit old new × (es ≡ Made (Approve v) ∷ [])
 Writes (EndRestart permit server_base) old new es = (v : ℕ) × HasEndedRestart v permit server_base old new × (es ≡ Ended v permit ∷ [])
 Writes (RestoreServer v nonce) old new es = HasRestored v nonce old new × (es ≡ Restored v nonce ∷ [])

@@ -1,5 +1,5 @@
 -- A driver and its fleet over a network: what may happen to them, in any order and any number of times.
-use Rattle.std.specs.Prelude.{◌≡◌, ℕ, ◌++◌, List, [], ◌∷◌}
+use Rattle.std.specs.Prelude.{◌≡◌, ◌++◌, List, [], ◌∷◌}
 pub use Rattle.std.specs.List.{AllByRecursion}
 pub use Rattle.sm_placement.specs.Setup.{Setup}
 pub use Rattle.sm_network.specs.Fleet.{End, Fleet, FleetEvent, HearAsk, HearOwner, HearServer, Make, Open, controller, fleet_comes}
@@ -24,14 +24,14 @@ abbrev pub with_entries : Fleet → List JournalEntry → Fleet
 with_entries f es = record f { journal = es ++ f.journal }
 
 -- what a turn does
-abbrev pub turned : Driven → Turn → Driven
-turned x (Goes e) = record x { fleet = (fleet_comes x.fleet e).1 }
-turned x (Takes command driver es) = record { driver = driver; fleet = with_entries x.fleet es }
+abbrev pub after_turn : Driven → Turn → Driven
+after_turn x (Goes e) = record x { fleet = (fleet_comes x.fleet e).1 }
+after_turn x (Takes command driver es) = record { driver = driver; fleet = with_entries x.fleet es }
 
 -- after a list of turns
-abbrev pub turned_all : List Turn → Driven → Driven
-turned_all [] x = x
-turned_all (t ∷ ts) x = turned_all ts (turned x t)
+abbrev pub after_turns : List Turn → Driven → Driven
+after_turns [] x = x
+after_turns (t ∷ ts) x = after_turns ts (after_turn x t)
 
 -- the controller writes nothing by this event
 abbrev pub WritesNothing : FleetEvent → Type 0
@@ -43,30 +43,30 @@ WritesNothing (HearOwner k) = ⊥
 WritesNothing (HearAsk k) = ⊥
 WritesNothing _ = Unit {0}
 
--- what an entry tells of others has happened: the answer was given, or the server has asked under this nonce
-abbrev pub HasHappened : Fleet → JournalEntry → Type 0
-HasHappened f (Answered o) = IsOneOf f.answers o
-HasHappened f (Stored p) = IsOneOf f.stored p
-HasHappened f (Restored v nonce) = HasAskedUnder f.asks v nonce
-HasHappened f _ = Unit {0}
+-- an entry tells the truth: the answer was given, or the server has asked under this nonce
+abbrev pub TellsTruth : Fleet → JournalEntry → Type 0
+TellsTruth f (Answered o) = IsOneOf f.answers o
+TellsTruth f (Stored p) = IsOneOf f.stored p
+TellsTruth f (Restored v nonce) = HasAskedUnder f.asks v nonce
+TellsTruth f _ = Unit {0}
 
 -- Commands are given as they have to be, and only after what they tell has happened.
 abbrev pub TurnFits : Driven → Turn → Type 0
 TurnFits x (Goes e) = WritesNothing e
-TurnFits x (Takes command driver es) = IsCallable x.driver command × Writes command x.driver driver es × AllByRecursion (HasHappened x.fleet) es
+TurnFits x (Takes command driver es) = IsCallable x.driver command × Writes command x.driver driver es × AllByRecursion (TellsTruth x.fleet) es
 
 -- each of these turns is so when it comes
 abbrev pub AllTurnsFit : List Turn → Driven → Type 0
 AllTurnsFit [] x = Unit {0}
-AllTurnsFit (t ∷ ts) x = TurnFits x t × AllTurnsFit ts (turned x t)
+AllTurnsFit (t ∷ ts) x = TurnFits x t × AllTurnsFit ts (after_turn x t)
 
 -- the driver's configuration
-abbrev pub setup_of : Driven → Setup
-setup_of x = x.driver.machine.placement.setup
+abbrev pub driver_setup : Driven → Setup
+driver_setup x = x.driver.machine.placement.setup
 
 -- They open together: the fleet opens, and the driver is its controller.
 pub record IsDrivenOpening (x : Driven) : Type 0 where
-  pub fleet : IsFleetOpening (setup_of x) x.fleet
+  pub fleet : IsFleetOpening (driver_setup x) x.fleet
   pub control : IsControllerOf x.driver x.fleet.start
 
 -- turns lead from an opening to this
@@ -75,7 +75,7 @@ pub record IsDrivenReached (x : Driven) : Type 0 where
   pub opening : IsDrivenOpening first
   pub turns : List Turn
   pub fit : AllTurnsFit turns first
-  pub state : x ≡ turned_all turns first
+  pub state : x ≡ after_turns turns first
 
 -- so it is wherever turns lead
 abbrev pub EachDriven : (Driven → Type 0) → Type 0

@@ -13,35 +13,35 @@ use Rattle.sm_network.specs.Reopening.{Settlement, Settling}
 use Rattle.sm_network.specs.ReopeningLaws.{AllTook}
 use Rattle.sm_driver.specs.Driver.{base, record_of}
 use Rattle.sm_driver.specs.Permits.{AreEarlierPermits, opening_permits}
-use Rattle.sm_driver_laws.specs.Driven.{Command, Driven, DriverModel, Fleet, FleetEvent, IsControllerOf, IsDrivenOpening, IsFleetReached, JournalEntry, Setup, Takes, TurnFits, controller, fleet_comes, setup_of, with_entries}
+use Rattle.sm_driver_laws.specs.Driven.{Command, Driven, DriverModel, Fleet, FleetEvent, IsControllerOf, IsDrivenOpening, IsFleetReached, JournalEntry, Setup, Takes, TurnFits, controller, fleet_comes, driver_setup, with_entries}
 
 -- The fleet is one that the laws of the fleet are about, and the driver is its controller.
 abbrev pub IsFleetDriven : Driven → Type 0
-IsFleetDriven x = IsFleetReached (setup_of x) x.fleet × IsControllerOf x.driver (controller x.fleet)
+IsFleetDriven x = IsFleetReached (driver_setup x) x.fleet × IsControllerOf x.driver (controller x.fleet)
 
 -- What a command writes is a list of events of the fleet that all fit: servers, map and whatever was sent stay as they were.
 abbrev pub CommandsAreEvents : Driven → Type 0
 CommandsAreEvents x = (command : Command) (driver : DriverModel) (es : List JournalEntry) → TurnFits x (Takes command driver es) →
-    (events : List FleetEvent) × AllFleetFit (setup_of x) x.fleet events × (fleet_run events x.fleet ≡ with_entries x.fleet es)
+    (events : List FleetEvent) × AllFleetFit (driver_setup x) x.fleet events × (fleet_run events x.fleet ≡ with_entries x.fleet es)
 
 -- So all laws of the fleet hold of the fleet of a driver.
 pub record IsDrivenSafely (x : Driven) : Type 0 where
-  pub reached : FleetIsReached (setup_of x) x.fleet
-  pub safe : FleetIsSafe (setup_of x) x.fleet
-  pub executes : ExecutesAtOneServer (setup_of x) x.fleet
-  pub refuses : NoLetterIsRefused (setup_of x) x.fleet
-  pub hears : PresentIsHeard (setup_of x) x.fleet
-  pub commits : OnlyPresentCommits (setup_of x) x.fleet
-  pub once : CommitsOncePerNumber (setup_of x) x.fleet
-  pub up : CommitsWhereUp (setup_of x) x.fleet
-  pub permits : PermitsEndOnce (setup_of x) x.fleet
-  pub near : ServersAreNear (setup_of x) x.fleet
-  pub recorded : ServersAreRecorded (setup_of x) x.fleet
-  pub ends : ServersAreAtEnds (setup_of x) x.fleet
-  pub shown : MapIsRight (setup_of x) x.fleet
-  pub beginnings : BeginningsAreHarmless (setup_of x) x.fleet
-  pub goes_on : SomeFleetCanGoOn (setup_of x) x.fleet
-  pub finishes : FleetCanFinish (setup_of x) x.fleet
+  pub reached : FleetIsReached (driver_setup x) x.fleet
+  pub safe : FleetIsSafe (driver_setup x) x.fleet
+  pub executes : ExecutesAtOneServer (driver_setup x) x.fleet
+  pub refuses : NoLetterIsRefused (driver_setup x) x.fleet
+  pub hears : PresentIsHeard (driver_setup x) x.fleet
+  pub commits : OnlyPresentCommits (driver_setup x) x.fleet
+  pub once : CommitsOncePerNumber (driver_setup x) x.fleet
+  pub up : CommitsWhereUp (driver_setup x) x.fleet
+  pub permits : PermitsEndOnce (driver_setup x) x.fleet
+  pub near : ServersAreNear (driver_setup x) x.fleet
+  pub recorded : ServersAreRecorded (driver_setup x) x.fleet
+  pub ends : ServersAreAtEnds (driver_setup x) x.fleet
+  pub shown : MapIsRight (driver_setup x) x.fleet
+  pub beginnings : BeginningsAreHarmless (driver_setup x) x.fleet
+  pub goes_on : SomeFleetCanGoOn (driver_setup x) x.fleet
+  pub finishes : FleetCanFinish (driver_setup x) x.fleet
 
 -- ---- what the driver sends
 
@@ -69,7 +69,7 @@ pub record SendsAsDriven (x : Driven) : Type 0 where
 -- ---- openings
 
 -- By its contract, a driver has just been opened over this placement, with these permits of before, if any.
-pub record HasOpened (rows : Setup) (p : Place) (room : ℕ) (before : List (Option ℕ)) (d : DriverModel) : Type 0 where
+pub record IsJustOpened (rows : Setup) (p : Place) (room : ℕ) (before : List (Option ℕ)) (d : DriverModel) : Type 0 where
   pub state : record_of d ≡ opened (sizes_of rows) p room
   pub setup : d.machine.placement.setup ≡ rows
   pub permits : d.permits ≡ opening_permits (base d) before (length rows.servers) p.down
@@ -77,12 +77,12 @@ pub record HasOpened (rows : Setup) (p : Place) (room : ℕ) (before : List (Opt
 
 -- The first driver of a journal is the controller of a fleet that opens, whose servers have the cells of the placement.
 abbrev pub DriversOpen : Type 0
-DriversOpen = (setup : Setup) (p : Place) (room : ℕ) (d : DriverModel) → IsOpening setup p room → HasOpened setup p room [] d → d.fence ≡ 0 →
+DriversOpen = (setup : Setup) (p : Place) (room : ℕ) (d : DriverModel) → IsOpening setup p room → IsJustOpened setup p room [] d → d.fence ≡ 0 →
     (f : Fleet) × IsDrivenOpening (record { driver = d; fleet = f }) × ((s v : ℕ) → ((f.servers v).slots s).cell ≡ p.cells s v)
 
 -- If a fleet is in force that a reopening has settled, the driver that opens on the settlement, with permits of before, is the controller of such
 -- a fleet.
 abbrev pub ReopenedDriversOpen : Settling → Type 0
 ReopenedDriversOpen x = (s : Settlement) (f : Fleet) (before : List (Option ℕ)) (d : DriverModel) → x.reopening.settlement ≡ Some s → AllTook x.reopening → IsFleetInForce x s f →
-    HasOpened s.setup s.place s.room before d → AreEarlierPermits (base d) before → base d ≡ x.reopening.base → d.fence ≡ x.reopening.base →
+    IsJustOpened s.setup s.place s.room before d → AreEarlierPermits (base d) before → base d ≡ x.reopening.base → d.fence ≡ x.reopening.base →
     (g : Fleet) × IsFleetInForce x s g × IsDrivenOpening (record { driver = d; fleet = g })

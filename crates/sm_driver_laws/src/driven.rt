@@ -4,7 +4,10 @@ ghost use Rattle.sm_driver_laws.specs.Driven.{EachDriven};
 ghost use Rattle.sm_driver_laws.specs.DrivenLaws.{CommandsAreEvents, DriversOpen, IsDrivenSafely, IsFleetDriven, ReopenedDriversOpen, SendsAsDriven};
 
 use sm_network::{
-    beginnings_are_harmless, commits_once_per_number, commits_where_up, executes_at_one_server, fleet_can_finish, fleet_is_reached, fleet_is_safe, map_is_right, no_letter_is_refused, only_present_commits, permits_end_once, present_is_heard, servers_are_at_ends, servers_are_near, servers_are_recorded, some_fleet_can_go_on, fleet_opens_in_force,
+    beginnings_are_harmless, commits_once_per_number, commits_where_up, executes_at_one_server,
+    fleet_can_finish, fleet_is_reached, fleet_is_safe, fleet_opens_in_force, map_is_right,
+    no_letter_is_refused, only_present_commits, permits_end_once, present_is_heard,
+    servers_are_at_ends, servers_are_near, servers_are_recorded, some_fleet_can_go_on,
 };
 
 /// Whatever commands come, and whatever else happens to servers and network, the fleet is one that its laws are about, and the driver is

@@ -6,6 +6,6 @@ mod driven;
 
 pub use control::{answers_have_entries, commands_are_entries};
 pub use driven::{
-    commands_are_events, driven_is_controlled, driven_is_safe, drivers_open,
-    reopened_drivers_open, sends_as_driven,
+    commands_are_events, driven_is_controlled, driven_is_safe, drivers_open, reopened_drivers_open,
+    sends_as_driven,
 };
