@@ -34,7 +34,7 @@ class Document(unittest.TestCase):
         """Each command is named as one."""
         text = DOCUMENT.read_text()
         for do in Known(Names(), Names()).tables:
-            self.assertTrue(re.search(rf"^\| `{do}`|^- `\{{\"do\":\"{do}\"", text, re.M), do)
+            self.assertTrue(re.search(rf"^- `{do}`|^- `\{{\"do\":\"{do}\"", text, re.M), do)
 
 
 if __name__ == "__main__":
