@@ -33,7 +33,7 @@ use crate::held::Held;
 use crate::names::Naming;
 use crate::runner::{Ended, Runner};
 use crate::sure::Sure;
-use sm_machine::{Answer, BeginFault, Link, Machine, Permit, Step, Ticket};
+use sm_machine::{Answer, BeginFault, Link, Machine, Permit, Step, Ticket, make_ready};
 use sm_map::{Entry, Words};
 use sm_placement::Config;
 use sm_protocol::RefillFault;
@@ -134,7 +134,7 @@ impl<A: Ledger, B: Ledger, C: Ledger, N: Naming> Board<A, B, C, N> {
     }
 
     /// A plan begins that was checked for the board's configuration: each of its streams has a runner. Where it does not begin, the
-    /// checked plan comes back, and nothing changes.
+    /// checked plan comes back, and nothing changes. All memory is taken before the lock is.
     pub fn begin<R: Wait>(
         &self,
         rt: &R,
@@ -146,9 +146,26 @@ impl<A: Ledger, B: Ledger, C: Ledger, N: Naming> Board<A, B, C, N> {
         ensures refused { IfErr result (λ e. e.1 ≢ fault.NoMemory → HasNotBegun N.setup N.opened checked.plan e.1) }
         ensures back { IfErr result (λ e. e.0 ≡ checked) }
     {
-        let mut held = self.held.lock(rt);
-        held.is_of_board();
-        held.begin(alloc, checked)
+        let count = checked.plan().streams().len();
+        let ready = match make_ready(alloc, checked) {
+            Ok(ready) => ready,
+            Err((checked, _)) => return Err((checked, BeginFault::NoMemory)),
+        };
+        let Ok(mut runners) = Vec::with_capacity(alloc, count) else {
+            return Err((ready.back(), BeginFault::NoMemory));
+        };
+        let begun = {
+            let mut held = self.held.lock(rt);
+            held.is_of_board();
+            held.begin(ready, &mut runners)
+        };
+        match begun {
+            Ok(()) => Ok(runners),
+            Err((ready, why)) => {
+                runners.destroy_empty();
+                Err((ready.back(), why))
+            }
+        }
     }
 
     /// The runner's end, where its stream has made it, with what the locked machine has of that stream. Else the runner comes back, and

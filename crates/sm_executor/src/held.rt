@@ -35,13 +35,11 @@ use crate::limits::MOST_CALLERS;
 use crate::names::Naming;
 use crate::runner::{Ended, Runner};
 use crate::shares::fill_runners;
-use sm_machine::{Answer, BeginFault, Link, Machine, Permit, Step, StreamToken, Ticket};
+use sm_machine::{Answer, BeginFault, Link, Machine, Permit, ReadyPlan, Step, StreamToken, Ticket};
 use sm_map::{Entry, Publisher, Words};
 use sm_protocol::RefillFault;
 use sm_server::{ServerId, ShardId};
 use sm_task_controller::Denied;
-use sm_verifier::Checked;
-use std::alloc::Global;
 use std::marker::{Model, PhantomData};
 use std::sync::ledger::{Blank, Book, Ledger, Share};
 
@@ -242,37 +240,37 @@ impl<A: Ledger, B: Ledger, C: Ledger, N: Naming> Held<A, B, C, N> {
         self.runners += count;
     }
 
-    /// A plan begins as the machine begins it, and each of its streams has a runner.
+    /// A plan that is ready begins as the machine starts it, and each of its streams gets a runner, in an empty list with room for them.
+    /// Where it does not begin it comes back, and nothing changes.
+    ///
+    /// Takes no memory.
     pub fn begin(
         &mut self,
-        alloc: Global,
-        checked: Checked,
-    ) -> Result<Vec<Runner<A>>, (Checked, BeginFault)>
-        requires { checked.setup ≡ N.setup }
-        ensures answer { OnOk result ((happens (state_in self.old) (happening.Begin checked.plan)).0 ≡ Answered (played.Begun (length (state_in self.old).plans))) }
-        ensures state { OnOk result (state_in self.new ≡ (happens (state_in self.old) (happening.Begin checked.plan)).1) }
-        ensures others { OnOk result (self.new ≡ held_model self.new.machine (self.old.runners + length checked.plan.streams) self.old.callers) }
-        ensures runners { IfOk result (λ runners. AreRunners (length (state_in self.old).plans) (length checked.plan.streams) runners.items) }
-        ensures fault { IfErr result (λ e. e.1 ≢ fault.NoMemory → IsNotStarted (state_in self.old) checked.plan e.1) }
+        ready: ReadyPlan,
+        into: &mut Vec<Runner<A>>,
+    ) -> Result<(), (ReadyPlan, BeginFault)>
+        requires setup { ready.setup ≡ N.setup }
+        requires none { into.old.items ≡ [] }
+        requires room { length ready.plan.streams ≤ vec_capacity into.old }
+        ensures answer { OnOk result ((happens (state_in self.old) (happening.Begin ready.plan)).0 ≡ Answered (played.Begun (length (state_in self.old).plans))) }
+        ensures state { OnOk result (state_in self.new ≡ (happens (state_in self.old) (happening.Begin ready.plan)).1) }
+        ensures others { OnOk result (self.new ≡ held_model self.new.machine (self.old.runners + length ready.plan.streams) self.old.callers) }
+        ensures runners { OnOk result (AreRunners (length (state_in self.old).plans) (length ready.plan.streams) into.new.items) }
+        ensures fault { IfErr result (λ e. IsNotStarted (state_in self.old) ready.plan e.1) }
+        ensures memory { IfErr result (λ e. e.1 ≢ fault.NoMemory) }
         ensures unchanged { OnErr result (self.new ≡ self.old) }
-        ensures back { IfErr result (λ e. e.0 ≡ checked) }
+        ensures back { IfErr result (λ e. e.0 ≡ ready) }
+        ensures none { OnErr result (into.new.items ≡ []) }
     {
-        let mut runners = match Vec::with_capacity(alloc, checked.plan().streams().len()) {
-            Ok(runners) => runners,
-            Err(_) => return Err((checked, BeginFault::NoMemory)),
-        };
-        match self.machine.begin(alloc, checked) {
+        let count = ready.checked().plan().streams().len() as u64;
+        match self.machine.start(ready) {
             Ok(tokens) => {
                 self.machine.is_reached();
-                let count = tokens.len() as u64;
-                fill_runners(&mut runners, tokens, &mut self.free_steps);
+                fill_runners(into, tokens, &mut self.free_steps);
                 self.runners += count;
-                Ok(runners)
+                Ok(())
             }
-            Err(back) => {
-                runners.destroy_empty();
-                Err(back)
-            }
+            Err(back) => Err(back),
         }
     }
 
