@@ -13,10 +13,7 @@ use Rattle.sm_protocol.specs.declared.event.Played.{Played}
 use Rattle.sm_protocol.specs.declared.event.Logged.{Logged}
 use Rattle.sm_protocol.specs.State.{State}
 use Rattle.sm_protocol.specs.Steps.{Answered}
-use Rattle.sm_protocol.specs.Happens.{Happening, happens}
-use Rattle.sm_protocol.proofs.Reached.{same_machine}
 use Rattle.sm_executor.specs.Counting.{is_step, is_executed, is_refused, IsBooked, Counts}
-use Rattle.sm_executor.specs.Closed.{HasMorePlans, GoesOn}
 use Rattle.sm_executor.specs.Tied.{IsPublished, IsMapOf, IsQuiet, IsBehind}
 use Rattle.sm_executor.specs.Views.{recorded_more}
 use Rattle.sm_executor.proofs.Effects.{Asked, Made, Uncounted}
@@ -48,42 +45,6 @@ counted_more opened old new x a b c e k = record {
 -- when a board is opened
 pub counted_opened : (opened : State) → IsBooked opened opened 0 0 0
 counted_opened opened = record { since = []; log = sym (append-nil opened.log); steps_are = refl; executed_are = refl; refused_are = refl }
-
--- ---- what goes on from the opening
-
--- the one state has the other's configuration, opening placement and log's room
-pub record IsOfSameOpening (old new : State) : Type 0 where
-  pub sizes : new.sizes ≡ old.sizes
-  pub opening : new.opening ≡ old.opening
-  pub room : new.room ≡ old.room
-
--- so it is behind an event
-pub by_event : (old new : State) (e : Happening) → new ≡ (happens old e).1 → IsOfSameOpening old new
-by_event old new e is =
-    let same = same_machine old e in
-    record { sizes = ap (λ (w : State). w.sizes) is ∙ same.sizes; opening = ap (λ (w : State). w.opening) is ∙ same.opening; room = ap (λ (w : State). w.room) is ∙ same.room }
-
--- and where the halt flag is set or cleared
-pub by_flag : (old new : State) (flag : Bool) → new ≡ record old { halted = flag } → IsOfSameOpening old new
-by_flag old new flag is = record { sizes = ap (λ (w : State). w.sizes) is; opening = ap (λ (w : State). w.opening) is; room = ap (λ (w : State). w.room) is }
-
--- such a state goes on from the opening too, where it has more plans than the opening, and the books count its log
-pub goes_further : (opened old new : State) {a b c : ℕ} → IsOfSameOpening old new → IsBooked opened new a b c → HasMorePlans opened new → GoesOn opened old → GoesOn opened new
-goes_further opened old new same books plans g = record {
-  sizes = same.sizes ∙ g.sizes;
-  opening = same.opening ∙ g.opening;
-  room = same.room ∙ g.room;
-  log = (books.since, books.log);
-  plans = plans;
-}
-
--- or where its list of plans is as it was
-pub goes_on_alike : (opened old new : State) {a b c : ℕ} → IsOfSameOpening old new → IsBooked opened new a b c → new.plans ≡ old.plans → GoesOn opened old → GoesOn opened new
-goes_on_alike opened old new same books e g = goes_further opened old new same books (g.plans.0, e ∙ g.plans.1) g
-
--- when a board is opened
-pub goes_on_opened : (opened : State) → GoesOn opened opened
-goes_on_opened opened = record { sizes = refl; opening = refl; room = refl; log = ([], sym (append-nil opened.log)); plans = ([], sym (append-nil opened.plans)) }
 
 -- ---- the words
 

@@ -1,5 +1,6 @@
 pub mod Effects
 pub mod Keeps
+pub mod Leading
 pub mod Knowing
 pub mod Ranges
 pub mod Starting

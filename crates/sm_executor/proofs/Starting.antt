@@ -14,7 +14,6 @@ use Rattle.sm_protocol.specs.Steps.{Answered, unchanged}
 use Rattle.sm_protocol.specs.Happens.{Begin, happens, begun, has_all_plans, started}
 use Rattle.sm_protocol.proofs.LogRoom.{count_started}
 use Rattle.sm_machine.specs.Starts.{AreTokens}
-use Rattle.sm_executor.specs.Closed.{HasMorePlans}
 use Rattle.sm_executor.specs.Counting.{IsBooked}
 use Rattle.sm_executor.specs.Tied.{IsPublished}
 use Rattle.sm_executor.specs.Views.{RunnerModel, running, AreRunners}
@@ -41,12 +40,6 @@ started_kept words opened old new p a b c plan e t k = record {
   tied = tied_quiet words opened old new p (record { sizes = ap (λ (w : State). w.sizes) e; entries = ap (λ (w : State). w.entries) e; listed = ap (λ (w : State). w.place.listed) e; version = ap (λ (w : State). w.place.version) e }) t;
   counted = counted_same opened old new a b c (ap (λ (w : State). w.log) e) k;
 }
-
--- the plans begun since the opening are one more
-pub started_more : (opened old new : State) (plan : PlanModel) → new ≡ started old plan → HasMorePlans opened old → HasMorePlans opened new
-started_more opened old new plan e h =
-    let last : List Start = record { plan = plan; since = length old.log } ∷ [] in
-    (h.0 ++ last, ap (λ (w : State). w.plans) e ∙ ap (λ ps. ps ++ last) h.1 ∙ append_assoc opened.plans h.0 last)
 
 -- there are 64 runners at most for each plan
 pub few_runners : (old new : State) (plan : PlanModel) (runners more : ℕ) → new ≡ started old plan → more ≤ 64 → runners ≤ 64 * length old.plans → runners + more ≤ 64 * length new.plans

@@ -1,13 +1,13 @@
 -- What is so where a board is closed, and why one is not.
 -- `AreAllBack` and `StaysOpenFor` are steps of the code's own way, which private functions' contracts cite: whoever reads the public
 -- ones need not read them.
-use Rattle.std.specs.Prelude.{◌≡◌, ◌↔◌, ◌++◌, ◌∷◌, [], ℕ, zero, suc, true, List, length, map, sum, if◌then◌else◌}
+use Rattle.std.specs.Prelude.{◌≡◌, ◌↔◌, ◌++◌, ◌∷◌, [], ℕ, zero, suc, Bool, true, List, length, map, sum, if◌then◌else◌}
 use Rattle.sm_placement.specs.Setup.{Setup}
 use Rattle.sm_reservation.specs.declared.stream_id.StreamId.{StreamId}
-use Rattle.sm_protocol.specs.State.{State, Start, stream_id, stream_count, is_begun}
-use Rattle.sm_protocol.specs.Laws.{AreDone, IsReached}
+use Rattle.sm_protocol.specs.State.{State, stream_id, stream_count, is_begun}
+use Rattle.sm_protocol.specs.Happens.{Happening, happens}
+use Rattle.sm_protocol.specs.Laws.{AreDone, FitsConfig, IsReached}
 use Rattle.sm_protocol.specs.Log.{IsInLog, IsAtEnds}
-use Rattle.sm_protocol.specs.declared.event.Logged.{Logged}
 use Rattle.sm_executor.specs.declared.closing.CloseFault.{CloseFault}
 use Rattle.sm_executor.specs.declared.closing.CloseFault.TheVariants.{NotDone, BookDiffers}
 use Rattle.sm_executor.specs.Counting.{IsBooked}
@@ -29,23 +29,23 @@ unfinished_to w (suc k) = unfinished_to w k ++ unfinished_in w k (stream_count w
 abbrev pub unfinished_streams : State → List (StreamId × ℕ)
 unfinished_streams w = unfinished_to w (length w.plans)
 
--- ---- what a board keeps of its opening
+-- ---- the states of a board
 
--- the plans begun since the opening stand behind those that it had
-abbrev pub HasMorePlans : State → State → Type 0
-HasMorePlans opened now = (begun : List Start) × (now.plans ≡ opened.plans ++ begun)
+-- Events have led from the opening to this state, and between them the halt flag may have been set and cleared.
+pub data GoesOn (opened : State) : State → Type 0 where
+  Stays : GoesOn opened opened
+  Plays : (w : State) (e : Happening) → FitsConfig opened.sizes e → GoesOn opened w → GoesOn opened (happens w e).1
+  Flags : (w : State) (flag : Bool) → GoesOn opened w → GoesOn opened (record w { halted = flag })
 
--- The numbers of the configuration, the placement from which the ends of plans are told, and the log's room are still those of the
--- opening, and the log and the list of plans have only grown since.
-pub record GoesOn (opened now : State) : Type 0 where
-  pub sizes : now.sizes ≡ opened.sizes
-  pub opening : now.opening ≡ opened.opening
-  pub room : now.room ≡ opened.room
-  pub log : (since : List Logged) × (now.log ≡ opened.log ++ since)
-  pub plans : HasMorePlans opened now
-
--- A state of a board with this configuration: events have led to it from a placement of the configuration, and it goes on from the
--- board's opening.
+-- A state of a board with this configuration: events have led to it from a placement of the configuration, and from the board's
+-- opening.
+--
+-- No contract has a name for the state that lay behind the lock at a moment, so a clause of the board tells what a call does at some such
+-- state. It excludes what no list of events since the opening leads to: an answer by a server that did not get the request, a ticket or a
+-- number of another pass, a count that does not rise with the answer, a link that is asked otherwise than the step asks. It does not
+-- exclude what comes about at another of these states: a halted board, a full log, a ticket that is spent, a caller too many, or a stream
+-- that has not made its end if it had not at the opening. That these come only from the state behind the lock is told by the code and by
+-- tests.
 pub record IsBoardState (setup : Setup) (opened now : State) : Type 0 where
   pub reached : IsReached setup now
   pub goes_on : GoesOn opened now

@@ -403,6 +403,7 @@ impl<A: Ledger, B: Ledger, C: Ledger, N: Naming> Held<A, B, C, N> {
         ensures back { IfErr result (λ p. p ≡ permit) }
         ensures setup { self.new.machine.placement.setup ≡ self.old.machine.placement.setup }
     {
+        self.machine.is_reached();
         self.machine.done(permit)
     }
 

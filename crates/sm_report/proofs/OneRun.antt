@@ -11,6 +11,7 @@ use Rattle.sm_verifier.specs.PlanEnd.{ends_of}
 use Rattle.sm_plan_text.specs.declared.member.Member.TheVariants as member
 use Rattle.sm_plan_text.specs.Documents.{DocumentModel}
 use Rattle.sm_executor.specs.Clients.{ClientModel}
+use Rattle.sm_executor.proofs.Leading.{sizes_stay, opening_stays}
 use Rattle.sm_report.specs.declared.status.Status.TheVariants as status
 use Rattle.sm_report.specs.Checking.{accepted_line}
 use Rattle.sm_report.specs.Ending.{ending}
@@ -47,9 +48,9 @@ run_is begun setup output was =
     let goes_on = was.closed.state.state.goes_on in
     let place = λ (c : Sizes) (ps : List Start) (o : Place). ends_of c (map (λ (x : Start). x.plan) ps) o in
     let same : place now.sizes now.plans now.opening ≡ place begun.sizes begun.plans begun.opening =
-    ap (λ (c : Sizes). place c now.plans now.opening) goes_on.sizes
+    ap (λ (c : Sizes). place c now.plans now.opening) (sizes_stay begun now goes_on)
     ∙ ap (λ (ps : List Start). place begun.sizes ps now.opening) was.alone
-    ∙ ap (λ (o : Place). place begun.sizes begun.plans o) goes_on.opening in
+    ∙ ap (λ (o : Place). place begun.sizes begun.plans o) (opening_stays begun now goes_on) in
     let cells : now.place.cells ≡ (end_place begun).cells = fun_ext (λ s. fun_ext (λ v. was.closed.state.at_ends.cells s v)) ∙ ap (λ (p : Place). p.cells) same in
     let listed : now.place.listed ≡ (end_place begun).listed = fun_ext (λ s. was.closed.state.at_ends.listed s) ∙ ap (λ (p : Place). p.listed) same in
     let version : now.place.version ≡ (end_place begun).version = fun_ext (λ s. was.closed.state.at_ends.version s) ∙ ap (λ (p : Place). p.version) same in

@@ -16,8 +16,9 @@ use Rattle.sm_protocol.specs.Happens.{started}
 use Rattle.sm_machine.specs.Starts.{AreTokens}
 use Rattle.sm_machine.specs.Started.{IsNotStarted}
 use Rattle.sm_executor.specs.Clients.{ClientModel, IsClient}
-use Rattle.sm_executor.specs.Closed.{HasMorePlans, IsClosed}
+use Rattle.sm_executor.specs.Closed.{IsClosed}
 use Rattle.sm_executor.specs.Views.{CallerModel, EndedModel, RunnerModel, running, AreRunners, streams_ended, streams_run}
+use Rattle.sm_executor.proofs.Leading.{HasMorePlans, plans_stay, opening_stays}
 use Rattle.sm_plan_text.specs.Documents.{DocumentModel}
 use Rattle.sm_report.specs.declared.early.Early.{Early}
 use Rattle.sm_report.specs.declared.early.Early.TheVariants as early
@@ -159,7 +160,7 @@ pub was_run : (begun : State) (setup : Setup) (asks : List ℕ) (ended : List En
     → IfOk result (IsTold begun setup ended clients accepted asked) → IfErr result IsOfRun → IfRan result (WasRunOrNot begun setup asks)
 was_run begun setup asks ended clients accepted asked (Err why) one ran shards ways front lines told unrun = was_not_run begun setup asks why unrun
 was_run begun setup asks ended clients accepted asked (Ok made) one ran shards ways front lines told unrun =
-    let same = nothing_more begun told.0 told.1.state.state.goes_on.plans one told.2 in
+    let same = nothing_more begun told.0 (plans_stay begun told.0 told.1.state.state.goes_on) one told.2 in
     let ran_lines : end_lines told.0 0 ≡ run_lines (plan_at begun 0) =
     lines_are setup told.0 told.1.state.state.reached told.1.state.done told.1.state.in_log told.3 told.2
     ∙ ap (λ (ps : List Start). run_lines (slice_index_or ps 0 no_start).plan) same in
@@ -173,7 +174,7 @@ was_run begun setup asks ended clients accepted asked (Ok made) one ran shards w
       closed = told.1;
       alone = same;
       own = told.3;
-      down = λ v. down_as_opened told.0 told.1.state.at_ends told.3 v ∙ ap (λ (p : Place). p.down v) told.1.state.state.goes_on.opening;
+      down = λ v. down_as_opened told.0 told.1.state.at_ends told.3 v ∙ ap (λ (p : Place). p.down v) (opening_stays begun told.0 told.1.state.state.goes_on);
       told = told.4
           ∙ ap (λ text. done (text ++ end_lines told.0 0 ++ asked ++ ending setup told.0.place)) front
           ∙ ap (λ text. done (accepted_line (plan_at begun 0) ++ text ++ asked ++ ending setup told.0.place)) ran_lines

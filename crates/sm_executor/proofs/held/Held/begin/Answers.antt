@@ -1,12 +1,15 @@
 -- A plan begins.
-use Rattle.std.proofs.Common.{◌≤◌, ◌≡◌, ◌∙◌, ap, subst, arith, length}
-use Rattle.sm_plan_code.specs.Plan.{IsPlan, PlanModel}
+use Rattle.std.proofs.Common.{◌≤◌, ◌≡◌, ◌∙◌, ap, sym, subst, arith, length}
+use Rattle.sm_placement.specs.Setup.{Sizes, sizes_of}
+use Rattle.sm_plan_code.specs.Plan.{IsKnownPlan, IsPlan, PlanModel}
 use Rattle.sm_verifier.specs.Checked.{CheckedModel}
+use Rattle.sm_verifier.specs.Plan.{IsCheckedPlan, IsSound}
 use Rattle.sm_protocol.specs.Happens.{Begin, started}
 use Rattle.sm_machine.specs.State.{state_of}
 use Rattle.sm_executor.specs.Views.{HeldModel, state_in, AreRunners}
-use Rattle.sm_executor.proofs.Keeps.{by_event, goes_further}
-use Rattle.sm_executor.proofs.Starting.{begun_is, started_kept, few_runners, started_more, runners_are}
+use Rattle.sm_machine.proofs.HandPlays.{sizes_are}
+use Rattle.sm_executor.proofs.Leading.{led_by}
+use Rattle.sm_executor.proofs.Starting.{begun_is, started_kept, few_runners, runners_are}
 use Rattle.sm_executor.proofs.held.Held.begin.Goals as goal
 
 pub invariant_of-self : goal.invariant_of-self
@@ -25,10 +28,14 @@ invariant_of-self g c =
     let is = c.plan.ensures.value ∙ ap (λ (r : CheckedModel). r.plan) same in
     let n : length c.streams.result.now ≡ length plan.streams = ap length c.streams.ensures.value ∙ ap (λ (p : PlanModel). length p.streams) is in
     let whole : IsPlan plan = subst IsPlan is c.streams.ensures.plan in
+    let fits = subst (λ (r : CheckedModel). IsKnownPlan (length r.setup.shards) (length r.setup.servers) r.plan) same c.plan.ensures.fits in
+    let sound = subst (λ (r : CheckedModel). IsSound (sizes_of r.setup) r.plan) same c.plan.ensures.sound in
+    let sizes : sizes_of c.args.ready.setup ≡ w.sizes = ap sizes_of (c.requires.setup ∙ sym i.12) ∙ sym (sizes_are c.self.inside.machine) in
+    let checked : IsCheckedPlan w.sizes plan = subst (λ (s : Sizes). IsCheckedPlan s plan) sizes (record { parts = whole; fits = fits; sound = sound }) in
     let few : length plan.streams ≤ 64 = whole.small.stream_count in
     let count = ens.tokens.count in
     let most : length c.streams.result.now ≤ 64 = omega arith in
-    (k.tied, k.counted, omega arith, c.fill_runners.ensures.amount, i.4, i.5, i.6, i.7, i.8, i.9, i.10, i.11, ens.setup ∙ i.12, few_runners w v plan c.self.inside.runners (length c.streams.result.now) e most i.13, goes_further g.N.Naming.opened w v (by_event w v (Begin plan) ens.state) k.counted (started_more g.N.Naming.opened w v plan e i.14.plans) i.14)
+    (k.tied, k.counted, omega arith, c.fill_runners.ensures.amount, i.4, i.5, i.6, i.7, i.8, i.9, i.10, i.11, ens.setup ∙ i.12, few_runners w v plan c.self.inside.runners (length c.streams.result.now) e most i.13, led_by g.N.Naming.opened w v (Begin plan) checked ens.state i.14)
 
 pub returns-in-Ok-clause-runners : goal.returns-in-Ok-clause-runners
 returns-in-Ok-clause-runners g c =

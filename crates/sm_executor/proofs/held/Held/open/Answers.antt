@@ -1,10 +1,10 @@
 -- A new board.
 use Rattle.std.proofs.Common.{sym, subst, arith}
 use Rattle.sm_protocol.specs.State.{State}
-use Rattle.sm_executor.specs.Closed.{GoesOn}
+use Rattle.sm_executor.specs.Closed.{GoesOn, Stays}
 use Rattle.sm_executor.specs.Counting.{IsBooked}
 use Rattle.sm_executor.specs.Tied.{IsPublished}
-use Rattle.sm_executor.proofs.Keeps.{counted_opened, goes_on_opened}
+use Rattle.sm_executor.proofs.Keeps.{counted_opened}
 use Rattle.sm_executor.proofs.held.Held.open.Goals as goal
 
 pub invariant_of-result : goal.invariant_of-result
@@ -27,5 +27,5 @@ invariant_of-result g c =
       omega arith,
       c.requires.setup,
       omega arith,
-      subst (GoesOn o) (sym c.requires.opened) (goes_on_opened o),
+      subst (GoesOn o) (sym c.requires.opened) Stays,
     )

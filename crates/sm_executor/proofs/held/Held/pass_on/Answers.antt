@@ -8,7 +8,8 @@ use Rattle.sm_machine.specs.Requested.{played_by}
 use Rattle.sm_placement.specs.Sums.{bit}
 use Rattle.sm_executor.specs.Counting.{IsBooked, is_refused}
 use Rattle.sm_executor.proofs.Effects.{Asked, plans_asked, passed_made, executes_is, refuses_is}
-use Rattle.sm_executor.proofs.Keeps.{asked_kept, by_event, goes_on_alike}
+use Rattle.sm_executor.proofs.Keeps.{asked_kept}
+use Rattle.sm_executor.proofs.Leading.{led_by}
 use Rattle.sm_executor.proofs.held.Held.pass_on.Goals as goal
 
 pub invariant_of-self : goal.invariant_of-self
@@ -24,4 +25,4 @@ invariant_of-self g c =
     let f = c.count_answer.ensures.refused ∙ ap (λ n. c.self.inside.refused.total + n) (refuses_is answer) in
     let counted = subst (λ n. IsBooked g.N.Naming.opened v c.self.inside.steps.total c.count_answer.new.executed.total n) (sym f)
     (subst (λ n. IsBooked g.N.Naming.opened v c.self.inside.steps.total n (c.self.inside.refused.total + bit (is_refused (played_by answer)))) (sym e) k.counted) in
-    (k.tied, counted, i.2, i.3, i.4, i.5, i.6, i.7, i.8, i.9, i.10, i.11, c.pass_on-answer.ensures.setup ∙ i.12, subst (λ (l : List Start). c.self.inside.runners ≤ 64 * length l) (sym (plans_asked w v (played_by answer) made)) i.13, goes_on_alike g.N.Naming.opened w v (by_event w v (PassOn c.args.ticket) c.pass_on-answer.ensures.state) k.counted (plans_asked w v (played_by answer) made) i.14)
+    (k.tied, counted, i.2, i.3, i.4, i.5, i.6, i.7, i.8, i.9, i.10, i.11, c.pass_on-answer.ensures.setup ∙ i.12, subst (λ (l : List Start). c.self.inside.runners ≤ 64 * length l) (sym (plans_asked w v (played_by answer) made)) i.13, led_by g.N.Naming.opened w v (PassOn c.args.ticket) tt c.pass_on-answer.ensures.state i.14)

@@ -9,7 +9,8 @@ use Rattle.sm_executor.specs.Counting.{IsBooked, Counts}
 use Rattle.sm_executor.specs.Views.{RunnerModel, state_in, recorded_more}
 use Rattle.sm_executor.proofs.Effects.{Made, made_over, plans_made}
 use Rattle.sm_executor.proofs.Ranges.{in_range, known_shard}
-use Rattle.sm_executor.proofs.Keeps.{stepped, by_event, goes_on_alike}
+use Rattle.sm_executor.proofs.Keeps.{stepped}
+use Rattle.sm_executor.proofs.Leading.{led_by, step_fits}
 use Rattle.sm_executor.proofs.held.Held.step_over.Goals as goal
 
 pub overflow_sub-made : goal.overflow_sub-made
@@ -47,7 +48,7 @@ invariant_of-self g c =
     let b = ap length c.log.ensures in
     let t = c.add.ensures.total in
     let e : c.add.new.self.total ≡ c.self.inside.steps.total + recorded_more w v = t ∙ (λ j. c.self.inside.steps.total + (b j - a j)) in
-    (c.store_added.ensures, subst (λ n. IsBooked g.N.Naming.opened v n c.self.inside.executed.total c.self.inside.refused.total) (sym e) s.counted, i.2, i.3, i.4, i.5, i.6, i.7, i.8, i.9, i.10, i.11, c.step_over-step.ensures.setup ∙ i.12, subst (λ (l : List Start). c.self.inside.runners ≤ 64 * length l) (sym (plans_made (progress_of w id).done w v _ made)) i.13, goes_on_alike g.N.Naming.opened w v (by_event w v (event_over id o.passage) (sym (ap (λ (r : Outcome × State). r.1) o.event))) s.counted (plans_made (progress_of w id).done w v _ made) i.14)
+    (c.store_added.ensures, subst (λ n. IsBooked g.N.Naming.opened v n c.self.inside.executed.total c.self.inside.refused.total) (sym e) s.counted, i.2, i.3, i.4, i.5, i.6, i.7, i.8, i.9, i.10, i.11, c.step_over-step.ensures.setup ∙ i.12, subst (λ (l : List Start). c.self.inside.runners ≤ 64 * length l) (sym (plans_made (progress_of w id).done w v _ made)) i.13, led_by g.N.Naming.opened w v (event_over id o.passage) (step_fits w id o.passage) (sym (ap (λ (r : Outcome × State). r.1) o.event)) i.14)
 
 pub returns-clause-counts : goal.returns-clause-counts
 returns-clause-counts g c =
