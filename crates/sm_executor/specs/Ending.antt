@@ -2,16 +2,18 @@
 use Rattle.std.specs.Prelude.{◌≡◌, true, false}
 use Rattle.sm_placement.specs.Setup.{Setup}
 use Rattle.sm_protocol.specs.State.{State}
-use Rattle.sm_machine.specs.Retired.{has_ended}
+use Rattle.sm_machine.specs.Retired.{has_ended, made_in}
 use Rattle.sm_executor.specs.Closed.{IsBoardState}
 use Rattle.sm_executor.specs.Views.{EndedModel, RunnerModel, running, end_in}
 
--- At a state of the board the stream has made its end, and its steps, its tries and how many it was allowed are what that state has of it.
+-- At a state of the board the stream has made its end, its steps, its tries and how many it was allowed are what that state has of it, and
+-- its steps are its steps and lost tries in the log.
 pub record HasEnded (setup : Setup) (opened : State) (finish : EndedModel) : Type 0 where
   pub now : State
   pub state : IsBoardState setup opened now
   pub done : has_ended now finish.stream ≡ true
   pub counts : finish ≡ end_in now (running finish.stream finish.counted)
+  pub made : finish.steps ≡ made_in finish.stream now.log
 
 -- At a state of the board the runner's stream has not made its end.
 pub record HasNotEnded (setup : Setup) (opened : State) (runner : RunnerModel) : Type 0 where

@@ -15,7 +15,7 @@ ghost use Rattle.sm_machine.specs.Played.{played_of};
 ghost use Rattle.sm_machine.specs.Requested.{played_by, tickets_in};
 ghost use Rattle.sm_machine.specs.Restarted.{approval_of, restart_of};
 ghost use Rattle.sm_machine.specs.Losses.{refill_answer, is_lost_answer, IsStepOver};
-ghost use Rattle.sm_machine.specs.Retired.{has_ended};
+ghost use Rattle.sm_machine.specs.Retired.{has_ended, made_in};
 ghost use Rattle.sm_machine.specs.Started.{IsNotStarted};
 ghost use Rattle.sm_placement.specs.Sums.{bit};
 ghost use Rattle.sm_protocol.specs.declared.event.BeginFault.TheVariants as fault;
@@ -290,6 +290,7 @@ impl<A: Ledger, B: Ledger, C: Ledger, N: Naming> Held<A, B, C, N> {
     /// The runner's end, where its stream has made it. Else the runner comes back.
     pub fn retire(&self, runner: Runner<A>) -> Result<Ended<A>, Runner<A>>
         ensures ended { IfOk result (λ end. (has_ended (state_in self.now) runner.stream ≡ true) × (end ≡ end_in (state_in self.now) runner)) }
+        ensures made { IfOk result (λ end. end.steps ≡ made_in end.stream (state_in self.now).log) }
         ensures back { IfErr result (λ r. (has_ended (state_in self.now) runner.stream ≡ false) × (r ≡ runner)) }
     {
         let Runner { token, share } = runner;
