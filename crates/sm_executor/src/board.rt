@@ -23,7 +23,7 @@ ghost use Rattle.sm_executor.specs.Ending.{HasEnded, HasNotEnded};
 ghost use Rattle.sm_executor.specs.Looking.{HasKnownMap, KnowsMap, KnowsSameOrOlder};
 ghost use Rattle.sm_executor.specs.Starting.{HasBegun, HasNotBegun};
 ghost use Rattle.sm_executor.specs.Stepping.{HasMadeStep, HasStepped, is_waiting};
-ghost use Rattle.sm_executor.specs.Tied.{HasStood};
+ghost use Rattle.sm_executor.specs.Tied.{HasStood, IsMapOf};
 ghost use Rattle.sm_executor.specs.Views.{held_model, state_in, calling, IsNewCaller};
 ghost use Rattle.sm_plan_code.specs.declared.limits.TheConstants.{MOST_CALLS};
 ghost use Rattle.sm_executor.specs.declared.limits.TheConstants.{MOST_UNFINISHED};
@@ -57,6 +57,7 @@ pub struct Board<A: Ledger, B: Ledger, C: Ledger, N: Naming> {
     ghost configured: { config ≡ N.setup },
     ghost shards: { length N.words.opening ≡ length N.setup.shards },
     ghost servers: { N.words.servers ≡ length N.setup.servers },
+    ghost map: { IsMapOf N.words N.opened },
     ghost roomy: { MOST_UNFINISHED ≤ vec_capacity positions },
 }
 
@@ -96,6 +97,7 @@ impl<A: Ledger, B: Ledger, C: Ledger, N: Naming> Board<A, B, C, N> {
     ) -> Board<A, B, C, N>
         requires words { words ≡ N.words }
         requires config { config ≡ N.setup }
+        requires map { IsMapOf N.words N.opened }
         requires room { MOST_UNFINISHED ≤ vec_capacity positions }
     {
         Board::again(held, Condvar::new(), words, config, positions)
@@ -111,6 +113,7 @@ impl<A: Ledger, B: Ledger, C: Ledger, N: Naming> Board<A, B, C, N> {
     ) -> Board<A, B, C, N>
         requires words { words ≡ N.words }
         requires config { config ≡ N.setup }
+        requires map { IsMapOf N.words N.opened }
         requires room { MOST_UNFINISHED ≤ vec_capacity positions }
         ensures { result.positions.items ≡ positions.items }
     {
@@ -124,9 +127,10 @@ impl<A: Ledger, B: Ledger, C: Ledger, N: Naming> Board<A, B, C, N> {
         }
     }
 
-    /// The configuration of the board's machine, which has as many shards and servers as the board's map.
+    /// The configuration of the board's machine. The board's map was opened with the entries of that machine, one for each shard.
     pub fn config(&self) -> &Config
         ensures setup { result.now ≡ N.setup }
+        ensures map { IsMapOf N.words N.opened }
         ensures shards { length N.words.opening ≡ length N.setup.shards }
         ensures servers { N.words.servers ≡ length N.setup.servers }
     {
@@ -316,6 +320,7 @@ impl<A: Ledger, B: Ledger, C: Ledger, N: Naming> Board<A, B, C, N> {
     pub fn hold<R: Wait>(&self, rt: &R) -> Guard<'_, A, B, C, N>
         ensures state { IsBoardState N.setup N.opened (state_in result) }
         ensures setup { result.machine.placement.setup ≡ N.setup }
+        ensures map { IsMapOf N.words N.opened }
         ensures shards { length N.words.opening ≡ length N.setup.shards }
         ensures servers { N.words.servers ≡ length N.setup.servers }
     {

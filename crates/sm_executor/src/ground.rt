@@ -126,6 +126,7 @@ impl Ground {
         ensures held { result.0 ≡ held_model machine 0 0 }
         ensures words { result.1 ≡ N.words }
         ensures config { result.2 ≡ N.setup }
+        ensures map { IsMapOf N.words N.opened }
     {
         let Ground {
             words,

@@ -8,6 +8,11 @@ use Rattle.sm_executor.specs.Tied.{IsMapOf}
 use Rattle.sm_executor.proofs.Keeps.{tied_opened}
 use Rattle.sm_executor.proofs.ground.Ground.laid.Goals as goal
 
+pub returns-clause-map : goal.returns-clause-map
+returns-clause-map g c =
+    let n = c.requires.names in
+    subst (λ (w : State). IsMapOf g.N.Naming.words w) n.2 (subst (λ (v : WordsModel). IsMapOf v (state_of c.args.machine)) n.0 c.requires.map)
+
 pub open-held-requires-clause-tied : goal.open-held-requires-clause-tied
 open-held-requires-clause-tied g c =
     let n = c.requires.names in
