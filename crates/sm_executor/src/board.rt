@@ -191,8 +191,12 @@ impl<A: Ledger, B: Ledger, C: Ledger, N: Naming> Board<A, B, C, N> {
         ensures over { HasStepped L.asked link.old link.new N.setup N.opened runner.old runner.new (played_of result) }
         ensures lost { L.losses link.new ≡ L.losses link.old + bit (is_lost_answer (played_of result)) }
     {
-        let step = self.held.lock(rt).make_step(&self.words, runner, link);
-        self.moved.notify_all();
+        let mut held = self.held.lock(rt);
+        let posts = held.is_before_signal(runner);
+        let step = held.make_step(&self.words, runner, link);
+        if posts {
+            self.moved.notify_all();
+        }
         step
     }
 
@@ -233,10 +237,13 @@ impl<A: Ledger, B: Ledger, C: Ledger, N: Naming> Board<A, B, C, N> {
     {
         let mut held = self.held.lock(rt);
         for _ in rt.forever() {
-            let step = held.make_step(&self.words, runner, link);
-            if !is_blocked(step) {
+            let posts = held.is_before_signal(runner);
+            let answer = held.make_step(&self.words, runner, link);
+            if posts {
                 self.moved.notify_all();
-                return step;
+            }
+            if !is_blocked(answer) {
+                return answer;
             }
             held = self.moved.wait(rt, held);
         }

@@ -14,6 +14,7 @@ mod limits;
 mod names;
 mod runner;
 mod shares;
+mod signals;
 mod sure;
 mod threads;
 mod unfinished;
