@@ -185,7 +185,8 @@ impl<A: Ledger, B: Ledger, C: Ledger, N: Naming> Board<A, B, C, N> {
         held.retire(runner)
     }
 
-    /// The runner's next step over a link, which is asked for the try of a call.
+    /// The runner's next step over a link, which is asked for the try of a call, under the board's lock. So the link must not call the
+    /// board: it would wait for itself.
     pub fn step_over<R: Wait, L: Link>(&self, rt: &R, runner: &mut Runner<A>, link: &mut L) -> Step
         ensures stream { runner.new.stream ≡ runner.old.stream }
         ensures over { HasStepped L.asked link.old link.new N.setup N.opened runner.old runner.new (played_of result) }
@@ -256,7 +257,8 @@ impl<A: Ledger, B: Ledger, C: Ledger, N: Naming> Board<A, B, C, N> {
         self.moved.notify_all();
     }
 
-    /// Streams go on.
+    /// Lets streams make steps again. Call it once every run that the halt stopped has come back: a stream of such a run that waits for a
+    /// signal and gets the lock only after this call waits on, also for a stream whose thread has stopped.
     pub fn resume<R: Wait>(&self, rt: &R) {
         self.held.lock(rt).resume();
         self.moved.notify_all();
@@ -323,7 +325,8 @@ impl<A: Ledger, B: Ledger, C: Ledger, N: Naming> Board<A, B, C, N> {
         guard.held.look_held(&self.words, caller, shard)
     }
 
-    /// The locked machine, which is at a state of the board.
+    /// The locked machine, which is at a state of the board. As long as a thread has the guard it must not call what takes the lock: it
+    /// would wait for itself. Looks take none.
     pub fn hold<R: Wait>(&self, rt: &R) -> Guard<'_, A, B, C, N>
         ensures state { IsBoardState N.setup N.opened (state_in result) }
         ensures setup { result.machine.placement.setup ≡ N.setup }

@@ -12,7 +12,8 @@ use std::sync::{Condvar, Mutex, Wait};
 /// before the step.
 ///
 /// `before` and `after` come once for each recorded step, and once for a last step that is Halted or Spent. A step that waits for
-/// a signal waits between the two.
+/// a signal waits between the two. A gate may call the board. It must not keep a guard while it calls what takes the lock, nor wait for a
+/// stream that waits for its own.
 pub trait Gate {
     /// Comes before a step of the stream.
     fn before<R: Wait>(&self, rt: &R, stream: StreamId, at: usize);
