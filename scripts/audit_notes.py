@@ -64,6 +64,7 @@ NOTES = {
     "driven_is_safe": "reopenings while they are under way: 25 does",
     "sends_as_driven": NOTHING,
     "drivers_open": NOTHING,
+    "open_with_fleet": "that real servers have the cells of the placement",
     "reopened_drivers_open": NOTHING,
     "approved_where_reserved": NOTHING,
     "ends_are_reached": NOTHING,

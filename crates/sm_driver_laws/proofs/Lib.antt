@@ -6,3 +6,4 @@ mod Events
 mod Turns
 mod Sends
 mod Opening
+mod FirstPlace

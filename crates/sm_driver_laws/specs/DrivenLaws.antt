@@ -75,6 +75,10 @@ pub record IsJustOpened (rows : Setup) (p : Place) (room : ℕ) (before : List (
   pub permits : d.permits ≡ opening_permits (base d) before (length rows.servers) p.down
   pub restores : d.restores ≡ replicate (length rows.servers) None
 
+-- there is a fleet that opens, and the driver is its controller
+abbrev pub HasFleet : DriverModel → Type 0
+HasFleet d = (f : Fleet) × IsDrivenOpening (record { driver = d; fleet = f })
+
 -- The first driver of a journal is the controller of a fleet that opens, whose servers have the cells of the placement.
 abbrev pub DriversOpen : Type 0
 DriversOpen = (setup : Setup) (p : Place) (room : ℕ) (d : DriverModel) → IsOpening setup p room → IsJustOpened setup p room [] d → d.fence ≡ 0 →

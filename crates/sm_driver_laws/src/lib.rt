@@ -3,9 +3,11 @@
 
 mod control;
 mod driven;
+mod first;
 
 pub use control::{answers_have_entries, commands_are_entries};
 pub use driven::{
     commands_are_events, driven_is_controlled, driven_is_safe, drivers_open, reopened_drivers_open,
     sends_as_driven,
 };
+pub use first::open_with_fleet;
