@@ -7,3 +7,4 @@ mod Turns
 mod Sends
 mod Opening
 mod FirstPlace
+mod Written

@@ -61,6 +61,10 @@ Writes (EndRestart permit server_base) old new es = (v : ℕ) × HasEndedRestart
 Writes (RestoreServer v nonce) old new es = HasRestored v nonce old new × (es ≡ Restored v nonce ∷ [])
 Writes OpenEpoch old new es = HasOpenedEpoch old new × (epoch_fault old ≡ None) × (es ≡ Opened (record_of old).room ∷ [])
 
+-- the command has some entries
+abbrev pub IsWritten : Command → DriverModel → DriverModel → Type 0
+IsWritten command old new = (es : List JournalEntry) × Writes command old new es
+
 -- What the caller of a command has to know: the plan was checked for the driver's configuration, and the server is one of it.
 abbrev pub IsCallable : DriverModel → Command → Type 0
 IsCallable d (BeginPlan plan) = FitsConfig (record_of d).sizes (Begin plan)

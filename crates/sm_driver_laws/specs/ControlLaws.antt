@@ -1,7 +1,7 @@
 -- The laws of the driver as a controller, behind their premises.
 use Rattle.std.specs.Prelude.{◌≡◌, ℕ, true, List}
 use Rattle.sm_network.specs.Controller.{replayed}
-use Rattle.sm_driver_laws.specs.Control.{Command, Controller, DriverModel, HasTakenStep, IsCallable, IsControllerOf, JournalEntry, StreamId, TakeAnswer, Writes, is_due}
+use Rattle.sm_driver_laws.specs.Control.{Command, Controller, DriverModel, HasTakenStep, IsCallable, IsControllerOf, IsWritten, JournalEntry, StreamId, TakeAnswer, Writes, is_due}
 
 -- If a driver is a controller, what a command makes of the driver is what the command's entries make of the controller.
 abbrev pub CommandsAreEntries : Type 0
@@ -10,5 +10,4 @@ CommandsAreEntries = (command : Command) (old new : DriverModel) (es : List Jour
 
 -- Each answer that the driver takes has an entry.
 abbrev pub AnswersHaveEntries : Type 0
-AnswersHaveEntries = (id : StreamId) (number : ℕ) (old new : DriverModel) → is_due old id number ≡ true → HasTakenStep id old new →
-    (es : List JournalEntry) × Writes (TakeAnswer id number) old new es
+AnswersHaveEntries = (id : StreamId) (number : ℕ) (old new : DriverModel) → is_due old id number ≡ true → HasTakenStep id old new → IsWritten (TakeAnswer id number) old new

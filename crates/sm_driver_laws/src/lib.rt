@@ -4,6 +4,7 @@
 mod control;
 mod driven;
 mod first;
+mod taking;
 
 pub use control::{answers_have_entries, commands_are_entries};
 pub use driven::{
@@ -11,3 +12,4 @@ pub use driven::{
     sends_as_driven,
 };
 pub use first::open_with_fleet;
+pub use taking::{answered, approve, begin, new_epoch, restarted, restore};
