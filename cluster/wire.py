@@ -157,7 +157,7 @@ class Channel:
                 self.writer.write(line_of({"id": number, **request}))
                 reply = await future
         except TimeoutError as error:
-            raise Failed("Late", str(self.address)) from error
+            raise Failed("Late", f"{self.address.host}:{self.address.port}") from error
         except OSError as error:
             raise Failed("Lost", str(error)) from error
         finally:
