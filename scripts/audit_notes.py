@@ -63,6 +63,8 @@ NOTES = {
     "driven_is_controlled": "that the host tells the truth",
     "driven_is_safe": "reopenings while they are under way: 25 does",
     "sends_as_driven": NOTHING,
+    "changes_are_commands": "that a line tells the truth",
+    "changes_are_turns": "lines of a reopening: 25 and `reopened_drivers_open` do",
     "drivers_open": NOTHING,
     "open_with_fleet": "that real servers have the cells of the placement",
     "reopened_drivers_open": NOTHING,

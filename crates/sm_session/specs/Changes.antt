@@ -6,9 +6,10 @@ use Rattle.sm_placement.specs.Config.{setup_of}
 use Rattle.sm_placement.specs.Place.{Place}
 use Rattle.sm_placement.specs.Lead.{IsSettled}
 use Rattle.sm_plan_code.specs.Plan.{PlanModel}
+use Rattle.sm_verifier.specs.Plan.{IsCheckedPlan}
 use Rattle.sm_protocol.specs.State.{opened}
 use Rattle.sm_driver.specs.Driver.{DriverModel, HasApproved, HasBegunPlan, HasEndedRestart, HasRestored, HasTakenStep, is_due, record_of}
-use Rattle.sm_driver.specs.Epochs.{HasOpenedEpoch}
+use Rattle.sm_driver.specs.Epochs.{HasOpenedEpoch, epoch_fault}
 use Rattle.sm_open_journal.specs.declared.opened.Opened.{Opened}
 use Rattle.sm_network.specs.Reopening.{Reopening, Settlement}
 use Rattle.sm_network.specs.ReopeningLaws.{no_reopening}
@@ -28,17 +29,17 @@ driver_of = option_map (λ (o : Opened). o.driver)
 abbrev pub HasOpened : DriverModel → Type 0
 HasOpened new = (c : Sizes) × (p : Place) × (log : ℕ) × IsSettled c p × (record_of new ≡ opened c p log)
 
--- a plan has begun
+-- a checked plan has begun
 abbrev pub BeginsPlan : DriverModel → DriverModel → Type 0
-BeginsPlan old new = (plan : PlanModel) × (number : ℕ) × HasBegunPlan plan number old new
+BeginsPlan old new = (plan : PlanModel) × (number : ℕ) × IsCheckedPlan (record_of old).sizes plan × HasBegunPlan plan number old new
 
 -- a stream has made the step whose answer it waited for
 abbrev pub TakesAnswer : DriverModel → DriverModel → Type 0
 TakesAnswer old new = (id : StreamId) × (number : ℕ) × (is_due old id number ≡ true) × HasTakenStep id old new
 
--- a restart was approved
+-- the restart of a known server was approved
 abbrev pub ApprovesRestart : DriverModel → DriverModel → Type 0
-ApprovesRestart old new = (server : ℕ) × (permit : ℕ) × HasApproved server permit old new
+ApprovesRestart old new = (server : ℕ) × (permit : ℕ) × (server < (record_of old).sizes.servers) × HasApproved server permit old new
 
 -- a restart has ended by this permit, of a server with this base
 abbrev pub EndsRestart : ℕ → Option ℕ → DriverModel → DriverModel → Type 0
@@ -48,6 +49,10 @@ EndsRestart permit base old new = (server : ℕ) × HasEndedRestart server permi
 abbrev pub RestoresServer : DriverModel → DriverModel → Type 0
 RestoresServer old new = (server : ℕ) × (nonce : ℕ) × HasRestored server nonce old new
 
+-- the next epoch has opened, which nothing was against
+abbrev pub OpensNext : DriverModel → DriverModel → Type 0
+OpensNext old new = (epoch_fault old ≡ None) × HasOpenedEpoch old new
+
 -- What a command makes of the driver of an open journal.
 pub data Changes (old new : DriverModel) : Type 0 where
   Begins : BeginsPlan old new → Changes old new
@@ -55,7 +60,7 @@ pub data Changes (old new : DriverModel) : Type 0 where
   Approves : ApprovesRestart old new → Changes old new
   Ends : (permit : ℕ) (base : Option ℕ) → EndsRestart permit base old new → Changes old new
   Restores : RestoresServer old new → Changes old new
-  OpensEpoch : HasOpenedEpoch old new → Changes old new
+  OpensEpoch : OpensNext old new → Changes old new
 
 -- what a command that changed something made of the driver
 abbrev pub HasDriven : Option DriverModel → Option DriverModel → Type 0

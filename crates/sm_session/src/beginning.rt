@@ -1,7 +1,9 @@
 //! The begin of a plan.
 ghost use Rattle.std.specs.Prelude.{◌≡◌, IfOk, IfSome, None, length, false, true};
+ghost use Rattle.sm_placement.specs.Setup.{sizes_of};
 ghost use Rattle.sm_names.specs.Names.{value_of};
 ghost use Rattle.sm_plan_code.specs.Plan.{IsKnownPlan};
+ghost use Rattle.sm_verifier.specs.Plan.{IsCheckedPlan};
 ghost use Rattle.sm_session.specs.Changes.{BeginsPlan};
 
 use crate::planning::read_plan;
@@ -23,13 +25,17 @@ fn ready(
     plan: Plan,
 ) -> Result<Option<ReadyPlan>, AllocError>
     requires { IsKnownPlan (length opened.now.driver.machine.placement.setup.shards) (length opened.now.driver.machine.placement.setup.servers) plan }
-    ensures { IfOk result (λ found. IfSome found (λ ready. ready.setup ≡ opened.now.driver.machine.placement.setup)) }
+    ensures setup { IfOk result (λ found. IfSome found (λ ready. ready.setup ≡ opened.now.driver.machine.placement.setup)) }
+    ensures checked { IfOk result (λ found. IfSome found (λ ready. IsCheckedPlan (sizes_of ready.setup) ready.plan)) }
 {
     match check(alloc, opened.driver.machine().config(), plan) {
-        Ok(checked) => match make_ready(alloc, checked) {
-            Ok(ready) => Ok(Some(ready)),
-            Err(_) => Err(AllocError),
-        },
+        Ok(checked) => {
+            let _count = checked.plan().streams().len();
+            match make_ready(alloc, checked) {
+                Ok(ready) => Ok(Some(ready)),
+                Err(_) => Err(AllocError),
+            }
+        }
         Err((_, Fault::NoMemory)) => Err(AllocError),
         Err((_, fault)) => {
             refuse_check(writer, alloc, &fault)?;
@@ -67,6 +73,7 @@ fn start(
     name: &str,
 ) -> Result<bool, AllocError>
     requires setup { ready.setup ≡ opened.old.driver.machine.placement.setup }
+    requires checked { IsCheckedPlan (sizes_of ready.setup) ready.plan }
     requires new { value_of opened.old.plans name.now ≡ None }
     ensures begun { IfOk result (λ begun. begun ≡ true → BeginsPlan opened.old.driver opened.new.driver) }
     ensures unchanged { IfOk result (λ begun. begun ≡ false → opened.new ≡ opened.old) }

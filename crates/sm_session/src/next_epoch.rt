@@ -1,6 +1,6 @@
 //! The opening of the next epoch.
 ghost use Rattle.std.specs.Prelude.{◌≡◌, IfOk, false, true};
-ghost use Rattle.sm_driver.specs.Epochs.{HasOpenedEpoch};
+ghost use Rattle.sm_session.specs.Changes.{OpensNext};
 
 use crate::standing::Standing;
 use json::Writer;
@@ -38,7 +38,7 @@ pub fn open_next(
     alloc: Global,
     writer: &mut Writer,
 ) -> Result<bool, AllocError>
-    ensures opened { IfOk result (λ is_open. is_open ≡ true → HasOpenedEpoch opened.old.driver opened.new.driver) }
+    ensures opened { IfOk result (λ is_open. is_open ≡ true → OpensNext opened.old.driver opened.new.driver) }
     ensures unchanged { IfOk result (λ is_open. is_open ≡ false → opened.new ≡ opened.old) }
     ensures in_force { IfOk result (λ is_open. is_open ≡ true → at.is_reopening ≡ false) }
 {

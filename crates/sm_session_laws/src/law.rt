@@ -1,0 +1,19 @@
+//! The laws.
+ghost use Rattle.sm_driver_laws.specs.Driven.{EachDriven};
+ghost use Rattle.sm_session_laws.specs.Turns.{ChangesAreCommands, ChangesAreTurns};
+
+use sm_driver_laws::answers_have_entries;
+
+/// What a line makes of the driver of an open journal is what a command of the driver does.
+pub fn changes_are_commands()
+    ensures { ChangesAreCommands }
+{
+    answers_have_entries();
+}
+
+/// If a line tells the truth, it is a turn of the driver and its fleet, so all laws of the fleet go on to hold.
+pub fn changes_are_turns()
+    ensures { EachDriven ChangesAreTurns }
+{
+    changes_are_commands();
+}
