@@ -46,8 +46,8 @@ pub record IsDrivenSafely (x : Driven) : Type 0 where
 -- ---- what the driver sends
 
 -- an order as the driver sends it, with the load and the room of its configuration
-abbrev pub letter_by : DriverModel → Order → Letter
-letter_by d o = record {
+abbrev pub driver_letter : DriverModel → Order → Letter
+driver_letter d o = record {
   order = o;
   journal = d.journal;
   fence = d.fence;
@@ -56,15 +56,15 @@ letter_by d o = record {
 }
 
 -- a publication as the driver sends it
-abbrev pub notice_by : DriverModel → Publication → Notice
-notice_by d p = record { publication = p; journal = d.journal; fence = d.fence }
+abbrev pub driver_notice : DriverModel → Publication → Notice
+driver_notice d p = record { publication = p; journal = d.journal; fence = d.fence }
 
 -- What the controller of the fleet sends for a stream is what the driver hands out: its order, and its publication.
 pub record SendsAsDriven (x : Driven) : Type 0 where
   pub orders : (id : StreamId) → (fleet_comes x.fleet (SendOrder 0 id)).1 ≡
-      record x.fleet { sent = x.fleet.sent ++ option_to_list (option_map (letter_by x.driver) (order_of (base x.driver) (record_of x.driver) id)) }
+      record x.fleet { sent = x.fleet.sent ++ option_to_list (option_map (driver_letter x.driver) (order_of (base x.driver) (record_of x.driver) id)) }
   pub publications : (id : StreamId) → (fleet_comes x.fleet (SendPublication 0 id)).1 ≡
-      record x.fleet { published = x.fleet.published ++ option_to_list (option_map (notice_by x.driver) (publication_of (base x.driver) (record_of x.driver) id)) }
+      record x.fleet { published = x.fleet.published ++ option_to_list (option_map (driver_notice x.driver) (publication_of (base x.driver) (record_of x.driver) id)) }
 
 -- ---- openings
 
