@@ -3,12 +3,17 @@
 
 mod audit;
 mod begun_plan;
+mod calls;
 mod cells;
 mod copying;
 mod failed;
 mod given_permits;
 mod history;
+mod holders;
+mod letters;
+mod members;
 mod messages;
+mod moved;
 mod notices;
 mod noting;
 mod opened;

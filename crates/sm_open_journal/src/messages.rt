@@ -1,16 +1,17 @@
-//! Orders and publications as they go out.
-ghost use Rattle.std.specs.Prelude.{◌≡◌, ◌<◌, length, true};
-ghost use Rattle.sm_protocol.specs.State.{is_begun};
+//! The orders and publications of streams as they go out.
+ghost use Rattle.std.specs.Prelude.{◌≡◌, ◌<◌, ◌++◌, ℕ, IfOk, OnOk, slice_get, true};
+ghost use Rattle.std.specs.List.{flat_map, range_with_len};
+ghost use Rattle.sm_protocol.specs.State.{is_begun, stream_count, stream_id};
+ghost use Rattle.sm_machine.specs.State.{state_of};
 ghost use Rattle.sm_driver.specs.Driver.{record_of};
+ghost use Rattle.sm_driver.specs.Orders.{awaiting_of};
+ghost use Rattle.sm_open_journal.specs.Messages.{stream_message, orders_member};
+ghost use Rattle.sm_open_journal.specs.Replies.{ended_member, ended_text, gone_on, message_if_new, new_message, plan_members, sinces_of, stands_else};
 
 use json::Writer;
-use sm_commands::{server_name, shard_name, write_name, write_number, write_text};
-use sm_driver::{Driver, StreamOrder, StreamPublication};
+use sm_driver::Driver;
 use sm_machine::Machine;
-use sm_placement::{Config, Lead, Placement};
-use sm_plan_code::MOST_STREAMS;
 use sm_reservation::StreamId;
-use sm_server::{Call, Role, ServerId, ShardId};
 use std::alloc::{AllocError, Global};
 
 /// Writes orders and publications of a driver.
@@ -21,289 +22,147 @@ pub struct Messages<'d> {
     pub journal: &'d str,
 }
 
-/// Returns the word for a call.
-fn call_word(call: &Call) -> &'static str {
-    match call {
-        Call::Add(_) => "add",
-        Call::Drop => "drop",
-        Call::Change { .. } => "change",
-        Call::PrepareAdd { .. } => "prepare_add",
-        Call::PrepareDrop { .. } => "prepare_drop",
-    }
-}
-
-/// Returns the word for a role.
-fn role_word(role: Role) -> &'static str {
-    match role {
-        Role::Primary => "primary",
-        Role::Secondary => "secondary",
-    }
-}
-
-/// Returns the server that has a shard's data: the primary, and in a handover the old owner until the new one has taken over.
-fn owner_in(lead: Lead) -> Option<ServerId> {
-    match lead {
-        Lead::Gone => None,
-        Lead::At(owner) => Some(owner),
-        Lead::Ready(owner, _) => Some(owner),
-        Lead::Handing(owner, _) => Some(owner),
-        Lead::Handed(_, owner) => Some(owner),
-    }
-}
-
-/// Returns the server that has a shard's data.
-fn owner_of(placement: &Placement, shard: ShardId) -> Option<ServerId>
-    requires { shard < length placement.now.setup.shards }
+/// Returns how many streams a plan has that has begun: none if it has not.
+pub fn stream_count(machine: &Machine, plan: u32) -> u32
+    ensures count { result ≡ stream_count (state_of machine.now) plan }
+    ensures begun { (i : ℕ) → i < result → is_begun (state_of machine.now) (stream_id plan i) ≡ true }
 {
-    let lead = placement.lead(shard)?;
-    owner_in(lead)
-}
-
-/// Writes a handover: its other server, and its number.
-fn write_handover(
-    writer: &mut Writer,
-    config: &Config,
-    end: &str,
-    other: ServerId,
-    number: u64,
-) -> Result<(), AllocError> {
-    write_text(writer, end, server_name(config, other))?;
-    write_number(writer, "handover", number)
-}
-
-/// Writes what a call needs to say beside its word.
-fn write_call(writer: &mut Writer, config: &Config, call: &Call) -> Result<(), AllocError> {
-    match call {
-        Call::Add(role) => write_text(writer, "role", role_word(*role)),
-        Call::Drop => Ok(()),
-        Call::Change { from, to } => {
-            write_text(writer, "from", role_word(*from))?;
-            write_text(writer, "to", role_word(*to))
-        }
-        Call::PrepareAdd { owner, number } => {
-            write_handover(writer, config, "from", *owner, *number)
-        }
-        Call::PrepareDrop { new_owner, number } => {
-            write_handover(writer, config, "to", *new_owner, *number)
-        }
+    if u64::from(plan) >= machine.plan_count() {
+        return 0;
     }
+    machine.plan(plan).streams().len() as u32
 }
 
-/// Writes the server that has a shard's data.
-fn write_owner(writer: &mut Writer, placement: &Placement, shard: ShardId) -> Result<(), AllocError>
-    requires { shard < length placement.now.setup.shards }
+/// Returns since when the stream at a number stood where it stood, if it stood anywhere.
+pub fn since_at(sinces: &[u32], stream: u32) -> Option<u32>
+    ensures { result ≡ slice_get sinces.now stream }
 {
-    match owner_of(placement, shard) {
-        Some(owner) => write_text(writer, "primary", server_name(placement.config(), owner)),
-        None => write_name(writer, "primary", None),
-    }
+    sinces.get(stream as usize).copied()
 }
 
-/// Writes, as a member, the server that the map names, or that it names none.
-pub fn write_listed(
-    writer: &mut Writer,
-    config: &Config,
-    name: &str,
-    listed: Option<ServerId>,
-) -> Result<(), AllocError> {
-    match listed {
-        Some(server) => write_text(writer, name, server_name(config, server)),
-        None => write_name(writer, name, None),
-    }
-}
-
-/// Writes the servers that have a replica of a shard, or a place for one.
-fn write_replicas(
-    writer: &mut Writer,
-    placement: &Placement,
-    shard: ShardId,
-) -> Result<(), AllocError>
-    requires { shard < length placement.now.setup.shards }
+/// Returns whether a stream does not stand where it stood since then, if it stood anywhere.
+pub fn stands_else(machine: &Machine, id: StreamId, since: Option<u32>) -> bool
+    requires { is_begun (state_of machine.now) id ≡ true }
+    ensures { result ≡ stands_else (state_of machine.now) id since }
 {
-    let config = placement.config();
-    writer.key("replicas")?;
-    writer.begin_array()?;
-    for number in 0..config.server_count() {
-        let server = ServerId::new(number);
-        if !placement.cell(shard, server).is_absent() {
-            writer.string(server_name(config, server))?;
-        }
+    match since {
+        Some(since) => since != machine.since(id),
+        None => true,
     }
-    writer.end_array()
-}
-
-/// Returns whether a stream has begun, and does not stand where it stood.
-pub fn has_gone_on(machine: &Machine, id: StreamId, since: Option<u32>) -> bool {
-    machine.is_begun(id) && since != Some(machine.since(id))
 }
 
 impl Messages<'_> {
-    /// Writes of which stream a message is, and its number.
-    fn write_head(
-        &self,
-        writer: &mut Writer,
-        stream: StreamId,
-        number: u64,
-    ) -> Result<(), AllocError> {
-        write_text(writer, "journal", self.journal)?;
-        write_number(writer, "epoch", u64::from(self.driver.epoch()))?;
-        write_number(writer, "fence", self.driver.fence())?;
-        write_number(writer, "plan", u64::from(stream.plan))?;
-        write_number(writer, "stream", u64::from(stream.stream))?;
-        write_number(writer, "number", number)
-    }
-
-    /// Writes an order, whose server and shard are known.
-    fn write_order(&self, writer: &mut Writer, order: &StreamOrder) -> Result<(), AllocError>
-        requires shard { order.now.call.shard < length self.now.driver.now.machine.placement.setup.shards }
-        requires server { order.now.call.server < length self.now.driver.now.machine.placement.setup.servers }
-    {
-        let placement = self.driver.machine().placement();
-        let config = placement.config();
-        let shard = order.call.shard;
-        let server = order.call.server;
-        writer.begin_object()?;
-        self.write_head(writer, order.stream, order.number)?;
-        write_text(writer, "server", server_name(config, server))?;
-        write_text(writer, "call", call_word(&order.call.call))?;
-        write_text(writer, "shard", shard_name(config, shard))?;
-        write_call(writer, config, &order.call.call)?;
-        write_number(writer, "load", config.load(shard))?;
-        write_number(writer, "room", config.room(server))?;
-        write_owner(writer, placement, shard)?;
-        write_replicas(writer, placement, shard)?;
-        writer.end_object()
-    }
-
-    /// Writes a publication of a stream that has begun.
-    fn write_publication(
-        &self,
-        writer: &mut Writer,
-        publication: &StreamPublication,
-    ) -> Result<(), AllocError>
-        requires { is_begun (record_of self.now.driver.now) publication.now.stream ≡ true }
-    {
-        let machine = self.driver.machine();
-        let config = machine.config();
-        let since = machine.since(publication.stream);
-        let number = self.driver.base() + u64::from(since) + 1;
-        writer.begin_object()?;
-        self.write_head(writer, publication.stream, number)?;
-        write_name(writer, "server", None)?;
-        write_text(writer, "call", "publish")?;
-        write_text(writer, "shard", shard_name(config, publication.shard))?;
-        write_listed(writer, config, "to", publication.entry.server)?;
-        write_number(writer, "version", publication.entry.version)?;
-        writer.end_object()
-    }
-
-    /// Tells whether the server and the shard of an order are known.
-    fn is_known(&self, order: &StreamOrder) -> bool
-        ensures { result ≡ true → (order.now.call.shard < length self.now.driver.now.machine.placement.setup.shards) × (order.now.call.server < length self.now.driver.now.machine.placement.setup.servers) }
-    {
-        let config = self.driver.machine().config();
-        let shard = order.call.shard.number();
-        let server = order.call.server.number();
-        shard < config.shard_count() && server < config.server_count()
-    }
-
-    /// Writes the order or the publication that a stream stands before, if it stands before one.
-    pub fn write_of(&self, writer: &mut Writer, stream: StreamId) -> Result<(), AllocError> {
-        if let Some(order) = self.driver.order(stream) {
-            return self.write_if_known(writer, &order);
-        }
-        match self.driver.publication(stream) {
-            Some(publication) => self.write_if_begun(writer, &publication),
-            None => Ok(()),
-        }
-    }
-
-    /// Writes an order, which names what is known.
-    fn write_if_known(&self, writer: &mut Writer, order: &StreamOrder) -> Result<(), AllocError> {
-        if self.is_known(order) {
-            self.write_order(writer, order)
-        } else {
-            Ok(())
-        }
-    }
-
-    /// Writes a publication, whose stream has begun.
-    fn write_if_begun(
-        &self,
-        writer: &mut Writer,
-        publication: &StreamPublication,
-    ) -> Result<(), AllocError> {
-        if self.driver.machine().is_begun(publication.stream) {
-            self.write_publication(writer, publication)
-        } else {
-            Ok(())
-        }
-    }
-
     /// Returns since when the streams of a plan stand where they stand: none if the plan has not begun.
-    pub fn sinces(&self, alloc: Global, plan: u32) -> Result<Vec<u32>, AllocError> {
+    pub fn sinces(&self, alloc: Global, plan: u32) -> Result<Vec<u32>, AllocError>
+        ensures { IfOk result (λ sinces. sinces.items ≡ sinces_of (record_of self.now.driver.now) plan) }
+    {
         let machine = self.driver.machine();
         let mut sinces = Vec::new(alloc);
-        for stream in 0..MOST_STREAMS {
-            let id = StreamId {
-                plan,
-                stream: stream as u32,
-            };
-            if !machine.is_begun(id) {
-                break;
-            }
-            sinces.push(machine.since(id))?;
+        for stream in 0..stream_count(machine, plan) {
+            sinces.push(machine.since(StreamId { plan, stream }))?;
         }
         Ok(sinces)
     }
 
-    /// Writes, as a member, the messages of those streams of a plan that have gone on since.
-    pub fn write_new(
+    /// Writes the message of a stream that has begun, if it does not stand where it stood since then.
+    fn write_if_new(
+        &self,
+        writer: &mut Writer,
+        id: StreamId,
+        since: Option<u32>,
+    ) -> Result<(), AllocError>
+        requires { is_begun (record_of self.now.driver.now) id ≡ true }
+        ensures { OnOk result (writer.new.tokens ≡ writer.old.tokens ++ message_if_new self.now.journal.now self.now.driver.now id since) }
+    {
+        if stands_else(self.driver.machine(), id, since) {
+            self.write_of(writer, id)
+        } else {
+            Ok(())
+        }
+    }
+
+    /// Writes the messages of those streams of a plan that have gone on since they stood so.
+    fn write_each_new(
         &self,
         writer: &mut Writer,
         plan: u32,
         sinces: &[u32],
-    ) -> Result<(), AllocError> {
-        writer.key("orders")?;
-        writer.begin_array()?;
-        for stream in 0..MOST_STREAMS {
-            let id = StreamId {
-                plan,
-                stream: stream as u32,
-            };
-            if has_gone_on(self.driver.machine(), id, sinces.get(stream).copied()) {
-                self.write_of(writer, id)?;
-            }
+    ) -> Result<(), AllocError>
+        ensures { OnOk result (writer.new.tokens ≡ writer.old.tokens ++ flat_map (new_message self.now.journal.now self.now.driver.now plan sinces.now) (range_with_len 0 (stream_count (record_of self.now.driver.now) plan))) }
+    {
+        for stream in 0..stream_count(self.driver.machine(), plan) {
+            let since = since_at(sinces, stream);
+            self.write_if_new(writer, StreamId { plan, stream }, since)?;
         }
-        writer.end_array()
+        Ok(())
     }
 
-    /// Writes, as a member, all messages.
-    pub fn write_all(&self, writer: &mut Writer) -> Result<(), AllocError> {
+    /// Writes them, as a member.
+    fn write_new(&self, writer: &mut Writer, plan: u32, sinces: &[u32]) -> Result<(), AllocError>
+        ensures { OnOk result (writer.new.tokens ≡ writer.old.tokens ++ orders_member self.now.journal.now self.now.driver.now (gone_on (record_of self.now.driver.now) plan sinces.now)) }
+    {
         writer.key("orders")?;
         writer.begin_array()?;
-        for plan in self.driver.machine().unfinished() {
-            self.write_plan(writer, *plan)?;
-        }
-        writer.end_array()
+        self.write_each_new(writer, plan, sinces)?;
+        writer.end_array()?;
+        Ok(())
     }
 
-    /// Writes the messages of a plan.
-    fn write_plan(&self, writer: &mut Writer, plan: u32) -> Result<(), AllocError> {
-        for stream in 0..MOST_STREAMS {
-            let stream = stream as u32;
-            self.write_of(writer, StreamId { plan, stream })?;
+    /// Writes the messages of streams.
+    fn write_each(&self, writer: &mut Writer, ids: &[StreamId]) -> Result<(), AllocError>
+        ensures { OnOk result (writer.new.tokens ≡ writer.old.tokens ++ flat_map (stream_message self.now.journal.now self.now.driver.now) ids.now) }
+    {
+        for id in ids {
+            self.write_of(writer, *id)?;
+        }
+        Ok(())
+    }
+
+    /// Writes, as a member, all messages, by plan, then by stream.
+    pub fn write_all(&self, alloc: Global, writer: &mut Writer) -> Result<(), AllocError>
+        ensures { OnOk result (writer.new.tokens ≡ writer.old.tokens ++ orders_member self.now.journal.now self.now.driver.now (awaiting_of (record_of self.now.driver.now))) }
+    {
+        let mut waiting = Vec::new(alloc);
+        self.driver.awaiting(&mut waiting)?;
+        writer.key("orders")?;
+        writer.begin_array()?;
+        self.write_each(writer, waiting.as_slice())?;
+        writer.end_array()?;
+        Ok(())
+    }
+
+    /// Writes the number of a plan, if it has ended.
+    fn write_if_ended(&self, writer: &mut Writer, plan: u32) -> Result<(), AllocError>
+        ensures { OnOk result (writer.new.tokens ≡ writer.old.tokens ++ ended_text (record_of self.now.driver.now) plan) }
+    {
+        if !self.driver.machine().unfinished().contains(&plan) {
+            writer.u64(u64::from(plan))?;
         }
         Ok(())
     }
 
     /// Writes, as a member, the plan if it has ended.
-    pub fn write_ended(&self, writer: &mut Writer, plan: u32) -> Result<(), AllocError> {
+    fn write_ended(&self, writer: &mut Writer, plan: u32) -> Result<(), AllocError>
+        ensures { OnOk result (writer.new.tokens ≡ writer.old.tokens ++ ended_member (record_of self.now.driver.now) plan) }
+    {
         writer.key("ended")?;
         writer.begin_array()?;
-        if !self.driver.machine().unfinished().contains(&plan) {
-            writer.u64(u64::from(plan))?;
-        }
-        writer.end_array()
+        self.write_if_ended(writer, plan)?;
+        writer.end_array()?;
+        Ok(())
+    }
+
+    /// Writes, as members, the messages of those streams of a plan that have gone on since they stood so, and whether the plan has ended.
+    pub fn write_plan(
+        &self,
+        writer: &mut Writer,
+        plan: u32,
+        sinces: &[u32],
+    ) -> Result<(), AllocError>
+        ensures { OnOk result (writer.new.tokens ≡ writer.old.tokens ++ plan_members self.now.journal.now self.now.driver.now plan sinces.now) }
+    {
+        self.write_new(writer, plan, sinces)?;
+        self.write_ended(writer, plan)?;
+        Ok(())
     }
 }

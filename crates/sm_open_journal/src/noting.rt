@@ -2,10 +2,9 @@
 
 use crate::begun_plan::BegunPlan;
 use crate::history::History;
-use crate::messages::has_gone_on;
+use crate::messages::{since_at, stands_else, stream_count};
 use sm_driver::{Driver, StreamMessage};
 use sm_machine::Machine;
-use sm_plan_code::MOST_STREAMS;
 use sm_reservation::StreamId;
 use std::alloc::AllocError;
 
@@ -48,12 +47,9 @@ pub fn note_answered(
         }
     };
     let machine = driver.machine();
-    for stream in 0..MOST_STREAMS {
-        let id = StreamId {
-            plan,
-            stream: stream as u32,
-        };
-        if has_gone_on(machine, id, sinces.get(stream).copied()) {
+    for stream in 0..stream_count(machine, plan) {
+        let id = StreamId { plan, stream };
+        if stands_else(machine, id, since_at(sinces, stream)) {
             history.note_moved(place, id);
         }
     }

@@ -1,16 +1,19 @@
 //! A journal that is open.
-ghost use Rattle.std.specs.Prelude.{◌≡◌, IfOk};
+ghost use Rattle.std.specs.Prelude.{◌≡◌, ◌++◌, [], IfOk, OnOk, string_bytes};
+ghost use Rattle.sm_open_journal.specs.Replies.{plan_members, taken_members};
+ghost use Rattle.sm_open_journal.specs.Begun.{begun_member, begun_members, begun_plan, size_of_plan};
 
 use crate::begun_plan::BegunPlan;
 use crate::given_permits::{GivenAt, GivenPermits};
 use crate::history::History;
+use crate::members::{server_name, write_number, write_text};
 use crate::messages::Messages;
 use crate::restored::{ToldRestore, told_last, told_restores};
 use crate::streams::calls_of;
 use json::Writer;
-use sm_commands::{server_name, write_number, write_text};
 use sm_driver::Driver;
 use sm_names::Names;
+use sm_reservation::StreamId;
 use sm_server::ServerId;
 use std::alloc::{AllocError, Global};
 
@@ -178,7 +181,8 @@ impl Opened {
 
     /// Returns who writes the driver's messages.
     pub fn messages(&self) -> Messages<'_>
-        ensures { result.driver.now ≡ self.now.driver }
+        ensures driver { result.driver.now ≡ self.now.driver }
+        ensures journal { result.journal.now ≡ string_bytes self.now.journal }
     {
         Messages {
             driver: &self.driver,
@@ -229,32 +233,57 @@ impl Opened {
         u32::try_from(count).unwrap_or(u32::MAX)
     }
 
-    /// Returns a plan of the present epoch that has begun.
-    pub fn begun_plan(&self, number: u32) -> Option<BegunPlan> {
+    /// Returns a plan of the present epoch: one of no streams, if it has not begun.
+    pub fn begun_plan(&self, number: u32) -> BegunPlan
+        ensures { result ≡ begun_plan self.now.driver number }
+    {
         let machine = self.driver.machine();
+        let epoch = self.driver.epoch();
         if u64::from(number) >= machine.plan_count() {
-            return None;
+            return BegunPlan {
+                epoch,
+                number,
+                calls: 0,
+                streams: 0,
+            };
         }
         let streams = machine.plan(number).streams();
-        Some(BegunPlan {
-            epoch: self.driver.epoch(),
+        BegunPlan {
+            epoch,
             number,
             calls: calls_of(streams) as u64,
             streams: streams.len() as u64,
-        })
+        }
     }
 
     /// Writes, as members of a reply, the orders that a plan has now, and whether it has ended.
-    fn write_plan_now(&self, writer: &mut Writer, number: u32) -> Result<(), AllocError> {
-        let messages = self.messages();
-        messages.write_new(writer, number, &[])?;
-        messages.write_ended(writer, number)
+    fn write_plan_now(&self, writer: &mut Writer, number: u32) -> Result<(), AllocError>
+        ensures { OnOk result (writer.new.tokens ≡ writer.old.tokens ++ plan_members (string_bytes self.now.journal) self.now.driver number []) }
+    {
+        self.messages().write_plan(writer, number, &[])?;
+        Ok(())
+    }
+
+    /// Writes, as members of a reply, that a stream has made its step, and what has come of that.
+    pub fn write_taken(
+        &self,
+        writer: &mut Writer,
+        id: StreamId,
+        sinces: &[u32],
+    ) -> Result<(), AllocError>
+        ensures { OnOk result (writer.new.tokens ≡ writer.old.tokens ++ taken_members (string_bytes self.now.journal) self.now.driver id sinces.now) }
+    {
+        self.messages().write_taken(writer, id, sinces)?;
+        Ok(())
     }
 
     /// Writes, as members of a reply, that a plan has begun, with its orders.
-    pub fn write_begun(&self, writer: &mut Writer, plan: BegunPlan) -> Result<(), AllocError> {
+    pub fn write_begun(&self, writer: &mut Writer, plan: BegunPlan) -> Result<(), AllocError>
+        ensures { OnOk result (writer.new.tokens ≡ writer.old.tokens ++ begun_members (string_bytes self.now.journal) self.now.driver plan) }
+    {
         write_begun_plan(writer, plan)?;
-        self.write_plan_now(writer, plan.number)
+        self.write_plan_now(writer, plan.number)?;
+        Ok(())
     }
 
     /// Writes, as members of a reply, that a plan has begun before. If it is one of the present epoch, and that goes on, its orders are told
@@ -276,13 +305,24 @@ impl Opened {
     }
 }
 
-/// Writes, as a member of a reply, a plan that has begun.
-fn write_begun_plan(writer: &mut Writer, plan: BegunPlan) -> Result<(), AllocError> {
-    writer.key("begun")?;
-    writer.begin_object()?;
+/// Writes the members of a plan that has begun.
+fn write_begun_members(writer: &mut Writer, plan: BegunPlan) -> Result<(), AllocError>
+    ensures { OnOk result (writer.new.tokens ≡ writer.old.tokens ++ size_of_plan plan) }
+{
     write_number(writer, "plan", u64::from(plan.number))?;
     write_number(writer, "calls", plan.calls)?;
     write_number(writer, "streams", plan.streams)?;
     write_number(writer, "epoch", u64::from(plan.epoch))?;
-    writer.end_object()
+    Ok(())
+}
+
+/// Writes, as a member of a reply, a plan that has begun.
+fn write_begun_plan(writer: &mut Writer, plan: BegunPlan) -> Result<(), AllocError>
+    ensures { OnOk result (writer.new.tokens ≡ writer.old.tokens ++ begun_member plan) }
+{
+    writer.key("begun")?;
+    writer.begin_object()?;
+    write_begun_members(writer, plan)?;
+    writer.end_object()?;
+    Ok(())
 }

@@ -1,7 +1,7 @@
 //! The published map, as it is recorded.
 ghost use Rattle.std.specs.Prelude.{◌<◌, length};
 
-use crate::messages::write_listed;
+use crate::holders::write_listed;
 use crate::opened::Opened;
 use json::Writer;
 use sm_commands::{shard_name, write_number, write_text};

@@ -4,7 +4,7 @@ ghost use Rattle.sm_protocol.specs.State.{is_begun};
 ghost use Rattle.sm_driver.specs.Driver.{record_of};
 
 use crate::cells::{cell_above, write_cell};
-use crate::messages::write_listed;
+use crate::holders::write_listed;
 use crate::opened::Opened;
 use json::Writer;
 use sm_commands::{

@@ -1,0 +1,36 @@
+-- What is written one after another.
+use Rattle.std.proofs.Common.{◌≡◌, ◌∙◌, ◌+◌, ◌<◌, ◌++◌, ◌∷◌, [], ℕ, Bool, true, false, List, length, get_or, take, map, sym, ap, refl, arith}
+use Rattle.std.specs.Prelude.{if◌then◌else◌}
+use Rattle.std.specs.List.{filter, flat_map, range_with_len}
+use Rattle.std.proofs.lemmas.List.{append_assoc, flat_map_more, map-id, take_more}
+use Rattle.std.proofs.lemmas.List.FromFn.{map-range_with_len_more}
+
+-- what is written behind what was written
+pub next : {A : Type 0} {mid new : List A} (old ts us : List A) → mid ≡ old ++ ts → new ≡ mid ++ us → new ≡ old ++ (ts ++ us)
+next old ts us e f = f ∙ ap (λ xs. xs ++ us) e ∙ append_assoc old ts us
+
+-- the numbers below n + 1 are those below n, and n
+range_more : (n : ℕ) → range_with_len 0 (n + 1) ≡ range_with_len 0 n ++ n ∷ []
+range_more n = sym (map-id (range_with_len 0 (n + 1))) ∙ map-range_with_len_more (λ x. x) 0 n n (omega arith) ∙ ap (λ xs. xs ++ n ∷ []) (map-id (range_with_len 0 n))
+
+-- what is written for the numbers below n, and for n
+pub number_written : {A : Type 0} (f : ℕ → List A) (before : List A) (n : ℕ) → (before ++ flat_map f (range_with_len 0 n)) ++ f n ≡ before ++ flat_map f (range_with_len 0 (n + 1))
+number_written f before n = flat_map_more f before (range_with_len 0 n) n ∙ ap (λ xs. before ++ flat_map f xs) (sym (range_more n))
+
+-- what is written for the first items, and for the next
+pub item_written : {X A : Type 0} (f : X → List A) (before : List A) (xs : List X) (i : ℕ) (x : X) → i < length xs → x ≡ get_or xs i x → (before ++ flat_map f (take i xs)) ++ f x ≡ before ++ flat_map f (take (i + 1) xs)
+item_written f before xs i x h is = flat_map_more f before (take i xs) x ∙ ap (λ ys. before ++ flat_map f ys) (ap (λ y. take i xs ++ y ∷ []) is ∙ sym (take_more xs i x h))
+
+-- what is written for those numbers that are kept
+pub flat_kept : {X A : Type 0} (g : ℕ → X) (p : X → Bool) (f : X → List A) (ns : List ℕ) → flat_map f (filter p (map g ns)) ≡ flat_map (λ i. if p (g i) then f (g i) else []) ns
+flat_kept g p f [] = refl
+flat_kept {A = A} g p f (n ∷ ns) = go (flat_kept g p f ns) (p (g n)) refl
+  where
+    go : flat_map f (filter p (map g ns)) ≡ flat_map (λ i. if p (g i) then f (g i) else []) ns → (b : Bool) → p (g n) ≡ b →
+        flat_map f (filter p (map g (n ∷ ns))) ≡ flat_map (λ i. if p (g i) then f (g i) else []) (n ∷ ns)
+    go rest true e = rw e (ap (λ ts. f (g n) ++ ts) rest)
+    go rest false e = rw e rest
+
+-- the list that is made from a function of the numbers below n + 1, by a push
+pub pushed_more : {A : Type 0} (f : ℕ → A) (xs ys : List A) (n : ℕ) (y : A) → ys ≡ xs ++ y ∷ [] → y ≡ f n → xs ≡ map f (range_with_len 0 n) → ys ≡ map f (range_with_len 0 (n + 1))
+pushed_more f xs ys n y e v is = e ∙ ap (λ z. xs ++ z ∷ []) v ∙ ap (λ zs. zs ++ f n ∷ []) is ∙ sym (map-range_with_len_more f 0 n n (omega arith))

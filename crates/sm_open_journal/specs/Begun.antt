@@ -1,0 +1,34 @@
+-- What is told of a plan that has begun.
+use Rattle.std.specs.Prelude.{ℕ, List, [], ◌++◌, codes, count_by, sum_by}
+use Rattle.json.specs.Token.{Token}
+use Rattle.sm_plan_code.specs.Instr.{is_call}
+use Rattle.sm_protocol.specs.State.{plan_at, stream_count}
+use Rattle.sm_driver.specs.Driver.{DriverModel, record_of}
+use Rattle.sm_open_journal.specs.Members.{number_member}
+use Rattle.sm_open_journal.specs.declared.begun_plan.BegunPlan.{BegunPlan}
+use Rattle.sm_open_journal.specs.Replies.{object_member, plan_members}
+
+-- a plan of a driver: how many calls and streams it has
+abbrev pub begun_plan : DriverModel → ℕ → BegunPlan
+begun_plan d k = record {
+  epoch = d.epoch;
+  number = k;
+  calls = sum_by (λ stream. count_by is_call stream.code) (plan_at (record_of d) k).streams;
+  streams = stream_count (record_of d) k;
+}
+
+-- its number, how many calls and streams it has, and its epoch
+abbrev pub size_of_plan : BegunPlan → List Token
+size_of_plan p =
+    number_member (codes "plan") p.number
+    ++ number_member (codes "calls") p.calls
+    ++ number_member (codes "streams") p.streams
+    ++ number_member (codes "epoch") p.epoch
+
+-- these, as a member
+abbrev pub begun_member : BegunPlan → List Token
+begun_member p = object_member (codes "begun") (size_of_plan p)
+
+-- a plan that has begun, the messages of all its streams, and whether it has ended
+abbrev pub begun_members : List ℕ → DriverModel → BegunPlan → List Token
+begun_members journal d p = begun_member p ++ plan_members journal d p.number []

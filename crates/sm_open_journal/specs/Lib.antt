@@ -1,0 +1,5 @@
+pub mod Begun
+pub mod Calls
+pub mod Members
+pub mod Messages
+pub mod Replies

@@ -1,0 +1,185 @@
+//! An order, or a publication, as it goes out.
+ghost use Rattle.std.specs.Prelude.{◌≡◌, ◌++◌, OnOk, true};
+ghost use Rattle.sm_placement.specs.Setup.{sizes_of};
+ghost use Rattle.sm_placement.specs.Layout.{place_of};
+ghost use Rattle.sm_protocol.specs.State.{is_begun};
+ghost use Rattle.sm_driver.specs.Driver.{order_number, record_of};
+ghost use Rattle.sm_driver.specs.Orders.{net_message, net_order, net_publication};
+ghost use Rattle.sm_open_journal.specs.Calls.{asked_members, published_members, size_members};
+ghost use Rattle.sm_open_journal.specs.Messages.{head_members, letter_by, letter_text, stream_message, message_text, notice_by, notice_text};
+
+use crate::calls::{call_word, write_call};
+use crate::holders::{write_holders, write_listed};
+use crate::members::{server_name, shard_name, write_name, write_number, write_text};
+use crate::messages::Messages;
+use json::Writer;
+use sm_driver::{StreamMessage, StreamOrder, StreamPublication};
+use sm_placement::{Config, Placement};
+use sm_plan_code::ServerCall;
+use sm_reservation::StreamId;
+use sm_server::{ServerId, ShardId};
+use std::alloc::AllocError;
+
+/// Returns the load of each replica of a shard: 0 if there is no such shard.
+fn load_of(config: &Config, shard: ShardId) -> u64
+    ensures { result ≡ (sizes_of config.now).load shard }
+{
+    match config.shards().get(shard.number() as usize) {
+        Some(shard) => shard.load,
+        None => 0,
+    }
+}
+
+/// Returns the load that a server has room for: 0 if there is no such server.
+fn room_of(config: &Config, server: ServerId) -> u64
+    ensures { result ≡ (sizes_of config.now).room server }
+{
+    match config.servers().get(server.number() as usize) {
+        Some(server) => server.room,
+        None => 0,
+    }
+}
+
+/// Writes what an order asks for: its server, its call and its shard.
+fn write_asked(writer: &mut Writer, config: &Config, asked: &ServerCall) -> Result<(), AllocError>
+    ensures { OnOk result (writer.new.tokens ≡ writer.old.tokens ++ asked_members config.now asked.now) }
+{
+    write_text(writer, "server", server_name(config, asked.server))?;
+    write_text(writer, "call", call_word(&asked.call))?;
+    write_text(writer, "shard", shard_name(config, asked.shard))?;
+    write_call(writer, config, &asked.call)?;
+    Ok(())
+}
+
+/// Writes the load of an order's shard, and the room of its server.
+fn write_sizes(writer: &mut Writer, config: &Config, asked: &ServerCall) -> Result<(), AllocError>
+    ensures { OnOk result (writer.new.tokens ≡ writer.old.tokens ++ size_members ((sizes_of config.now).load asked.now.shard) ((sizes_of config.now).room asked.now.server)) }
+{
+    write_number(writer, "load", load_of(config, asked.shard))?;
+    write_number(writer, "room", room_of(config, asked.server))?;
+    Ok(())
+}
+
+/// Writes what a publication asks of the map's owner.
+fn write_published(
+    writer: &mut Writer,
+    config: &Config,
+    publication: &StreamPublication,
+) -> Result<(), AllocError>
+    ensures { OnOk result (writer.new.tokens ≡ writer.old.tokens ++ published_members config.now publication.now.shard publication.now.entry) }
+{
+    write_name(writer, "server", None)?;
+    write_text(writer, "call", "publish")?;
+    write_text(writer, "shard", shard_name(config, publication.shard))?;
+    write_listed(writer, config, "to", publication.entry.server)?;
+    write_number(writer, "version", publication.entry.version)?;
+    Ok(())
+}
+
+impl Messages<'_> {
+    /// Returns the servers and shards of the journal.
+    fn config(&self) -> &Config
+        ensures setup { result.now ≡ self.now.driver.now.machine.placement.setup }
+        ensures sizes { sizes_of result.now ≡ (record_of self.now.driver.now).sizes }
+    {
+        self.driver.machine().config()
+    }
+
+    /// Returns the placement that is recorded.
+    fn placement(&self) -> &Placement
+        ensures setup { result.now.setup ≡ self.now.driver.now.machine.placement.setup }
+        ensures place { place_of result.now ≡ (record_of self.now.driver.now).place }
+    {
+        self.driver.machine().placement()
+    }
+
+    /// Writes of which stream a message is, and its number.
+    fn write_head(
+        &self,
+        writer: &mut Writer,
+        stream: StreamId,
+        number: u64,
+    ) -> Result<(), AllocError>
+        ensures { OnOk result (writer.new.tokens ≡ writer.old.tokens ++ head_members self.now.journal.now self.now.driver.now.epoch self.now.driver.now.fence stream number) }
+    {
+        let epoch = self.driver.epoch();
+        let fence = self.driver.fence();
+        write_text(writer, "journal", self.journal)?;
+        write_number(writer, "epoch", u64::from(epoch))?;
+        write_number(writer, "fence", fence)?;
+        write_number(writer, "plan", u64::from(stream.plan))?;
+        write_number(writer, "stream", u64::from(stream.stream))?;
+        write_number(writer, "number", number)?;
+        Ok(())
+    }
+
+    /// Writes an order.
+    fn write_order(&self, writer: &mut Writer, order: &StreamOrder) -> Result<(), AllocError>
+        ensures { OnOk result (writer.new.tokens ≡ writer.old.tokens ++ letter_text self.now.journal.now self.now.driver.now (letter_by self.now.driver.now (net_order order.now))) }
+    {
+        let config = self.config();
+        writer.begin_object()?;
+        self.write_head(writer, order.stream, order.number)?;
+        write_asked(writer, config, &order.call)?;
+        write_sizes(writer, config, &order.call)?;
+        write_holders(writer, self.placement(), order.call.shard)?;
+        writer.end_object()?;
+        Ok(())
+    }
+
+    /// Writes a publication under a number.
+    fn write_publication(
+        &self,
+        writer: &mut Writer,
+        publication: &StreamPublication,
+        number: u64,
+    ) -> Result<(), AllocError>
+        ensures { OnOk result (writer.new.tokens ≡ writer.old.tokens ++ notice_text self.now.journal.now self.now.driver.now (notice_by self.now.driver.now (net_publication publication.now)) number) }
+    {
+        writer.begin_object()?;
+        self.write_head(writer, publication.stream, number)?;
+        write_published(writer, self.config(), publication)?;
+        writer.end_object()?;
+        Ok(())
+    }
+
+    /// Returns the number of the order or the publication that a stream stands before.
+    fn number(&self, stream: StreamId) -> u64
+        requires { is_begun (record_of self.now.driver.now) stream ≡ true }
+        ensures { result ≡ order_number self.now.driver.now stream }
+    {
+        let since = self.driver.machine().since(stream);
+        self.driver.base() + u64::from(since) + 1
+    }
+
+    /// Writes an order or a publication of a stream that has begun.
+    fn write_message(
+        &self,
+        writer: &mut Writer,
+        stream: StreamId,
+        message: &StreamMessage,
+    ) -> Result<(), AllocError>
+        requires { is_begun (record_of self.now.driver.now) stream ≡ true }
+        ensures { OnOk result (writer.new.tokens ≡ writer.old.tokens ++ message_text self.now.journal.now self.now.driver.now stream (net_message message.now)) }
+    {
+        match message {
+            StreamMessage::Order(order) => self.write_order(writer, order),
+            StreamMessage::Publication(publication) => {
+                self.write_publication(writer, publication, self.number(stream))
+            }
+        }
+    }
+
+    /// Writes the order or the publication that a stream stands before, if it stands before one.
+    pub fn write_of(&self, writer: &mut Writer, stream: StreamId) -> Result<(), AllocError>
+        ensures { OnOk result (writer.new.tokens ≡ writer.old.tokens ++ stream_message self.now.journal.now self.now.driver.now stream) }
+    {
+        if !self.driver.machine().is_begun(stream) {
+            return Ok(());
+        }
+        match self.driver.message(stream) {
+            Some(message) => self.write_message(writer, stream, &message),
+            None => Ok(()),
+        }
+    }
+}
