@@ -1,10 +1,12 @@
 //! Answers to orders and publications.
-ghost use Rattle.std.specs.Prelude.{◌≡◌, IfOk, false, true};
+ghost use Rattle.std.specs.Prelude.{◌≡◌, ◌++◌, IfOk, OnOk, false, string_bytes, true};
+ghost use Rattle.sm_driver.specs.Driver.{record_of};
+ghost use Rattle.sm_open_journal.specs.Replies.{sinces_of, taken_members};
 ghost use Rattle.sm_session.specs.Changes.{TakesAnswer};
 
 use crate::standing::Standing;
 use json::Writer;
-use sm_commands::{write_number, write_text};
+use sm_commands::write_text;
 use sm_driver::{AnswerEffect, StreamMessage};
 use sm_open_journal::{Opened, note_answered};
 use sm_reservation::StreamId;
@@ -13,30 +15,6 @@ use std::alloc::{AllocError, Global};
 /// Writes that a command tells nothing new.
 pub fn write_ignored(writer: &mut Writer, why: &str) -> Result<(), AllocError> {
     write_text(writer, "ignored", why)
-}
-
-/// Writes, as members of a reply, that a stream has made its step.
-fn write_moved(
-    opened: &Opened,
-    writer: &mut Writer,
-    id: StreamId,
-    sinces: &[u32],
-) -> Result<(), AllocError> {
-    let machine = opened.driver.machine();
-    let at = if machine.is_begun(id) {
-        machine.position(id)
-    } else {
-        0
-    };
-    writer.key("moved")?;
-    writer.begin_object()?;
-    write_number(writer, "plan", u64::from(id.plan))?;
-    write_number(writer, "stream", u64::from(id.stream))?;
-    write_number(writer, "at", at as u64)?;
-    writer.end_object()?;
-    let messages = opened.messages();
-    messages.write_new(writer, id.plan, sinces)?;
-    messages.write_ended(writer, id.plan)
 }
 
 /// Notes at a place that a message was answered, and writes the reply.
@@ -48,12 +26,13 @@ fn take_answer(
     id: StreamId,
     sinces: &[u32],
 ) -> Result<(), AllocError>
-    ensures { opened.new.driver ≡ opened.old.driver }
+    ensures driver { opened.new.driver ≡ opened.old.driver }
+    ensures told { OnOk result (writer.new.tokens ≡ writer.old.tokens ++ taken_members (string_bytes opened.new.journal) opened.new.driver id sinces.now) }
 {
     if let Some(message) = message {
         note_answered(&mut opened.history, &opened.driver, place, message, sinces)?;
     }
-    write_moved(opened, writer, id, sinces)
+    opened.write_taken(writer, id, sinces)
 }
 
 /// Takes the answer to an order or a publication at a place, writes the reply, and tells whether the stream has made its step.
@@ -68,6 +47,8 @@ pub fn answered(
     ensures moved { IfOk result (λ moved. moved ≡ true → TakesAnswer opened.old.driver opened.new.driver) }
     ensures unchanged { IfOk result (λ moved. moved ≡ false → opened.new ≡ opened.old) }
     ensures in_force { IfOk result (λ moved. moved ≡ true → at.is_reopening ≡ false) }
+    ensures told { IfOk result (λ moved. moved ≡ true → writer.new.tokens
+        ≡ writer.old.tokens ++ taken_members (string_bytes opened.new.journal) opened.new.driver id (sinces_of (record_of opened.old.driver) id.plan)) }
 {
     if at.is_reopening {
         write_ignored(writer, "old")?;

@@ -1,10 +1,12 @@
 //! The begin of a plan.
-ghost use Rattle.std.specs.Prelude.{◌≡◌, IfOk, IfSome, None, length, false, true};
+ghost use Rattle.std.specs.Prelude.{◌≡◌, ◌++◌, IfOk, IfSome, None, OnOk, length, false, string_bytes, true};
 ghost use Rattle.sm_placement.specs.Setup.{sizes_of};
 ghost use Rattle.sm_names.specs.Names.{value_of};
 ghost use Rattle.sm_plan_code.specs.Plan.{IsKnownPlan};
 ghost use Rattle.sm_verifier.specs.Plan.{IsCheckedPlan};
+ghost use Rattle.sm_open_journal.specs.Begun.{begun_members, begun_plan};
 ghost use Rattle.sm_session.specs.Changes.{BeginsPlan};
+ghost use Rattle.sm_session.specs.Replies.{TellsBegun};
 
 use crate::planning::read_plan;
 use crate::standing::Standing;
@@ -27,6 +29,7 @@ fn ready(
     requires { IsKnownPlan (length opened.now.driver.machine.placement.setup.shards) (length opened.now.driver.machine.placement.setup.servers) plan }
     ensures setup { IfOk result (λ found. IfSome found (λ ready. ready.setup ≡ opened.now.driver.machine.placement.setup)) }
     ensures checked { IfOk result (λ found. IfSome found (λ ready. IsCheckedPlan (sizes_of ready.setup) ready.plan)) }
+    ensures quiet { IfOk result (λ found. IfSome found (λ ready. writer.new.tokens ≡ writer.old.tokens)) }
 {
     match check(alloc, opened.driver.machine().config(), plan) {
         Ok(checked) => {
@@ -53,11 +56,11 @@ fn name_plan(
     name: &str,
 ) -> Result<(), AllocError>
     requires { value_of opened.old.plans name.now ≡ None }
-    ensures { opened.new.driver ≡ opened.old.driver }
+    ensures driver { opened.new.driver ≡ opened.old.driver }
+    ensures told { OnOk result (writer.new.tokens ≡ writer.old.tokens
+        ++ begun_members (string_bytes opened.new.journal) opened.new.driver (begun_plan opened.new.driver number)) }
 {
-    let Some(plan) = opened.begun_plan(number) else {
-        return Ok(());
-    };
+    let plan = opened.begun_plan(number);
     opened.plans.insert(name, plan)?;
     note_begun(&mut opened.history, &opened.driver, place, plan)?;
     opened.write_begun(writer, plan)
@@ -77,6 +80,8 @@ fn start(
     requires new { value_of opened.old.plans name.now ≡ None }
     ensures begun { IfOk result (λ begun. begun ≡ true → BeginsPlan opened.old.driver opened.new.driver) }
     ensures unchanged { IfOk result (λ begun. begun ≡ false → opened.new ≡ opened.old) }
+    ensures told { IfOk result (λ begun. begun ≡ true
+        → TellsBegun opened.old.driver opened.new.driver (string_bytes opened.new.journal) writer.old.tokens writer.new.tokens) }
 {
     match opened.driver.begin(ready) {
         Ok(number) => {
@@ -104,6 +109,8 @@ pub fn begin(
     ensures begun { IfOk result (λ begun. begun ≡ true → BeginsPlan opened.old.driver opened.new.driver) }
     ensures unchanged { IfOk result (λ begun. begun ≡ false → opened.new ≡ opened.old) }
     ensures in_force { IfOk result (λ begun. begun ≡ true → at.is_reopening ≡ false) }
+    ensures told { IfOk result (λ begun. begun ≡ true
+        → TellsBegun opened.old.driver opened.new.driver (string_bytes opened.new.journal) writer.old.tokens writer.new.tokens) }
 {
     if let Some(plan) = opened.plans.get(name) {
         opened.write_begun_again(writer, plan, !at.is_reopening)?;

@@ -25,7 +25,8 @@ pub fn read_plan(
     writer: &mut Writer,
     value: &Tree<'_>,
 ) -> Result<Option<Plan>, AllocError>
-    ensures { IfOk result (λ found. IfSome found (IsKnownPlan (length opened.now.driver.machine.placement.setup.shards) (length opened.now.driver.machine.placement.setup.servers))) }
+    ensures known { IfOk result (λ found. IfSome found (IsKnownPlan (length opened.now.driver.machine.placement.setup.shards) (length opened.now.driver.machine.placement.setup.servers))) }
+    ensures quiet { IfOk result (λ found. IfSome found (λ plan. writer.new.tokens ≡ writer.old.tokens)) }
 {
     match read_plan_value(alloc, opened.driver.machine().config(), value) {
         Ok(plan) => Ok(Some(plan)),

@@ -146,7 +146,7 @@ impl Session {
             return write_no_list(writer, "notice");
         }
         match &self.opened {
-            Some(opened) => opened.messages().write_all(writer)?,
+            Some(opened) => opened.messages().write_all(alloc, writer)?,
             None => write_no_list(writer, "orders")?,
         }
         write_no_list(writer, "fence")?;

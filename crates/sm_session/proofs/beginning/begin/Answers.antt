@@ -1,0 +1,12 @@
+use Rattle.std.proofs.Common.{◌≡◌, ◌∙◌, IfOk, List, string_bytes, subst, true}
+use Rattle.json.specs.Token.{Token}
+use Rattle.sm_session.specs.Replies.{TellsBegun}
+use Rattle.sm_session.proofs.beginning.begin.Goals as goal
+
+-- Nothing was written before the plan began.
+pub returns-in-Some-3-clause-told : goal.returns-in-Some-3-clause-told
+returns-in-Some-3-clause-told c =
+    let new = c.start.new.opened in
+    let quiet = (rw c.in-Some-3.is at c.in_ok-ready.ensures.quiet) ∙ (rw c.in-Some-2.is at c.in_ok-plan.ensures.quiet) in
+    subst (λ (before : List Token). IfOk c.start.result (λ begun. begun ≡ true
+    → TellsBegun c.args.opened.now.driver new.driver (string_bytes new.journal) before c.start.new.writer.tokens)) quiet c.start.ensures.told
