@@ -1,0 +1,19 @@
+use Rattle.std.proofs.Common.{◌≡◌, Bool, true, false, Option, Some, None, IfOk, Result, Ok, Err, refl}
+use Rattle.sm_open_journal.specs.declared.opened.Opened.{Opened}
+use Rattle.sm_session.specs.declared.reopening.UnderWay.{UnderWay}
+use Rattle.sm_session.specs.Changes.{Changes, Drives, HasChanged}
+use Rattle.sm_session.proofs.session.Session.carry_out.Goals as goal
+
+-- What a command has made of the driver, as long as no reopening is under way.
+driven : {E : Type 0} (r : Result Bool E) (opened new : Option Opened) (under after : Option UnderWay) (o p : Opened) (is_reopening : Bool) →
+    opened ≡ Some o → new ≡ Some p → after ≡ under → (is_reopening ≡ false → under ≡ None) →
+    IfOk r (λ changed. changed ≡ true → Changes o.driver p.driver) → IfOk r (λ changed. changed ≡ true → is_reopening ≡ false) →
+    IfOk r (λ changed. changed ≡ true → HasChanged opened under new after)
+driven (Ok x) opened new under after o p is_reopening was is_now stays none changes in_force =
+    λ is. rw (was, is_now, stays) (Drives (none (in_force is)) (none (in_force is)) (changes is))
+driven (Err e) opened new under after o p is_reopening was is_now stays none changes in_force = tt
+
+pub returns-in-Some-clause-changed : goal.returns-in-Some-clause-changed
+returns-in-Some-clause-changed c =
+    driven c.change.result _ _ _ _ c.in-Some.opened c.change.new.opened c.standing-at.result.is_reopening
+    c.in-Some.is refl refl c.standing-at.ensures c.change.ensures.changed c.change.ensures.in_force
