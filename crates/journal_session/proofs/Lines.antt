@@ -20,7 +20,7 @@ take-append (suc n) (x ∷ xs) ys =
     let less : n - length xs ≡ suc n - length (x ∷ xs) = omega arith in
     ap (λ (l : List ℕ). x ∷ l) (take-append n xs ys) ∙ ap (λ (m : ℕ). x ∷ (take n xs ++ take m ys)) less
 
--- more of a line, of which at most `most` bytes are kept
+-- more of a line: at most `most` bytes of it are kept
 pub kept_more : (most room : ℕ) (raw part old new : List ℕ) → old ≡ take most raw → room ≡ min (most - length old) (length part) → new ≡ old ++ take room part → new ≡ take most (raw ++ part)
 kept_more most room raw part old new is at grown =
     let less : most - length old ≡ most - length raw = omega (arith, ap length is, length-take most raw) in

@@ -20,7 +20,7 @@ pub enum ToldText<'t, 'a> {
     Unknown { nonce: u64 },
 }
 
-/// The part of which the state is asked.
+/// The part of the state that a line asks for.
 #[derive(Clone, Copy)]
 pub enum StateOf<'a> {
     Whole,

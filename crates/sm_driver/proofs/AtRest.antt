@@ -15,7 +15,7 @@ use Rattle.sm_protocol.specs.Laws.{AreDone, IsReached}
 use Rattle.sm_network.proofs.Resting.{rests_settled}
 use Rattle.sm_driver.specs.Epochs.{fault_by, shard_spent}
 
--- of numbers of which none passes, each fails
+-- if no number passes, each fails
 none_pass : (t : ℕ → Bool) (a n : ℕ) → slice_get (filter t (range_with_len a n)) 0 ≡ None → (k : ℕ) → a ≤ k → k < a + n → t k ≡ false
 none_pass t a zero e k low high = absurd (omega arith)
 none_pass t a (suc n) e k low high = go (none_pass t (a + 1) n) (t a) refl e

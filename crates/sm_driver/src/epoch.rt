@@ -40,7 +40,7 @@ fn is_spent(machine: &Machine, shard: u32) -> bool
     MOST_PLACES as u64 <= machine.entry(ShardId::new(shard)).version
 }
 
-/// Returns the lowest shard of which a full log might do so.
+/// Returns the lowest shard whose version a full log might raise to the next base.
 pub(crate) fn shard_spent(machine: &Machine) -> Option<ShardId>
     ensures { result ≡ shard_spent (state_of machine.now) }
 {

@@ -54,7 +54,7 @@ moved old new given journal epoch fence permits =
 
 -- ---- rests
 
--- of numbers of which none passes, each fails
+-- if no number passes, each fails
 none_pass : (t : ℕ → Bool) (a n : ℕ) → slice_get (filter t (range_with_len a n)) 0 ≡ None → (k : ℕ) → a ≤ k → k < a + n → t k ≡ false
 none_pass t a zero e k low high = absurd (omega arith)
 none_pass t a (suc n) e k low high = go (none_pass t (a + 1) n) (t a) refl e

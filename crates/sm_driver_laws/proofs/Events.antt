@@ -1,4 +1,4 @@
--- What a command writes is a list of events of the fleet, which all fit.
+-- A command writes events of the fleet, and each fits.
 use Rattle.std.proofs.Common.{◌≡◌, ◌≤◌, ◌<◌, ◌∙◌, ◌∷◌, ◌++◌, [], suc, Option, Some, List, map, refl, sym, ap, append_assoc}
 use Rattle.std.specs.Prelude.{slice_get}
 use Rattle.std.specs.List.{AllByRecursion}

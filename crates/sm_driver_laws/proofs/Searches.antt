@@ -1,4 +1,4 @@
--- What searches find, and lists in which one element is another.
+-- Results of searches, and lists with one element replaced.
 use Rattle.std.proofs.Common.{◌≡◌, ◌<◌, ◌⊎◌, ◌∙◌, ◌+◌, ◌∷◌, ◌++◌, [], ℕ, zero, suc, Bool, true, false, Option, Some, None, List, length, get_or, set, refl, sym, ap, inl, inr, arith}
 use Rattle.std.specs.Prelude.{slice_get, if◌then◌else◌}
 use Rattle.std.proofs.lemmas.Bool.{cases_eq, cases_lt}

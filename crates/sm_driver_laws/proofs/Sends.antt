@@ -1,4 +1,4 @@
--- What the controller of the fleet sends is what the driver hands out.
+-- The fleet's controller sends exactly the driver's messages.
 use Rattle.std.proofs.Common.{◌∙◌, ◌++◌, Option, ap}
 use Rattle.std.specs.Prelude.{option_map}
 use Rattle.std.specs.Option.{option_to_list}

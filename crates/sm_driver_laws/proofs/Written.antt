@@ -1,4 +1,4 @@
--- What a command's contract says is what it writes.
+-- A command writes exactly what its contract says.
 use Rattle.std.proofs.Common.{◌≡◌, ℕ, Bool, true, Option, None, Result, Ok, Err, refl, subst}
 use Rattle.std.specs.Prelude.{IfOk, OnOk}
 use Rattle.sm_plan_code.specs.Plan.{PlanModel}

@@ -11,7 +11,7 @@ pub use Rattle.sm_driver.specs.Epochs.{HasOpenedEpoch, epoch_fault}
 pub use Rattle.sm_driver.specs.Permits.{permit_of}
 pub use Rattle.sm_driver.specs.Restores.{RestoreModel, restore_at}
 
--- What a server was told is one of the restores that the controller has given, with the cells of all shards.
+-- The controller has given the restore that a server was told, with the cells of all shards.
 pub record IsTold (d : DriverModel) (c : Controller) (told : RestoreModel) : Type 0 where
   pub place : ℕ
   pub given : Restore
@@ -65,7 +65,7 @@ Writes OpenEpoch old new es = HasOpenedEpoch old new × (epoch_fault old ≡ Non
 abbrev pub IsWritten : Command → DriverModel → DriverModel → Type 0
 IsWritten command old new = (es : List JournalEntry) × Writes command old new es
 
--- What the caller of a command has to know: the plan was checked for the driver's configuration, and the server is one of it.
+-- The caller of a command has to know that the plan was checked for the driver's configuration, and the server is one of it.
 abbrev pub IsCallable : DriverModel → Command → Type 0
 IsCallable d (BeginPlan plan) = FitsConfig (record_of d).sizes (Begin plan)
 IsCallable d (ApproveRestart v) = FitsConfig (record_of d).sizes (Approve v)

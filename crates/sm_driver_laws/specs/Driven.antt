@@ -12,7 +12,7 @@ pub record Driven : Type 0 where
   pub driver : DriverModel
   pub fleet : Fleet
 
--- What may happen.
+-- A turn: something happens to the fleet, or the driver takes a command.
 pub data Turn : Type 0 where
   -- something happens to the fleet, and its controller writes nothing
   Goes : (event : FleetEvent) → Turn

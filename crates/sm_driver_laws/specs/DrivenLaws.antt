@@ -19,7 +19,7 @@ use Rattle.sm_driver_laws.specs.Driven.{Command, Driven, DriverModel, Fleet, Fle
 abbrev pub IsFleetDriven : Driven → Type 0
 IsFleetDriven x = IsFleetReached (driver_setup x) x.fleet × IsControllerOf x.driver (controller x.fleet)
 
--- What a command writes is a list of events of the fleet that all fit: servers, map and whatever was sent stay as they were.
+-- A command writes events of the fleet that all fit: servers, map and whatever was sent stay as they were.
 abbrev pub CommandsAreEvents : Driven → Type 0
 CommandsAreEvents x = (command : Command) (driver : DriverModel) (es : List JournalEntry) → TurnFits x (Takes command driver es) →
     (events : List FleetEvent) × AllFleetFit (driver_setup x) x.fleet events × (fleet_run events x.fleet ≡ with_entries x.fleet es)
@@ -59,7 +59,7 @@ driver_letter d o = record {
 abbrev pub driver_notice : DriverModel → Publication → Notice
 driver_notice d p = record { publication = p; journal = d.journal; fence = d.fence }
 
--- What the controller of the fleet sends for a stream is what the driver hands out: its order, and its publication.
+-- The fleet's controller sends for a stream exactly the driver's messages: its order, and its publication.
 pub record SendsAsDriven (x : Driven) : Type 0 where
   pub orders : (id : StreamId) → (fleet_comes x.fleet (SendOrder 0 id)).1 ≡
       record x.fleet { sent = x.fleet.sent ++ option_to_list (option_map (driver_letter x.driver) (order_of (base x.driver) (record_of x.driver) id)) }

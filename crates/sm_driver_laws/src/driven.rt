@@ -18,7 +18,7 @@ pub fn driven_is_controlled()
     fleet_is_reached();
 }
 
-/// What a command writes is a list of events of the fleet that all fit.
+/// Each command writes events of the fleet that all fit.
 pub fn commands_are_events()
     ensures { EachDriven CommandsAreEvents }
 {
@@ -49,7 +49,7 @@ pub fn driven_is_safe()
     fleet_can_finish();
 }
 
-/// What the controller of the fleet sends is what the driver hands out.
+/// The fleet's controller sends exactly the driver's messages.
 pub fn sends_as_driven()
     ensures { EachDriven SendsAsDriven }
 {
