@@ -9,7 +9,7 @@ pub struct Line {
 }
 
 impl Line {
-    /// An empty line.
+    /// Returns an empty line.
     pub fn new(alloc: Global) -> Self {
         Line {
             alloc,
@@ -17,7 +17,7 @@ impl Line {
         }
     }
 
-    /// The line's text.
+    /// Returns the line's text.
     pub fn text(&self) -> &str {
         self.text.as_str()
     }

@@ -1,7 +1,7 @@
 //! Conformance vectors of the agent: lines of drawn values, and what the proved functions answer.
 //!
-//! `agent_vectors LINES` writes that number of lines, always the same ones; docs/AGENT-VECTORS.md has their format. Whoever ports the functions
-//! tests the port by them.
+//! `agent_vectors LINES` writes that number of lines, always the same ones; docs/AGENT-VECTORS.md has their format. A
+//! port of the functions is tested by them.
 #![tactic(auto)]
 
 mod dice;
@@ -14,7 +14,7 @@ use std::process::ExitCode;
 use std::rt::Env;
 use std::{env, io};
 
-/// The number of lines that the command line asks for, if it asks for one.
+/// Returns the number of lines that the command line asks for, if it asks for one.
 fn lines_asked(rt: &(impl Alloc + Env)) -> io::Result<Option<u32>> {
     let mut args = env::args(rt)?;
     let _program = args.next();

@@ -27,7 +27,7 @@ fenced base reopening nonce =
     else if base.fenced && is_at base reopening then Again
     else Ignored
 
--- What comes is meant for the server as it stands: it names the nonce of one that is Unknown, and none of one that has its slots.
+-- A message is meant for the server as it stands: it names the nonce of one that is Unknown, and none of one that has its slots.
 -- A nonce of 0 has yet to be made.
 abbrev pub is_meant : Option ℕ → Option ℕ → Bool
 is_meant None None = true

@@ -1,4 +1,4 @@
--- What the definitions come to: orders have their effect once and in their order, and who is Unknown or fenced has none.
+-- The laws that the definitions come to: orders have their effect once and in their order, and none at a server that is Unknown or fenced.
 use Rattle.std.specs.Prelude.{◌≡◌, ◌≢◌, ◌<◌, ◌≤◌, ◌⊎◌, ℕ, true, false, Some, None, IsSome}
 use Rattle.sm_server.specs.declared.call.Cell.TheVariants.{Prepared, Primary, Forwarding}
 use Rattle.sm_server.specs.declared.call.Role.TheVariants as role
@@ -97,7 +97,7 @@ TakesOverAtCut = (base : Base) (slot next : Slot) (order : Order) (at from numbe
     slot.cell ≡ Prepared from number → order.call ≡ Add role.Primary → committed base slot order at ≡ Some next →
     (cut : ℕ) × (slot.cut ≡ Some cut) × (cut ≤ at)
 
--- What the map shows of a shard is replaced by what has a higher version alone.
+-- The map's entry of a shard is replaced only by one with a higher version.
 abbrev pub MapGoesOn : Type 0
 MapGoesOn = (base : Base) (shown : ℕ) (stamp : Stamp) →
     published base shown stamp ≡ verdict.Begin → (shown < stamp.number) × (base.number < stamp.number)

@@ -1,4 +1,4 @@
--- What a server makes of an order, and what its work does to the slot.
+-- A server's verdict on an order, and what its work does to the slot.
 use Rattle.std.specs.Prelude.{ℕ, ◌-◌, ◌==◌, Bool, true, false, not, ◌&&◌, ◌||◌, nat_lt, nat_le, Option, Some, None, Result, Ok, Err, is_none, unwrap_or, option_map, if◌then◌else◌}
 use Rattle.sm_server.specs.declared.call.Cell.{Cell}
 use Rattle.sm_server.specs.declared.call.Cell.TheVariants.{Absent, Prepared}
@@ -42,7 +42,7 @@ judged_by_slot slot used order =
     else if order.stamp.number == slot.last then Again
     else by_table (served slot.cell (order.room - used) order.load true order.call) (is_at_work slot.at_work order.stamp.number)
 
--- What a server makes of an order. `used` is the load of all that it has.
+-- A server's verdict on an order. `used` is the load of all that it has.
 abbrev pub judged : Base → Slot → ℕ → Order → Verdict
 judged base slot used order = unwrap_or (turned_away base order.stamp) (judged_by_slot slot used order)
 
@@ -103,7 +103,7 @@ sealed slot handover cut = if is_prepared_for slot.cell handover then record slo
 abbrev pub placed : Slot → Cell → ℕ → Slot
 placed slot cell load = record slot { cell = cell; at_work = None; load = cell_load cell load; cut = None }
 
--- What the owner of the published map makes of a publication, whose number is its version: it is shown from now on (Begin), or is
+-- The verdict of the published map's owner on a publication, whose number is its version: it is shown from now on (Begin), or is
 -- answered all the same.
 abbrev pub published : Base → ℕ → Stamp → Verdict
 published base shown stamp = unwrap_or (turned_away base stamp) (if nat_lt shown stamp.number then Begin else Again)

@@ -1,11 +1,11 @@
-//! What a server keeps beside its slots, and the messages that change it.
+//! The base that a server keeps beside its slots, and the messages that change it.
 ghost use Rattle.std.specs.Prelude.{◌≡◌};
 ghost use Rattle.sm_agent.specs.Base.{lacks_slots, is_at, is_meant, is_overtaken, forgotten, fenced, settled, restored, heeded};
 
-/// What a server keeps beside its slots. The owner of the published map keeps one too.
+/// The base that a server keeps beside its slots. The owner of the published map keeps one too.
 ///
-/// A server is Unknown until it has its slots, and again once it has lost them: it then has a nonce, under which it asks for them.
-/// A base of zeros, with a nonce of 0, is Unknown too, and has yet to make a nonce.
+/// A server is Unknown until it has its slots, and again once it has lost them: it then has a nonce, under which it
+/// asks for them. A base of zeros, with a nonce of 0, is Unknown too, and has yet to make a nonce.
 #[derive(Clone, Copy, Debug, PartialEq, Eq)]
 pub struct Base {
     /// The journal whose orders the server takes.
@@ -46,33 +46,33 @@ pub struct Restoration {
     pub nonce: u64,
 }
 
-/// What becomes of a fence, a settle or a restore.
+/// The result of a fence, a settle or a restore.
 #[derive(Clone, Copy, Debug, PartialEq, Eq)]
 pub enum Reception {
     /// The server takes it, and this is its base afterwards.
     Taken(Base),
-    /// The server has taken it before: it is answered again, and changes nothing.
+    /// The server has taken it before: it answers again, and changes nothing.
     Again,
     /// It changes nothing, and is not answered.
     Ignored,
 }
 
 impl Base {
-    /// The server has no slots: it refuses orders and requests.
+    /// Tells whether the server has no slots, so that it refuses orders and requests.
     pub fn is_unknown(&self) -> bool
         ensures { result ≡ lacks_slots self.now }
     {
         self.nonce.is_some()
     }
 
-    /// The base is the one of this reopening.
+    /// Tells whether the base is the one of this reopening.
     const fn is_at(&self, reopening: &Reopening) -> bool
         ensures { result ≡ is_at self.now reopening.now }
     {
         self.journal == reopening.journal && self.number == reopening.number
     }
 
-    /// A message of the server's journal names a last reopening that the server was not settled at.
+    /// Tells whether a message of the server's journal names a last reopening that the server was not settled at.
     const fn is_overtaken(&self, last: &Reopening) -> bool
         ensures { result ≡ is_overtaken self.now last.now }
     {
@@ -81,7 +81,8 @@ impl Base {
     }
 }
 
-/// What comes is meant for the server as it stands: it names the nonce of one that is Unknown, and none of one that has its slots.
+/// Tells whether what comes is meant for the server as it stands. It names the nonce of a server that is Unknown, and
+/// none of one that has its slots.
 const fn is_meant(nonce: Option<u64>, named: Option<u64>) -> bool
     ensures { result ≡ is_meant nonce named }
 {

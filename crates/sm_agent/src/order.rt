@@ -6,7 +6,7 @@ use crate::base::Base;
 use crate::slot::{Slot, is_at_work};
 use sm_server::{Call, Refusal, serve};
 
-/// What an order to a server has in common with one to the owner of the published map.
+/// The part of an order to a server that an order to the owner of the published map has too.
 #[derive(Clone, Copy, Debug, PartialEq, Eq)]
 pub struct Stamp {
     pub journal: u64,
@@ -27,14 +27,14 @@ pub struct Order {
     pub room: u64,
 }
 
-/// What a server makes of an order.
+/// The verdict of a server on an order.
 #[derive(Clone, Copy, Debug, PartialEq, Eq)]
 pub enum Verdict {
     /// Its work is to begin.
     Begin,
     /// Its work has begun, and is not committed yet.
     Working,
-    /// It has had its effect, and is answered again.
+    /// It has had its effect, and gets the same answer again.
     Again,
     /// It has no effect any more, and is not answered.
     Old,
@@ -46,7 +46,7 @@ pub enum Verdict {
     Refused(Refusal),
 }
 
-/// Why an order is turned away, whatever the server has of its shard.
+/// Returns why an order is turned away, whatever the server has of its shard.
 pub(crate) fn turn_away(base: &Base, stamp: &Stamp) -> Option<Verdict>
     ensures { result ≡ turned_away base.now stamp.now }
 {
@@ -63,7 +63,7 @@ pub(crate) fn turn_away(base: &Base, stamp: &Stamp) -> Option<Verdict>
     }
 }
 
-/// What the shard's slot says of an order that is not turned away.
+/// Returns what the shard's slot says of an order that is not turned away.
 fn judge_by_slot(slot: &Slot, used: u64, order: &Order) -> Verdict
     ensures { result ≡ judged_by_slot slot.now used order.now }
 {

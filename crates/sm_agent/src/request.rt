@@ -6,7 +6,7 @@ use crate::base::Base;
 use crate::slot::Slot;
 use sm_server::{Cell, ServerId};
 
-/// How a request was passed on in a handover.
+/// The way in which a request was passed on in a handover.
 #[derive(Clone, Copy, Debug, PartialEq, Eq)]
 pub struct Relay {
     /// The old owner, which passed it on.
@@ -26,7 +26,7 @@ pub enum Request {
     Passed(Relay),
 }
 
-/// Where a request is executed.
+/// The place where a request is executed.
 #[derive(Clone, Copy, Debug, PartialEq, Eq)]
 pub enum Routing {
     /// Here, in one act with this answer.
@@ -43,7 +43,7 @@ pub enum Routing {
     NotYet,
 }
 
-/// Where an old owner's requests are executed: it passes them on together with its cut.
+/// Returns where an old owner's requests are executed: it passes them on together with its cut.
 fn pass_on(to: ServerId, number: u64, frozen: bool, cut: Option<u64>) -> Routing
     ensures { result ≡ passed_on to number frozen cut }
 {
@@ -57,7 +57,7 @@ fn pass_on(to: ServerId, number: u64, frozen: bool, cut: Option<u64>) -> Routing
     }
 }
 
-/// Where a request that was passed on to a new owner is executed.
+/// Returns where a request that was passed on to a new owner is executed.
 fn receive(from: ServerId, number: u64, frozen: bool, applied: u64, relay: &Relay) -> Routing
     ensures { result ≡ received from number frozen applied relay.now }
 {

@@ -1,4 +1,4 @@
-//! What a server keeps of a shard, and how work on it begins and ends.
+//! The slot that a server keeps of a shard, and how work on it begins and ends.
 ghost use Rattle.std.specs.Prelude.{◌≡◌};
 ghost use Rattle.sm_server.specs.Call.{led_to};
 ghost use Rattle.sm_agent.specs.Order.{is_at_work, is_filled, is_done, cut_by, cell_load, begun_slot, abandoned, sealed, placed, may_commit, committed, vacant, may_delete};
@@ -7,10 +7,10 @@ use crate::base::Base;
 use crate::order::{Order, turn_away};
 use sm_server::{Call, Cell, Role, serve};
 
-/// What a server keeps of a shard, as durably as the shard's data.
+/// The slot that a server keeps of a shard, as durably as the shard's data.
 #[derive(Clone, Copy, Debug, PartialEq, Eq)]
 pub struct Slot {
-    /// What the server has of the shard; a handover's other party and number are in it.
+    /// The server's cell of the shard; a handover's other party and number are in it.
     pub cell: Cell,
     /// The number of the last order that had its effect, 0 for none.
     pub last: u64,
@@ -22,14 +22,14 @@ pub struct Slot {
     pub cut: Option<u64>,
 }
 
-/// The cell that a call leads to, whatever room there is: a call without load needs none.
+/// Returns the cell that a call leads to, whatever room there is: a call without load needs none.
 fn next_cell(call: Call, cell: Cell) -> Option<Cell>
     ensures { result ≡ led_to call cell }
 {
     serve(cell, 0, 0, true, call).ok()
 }
 
-/// The order's work has begun.
+/// Tells whether the order's work has begun.
 pub(crate) const fn is_at_work(at_work: Option<u64>, number: u64) -> bool
     ensures { result ≡ is_at_work at_work number }
 {
@@ -39,7 +39,7 @@ pub(crate) const fn is_at_work(at_work: Option<u64>, number: u64) -> bool
     }
 }
 
-/// The shard's writes are applied up to the old owner's cut, which is known.
+/// Tells whether the shard's writes are applied up to the old owner's cut, which is known.
 const fn is_filled(cut: Option<u64>, applied: u64) -> bool
     ensures { result ≡ is_filled cut applied }
 {
@@ -49,7 +49,7 @@ const fn is_filled(cut: Option<u64>, applied: u64) -> bool
     }
 }
 
-/// The work is done as far as the slot can tell: a new owner takes over once it is filled.
+/// Tells whether the work is done as far as the slot can tell: a new owner takes over once it is filled.
 const fn is_done(call: Call, cell: Cell, cut: Option<u64>, at: u64) -> bool
     ensures { result ≡ is_done call cell cut at }
 {
@@ -59,7 +59,7 @@ const fn is_done(call: Call, cell: Cell, cut: Option<u64>, at: u64) -> bool
     }
 }
 
-/// An old owner's cut is the position at which it stops executing.
+/// Returns an old owner's cut, which is the position at which it stops executing.
 const fn cut_by(call: Call, at: u64) -> Option<u64>
     ensures { result ≡ cut_by call at }
 {
@@ -69,14 +69,14 @@ const fn cut_by(call: Call, at: u64) -> Option<u64>
     }
 }
 
-/// The load of a cell.
+/// Returns the load of a cell.
 const fn load_of(cell: &Cell, load: u64) -> u64
     ensures { result ≡ cell_load cell.now load }
 {
     if cell.is_absent() { 0 } else { load }
 }
 
-/// The order may have its effect now: it is not turned away, it is new, its work has begun and is done.
+/// Tells whether the order may have its effect now: it is not turned away, it is new, its work has begun and is done.
 fn may_commit(base: &Base, slot: &Slot, order: &Order, at: u64) -> bool
     ensures { result ≡ may_commit base.now slot.now order.now at }
 {
@@ -96,8 +96,9 @@ pub const fn begin(slot: &Slot, order: &Order) -> Slot
     }
 }
 
-/// Returns the slot once the work of an order is committed, with the shard's writes applied up to `at`: it is to be stored in one
-/// act with the work, and the order is answered afterwards. None if the work is to be thrown away, or its cut is not reached yet.
+/// Returns the slot once the work of an order is committed, with the shard's writes applied up to `at`. The slot is to
+/// be stored in one act with the work, and the order is answered afterwards. None if the work is to be thrown away, or
+/// its cut is not reached yet.
 pub fn commit(base: &Base, slot: &Slot, order: &Order, at: u64) -> Option<Slot>
     ensures { result ≡ committed base.now slot.now order.now at }
 {

@@ -1,4 +1,4 @@
--- What a base of C stands for, and how messages change one.
+-- Bases of C, and how messages change one.
 use Rattle.std.specs.Prelude.{ℕ, ◌==◌, not, ◌&&◌, Option, Some, None, is_none, unwrap_or, option_map, if◌then◌else◌}
 use Rattle.sm_agent.specs.declared.base.Base.{Base}
 use Rattle.sm_agent.specs.declared.base.Reopening.{Reopening}

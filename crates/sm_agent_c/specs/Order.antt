@@ -1,4 +1,4 @@
--- What an order of C stands for, and what a server makes of it.
+-- Orders of C, and what a server makes of them.
 use Rattle.std.specs.Prelude.{ℕ, ◌==◌, Option, Some, None, option_map, if◌then◌else◌}
 use Rattle.sm_server.specs.declared.call.Role.{Role}
 use Rattle.sm_server.specs.declared.call.Role.TheVariants.{Primary, Secondary}

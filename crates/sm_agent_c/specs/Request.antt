@@ -1,4 +1,4 @@
--- What a request of C stands for, and where it is executed.
+-- Requests of C, and where they are executed.
 use Rattle.std.specs.Prelude.{ℕ, ◌==◌, not, Option, Some, None, if◌then◌else◌}
 use Rattle.sm_agent.specs.declared.base.Base.{Base}
 use Rattle.sm_agent.specs.declared.request.Request.{Request}

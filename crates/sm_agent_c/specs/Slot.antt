@@ -1,4 +1,4 @@
--- What a slot of C stands for, and how functions change one.
+-- Slots of C, and how functions change one.
 use Rattle.std.specs.Prelude.{ℕ, ◌==◌, not, Option, Some, None, is_some, unwrap_or, if◌then◌else◌}
 use Rattle.sm_server.specs.declared.call.Cell.{Cell}
 use Rattle.sm_server.specs.declared.call.Cell.TheVariants.{Absent, Prepared, Secondary, Primary, Forwarding}

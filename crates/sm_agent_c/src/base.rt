@@ -48,7 +48,7 @@ pub struct RawRestoration {
     pub nonce: u64,
 }
 
-/// What a base of C stands for, if its flags are in range.
+/// Returns what a base of C stands for, if its flags are in range.
 pub(crate) fn read_base(raw: &RawBase) -> Option<Base>
     ensures { result ≡ base_of raw.now }
 {
@@ -68,7 +68,7 @@ pub(crate) fn read_base(raw: &RawBase) -> Option<Base>
     })
 }
 
-/// A base as C has it.
+/// Returns a base in C's form.
 fn write_base(base: &Base) -> RawBase
     ensures { result ≡ written_base base.now }
 {
@@ -81,7 +81,7 @@ fn write_base(base: &Base) -> RawBase
     }
 }
 
-/// A reopening, as the agent has it.
+/// Returns a reopening in the agent's form.
 fn read_reopening(raw: &RawReopening) -> Reopening
     ensures { result ≡ reopening_of raw.now }
 {
@@ -91,7 +91,7 @@ fn read_reopening(raw: &RawReopening) -> Reopening
     }
 }
 
-/// A settlement, as the agent has it, if its flag is in range.
+/// Returns a settlement in the agent's form, if its flag is in range.
 fn read_settlement(raw: &RawSettlement) -> Option<Settlement>
     ensures { result ≡ settlement_of raw.now }
 {
@@ -107,7 +107,7 @@ fn read_settlement(raw: &RawSettlement) -> Option<Settlement>
     })
 }
 
-/// A restoration, as the agent has it.
+/// Returns a restoration in the agent's form.
 fn read_restoration(raw: &RawRestoration) -> Restoration
     ensures { result ≡ restoration_of raw.now }
 {

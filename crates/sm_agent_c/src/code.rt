@@ -75,7 +75,7 @@ pub(crate) const AS_PRIMARY: u32 = 1;
 
 pub(crate) const AS_SECONDARY: u32 = 2;
 
-/// The number of a verdict.
+/// Returns the number of a verdict.
 pub(crate) fn verdict_code(verdict: Verdict) -> u32
     ensures { result ≡ verdict_code verdict }
 {
@@ -94,28 +94,28 @@ pub(crate) fn verdict_code(verdict: Verdict) -> u32
     }
 }
 
-/// A flag is 0 or 1.
+/// Tells whether a flag is 0 or 1.
 pub(crate) const fn is_flag(flag: u32) -> bool
     ensures { result ≡ is_flag flag }
 {
     flag <= 1
 }
 
-/// The flag of a fact.
+/// Returns the flag of a fact.
 pub(crate) const fn flag_of(fact: bool) -> u32
     ensures { result ≡ flag_of fact }
 {
     if fact { 1 } else { 0 }
 }
 
-/// The number, if its flag is not 0.
+/// Returns the number, if its flag is not 0.
 pub(crate) const fn number_if(flag: u64, number: u64) -> Option<u64>
     ensures { result ≡ number_if flag number }
 {
     if flag == 0 { None } else { Some(number) }
 }
 
-/// Whether something is so, or was done.
+/// Returns `DONE` if something is so, or was done, and `NOT_DONE` otherwise.
 pub(crate) const fn done_if(fact: bool) -> u32
     ensures { result ≡ done_if fact }
 {

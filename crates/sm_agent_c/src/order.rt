@@ -35,7 +35,7 @@ pub struct RawPublication {
     pub version: u64,
 }
 
-/// The role of a kind.
+/// Returns the role of a kind.
 fn read_role(kind: u32) -> Option<Role>
     ensures { result ≡ role_of kind }
 {
@@ -46,7 +46,7 @@ fn read_role(kind: u32) -> Option<Role>
     }
 }
 
-/// The call of a kind.
+/// Returns the call of a kind.
 fn read_call(raw: &RawOrder) -> Option<Call>
     ensures { result ≡ raw_call raw.now }
 {
@@ -69,7 +69,7 @@ fn read_call(raw: &RawOrder) -> Option<Call>
     }
 }
 
-/// An order, as the agent has it, if its kinds are in range.
+/// Returns an order in the agent's form, if its kinds are in range.
 pub(crate) fn read_order(raw: &RawOrder) -> Option<Order>
     ensures { result ≡ raw_order raw.now }
 {

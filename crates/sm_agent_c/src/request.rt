@@ -10,7 +10,7 @@ use crate::slot::{RawSlot, Reading, read_slot};
 use sm_agent::{Relay, Request, Routing, route};
 use sm_server::ServerId;
 
-/// How a request was passed on, or is to be passed on.
+/// The way in which a request was passed on, or is to be passed on.
 #[repr(C)]
 #[derive(Clone, Copy)]
 pub struct RawRequest {
@@ -20,7 +20,7 @@ pub struct RawRequest {
     pub is_passed: u32,
 }
 
-/// A request, as the agent has it, if its flag is in range.
+/// Returns a request in the agent's form, if its flag is in range.
 fn read_request(raw: &RawRequest) -> Option<Request>
     ensures { result ≡ request_of raw.now }
 {

@@ -24,7 +24,7 @@ pub struct RawSlot {
     pub reserved: u32,
 }
 
-/// What a slot of C stands for.
+/// The slot that a slot of C stands for.
 #[derive(Clone, Copy)]
 pub(crate) enum Reading {
     /// A kind is out of range.
@@ -34,7 +34,7 @@ pub(crate) enum Reading {
     Known(Slot),
 }
 
-/// The cell of a kind.
+/// Returns the cell of a kind.
 fn read_cell(kind: u32, party: u32, handover: u64) -> Option<Cell>
     ensures { result ≡ raw_cell kind party handover }
 {
@@ -54,7 +54,7 @@ fn read_cell(kind: u32, party: u32, handover: u64) -> Option<Cell>
     }
 }
 
-/// The kind of a cell.
+/// Returns the kind of a cell.
 fn cell_kind(cell: &Cell) -> u32
     ensures { result ≡ cell_kind cell.now }
 {
@@ -67,7 +67,7 @@ fn cell_kind(cell: &Cell) -> u32
     }
 }
 
-/// The handover's other server, 0 outside one.
+/// Returns the handover's other server, 0 outside one.
 fn cell_party(cell: &Cell) -> u32
     ensures { result ≡ cell_party cell.now }
 {
@@ -78,7 +78,7 @@ fn cell_party(cell: &Cell) -> u32
     }
 }
 
-/// The handover's number, 0 outside one.
+/// Returns the handover's number, 0 outside one.
 fn cell_handover(cell: &Cell) -> u64
     ensures { result ≡ cell_handover cell.now }
 {
@@ -88,7 +88,7 @@ fn cell_handover(cell: &Cell) -> u64
     }
 }
 
-/// What a slot of C stands for.
+/// Returns the slot that a slot of C stands for.
 pub(crate) fn read_slot(raw: &RawSlot) -> Reading
     ensures { result ≡ slot_of raw.now }
 {
@@ -110,7 +110,7 @@ pub(crate) fn read_slot(raw: &RawSlot) -> Reading
     }
 }
 
-/// A slot as C has it.
+/// Returns a slot in C's form.
 pub(crate) fn write_slot(slot: &Slot) -> RawSlot
     ensures { result ≡ written_slot slot.now }
 {
@@ -127,7 +127,7 @@ pub(crate) fn write_slot(slot: &Slot) -> RawSlot
     }
 }
 
-/// `SM_DONE` of a slot that is known.
+/// Returns `SM_DONE` for a slot that is known.
 fn answer_to(reading: &Reading) -> u32
     ensures { result ≡ answer_of reading.now }
 {

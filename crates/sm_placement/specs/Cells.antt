@@ -1,5 +1,5 @@
 -- A cell as a state and a party, and a list of cells as their states and parties.
--- Steps of the code's own way, which private functions' contracts cite: whoever reads the public ones need not read them.
+-- Internal definitions: you need not read them for the public contracts.
 use Rattle.std.specs.Prelude.{ℕ, Bool, true, false, List, length, map, Option, Some, None}
 use Rattle.std.specs.List.{range_with_len}
 use Rattle.sm_server.specs.declared.call.Cell.{Cell}
@@ -29,7 +29,7 @@ has_party state.Prepared = true
 has_party state.Forwarding = true
 has_party _ = false
 
--- the cell of a state, with a party where it has one
+-- the cell of a state, with a party if it has one
 abbrev pub cell_of : State → Party → Cell
 cell_of state.Absent party = Absent
 cell_of state.Prepared party = Prepared party.server party.number

@@ -1,6 +1,5 @@
 -- The rows of a configuration's servers and shards, and why they are refused.
--- `server_names` and `shard_names` are steps of the code's own way, which private functions' contracts cite: whoever reads the public ones need not
--- read them.
+-- `server_names` and `shard_names` are internal: you need not read them for the public contracts.
 use Rattle.std.specs.Prelude.{not, ℕ, List, Option, Some, None, if◌then◌else◌, map, string_bytes}
 use Rattle.sm_placement.specs.declared.config.Server.{Server}
 use Rattle.sm_placement.specs.declared.config.Shard.{Shard}

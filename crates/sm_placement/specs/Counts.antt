@@ -1,5 +1,5 @@
 -- How many servers of a shard's row are live, and how many serve it.
--- Steps of the code's own way, which private functions' contracts cite: whoever reads the public ones need not read them.
+-- Internal definitions: you need not read them for the public contracts.
 use Rattle.std.specs.Prelude.{◌≡◌, ◌<◌, ◌≤◌, ℕ, ◌+◌, ◌-◌, ◌^◌, ◌==◌, ◌||◌, Bool, Option, Some, None, if◌then◌else◌, List, length}
 use Rattle.std.specs.Option.{option_or, unwrap_or}
 use Rattle.sm_server.specs.declared.call.Cell.{Cell}
@@ -24,11 +24,11 @@ target_of (Forwarding to number) = Some to
 target_of _ = None
 
 -- the other server whose part in a row may change with the cell of v: the one to which the old or the new cell forwards,
--- or v itself where neither does
+-- or v itself if neither does
 abbrev pub party_of : Cell → Cell → ℕ → ℕ
 party_of old next v = unwrap_or (option_or (target_of old) (target_of next)) v
 
--- f at v and at u, once where they are one
+-- f at v and at u, once if they are one
 abbrev pub at_both : (ℕ → ℕ) → ℕ → ℕ → ℕ
 at_both f v u = if u == v then f v else f v + f u
 
@@ -39,7 +39,7 @@ counts_at row down v u = record {
   serving = at_both (λ q. bit (serves row q)) v u;
 }
 
--- the counts, where one part of them was `before` and is `after`
+-- the counts after one part of them, which was `before`, is `after`
 abbrev pub corrected : Counts → Counts → Counts → Counts
 corrected counts before after = record {
   live = counts.live + after.live - before.live;

@@ -1,5 +1,5 @@
 -- A list of last numbers, of which a front is written.
--- Steps of the code's own way, which private functions' contracts cite: whoever reads the public ones need not read them.
+-- Internal definitions: you need not read them for the public contracts.
 use Rattle.std.specs.Prelude.{ℕ, ◌-◌, ◌++◌, List, length, replicate}
 
 -- n numbers: those that are written, and 0 behind them

@@ -37,7 +37,7 @@ place_of l = record {
   limit = l.limit;
 }
 
--- What every placement keeps: beyond its servers and shards there is nothing, nobody is down and nothing is listed,
+-- The facts that every placement keeps: beyond its servers and shards there is nothing, nobody is down and nothing is listed,
 -- each server that a cell or the map names is known, and no load is above its room.
 pub record IsPlacement (c : Sizes) (p : Place) : Type 0 where
   pub no_server : (s v : ℕ) → c.servers ≤ v → p.cells s v ≡ Absent

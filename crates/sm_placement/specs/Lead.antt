@@ -19,7 +19,7 @@ IsPlain Absent = Unit {0}
 IsPlain Secondary = Unit {0}
 IsPlain _ = ⊥
 
--- the lead describes the row, where the shard's highest handover number is n
+-- the lead describes the row, if the shard's highest handover number is n
 abbrev pub Describes : Lead → ℕ → (ℕ → Cell) → Type 0
 Describes Gone n row = (x : ℕ) → IsPlain (row x)
 Describes (At u) n row = (row u ≡ Primary) × ((x : ℕ) → x ≢ u → IsPlain (row x))
@@ -80,11 +80,11 @@ lead_among row (u ∷ []) = lead_alone u (row u)
 lead_among row (u ∷ (v ∷ [])) = option_or (lead_of_pair u (row u) v (row v)) (lead_of_pair v (row v) u (row u))
 lead_among row _ = None
 
--- the lead that describes a row of n servers, by those of them that have a part in it; None where no lead does
+-- the lead that describes a row of n servers, by those of them that have a part in it; None if no lead does
 abbrev pub lead_of : ℕ → (ℕ → Cell) → Option Lead
 lead_of n row = lead_among row (filter (λ v. has_part (row v)) (range_with_len 0 n))
 
--- the lead of a row is found exactly where it describes the row under some number, and none where no lead does
+-- the lead of a row is found exactly if it describes the row under some number, and none if no lead does
 pub record LeadWhereDescribed (n : ℕ) (row : ℕ → Cell) : Type 0 where
   pub found : (lead : Lead) → (lead_of n row ≡ Some lead) ↔ ((number : ℕ) × Describes lead number row)
   pub none : (lead_of n row ≡ None) ↔ ((lead : Lead) (number : ℕ) → Describes lead number row → ⊥)

@@ -1,6 +1,6 @@
 -- Opening a placement: the placement that is named, and why one is refused.
--- `AreKnown`, `IsNamedOnce`, `tally`, `lead_cells` and `unpublished` are steps of the code's own way, which private functions' contracts cite:
--- whoever reads the public ones need not read them.
+-- `AreKnown`, `IsNamedOnce`, `tally`, `lead_cells` and `unpublished` are internal: you need not read them for the
+-- public contracts.
 use Rattle.std.specs.Prelude.{◌≡◌, ◌≤◌, ℕ, ◌&&◌, ◌||◌, ◌==◌, Bool, true, false, not, List, [], ◌∷◌, ◌++◌, length, Option, Some, None, nat_lt, if◌then◌else◌, option_map, find, count_by}
 use Rattle.std.specs.List.{list_any, range_with_len}
 use Rattle.sm_server.specs.declared.call.Cell.{Cell}
@@ -32,7 +32,7 @@ pub record Opening : Type 0 where
 abbrev pub is_of : ℕ → ℕ → NamedCell → Bool
 is_of s v named = (named.0 == s) && (named.1 == v)
 
--- the cell that the list names for a pair, and Absent where it names none
+-- the cell that the list names for a pair, and Absent if it names none
 abbrev pub cell_named : List NamedCell → ℕ → ℕ → Cell
 cell_named [] s v = Absent
 cell_named (named ∷ rest) s v = if is_of s v named then named.2 else cell_named rest s v
@@ -129,7 +129,7 @@ first_fault [] = None
 first_fault (None ∷ rest) = first_fault rest
 first_fault (Some fault ∷ rest) = Some fault
 
--- the fault, where it is there
+-- the fault, if it is there
 abbrev pub fault_if : Bool → OpenFault → Option OpenFault
 fault_if true fault = Some fault
 fault_if false fault = None

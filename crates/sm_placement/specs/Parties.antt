@@ -1,5 +1,5 @@
 -- The parties of a list of slots, in blocks of as many slots each.
--- Steps of the code's own way, which private functions' contracts cite: whoever reads the public ones need not read them.
+-- Internal definitions: you need not read them for the public contracts.
 use Rattle.std.specs.Prelude.{◌≡◌, ◌≤◌, ◌<◌, ℕ, ◌+◌, ◌*◌, ◌/◌, ◌%◌, List, length, Option, Some, None, is_some}
 use Rattle.sm_placement.specs.declared.parties.Party.{Party}
 use Rattle.sm_placement.specs.declared.parties.TheConstants.{BLOCK}
@@ -12,7 +12,7 @@ pub record PartiesModel : Type 0 where
   pub starts : List (Option ℕ)
   pub parties : List Party
 
--- what stands where no party was set
+-- the default if no party was set
 abbrev pub no_party : Party
 no_party = record { server = 0; number = 0 }
 

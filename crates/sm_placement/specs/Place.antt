@@ -129,7 +129,7 @@ outcome_with last (Err why) = Err why
 abbrev pub LooksAtNoLasts : Sizes → Place → Type 0
 LooksAtNoLasts c p = (last : ℕ → ℕ → ℕ) (s v : ℕ) (call : Call) → called c (with_lasts last p) s v call ≡ outcome_with last (called c p s v call)
 
--- A call is allowed: it leads to a next cell, the server is up, and has room where it had nothing of the shard.
+-- A call is allowed: it leads to a next cell, the server is up, and has room if it had nothing of the shard.
 pub record IsAllowed (c : Sizes) (p : Place) (s v : ℕ) (call : Call) (to : Cell) : Type 0 where
   pub leads : Leads call (p.cells s v) to
   pub up : p.down v ≡ false

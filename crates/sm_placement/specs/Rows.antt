@@ -1,5 +1,5 @@
 -- One shard's cells, by server: who serves it, and who is live.
--- `serving_in` is a step of the code's own way, which private functions' contracts cite: whoever reads the public ones need not read it.
+-- `serving_in` is internal: you need not read it for the public contracts.
 use Rattle.std.specs.Prelude.{ℕ, ◌<◌, Bool, true, false, not, ◌&&◌, ◌||◌, ◌==◌, List, [], ◌∷◌, filter, length}
 use Rattle.std.specs.List.{range_with_len}
 use Rattle.sm_server.specs.declared.call.Cell.{Cell}

@@ -1,4 +1,4 @@
--- What a configuration says: its servers and its shards, each at its number.
+-- A configuration: its servers and its shards, each at its number.
 use Rattle.std.specs.Prelude.{◌≡◌, ◌≤◌, ◌-◌, ◌&&◌, ◌||◌, ◌==◌, ℕ, Bool, true, false, List, [], length, Option, nat_lt, nat_le, map, position, slice_index_or, All}
 use Rattle.std.specs.Cmp.{IsEquivalence}
 use Rattle.std.specs.Cmp.Lexicographic.{pointwise}

@@ -7,7 +7,7 @@ use sm_server::Cell;
 use std::alloc::{AllocError, Global};
 use std::marker::Model;
 
-/// What a cell is, without the party that it may have.
+/// The state of a cell, without the party that it may have.
 #[derive(Clone, Copy)]
 pub enum State {
     Absent,
@@ -24,7 +24,7 @@ pub struct Cells {
     parties: Parties,
 }
 
-/// One call where it goes out of scope, and not one for each list.
+/// Drops everything in one call, instead of one call for each list.
 impl Drop for Cells {
     fn drop(self) {
         let Cells { states, parties } = self;
@@ -59,7 +59,7 @@ pub struct Row<'a> {
 
 ghost use Rattle.sm_placement.specs.Cells.{cell_of, state_of_cell, named_party, has_party};
 
-/// The state of a cell.
+/// Returns the state of a cell.
 fn state_of_cell(cell: &Cell) -> State
     ensures { result ≡ state_of_cell cell.now }
 {
@@ -72,7 +72,7 @@ fn state_of_cell(cell: &Cell) -> State
     }
 }
 
-/// The party that a cell names, if it names one.
+/// Returns the party that a cell names, if it names one.
 fn named_party(cell: &Cell) -> Option<Party>
     ensures { result ≡ named_party cell.now }
 {
@@ -89,14 +89,14 @@ fn named_party(cell: &Cell) -> Option<Party>
     }
 }
 
-/// The cell of a state has a party.
+/// Tells whether the cell of a state has a party.
 fn has_party(state: State) -> bool
     ensures { result ≡ has_party state }
 {
     matches!(state, State::Prepared | State::Forwarding)
 }
 
-/// The cell of a state, with a party where it has one.
+/// Returns the cell of a state, with a party if it has one.
 fn cell_of(state: State, party: Party) -> Cell
     ensures { result ≡ cell_of state party }
 {
@@ -116,7 +116,7 @@ fn cell_of(state: State, party: Party) -> Cell
 }
 
 impl Cells {
-    /// This many cells, with nothing in each. There is room for the parties of all, but none is written.
+    /// Makes this many cells, with nothing in each. There is room for the parties of all, but none is written.
     pub fn new(alloc: Global, count: usize) -> Result<Cells, AllocError>
         requires { count < 2 ^ 32 }
         ensures { IfOk result (λ cells. cells ≡ replicate count Cell.Absent) }
@@ -127,7 +127,7 @@ impl Cells {
         })
     }
 
-    /// The cells, once more.
+    /// Copies the cells.
     pub fn copy(&self, alloc: Global) -> Result<Cells, AllocError>
         ensures { IfOk result (λ cells. cells ≡ self.now) }
     {
@@ -137,7 +137,7 @@ impl Cells {
         })
     }
 
-    /// The cell at a slot.
+    /// Returns the cell at a slot.
     pub fn get(&self, slot: usize) -> Cell
         requires { slot < length self.now }
         ensures { result ≡ entries_of Cell.Absent self.now slot }
@@ -161,7 +161,7 @@ impl Cells {
         }
     }
 
-    /// The cells of one shard.
+    /// Returns the cells of one shard.
     pub fn row(&self, shard: usize, servers: usize) -> Row<'_>
         requires { shard * servers + servers ≤ length self.now }
         ensures cells { result.cells.now ≡ self.now }

@@ -15,7 +15,7 @@ use std::alloc::{AllocError, Global};
 use std::marker::Model;
 use thiserror::Error;
 
-/// A server: its name, the region that it stands in, and the load that it has room for.
+/// A server: its name, its region, and its room, which is the load that it can take.
 #[derive(Clone, Debug, Drop, PartialEq, Eq)]
 pub struct Server {
     pub name: String,
@@ -23,8 +23,8 @@ pub struct Server {
     pub room: u64,
 }
 
-/// A shard: its name, the load of each of its replicas, how many replicas it wants, how many of these may be away at
-/// once, and in how many regions the replicas are to stand.
+/// A shard: its name, the load of each replica, and three numbers: how many replicas it wants, how many of these may be
+/// away at once, and in how many regions the replicas are to stand.
 #[derive(Clone, Debug, Drop, PartialEq, Eq)]
 pub struct Shard {
     pub name: String,
@@ -35,7 +35,7 @@ pub struct Shard {
 }
 
 impl Shard {
-    /// How many live replicas the shard never falls below.
+    /// Returns the floor: the number of live replicas that the shard never falls below.
     pub fn floor(&self) -> u32
         ensures { result ≡ self.now.want - self.now.cap }
     {
@@ -72,7 +72,7 @@ pub struct Config {
     shard_names: IndexSet<String>,
 }
 
-/// One call where it goes out of scope, and not one for each list.
+/// Drops everything in one call, instead of one call for each list.
 impl Drop for Config {
     fn drop(self) {
         let Config {
@@ -109,70 +109,70 @@ impl From<AllocError> for ConfigFault {
     }
 }
 
-/// Whether a byte may stand in a name.
+/// Tells whether a byte may stand in a name.
 fn is_name_byte(byte: u8) -> bool
     ensures { result ≡ is_name_byte byte }
 {
     byte.is_ascii_alphanumeric() || matches!(byte, b'-' | b'.' | b'_')
 }
 
-/// Whether all bytes of a text may stand in a name.
+/// Tells whether all bytes of a text may stand in a name.
 fn are_name_bytes(text: &str) -> bool
     ensures { result ≡ list_all is_name_byte text.now }
 {
     text.bytes().all(is_name_byte)
 }
 
-/// Whether a text is a name: 1 to 32 letters or digits of ASCII, `-`, `.` and `_`.
+/// Tells whether a text is a name: 1 to 32 letters or digits of ASCII, `-`, `.` and `_`.
 pub fn is_name(text: &str) -> bool
     ensures { result ≡ is_name text.now }
 {
     !text.is_empty() && text.len() <= MOST_NAME_BYTES && are_name_bytes(text)
 }
 
-/// Whether there are more servers or shards than a configuration has.
+/// Tells whether there are more servers or shards than a configuration may have.
 fn is_too_large(servers: &[Server], shards: &[Shard]) -> bool
     ensures { result ≡ is_too_large (setup_of servers.now shards.now) }
 {
     servers.len() > MOST_SERVERS || shards.len() > MOST_SHARDS
 }
 
-/// Whether a server's name and region are names.
+/// Tells whether a server's name and region are names.
 fn is_well_named_server(server: &Server) -> bool
     ensures { result ≡ is_well_named_server (server_row server.now) }
 {
     is_name(&server.name) && is_name(&server.region)
 }
 
-/// Whether a shard's name is a name.
+/// Tells whether a shard's name is a name.
 fn is_well_named_shard(shard: &Shard) -> bool
     ensures { result ≡ is_well_named_shard (shard_row shard.now) }
 {
     is_name(&shard.name)
 }
 
-/// Whether every server is well named.
+/// Tells whether every server is well named.
 fn are_well_named_servers(servers: &[Server]) -> bool
     ensures { result ≡ list_all (λ s. is_well_named_server (server_row s)) servers.now }
 {
     servers.iter().all(is_well_named_server)
 }
 
-/// Whether every shard is well named.
+/// Tells whether every shard is well named.
 fn are_well_named_shards(shards: &[Shard]) -> bool
     ensures { result ≡ list_all (λ s. is_well_named_shard (shard_row s)) shards.now }
 {
     shards.iter().all(is_well_named_shard)
 }
 
-/// Whether a server's room is within its limit.
+/// Tells whether a server's room is within its limit.
 fn is_good_server(server: &Server) -> bool
     ensures { result ≡ is_good_server (server_row server.now) }
 {
     server.room <= MOST_LOAD
 }
 
-/// Whether a shard's numbers are within their limits.
+/// Tells whether a shard's numbers are within their limits.
 fn is_good_shard(shard: &Shard) -> bool
     ensures { result ≡ is_good_shard (shard_row shard.now) }
 {
@@ -183,21 +183,21 @@ fn is_good_shard(shard: &Shard) -> bool
         && shard.cap <= shard.want
 }
 
-/// Whether each server's room is within its limit.
+/// Tells whether each server's room is within its limit.
 fn are_good_servers(servers: &[Server]) -> bool
     ensures { result ≡ list_all (λ s. is_good_server (server_row s)) servers.now }
 {
     servers.iter().all(is_good_server)
 }
 
-/// Whether each shard's numbers are within their limits.
+/// Tells whether each shard's numbers are within their limits.
 fn are_good_shards(shards: &[Shard]) -> bool
     ensures { result ≡ list_all (λ s. is_good_shard (shard_row s)) shards.now }
 {
     shards.iter().all(is_good_shard)
 }
 
-/// Whether every server and every shard is well named.
+/// Tells whether every server and every shard is well named.
 #[tactic(auto, using(crate::proofs::ConfigLemmas::all_well_named_servers, crate::proofs::ConfigLemmas::all_well_named_shards))]
 fn has_good_names(servers: &[Server], shards: &[Shard]) -> bool
     ensures { result ≡ has_good_names (setup_of servers.now shards.now) }
@@ -205,7 +205,7 @@ fn has_good_names(servers: &[Server], shards: &[Shard]) -> bool
     are_well_named_servers(servers) && are_well_named_shards(shards)
 }
 
-/// Whether all numbers are within their limits.
+/// Tells whether all numbers are within their limits.
 #[tactic(auto, using(crate::proofs::ConfigLemmas::all_good_servers, crate::proofs::ConfigLemmas::all_good_shards))]
 fn has_good_numbers(servers: &[Server], shards: &[Shard]) -> bool
     ensures { result ≡ has_good_numbers (setup_of servers.now shards.now) }
@@ -218,7 +218,7 @@ struct Names {
     table: IndexSet<String>,
 }
 
-/// One call where it goes out of scope, and not one for each list.
+/// Drops everything in one call, instead of one call for each list.
 impl Drop for Names {
     fn drop(self) {
         let Names { table } = self;
@@ -227,7 +227,7 @@ impl Drop for Names {
 }
 
 impl Names {
-    /// The table itself.
+    /// Returns the table itself.
     fn into_table(self) -> IndexSet<String>
         ensures { result ≡ self.table }
     {
@@ -245,7 +245,7 @@ fn insert_name(alloc: Global, names: &mut Names, name: &str) -> Result<bool, All
     Ok(names.table.insert(String::from_str(alloc, name)?)?)
 }
 
-/// The table of the servers' names, or nothing where two have one name.
+/// Returns the table of the servers' names, or nothing if two have one name.
 #[tactic(auto, using(crate::proofs::DoubleLemmas::server_names_more, crate::proofs::DoubleLemmas::server_single_more, crate::proofs::DoubleLemmas::server_double_here))]
 fn server_table(alloc: Global, servers: &[Server]) -> Result<Option<Names>, AllocError>
     ensures double { IfOk result (λ table. is_none table ≡ has_double (server_names servers.now)) }
@@ -262,7 +262,7 @@ fn server_table(alloc: Global, servers: &[Server]) -> Result<Option<Names>, Allo
     Ok(Some(names))
 }
 
-/// The table of the shards' names, or nothing where two have one name.
+/// Returns the table of the shards' names, or nothing if two have one name.
 #[tactic(auto, using(crate::proofs::DoubleLemmas::shard_names_more, crate::proofs::DoubleLemmas::shard_single_more, crate::proofs::DoubleLemmas::shard_double_here))]
 fn shard_table(alloc: Global, shards: &[Shard]) -> Result<Option<Names>, AllocError>
     ensures double { IfOk result (λ table. is_none table ≡ has_double (shard_names shards.now)) }
@@ -279,7 +279,7 @@ fn shard_table(alloc: Global, shards: &[Shard]) -> Result<Option<Names>, AllocEr
     Ok(Some(names))
 }
 
-/// Whether two lists of servers agree.
+/// Tells whether two lists of servers agree.
 #[tactic(auto, using(crate::proofs::SameLemmas::same_server_rows))]
 fn same_servers(servers: &[Server], others: &[Server]) -> bool
     ensures { result ≡ pointwise same_server (map server_row servers.now) (map server_row others.now) }
@@ -287,7 +287,7 @@ fn same_servers(servers: &[Server], others: &[Server]) -> bool
     servers == others
 }
 
-/// Whether two lists of shards agree.
+/// Tells whether two lists of shards agree.
 #[tactic(auto, using(crate::proofs::SameLemmas::same_shard_rows))]
 fn same_shards(shards: &[Shard], others: &[Shard]) -> bool
     ensures { result ≡ pointwise same_shard (map shard_row shards.now) (map shard_row others.now) }
@@ -295,7 +295,7 @@ fn same_shards(shards: &[Shard], others: &[Shard]) -> bool
     shards == others
 }
 
-/// A copy of servers.
+/// Copies servers.
 #[tactic(auto, using(crate::proofs::CopyLemmas::server_copies))]
 fn copied_servers(alloc: Global, servers: &[Server]) -> Result<Vec<Server>, AllocError>
     ensures { IfOk result (λ copy. map server_row copy.items ≡ map server_row servers.now) }
@@ -303,7 +303,7 @@ fn copied_servers(alloc: Global, servers: &[Server]) -> Result<Vec<Server>, Allo
     Vec::from_clones(alloc, servers)
 }
 
-/// A copy of shards.
+/// Copies shards.
 #[tactic(auto, using(crate::proofs::CopyLemmas::shard_copies))]
 fn copied_shards(alloc: Global, shards: &[Shard]) -> Result<Vec<Shard>, AllocError>
     ensures { IfOk result (λ copy. map shard_row copy.items ≡ map shard_row shards.now) }
@@ -311,7 +311,7 @@ fn copied_shards(alloc: Global, shards: &[Shard]) -> Result<Vec<Shard>, AllocErr
     Vec::from_clones(alloc, shards)
 }
 
-/// A copy of servers and shards.
+/// Copies servers and shards.
 fn copied_rows(
     alloc: Global,
     servers: &[Server],
@@ -324,7 +324,7 @@ fn copied_rows(
     Ok((servers, copied_shards(alloc, shards)?))
 }
 
-/// A copy of a table of names.
+/// Copies a table of names.
 #[tactic(auto, using(crate::proofs::CopyLemmas::name_copies))]
 fn copied_names(names: &IndexSet<String>) -> Result<Names, AllocError>
     ensures { IfOk result (λ copy. map string_bytes copy.table.keys ≡ map string_bytes names.now.keys) }
@@ -334,7 +334,7 @@ fn copied_names(names: &IndexSet<String>) -> Result<Names, AllocError>
     })
 }
 
-/// The number of a name in a table.
+/// Returns the number of a name in a table.
 #[tactic(auto, using(crate::proofs::ConfigLemmas::position_map))]
 fn number_of(names: &IndexSet<String>, name: &str) -> Option<u32>
     requires { length names.now.keys ≤ MOST_SHARDS }
@@ -352,8 +352,8 @@ impl Config {
     ghost use Rattle.sm_placement.specs.Config.{server_row, shard_row, setup_of, config_fault};
 
     /// Copies servers and shards, or says why they are no configuration: the first fault in the order of `ConfigFault`.
-    /// Whether there are too many and whether the names are good is told without memory; `NoMemory` may stand in place of a
-    /// double name or a bad number.
+    /// Too many entries and bad names are found without memory; `NoMemory` may stand before a double name or a bad
+    /// number.
     #[tactic(auto, using(crate::proofs::SetupLemmas::setup_from_tests))]
     pub fn new(alloc: Global, servers: &[Server], shards: &[Shard]) -> Result<Config, ConfigFault>
         ensures ok { IfOk result (λ config. config ≡ setup_of servers.now shards.now) }
@@ -385,7 +385,7 @@ impl Config {
         })
     }
 
-    /// A copy of the configuration.
+    /// Copies the configuration.
     pub fn copy(&self, alloc: Global) -> Result<Config, AllocError>
         ensures { IfOk result (λ config. config ≡ self.now) }
     {
@@ -400,21 +400,21 @@ impl Config {
         })
     }
 
-    /// The servers, each at its number.
+    /// Returns the servers, each at its number.
     pub fn servers(&self) -> &[Server]
         ensures { map server_row result.now ≡ self.now.servers }
     {
         self.servers.as_slice()
     }
 
-    /// The shards, each at its number.
+    /// Returns the shards, each at its number.
     pub fn shards(&self) -> &[Shard]
         ensures { map shard_row result.now ≡ self.now.shards }
     {
         self.shards.as_slice()
     }
 
-    /// How many servers there are.
+    /// Returns the number of servers.
     #[tactic(auto, using(crate::proofs::ConfigLemmas::length_map))]
     pub fn server_count(&self) -> u32
         ensures count { result ≡ length self.now.servers }
@@ -423,7 +423,7 @@ impl Config {
         self.servers.len() as u32
     }
 
-    /// How many shards there are.
+    /// Returns the number of shards.
     #[tactic(auto, using(crate::proofs::ConfigLemmas::length_map))]
     pub fn shard_count(&self) -> u32
         ensures count { result ≡ length self.now.shards }
@@ -432,7 +432,7 @@ impl Config {
         self.shards.len() as u32
     }
 
-    /// The server with a number.
+    /// Returns the server with a number.
     #[tactic(auto, using(crate::proofs::ConfigLemmas::length_map, crate::proofs::ConfigLemmas::server_at))]
     pub fn server(&self, server: ServerId) -> &Server
         requires { server < length self.now.servers }
@@ -444,7 +444,7 @@ impl Config {
         &self.servers[server.number() as usize]
     }
 
-    /// The shard with a number.
+    /// Returns the shard with a number.
     #[tactic(auto, using(crate::proofs::ConfigLemmas::length_map, crate::proofs::ConfigLemmas::shard_at))]
     pub fn shard(&self, shard: ShardId) -> &Shard
         requires { shard < length self.now.shards }
@@ -459,7 +459,7 @@ impl Config {
         &self.shards[shard.number() as usize]
     }
 
-    /// The load that a server has room for.
+    /// Returns a server's room: the load that it can take.
     pub fn room(&self, server: ServerId) -> u64
         requires { server < length self.now.servers }
         ensures room { result ≡ (sizes_of self.now).room server }
@@ -468,7 +468,7 @@ impl Config {
         self.server(server).room
     }
 
-    /// The load of each of a shard's replicas.
+    /// Returns the load of each of a shard's replicas.
     pub fn load(&self, shard: ShardId) -> u64
         requires { shard < length self.now.shards }
         ensures load { result ≡ (sizes_of self.now).load shard }
@@ -477,7 +477,7 @@ impl Config {
         self.shard(shard).load
     }
 
-    /// How many live replicas a shard never falls below.
+    /// Returns a shard's floor: the number of live replicas that it never falls below.
     pub fn floor(&self, shard: ShardId) -> u32
         requires { shard < length self.now.shards }
         ensures floor { result ≡ (sizes_of self.now).floor shard }
@@ -486,7 +486,7 @@ impl Config {
         self.shard(shard).floor()
     }
 
-    /// The number of the server with this name.
+    /// Returns the number of the server with this name.
     pub fn server_named(&self, name: &str) -> Option<ServerId>
         ensures named { result ≡ server_named self.now name.now }
         ensures within { IfSome result (λ server. server < length self.now.servers) }
@@ -494,7 +494,7 @@ impl Config {
         number_of(&self.server_names, name).map(ServerId::new)
     }
 
-    /// The number of the shard with this name.
+    /// Returns the number of the shard with this name.
     pub fn shard_named(&self, name: &str) -> Option<ShardId>
         ensures named { result ≡ shard_named self.now name.now }
         ensures within { IfSome result (λ shard. shard < length self.now.shards) }

@@ -1,7 +1,7 @@
-//! What the published map says of a shard.
+//! The published map's entry of a shard.
 use sm_server::ServerId;
 
-/// Where a shard is listed, and how often that has changed.
+/// The server at which a shard is listed, and how often that has changed.
 #[derive(Clone, Copy, Debug, PartialEq, Eq)]
 pub struct Entry {
     pub server: Option<ServerId>,

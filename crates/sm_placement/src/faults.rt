@@ -1,4 +1,4 @@
-//! What is wrong with a table's cells, listings, loads and live replicas.
+//! Faults of a table's cells, listings, loads and live replicas.
 ghost use Rattle.std.specs.Prelude.{◌≡◌, ◌<◌, ℕ, length, Some, None};
 ghost use Rattle.sm_placement.specs.Setup.{sizes_of};
 ghost use Rattle.sm_placement.specs.Layout.{entries_of};
@@ -8,7 +8,7 @@ ghost use Rattle.sm_placement.specs.Opening.{first_below, has_bad_lead, has_bad_
 use crate::table::Table;
 use sm_server::{Cell, ServerId, ShardId};
 
-/// The shard has two primaries, or a handover is under way.
+/// Tells whether the shard has two primaries, or a handover is under way.
 fn has_bad_lead(table: &Table, shard: ShardId) -> bool
     requires { shard < length table.now.setup.shards }
     ensures { result ≡ has_bad_lead (length table.now.setup.servers) (cells_of table.now shard) }
@@ -24,7 +24,7 @@ fn has_bad_lead(table: &Table, shard: ShardId) -> bool
     primaries > 1
 }
 
-/// The lowest shard with a bad lead.
+/// Returns the lowest shard with a bad lead.
 #[tactic(auto, using(crate::proofs::Searches::find_range_more))]
 pub fn first_bad_lead(table: &Table) -> Option<ShardId>
     ensures { result ≡ first_below (length table.now.setup.shards) (λ s. has_bad_lead (length table.now.setup.servers) (cells_of table.now s)) }
@@ -37,7 +37,7 @@ pub fn first_bad_lead(table: &Table) -> Option<ShardId>
     None
 }
 
-/// The listed server is not the shard's primary.
+/// Tells whether the listed server is not the shard's primary.
 fn has_bad_listing(table: &Table, shard: ShardId, listed: Option<ServerId>) -> bool
     requires shard { shard < length table.now.setup.shards }
     requires listed { (v : ℕ) → listed ≡ Some v → v < length table.now.setup.servers }
@@ -49,7 +49,7 @@ fn has_bad_listing(table: &Table, shard: ShardId, listed: Option<ServerId>) -> b
     }
 }
 
-/// The lowest shard whose listed server is not its primary.
+/// Returns the lowest shard whose listed server is not its primary.
 #[tactic(auto, using(crate::proofs::Searches::find_range_more))]
 pub fn first_bad_listing(table: &Table, listed: &[Option<ServerId>]) -> Option<ShardId>
     requires len { length listed.now ≡ length table.now.setup.shards }
@@ -64,7 +64,7 @@ pub fn first_bad_listing(table: &Table, listed: &[Option<ServerId>]) -> Option<S
     None
 }
 
-/// The server's load is above its room.
+/// Tells whether the server's load is above its room.
 fn is_over_room(table: &Table, server: ServerId) -> bool
     requires { server < length table.now.setup.servers }
     ensures { result ≡ is_over_room (sizes_of table.now.setup) (cells_of table.now) server }
@@ -72,7 +72,7 @@ fn is_over_room(table: &Table, server: ServerId) -> bool
     table.config().room(server) < table.load(server)
 }
 
-/// The lowest server whose load is above its room.
+/// Returns the lowest server whose load is above its room.
 #[tactic(auto, using(crate::proofs::Searches::find_range_more))]
 pub fn first_over_room(table: &Table) -> Option<ServerId>
     ensures { result ≡ first_below (length table.now.setup.servers) (is_over_room (sizes_of table.now.setup) (cells_of table.now)) }
@@ -85,7 +85,7 @@ pub fn first_over_room(table: &Table) -> Option<ServerId>
     None
 }
 
-/// The shard has fewer live replicas than its floor.
+/// Tells whether the shard has fewer live replicas than its floor.
 fn is_short(table: &Table, shard: ShardId) -> bool
     requires { shard < length table.now.setup.shards }
     ensures { result ≡ is_short (sizes_of table.now.setup) (cells_of table.now) (down_of table.now) shard }
@@ -93,7 +93,7 @@ fn is_short(table: &Table, shard: ShardId) -> bool
     table.live(shard) < table.config().floor(shard)
 }
 
-/// The lowest shard with fewer live replicas than its floor.
+/// Returns the lowest shard with fewer live replicas than its floor.
 #[tactic(auto, using(crate::proofs::Searches::find_range_more))]
 pub fn first_short(table: &Table) -> Option<ShardId>
     ensures { result ≡ first_below (length table.now.setup.shards) (is_short (sizes_of table.now.setup) (cells_of table.now) (down_of table.now)) }

@@ -38,7 +38,7 @@ fn write_all(numbers: &mut Vec<u64>, count: usize)
     }
 }
 
-/// The number of a slot, 0 behind those that are written.
+/// Returns the number of a slot, 0 behind those that are written.
 #[tactic(auto, unfolding(crate::specs::Layout::entries_of))]
 fn number_at(numbers: &[u64], slot: usize) -> u64
     ensures { result ≡ entries_of 0 numbers.now slot }
@@ -50,7 +50,7 @@ fn number_at(numbers: &[u64], slot: usize) -> u64
 }
 
 impl Lasts {
-    /// Room for this many numbers.
+    /// Makes room for this many numbers.
     pub fn new(alloc: Global, count: usize) -> Result<Lasts, AllocError>
         ensures { IfOk result (λ lasts. lasts ≡ replicate count 0) }
     {
@@ -60,7 +60,7 @@ impl Lasts {
         })
     }
 
-    /// The numbers, once more.
+    /// Copies the numbers.
     pub fn copy(&self, alloc: Global) -> Result<Lasts, AllocError>
         ensures { IfOk result (λ lasts. lasts ≡ self.now) }
     {
@@ -72,7 +72,7 @@ impl Lasts {
         })
     }
 
-    /// The number of a slot.
+    /// Returns the number of a slot.
     pub fn get(&self, slot: usize) -> u64
         ensures { result ≡ entries_of 0 self.now slot }
     {

@@ -1,5 +1,5 @@
-//! What is proved of every placement, for those who reason about one: functions with nothing in them, whose contracts
-//! are the laws.
+//! Laws of every placement, for those who reason about one: functions with nothing in them, whose contracts are the
+//! laws.
 ghost use Rattle.std.specs.Prelude.{◌≡◌, ◌≤◌, ◌↔◌, ℕ, Ok};
 ghost use Rattle.sm_placement.specs.Setup.{Setup, IsSetup, Sizes, sizes_of};
 ghost use Rattle.sm_placement.specs.Place.{Place, load_at, answer_at, IsAllowed, NumberedAsCalled, LooksAtNoLasts, LiveMoves};
@@ -8,7 +8,7 @@ ghost use Rattle.sm_placement.specs.declared.limits.TheConstants.{MOST_LOAD, MOS
 
 use sm_server::{Call, Cell, leads_where_led};
 
-/// A call is answered with a next cell exactly where it is allowed, and leads to that cell.
+/// States that a call is answered with a next cell exactly if it is allowed, and leads to that cell.
 #[tactic(auto, using(crate::proofs::Calls::allowed_answer))]
 pub fn answered_where_allowed()
     ensures { (c : Sizes) (p : Place) (s v : ℕ) (call : Call) (to : Cell) → load_at c p v ≤ c.room v → ((answer_at c p s v call ≡ Ok to) ↔ IsAllowed c p s v call to) }
@@ -16,29 +16,29 @@ pub fn answered_where_allowed()
     leads_where_led();
 }
 
-/// A numbered call is the call itself once, and nothing when it is tried again; a call looks at no numbers.
+/// States that a numbered call is the call itself once, and nothing when it is tried again. A call looks at no numbers.
 pub fn numbered_as_called()
     ensures numbered { (c : Sizes) (p : Place) (s v : ℕ) (call : Call) (number : ℕ) → NumberedAsCalled c p s v call number }
     ensures called { (c : Sizes) (p : Place) → LooksAtNoLasts c p }
 {}
 
-/// The lead of a shard's cells is found exactly where it describes them under some handover number, and there is none
-/// exactly where no lead does.
+/// States that the lead of a shard's cells is found exactly if it describes them under some handover number. There is
+/// none exactly if no lead does.
 pub fn lead_where_described()
     ensures { (n : ℕ) (row : ℕ → Cell) → ((v : ℕ) → n ≤ v → row v ≡ Cell.Absent) → LeadWhereDescribed n row }
 {}
 
-/// Who serves a shard is told by the lead that describes its cells.
+/// States that the lead that describes a shard's cells tells who serves it.
 pub fn serving_by_lead()
     ensures { ServingByLead }
 {}
 
-/// A server that goes down takes its own live replicas with it, and one that comes up brings its own.
+/// States that a server that goes down takes its own live replicas with it, and one that comes up brings its own.
 pub fn live_moves()
     ensures { (c : Sizes) (p : Place) → LiveMoves c p }
 {}
 
-/// The numbers of a configuration are small.
+/// States that the numbers of a configuration are small.
 pub fn sizes_are_small()
     ensures room { (setup : Setup) (v : ℕ) → IsSetup setup → (sizes_of setup).room v ≤ MOST_LOAD }
     ensures load { (setup : Setup) (s : ℕ) → IsSetup setup → (sizes_of setup).load s ≤ MOST_LOAD }

@@ -1,4 +1,4 @@
-//! Where a shard's primary stands.
+//! The lead of a shard: the place of its primary.
 ghost use Rattle.std.specs.Prelude.{◌≡◌, ◌<◌, ◌≤◌, ◌-◌, length, find, IfSome};
 ghost use Rattle.std.specs.List.{range_with_len};
 ghost use Rattle.sm_placement.specs.Grid.{cells_of};
@@ -8,7 +8,7 @@ ghost use Rattle.sm_placement.specs.declared.limits.TheConstants.{MOST_SERVERS};
 use crate::table::Table;
 use sm_server::{Cell, ServerId, ShardId};
 
-/// Where a shard's primary stands, and which handover of it is under way.
+/// The place of a shard's primary, and the handover of it that is under way.
 ///
 /// All cells of the shard that a lead does not name hold nothing or a secondary.
 #[derive(Clone, Copy, Debug, PartialEq, Eq)]
@@ -25,14 +25,14 @@ pub enum Lead {
     Handed(ServerId, ServerId),
 }
 
-/// The server has a part in the shard's lead.
+/// Tells whether the server has a part in the shard's lead.
 fn has_part(cell: &Cell) -> bool
     ensures { result ≡ has_part cell.now }
 {
     !matches!(cell, Cell::Absent | Cell::Secondary)
 }
 
-/// The first server from a number on that has a part in the lead of a shard.
+/// Returns the first server from a number on that has a part in the lead of a shard.
 #[tactic(auto, using(crate::proofs::Searches::find_range_more))]
 fn next_part(table: &Table, shard: ShardId, from: u32) -> Option<ServerId>
     requires { shard < length table.now.setup.shards }
@@ -49,7 +49,7 @@ fn next_part(table: &Table, shard: ShardId, from: u32) -> Option<ServerId>
     None
 }
 
-/// The lead by the cell of the one server that has a part.
+/// Returns the lead by the cell of the one server that has a part.
 fn lead_alone(owner: ServerId, own: &Cell) -> Option<Lead>
     ensures { result ≡ lead_alone owner own.now }
 {
@@ -59,7 +59,7 @@ fn lead_alone(owner: ServerId, own: &Cell) -> Option<Lead>
     }
 }
 
-/// The lead by the cells of two servers, the first of which has the primary or is handing it to the second.
+/// Returns the lead by the cells of two servers, the first of which has the primary or is handing it to the second.
 fn lead_of_pair(owner: ServerId, own: &Cell, new: ServerId, other: &Cell) -> Option<Lead>
     ensures { result ≡ lead_of_pair owner own.now new other.now }
 {
@@ -80,7 +80,7 @@ fn lead_of_pair(owner: ServerId, own: &Cell, new: ServerId, other: &Cell) -> Opt
     }
 }
 
-/// The lead of a shard's cells, where a lead describes them under some handover number. Takes no memory.
+/// Returns the lead of a shard's cells, if a lead describes them under some handover number. Takes no memory.
 pub fn lead_of(table: &Table, shard: ShardId) -> Option<Lead>
     requires { shard < length table.now.setup.shards }
     ensures { result ≡ lead_of (length table.now.setup.servers) (cells_of table.now shard) }

@@ -1,4 +1,4 @@
-//! Where the replicas of each shard stand: names and sizes, cells and their sums, and what the published map says.
+//! The places of each shard's replicas: names and sizes, cells and their sums, and what the published map says.
 #![tactic(auto)]
 
 mod cells;

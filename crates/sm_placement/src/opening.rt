@@ -59,7 +59,7 @@ impl From<AllocError> for OpenFault {
     }
 }
 
-/// A shard or a server of the cells is not in the configuration.
+/// Tells whether a shard or a server of the cells is not in the configuration.
 fn has_unknown_cell(config: &Config, cells: &[(ShardId, ServerId, Cell)]) -> bool
     ensures { result ≡ list_any (is_unknown_cell (length config.now.shards) (length config.now.servers)) cells.now }
 {
@@ -68,7 +68,7 @@ fn has_unknown_cell(config: &Config, cells: &[(ShardId, ServerId, Cell)]) -> boo
     cells.iter().any(|named| named.0.number() >= shards || named.1.number() >= servers)
 }
 
-/// A listed server is not in the configuration.
+/// Tells whether a listed server is not in the configuration.
 fn has_unknown_listing(config: &Config, listed: &[Option<ServerId>]) -> bool
     ensures { result ≡ list_any (is_unknown (length config.now.servers)) listed.now }
 {
@@ -79,7 +79,7 @@ fn has_unknown_listing(config: &Config, listed: &[Option<ServerId>]) -> bool
     })
 }
 
-/// A server that is down is not in the configuration.
+/// Tells whether a server that is down is not in the configuration.
 fn has_unknown_server(config: &Config, down: &[ServerId]) -> bool
     ensures { result ≡ list_any (λ v. not (nat_lt v (length config.now.servers))) down.now }
 {
@@ -87,7 +87,7 @@ fn has_unknown_server(config: &Config, down: &[ServerId]) -> bool
     down.iter().any(|server| server.number() >= servers)
 }
 
-/// How often the cells name each pair, shard after shard.
+/// Counts how often the cells name each pair, shard after shard.
 fn count_pairs(
     alloc: Global,
     config: &Config,
@@ -107,7 +107,7 @@ fn count_pairs(
     Ok(counts)
 }
 
-/// A pair is counted more than once.
+/// Tells whether a pair is counted more than once.
 fn is_counted_twice(
     counts: &[u32],
     shard: ShardId,
@@ -124,7 +124,7 @@ fn is_counted_twice(
     counts[slot] > 1
 }
 
-/// The lowest server whose pair with a shard is counted more than once.
+/// Returns the lowest server whose pair with a shard is counted more than once.
 #[tactic(auto, using(crate::proofs::Searches::find_range_more))]
 fn first_double_of(counts: &[u32], shard: ShardId, shards: u32, servers: u32) -> Option<ServerId>
     requires shard { shard < shards }
@@ -139,7 +139,7 @@ fn first_double_of(counts: &[u32], shard: ShardId, shards: u32, servers: u32) ->
     None
 }
 
-/// The lowest shard, and its lowest server, whose pair the cells name more than once.
+/// Returns the lowest shard, and its lowest server, whose pair the cells name more than once.
 fn first_double(
     alloc: Global,
     config: &Config,
@@ -161,7 +161,7 @@ fn first_double(
     Ok(None)
 }
 
-/// How many of a shard's cells are primaries, and how many have a part in a handover.
+/// The number of a shard's cells that are primaries, and of those that have a part in a handover.
 #[derive(Clone, Copy)]
 struct LeadCells {
     primaries: u32,
@@ -183,7 +183,7 @@ impl LeadCells {
         }
     }
 
-    /// There are two primaries, or a handover is under way.
+    /// Tells whether there are two primaries, or a handover is under way.
     fn is_bad(&self) -> bool
         ensures { result ≡ (nat_lt 1 self.now.primaries || nat_lt 0 self.now.handing) }
     {
@@ -191,7 +191,7 @@ impl LeadCells {
     }
 }
 
-/// What the cells name for the lead of each shard.
+/// Counts, for each shard, the cells that have a part in its lead.
 fn count_leads(
     alloc: Global,
     config: &Config,
@@ -214,7 +214,7 @@ fn count_leads(
     Ok(counts)
 }
 
-/// The lowest shard with a bad lead among the cells.
+/// Returns the lowest shard with a bad lead among the cells.
 fn first_bad_lead(
     alloc: Global,
     config: &Config,
@@ -263,7 +263,7 @@ fn put_down(table: &mut Table, down: &[ServerId])
     }
 }
 
-/// A table with these cells, in which these servers are down.
+/// Makes a table with these cells, in which these servers are down.
 fn placed(
     alloc: Global,
     config: &Config,
@@ -284,7 +284,7 @@ fn placed(
     Ok(table)
 }
 
-/// What is wrong with the lists themselves.
+/// Returns what is wrong with the lists themselves.
 fn check_lists(
     alloc: Global,
     config: &Config,
@@ -315,7 +315,7 @@ fn check_lists(
     Ok(())
 }
 
-/// What is wrong with the placement of a table's cells.
+/// Returns what is wrong with the placement of a table's cells.
 fn standing_fault(table: &Table, listed: &[Option<ServerId>], limit: u32) -> Option<OpenFault>
     requires len { length listed.now ≡ length table.now.setup.shards }
     requires known { list_any (is_unknown (length table.now.setup.servers)) listed.now ≡ false }
@@ -336,7 +336,7 @@ fn standing_fault(table: &Table, listed: &[Option<ServerId>], limit: u32) -> Opt
     None
 }
 
-/// The placement of a table's cells, of which nothing has been published.
+/// Makes the placement of a table's cells. Nothing of it has been published.
 fn stand(
     alloc: Global,
     table: Table,
@@ -362,9 +362,9 @@ fn stand(
 impl Placement {
     ghost use Rattle.sm_placement.specs.Lead.{IsSettled};
 
-    /// A placement with these cells, listed servers and servers down, and no other cell. A refusal is the first that
-    /// applies in the order of the faults, and of one fault that of the lowest shard, then server; want of memory may
-    /// stand before any other, but for `TooMany` and `UnknownName`.
+    /// Opens a placement with these cells, listed servers and servers down, and no other cell. A refusal is the first
+    /// that applies in the order of the faults; of one fault it names the lowest shard, then the lowest server. Want of
+    /// memory may come before any other, but for `TooMany` and `UnknownName`.
     pub fn open(
         alloc: Global,
         config: &Config,

@@ -1,5 +1,4 @@
-//! Who else has a part in a handover, for each slot of a list: in blocks, each written when a slot of it first has a
-//! party.
+//! The other party of a handover, for each slot of a list: in blocks, each written when a slot of it first has a party.
 ghost use Rattle.std.specs.Prelude.{◌≡◌, ◌<◌, ◌≤◌, ◌*◌, ◌^◌, length, vec_capacity, IfOk, Some, None};
 ghost use Rattle.sm_placement.specs.declared.parties.TheConstants.{BLOCK};
 ghost use Rattle.sm_placement.specs.Sums.{put};
@@ -9,7 +8,7 @@ use sm_server::ServerId;
 use std::alloc::{AllocError, Global};
 use std::marker::Model;
 
-/// How many slots share a block. A block of parties is one page of memory.
+/// The number of slots that share a block. A block of parties is one page of memory.
 pub const BLOCK: usize = 256;
 
 /// The other server of a handover, and the handover's number.
@@ -26,7 +25,7 @@ pub struct Parties {
     parties: Vec<Party>,
 }
 
-/// One call where it goes out of scope, and not one for each list.
+/// Drops everything in one call, instead of one call for each list.
 impl Drop for Parties {
     fn drop(self) {
         let Parties { starts, parties } = self;
@@ -47,7 +46,7 @@ impl Model for Parties {
     ghost invariant = { λ p. record { blocks : IsBlocks p.starts.items p.parties.items; room : length p.starts.items * BLOCK ≤ vec_capacity p.parties } };
 }
 
-/// What stands where no party was set.
+/// Returns the party that stands where none was set.
 pub fn no_party() -> Party
     ensures { result ≡ record { server = 0; number = 0 } }
 {
@@ -60,7 +59,7 @@ pub fn no_party() -> Party
 impl Parties {
     ghost use Rattle.sm_placement.specs.Parties.{party_at};
 
-    /// Room for the parties of this many slots.
+    /// Makes room for the parties of this many slots.
     pub fn new(alloc: Global, count: usize) -> Result<Parties, AllocError>
         requires { count < 2 ^ 32 }
         ensures room { IfOk result (λ p. count ≤ length p.starts * BLOCK) }
@@ -72,7 +71,7 @@ impl Parties {
         })
     }
 
-    /// The parties, once more.
+    /// Copies the parties.
     pub fn copy(&self, alloc: Global) -> Result<Parties, AllocError>
         ensures { IfOk result (λ p. p ≡ self.now) }
     {
@@ -84,7 +83,7 @@ impl Parties {
         })
     }
 
-    /// The party of a slot.
+    /// Returns the party of a slot.
     pub fn get(&self, slot: usize) -> Party
         requires { slot < length self.now.starts * BLOCK }
         ensures { result ≡ party_at self.now.starts self.now.parties slot }
@@ -112,7 +111,7 @@ impl Parties {
         start
     }
 
-    /// Where a block starts, which is written where it was not yet. Takes no memory.
+    /// Returns where a block starts, which is written if it was not yet. Takes no memory.
     fn start_of(&mut self, block: usize) -> usize
         requires { block < length self.old.starts }
         ensures start { entries_of None self.new.starts block ≡ Some result }

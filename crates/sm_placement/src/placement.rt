@@ -1,4 +1,4 @@
-//! Where the replicas stand, and the calls that move them.
+//! The places of the replicas, and the calls that move them.
 ghost use Rattle.std.specs.Prelude.{◌≡◌, ◌<◌, ◌≤◌, ◌↔◌, length, IsTrue, All};
 ghost use Rattle.sm_placement.specs.declared.limits.TheConstants.{MOST_SERVERS, VERSIONS_END};
 
@@ -12,18 +12,19 @@ use sm_server::{Call, Cell, Refusal, Served, ServerId, ShardId, serve, serve_num
 use std::alloc::{AllocError, Global};
 use std::marker::Model;
 
-/// Who serves a shard: executes requests for it, as a primary, or as a prepared server to which the owner forwards.
+/// The servers that serve a shard: execute requests for it, as a primary, or as a prepared server to which the owner
+/// forwards.
 #[derive(Clone, Copy, Debug, PartialEq, Eq)]
 pub enum Serving {
     /// No server does.
     Nobody,
     /// This server does, and no other.
     One(ServerId),
-    /// So many servers do, two or more.
+    /// This number of servers do, two or more.
     Several(u32),
 }
 
-/// What each server has of each shard, who is down, and what the published map says.
+/// A placement: each server's cell of each shard, the servers that are down, and the published map.
 pub struct Placement {
     table: Table,
     listed: Vec<Option<ServerId>>,
@@ -31,7 +32,7 @@ pub struct Placement {
     limit: u32,
 }
 
-/// One call where it goes out of scope, and not one for each list.
+/// Drops everything in one call, instead of one call for each list.
 impl Drop for Placement {
     fn drop(self) {
         let Placement {
@@ -58,7 +59,7 @@ impl Model for Placement {
     ghost invariant = { λ p. record { listed_length : length p.listed.items ≡ length p.table.setup.shards; versions_length : length p.versions.items ≡ length p.table.setup.shards; placement : IsPlacement (sizes_of p.table.setup) (place_of (record { setup = p.table.setup; cells = p.table.cells; lasts = p.table.lasts; down = p.table.down; listed = p.listed.items; versions = p.versions.items; limit = p.limit })) } };
 }
 
-/// No version is above that of a settled placement.
+/// Tells whether no version is above that of a settled placement.
 fn are_low(versions: &[u64]) -> bool
     ensures { IsTrue result ↔ All (λ version. version ≤ MOST_VERSION) versions.now }
 {
@@ -76,7 +77,7 @@ impl Placement {
     ghost use Rattle.sm_placement.specs.Lead.{IsSettled, lead_of};
     ghost use Rattle.sm_placement.specs.Opening.{first_below};
 
-    /// The placement of a table's cells, with an entry of the map for each shard.
+    /// Makes the placement of a table's cells, with an entry of the map for each shard.
     pub(crate) fn from_parts(
         table: Table,
         listed: Vec<Option<ServerId>>,
@@ -96,7 +97,7 @@ impl Placement {
         }
     }
 
-    /// The servers and shards that the placement is of.
+    /// Returns the configuration: the servers and shards of the placement.
     pub fn config(&self) -> &Config
         ensures setup { result.now ≡ self.now.setup }
         ensures placement { IsPlacement (sizes_of self.now.setup) (place_of self.now) }
@@ -104,14 +105,14 @@ impl Placement {
         self.table.config()
     }
 
-    /// How many servers may be down at once.
+    /// Returns how many servers may be down at once.
     pub const fn limit(&self) -> u32
         ensures { result ≡ self.now.limit }
     {
         self.limit
     }
 
-    /// What a server has of a shard.
+    /// Returns what a server has of a shard.
     pub fn cell(&self, shard: ShardId, server: ServerId) -> Cell
         requires shard { shard < length self.now.setup.shards }
         requires server { server < length self.now.setup.servers }
@@ -120,7 +121,7 @@ impl Placement {
         self.table.cell(shard, server)
     }
 
-    /// The number of the last numbered call that had an effect on the cell, and 0 for none.
+    /// Returns the number of the last numbered call that had an effect on the cell, 0 for none.
     pub fn last(&self, shard: ShardId, server: ServerId) -> u64
         requires shard { shard < length self.now.setup.shards }
         requires server { server < length self.now.setup.servers }
@@ -129,7 +130,7 @@ impl Placement {
         self.table.last(shard, server)
     }
 
-    /// Whether a server is down, so that it refuses every call.
+    /// Tells whether a server is down, so that it refuses every call.
     pub fn is_down(&self, server: ServerId) -> bool
         requires { server < length self.now.setup.servers }
         ensures { result ≡ (place_of self.now).down server }
@@ -137,14 +138,14 @@ impl Placement {
         self.table.is_down(server)
     }
 
-    /// How many servers are down.
+    /// Returns the number of servers that are down.
     pub fn down_count(&self) -> u32
         ensures { result ≡ down_count (sizes_of self.now.setup) (place_of self.now) }
     {
         self.table.down_count()
     }
 
-    /// The load of a server, which is never above its room.
+    /// Returns the load of a server, which is never above its room.
     pub fn load(&self, server: ServerId) -> u64
         requires { server < length self.now.setup.servers }
         ensures load { result ≡ load_at (sizes_of self.now.setup) (place_of self.now) server }
@@ -153,7 +154,7 @@ impl Placement {
         self.table.load(server)
     }
 
-    /// How many replicas of a shard are live.
+    /// Returns the number of live replicas of a shard.
     pub fn live(&self, shard: ShardId) -> u32
         requires { shard < length self.now.setup.shards }
         ensures live { result ≡ live_at (sizes_of self.now.setup) (place_of self.now) shard }
@@ -162,7 +163,7 @@ impl Placement {
         self.table.live(shard)
     }
 
-    /// The server counts as live for a shard: it is up, and has a secondary or serves.
+    /// Tells whether the server counts as live for a shard: it is up, and has a secondary or serves.
     pub fn is_live(&self, shard: ShardId, server: ServerId) -> bool
         requires shard { shard < length self.now.setup.shards }
         requires server { server < length self.now.setup.servers }
@@ -171,7 +172,7 @@ impl Placement {
         self.table.is_live(shard, server)
     }
 
-    /// The server that the published map names for a shard.
+    /// Returns the server that the published map names for a shard.
     pub fn listed(&self, shard: ShardId) -> Option<ServerId>
         requires { shard < length self.now.setup.shards }
         ensures listed { result ≡ (place_of self.now).listed shard }
@@ -180,7 +181,7 @@ impl Placement {
         self.listed[shard.number() as usize]
     }
 
-    /// How often the map's entry of a shard has changed.
+    /// Returns how often the map's entry of a shard has changed.
     pub fn version(&self, shard: ShardId) -> u64
         requires { shard < length self.now.setup.shards }
         ensures { result ≡ (place_of self.now).version shard }
@@ -188,21 +189,21 @@ impl Placement {
         self.versions[shard.number() as usize]
     }
 
-    /// The servers that the published map names, by shard.
+    /// Returns the servers that the published map names, by shard.
     pub fn listed_servers(&self) -> &[Option<ServerId>]
         ensures { result.now ≡ self.now.listed }
     {
         self.listed.as_slice()
     }
 
-    /// How often the map's entries have changed, by shard.
+    /// Returns how often the map's entries have changed, by shard.
     pub fn versions(&self) -> &[u64]
         ensures { result.now ≡ self.now.versions }
     {
         self.versions.as_slice()
     }
 
-    /// The map's entry of a shard.
+    /// Returns the map's entry of a shard.
     pub fn entry(&self, shard: ShardId) -> Entry
         requires { shard < length self.now.setup.shards }
         ensures { result ≡ entry_at (place_of self.now) shard }
@@ -213,7 +214,7 @@ impl Placement {
         }
     }
 
-    /// The lowest server that serves a shard.
+    /// Returns the lowest server that serves a shard.
     #[tactic(auto, using(crate::proofs::Searches::find_range_more))]
     fn first_serving(&self, shard: ShardId) -> Option<ServerId>
         requires { shard < length self.now.setup.shards }
@@ -227,7 +228,7 @@ impl Placement {
         None
     }
 
-    /// How many servers serve a shard, up or down.
+    /// Returns the number of servers that serve a shard, up or down.
     fn serving_count(&self, shard: ShardId) -> u32
         requires { shard < length self.now.setup.shards }
         ensures { result ≡ serving_in (length self.now.setup.servers) ((place_of self.now).cells shard) }
@@ -235,7 +236,7 @@ impl Placement {
         self.table.serving_count(shard)
     }
 
-    /// Who serves a shard, up or down.
+    /// Returns which servers serve a shard, up or down.
     pub fn serving(&self, shard: ShardId) -> Serving
         requires { shard < length self.now.setup.shards }
         ensures { result ≡ serving_of (length self.now.setup.servers) ((place_of self.now).cells shard) }
@@ -253,7 +254,7 @@ impl Placement {
         }
     }
 
-    /// The lead that describes a shard's cells under some handover number. Takes no memory.
+    /// Returns the lead that describes a shard's cells under some handover number. Takes no memory.
     pub fn lead(&self, shard: ShardId) -> Option<Lead>
         requires { shard < length self.now.setup.shards }
         ensures { result ≡ lead_of (length self.now.setup.servers) ((place_of self.now).cells shard) }
@@ -261,8 +262,8 @@ impl Placement {
         lead_of(&self.table, shard)
     }
 
-    /// Each shard's lead is at rest, each listed server is its shard's primary, no shard is below its floor, no more
-    /// servers are down than the limit, and no version is above 2^40.
+    /// Tells whether the placement is settled: each shard's lead is at rest, each listed server is its shard's primary,
+    /// no shard is below its floor, no more servers are down than the limit, and no version is above 2^40.
     pub fn settled(&self) -> bool
         ensures { IsTrue result ↔ IsSettled (sizes_of self.now.setup) (place_of self.now) }
     {
@@ -281,7 +282,7 @@ impl Placement {
         are_low(&self.versions)
     }
 
-    /// The room that a server has left.
+    /// Returns the room that a server has left.
     fn free_room(&self, server: ServerId) -> u64
         requires { server < length self.now.setup.servers }
         ensures { result ≡ (sizes_of self.now.setup).room server - load_at (sizes_of self.now.setup) (place_of self.now) server }
@@ -290,7 +291,7 @@ impl Placement {
         room.saturating_sub(self.table.load(server))
     }
 
-    /// What a server answers to a call.
+    /// Returns what a server answers to a call.
     fn answer(&self, server: ServerId, shard: ShardId, call: Call) -> Result<Cell, Refusal>
         requires server { server < length self.now.setup.servers }
         requires shard { shard < length self.now.setup.shards }
@@ -332,7 +333,7 @@ impl Placement {
         Ok(())
     }
 
-    /// What a server answers to a numbered call.
+    /// Returns what a server answers to a numbered call.
     fn numbered_answer(
         &self,
         server: ServerId,
@@ -413,7 +414,7 @@ impl Placement {
         self.versions[slot] += 1;
     }
 
-    /// Takes a server down. Nothing changes where it is down.
+    /// Takes a server down. Nothing changes if it is down.
     pub fn set_down(&mut self, server: ServerId)
         requires { server < length self.old.setup.servers }
         ensures place { place_of self.new ≡ set_down (place_of self.old) server true }
@@ -422,7 +423,7 @@ impl Placement {
         self.table.set_down(server, true);
     }
 
-    /// Brings a server up. Nothing changes where it is up.
+    /// Brings a server up. Nothing changes if it is up.
     pub fn set_up(&mut self, server: ServerId)
         requires { server < length self.old.setup.servers }
         ensures place { place_of self.new ≡ set_down (place_of self.old) server false }
@@ -431,7 +432,7 @@ impl Placement {
         self.table.set_down(server, false);
     }
 
-    /// A copy of the placement.
+    /// Copies the placement.
     pub fn copy(&self, alloc: Global) -> Result<Placement, AllocError>
         ensures { IfOk result (λ placement. placement ≡ self.now) }
     {

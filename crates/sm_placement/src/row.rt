@@ -8,7 +8,7 @@ ghost use Rattle.sm_placement.specs.Layout.{grid_of, entries_of};
 use crate::cells::{Cells, Row};
 use sm_server::{Cell, ServerId, ShardId};
 
-/// How many servers of a row are live, and how many serve.
+/// The number of servers of a row that are live, and of those that serve.
 #[derive(Clone, Copy)]
 pub struct Counts {
     pub live: u32,
@@ -18,7 +18,7 @@ pub struct Counts {
 ghost use Rattle.sm_placement.specs.Counts.{counts_in, counts_at, has_replica, target_of, party_of, CanCorrect, corrected};
 ghost use Rattle.sm_placement.specs.declared.limits.TheConstants.{MOST_SERVERS};
 
-/// The cell forwards to the server under the number.
+/// Tells whether the cell forwards to the server under the number.
 fn forwards(cell: &Cell, server: ServerId, number: u64) -> bool
     ensures { result ≡ forwards cell.now server number }
 {
@@ -28,7 +28,7 @@ fn forwards(cell: &Cell, server: ServerId, number: u64) -> bool
     }
 }
 
-/// The cell of a server. Beyond the row it is absent.
+/// Returns the cell of a server. Beyond the row it is absent.
 fn cell_at(row: Row<'_>, server: ServerId) -> Cell
     ensures { result ≡ grid_of row.entry.servers Cell.Absent row.entry.cells.now row.entry.shard server }
 {
@@ -39,7 +39,8 @@ fn cell_at(row: Row<'_>, server: ServerId) -> Cell
     row.cells.get(row.shard * row.servers + column)
 }
 
-/// The server serves the shard of the row: a primary does, and a prepared server to which the owner forwards.
+/// Tells whether the server serves the shard of the row: a primary does, and a prepared server to which the owner
+/// forwards.
 pub fn serves(row: Row<'_>, server: ServerId) -> bool
     ensures { result ≡ serves (grid_of row.entry.servers Cell.Absent row.entry.cells.now row.entry.shard) server }
 {
@@ -50,7 +51,7 @@ pub fn serves(row: Row<'_>, server: ServerId) -> bool
     }
 }
 
-/// The server has a replica that is live while the server is up.
+/// Tells whether the server has a replica that is live while the server is up.
 pub fn has_replica(row: Row<'_>, server: ServerId) -> bool
     ensures { result ≡ has_replica (grid_of row.entry.servers Cell.Absent row.entry.cells.now row.entry.shard) server }
 {
@@ -60,7 +61,7 @@ pub fn has_replica(row: Row<'_>, server: ServerId) -> bool
     }
 }
 
-/// The count of a row's live replicas, once a server that is down comes up, or one that is up goes down.
+/// Returns the number of a row's live replicas, once a server that is down comes up, or one that is up goes down.
 pub fn live_toggled(row: Row<'_>, down: &[bool], server: ServerId, live: u32) -> u32
     requires bound { row.servers ≤ MOST_SERVERS }
     requires length { length down.now ≡ row.servers }
@@ -77,7 +78,7 @@ pub fn live_toggled(row: Row<'_>, down: &[bool], server: ServerId, live: u32) ->
     }
 }
 
-/// The server to which the cell forwards.
+/// Returns the server to which the cell forwards.
 fn target(cell: &Cell) -> Option<ServerId>
     ensures { result ≡ target_of cell.now }
 {
@@ -87,7 +88,7 @@ fn target(cell: &Cell) -> Option<ServerId>
     }
 }
 
-/// What one server adds to the counts of a row.
+/// Returns what one server adds to the counts of a row.
 #[tactic(auto, unfolding(crate::specs::Layout::entries_of))]
 fn counts_at_one(row: Row<'_>, down: &[bool], server: ServerId) -> Counts
     requires { server < length down.now }
@@ -101,15 +102,15 @@ fn counts_at_one(row: Row<'_>, down: &[bool], server: ServerId) -> Counts
     }
 }
 
-/// The other server whose part in a row may change with the cell of a server: the one to which the old or the new cell
-/// forwards, or the server itself where neither does.
+/// Returns the other server whose part in a row may change with the cell of a server. It is the one to which the old or
+/// the new cell forwards, or the server itself if neither does.
 fn party_of(old: &Cell, next: &Cell, server: ServerId) -> ServerId
     ensures { result ≡ party_of old.now next.now server }
 {
     target(old).or(target(next)).unwrap_or(server)
 }
 
-/// What two servers, which may be one, add to the counts of a row.
+/// Returns what two servers, which may be one, add to the counts of a row.
 fn counts_at(row: Row<'_>, down: &[bool], server: ServerId, other: ServerId) -> Counts
     requires server { server < length down.now }
     requires other { other < length down.now }
@@ -126,7 +127,7 @@ fn counts_at(row: Row<'_>, down: &[bool], server: ServerId, other: ServerId) -> 
     }
 }
 
-/// The counts, where one part of them was `before` and is `after`.
+/// Returns the counts after one part of them, which was `before`, is `after`.
 fn corrected(counts: Counts, before: Counts, after: Counts) -> Counts
     requires { CanCorrect counts before after }
     ensures { result ≡ corrected counts before after }

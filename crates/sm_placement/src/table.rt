@@ -16,8 +16,8 @@ use sm_server::{Cell, ServerId, ShardId};
 use std::alloc::{AllocError, Global};
 use std::marker::Model;
 
-/// The cells of a configuration shard after shard, the number of the last call that had an effect on each, who is
-/// down, and the totals of all these.
+/// The cells of a configuration shard after shard, the number of the last call that had an effect on each, the servers
+/// that are down, and the totals of all these.
 pub struct Table {
     config: Config,
     cells: Cells,
@@ -29,7 +29,7 @@ pub struct Table {
     servings: Vec<u32>,
 }
 
-/// One call where it goes out of scope, and not one for each list.
+/// Drops everything in one call, instead of one call for each list.
 impl Drop for Table {
     fn drop(self) {
         let Table {
@@ -62,7 +62,7 @@ impl Model for Table {
     ghost invariant = { λ t. IsCounted (record { setup = t.config; cells = t.cells; lasts = t.lasts; down = t.down.items }) (record { loads = t.loads.items; lives = t.lives.items; servings = t.servings.items; down = t.down_count }) };
 }
 
-/// What a cell weighs on its server.
+/// Returns the load that a cell puts on its server.
 const fn weight(cell: &Cell, load: u64) -> u64
     ensures { result ≡ weight cell.now load }
 {
@@ -84,7 +84,7 @@ fn toggle_lives(lives: &mut [u32], cells: &Cells, down: &[bool], server: ServerI
     }
 }
 
-/// The lists with an entry for each server, nobody down and no load on any.
+/// Makes the lists with an entry for each server, with no server down and no load.
 fn blank_by_server(alloc: Global, servers: usize) -> Result<(Vec<bool>, Vec<u64>), AllocError>
     ensures down { IfOk result (λ lists. lists.0.items ≡ replicate servers false) }
     ensures loads { IfOk result (λ lists. lists.1.items ≡ replicate servers 0) }
@@ -93,7 +93,7 @@ fn blank_by_server(alloc: Global, servers: usize) -> Result<(Vec<bool>, Vec<u64>
     Ok((down, vec![in alloc; 0; servers]?))
 }
 
-/// The lists with an entry for each shard, of which no replica is live and none serves.
+/// Makes the lists with an entry for each shard, with no replica live or serving.
 fn blank_by_shard(alloc: Global, shards: usize) -> Result<(Vec<u32>, Vec<u32>), AllocError>
     ensures lives { IfOk result (λ lists. lists.0.items ≡ replicate shards 0) }
     ensures servings { IfOk result (λ lists. lists.1.items ≡ replicate shards 0) }
@@ -102,7 +102,7 @@ fn blank_by_shard(alloc: Global, shards: usize) -> Result<(Vec<u32>, Vec<u32>), 
     Ok((lives, vec![in alloc; 0; shards]?))
 }
 
-/// The lists with an entry for each server, once more.
+/// Copies the lists with an entry for each server.
 fn copied_by_server(
     alloc: Global,
     down: &[bool],
@@ -115,7 +115,7 @@ fn copied_by_server(
     Ok((down, Vec::from_slice(alloc, loads)?))
 }
 
-/// The lists with an entry for each shard, once more.
+/// Copies the lists with an entry for each shard.
 fn copied_by_shard(
     alloc: Global,
     lives: &[u32],
@@ -138,7 +138,7 @@ impl Table {
     ghost use Rattle.sm_placement.specs.Place.{load_of};
     ghost use Rattle.sm_placement.specs.Grid.{cells_of, lasts_of, down_of, IsGrid};
 
-    /// A table with nothing in each cell.
+    /// Makes a table with nothing in each cell.
     pub fn new(alloc: Global, config: &Config) -> Result<Table, AllocError>
         ensures setup { IfOk result (λ t. t.setup ≡ config.now) }
         ensures cells { IfOk result (λ t. cells_of t ≡ (λ s v. Cell.Absent)) }
@@ -164,7 +164,7 @@ impl Table {
         })
     }
 
-    /// The table, once more.
+    /// Copies the table.
     pub fn copy(&self, alloc: Global) -> Result<Table, AllocError>
         ensures { IfOk result (λ t. t ≡ self.now) }
     {
@@ -185,7 +185,7 @@ impl Table {
         })
     }
 
-    /// The configuration whose cells these are.
+    /// Returns the configuration whose cells these are.
     pub fn config(&self) -> &Config
         ensures setup { result.now ≡ self.now.setup }
         ensures layout { IsGrid self.now }
@@ -193,7 +193,7 @@ impl Table {
         &self.config
     }
 
-    /// The slot of a pair in the lists of cells and of last numbers.
+    /// Returns the slot of a pair in the lists of cells and of last numbers.
     fn slot(&self, shard: ShardId, server: ServerId) -> usize
         requires shard { shard < length self.now.setup.shards }
         requires server { server < length self.now.setup.servers }
@@ -202,7 +202,7 @@ impl Table {
         shard.number() as usize * self.down.len() + server.number() as usize
     }
 
-    /// What a server has of a shard.
+    /// Returns what a server has of a shard.
     pub fn cell(&self, shard: ShardId, server: ServerId) -> Cell
         requires shard { shard < length self.now.setup.shards }
         requires server { server < length self.now.setup.servers }
@@ -211,7 +211,7 @@ impl Table {
         self.cells.get(self.slot(shard, server))
     }
 
-    /// The number of the last call that had an effect on the cell, and 0 for none.
+    /// Returns the number of the last call that had an effect on the cell, and 0 for none.
     pub fn last(&self, shard: ShardId, server: ServerId) -> u64
         requires shard { shard < length self.now.setup.shards }
         requires server { server < length self.now.setup.servers }
@@ -220,7 +220,7 @@ impl Table {
         self.lasts.get(self.slot(shard, server))
     }
 
-    /// Whether a server is down.
+    /// Tells whether a server is down.
     pub fn is_down(&self, server: ServerId) -> bool
         requires { server < length self.now.setup.servers }
         ensures { result ≡ down_of self.now server }
@@ -228,14 +228,14 @@ impl Table {
         self.down[server.number() as usize]
     }
 
-    /// How many servers are down.
+    /// Returns the number of servers that are down.
     pub fn down_count(&self) -> u32
         ensures { result ≡ count_below (length self.now.setup.servers) (down_of self.now) }
     {
         self.down_count
     }
 
-    /// The load of a server.
+    /// Returns the load of a server.
     pub fn load(&self, server: ServerId) -> u64
         requires { server < length self.now.setup.servers }
         ensures load { result ≡ load_of (sizes_of self.now.setup) (cells_of self.now) server }
@@ -244,7 +244,7 @@ impl Table {
         self.loads[server.number() as usize]
     }
 
-    /// How many replicas of a shard are live.
+    /// Returns the number of live replicas of a shard.
     pub fn live(&self, shard: ShardId) -> u32
         requires { shard < length self.now.setup.shards }
         ensures live { result ≡ live_in (length self.now.setup.servers) (cells_of self.now shard) (down_of self.now) }
@@ -253,7 +253,7 @@ impl Table {
         self.lives[shard.number() as usize]
     }
 
-    /// How many servers serve a shard, up or down.
+    /// Returns the number of servers that serve a shard, up or down.
     pub fn serving_count(&self, shard: ShardId) -> u32
         requires { shard < length self.now.setup.shards }
         ensures { result ≡ serving_in (length self.now.setup.servers) (cells_of self.now shard) }
@@ -261,7 +261,7 @@ impl Table {
         self.servings[shard.number() as usize]
     }
 
-    /// The cells of a shard, by server.
+    /// Returns the cells of a shard, by server.
     fn row_of(&self, shard: ShardId) -> Row<'_>
         requires { shard < length self.now.setup.shards }
         ensures { grid_of result.servers Cell.Absent result.cells.now result.shard ≡ cells_of self.now shard }
@@ -269,7 +269,7 @@ impl Table {
         self.cells.row(shard.number() as usize, self.down.len())
     }
 
-    /// A server serves a shard.
+    /// Tells whether a server serves a shard.
     pub fn serves(&self, shard: ShardId, server: ServerId) -> bool
         requires { shard < length self.now.setup.shards }
         ensures { result ≡ serves (cells_of self.now shard) server }
@@ -277,7 +277,7 @@ impl Table {
         row::serves(self.row_of(shard), server)
     }
 
-    /// A server counts as live for a shard.
+    /// Tells whether a server counts as live for a shard.
     pub fn is_live(&self, shard: ShardId, server: ServerId) -> bool
         requires shard { shard < length self.now.setup.shards }
         requires server { server < length self.now.setup.servers }

@@ -1,4 +1,4 @@
--- What an instruction does to a placement.
+-- The effect of an instruction on a placement.
 use Rattle.std.specs.Prelude.{ℕ, ◌+◌, Option, Some, None, Result, Ok, Err}
 use Rattle.sm_server.specs.declared.call.Role.{Role}
 use Rattle.sm_server.specs.declared.call.Role.TheVariants.{Primary, Secondary}
@@ -33,7 +33,7 @@ call_of (Unlist s) number = None
 call_of (Signal k) number = None
 call_of (Wait k) number = None
 
--- the shard's highest handover number once an instruction is made, where it is n before: a prepare_add has a new one
+-- the shard's highest handover number once an instruction is made, if it is n before: a prepare_add has a new one
 abbrev pub number_after : Instr → ℕ → ℕ
 number_after (PrepareAdd s v u) n = n + 1
 number_after _ n = n
@@ -51,7 +51,7 @@ next_call numbers i = numbered_call i (shard_of i)
     numbered_call i None = None
     numbered_call i (Some s) = call_of i (number_after i (numbers s))
 
--- the call of an instruction for this shard, where it has had its effect: the handover that it began or went on with has the
+-- the call of an instruction for this shard, if it has had its effect: the handover that it began or went on with has the
 -- shard's highest number by now
 abbrev pub call_again : (ℕ → ℕ) → Instr → Option ℕ → Option ServerCall
 call_again numbers i None = None
@@ -67,13 +67,13 @@ abbrev pub calls : Sizes → Place → (ℕ → ℕ) → Option ServerCall → O
 calls c p numbers None = None
 calls c p numbers (Some x) = moved (called c p x.shard x.server x.call) numbers
 
--- the placement after a publication of the server that serves, where a lead describes the shard's cells
+-- the placement after a publication of the server that serves, if a lead describes the shard's cells
 abbrev pub publishes : Place → ℕ → Option Lead → (ℕ → ℕ) → Option (Place × (ℕ → ℕ))
 publishes p s None numbers = None
 publishes p s (Some lead) numbers = Some (publish p s (to_list lead), numbers)
 
--- The placement and the highest handover numbers after an instruction is made; none where its call is refused, and at a
--- publish where no lead describes the cells.
+-- The placement and the highest handover numbers after an instruction is made; none if its call is refused, and at a
+-- publish if no lead describes the cells.
 abbrev pub acts : Sizes → Place → (ℕ → ℕ) → Instr → Option (Place × (ℕ → ℕ))
 acts c p numbers (PrepareAdd s v u) = calls c p (numbers_after numbers (PrepareAdd s v u)) (next_call numbers (PrepareAdd s v u))
 acts c p numbers (PrepareDrop s u v) = calls c p (numbers_after numbers (PrepareDrop s u v)) (next_call numbers (PrepareDrop s u v))

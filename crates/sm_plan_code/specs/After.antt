@@ -16,7 +16,7 @@ use Rattle.sm_plan_code.specs.declared.instruction.Instr.TheVariants.{PrepareAdd
 use Rattle.sm_plan_code.specs.declared.instruction.Why.{Why}
 use Rattle.sm_plan_code.specs.declared.instruction.Why.TheVariants.{NoRight, WrongState, NoCrown, WrongLead, StillListed, NoRoom, NoSpare, NotCarried, Twice}
 
--- One line of the table: the tests in their order, each with the answer where it fails, and the hold where all pass.
+-- One line of the table: the tests in their order, each with the answer if it fails, and the hold if all pass.
 pub record Line : Type 0 where
   pub tests : List (Bool × Why)
   pub change : Hold
@@ -26,7 +26,7 @@ abbrev pub first_why : List (Bool × Why) → Option Why
 first_why [] = None
 first_why (t ∷ ts) = if t.0 then first_why ts else Some t.1
 
--- what is left where no test fails
+-- what is left if no test fails
 abbrev pub unless_refused : {X : Type 0} → Option Why → X → Result X Why
 unless_refused None x = Ok x
 unless_refused (Some why) x = Err why
@@ -71,7 +71,7 @@ is_unlisted h s = is_none (listed_of (h.crowns s))
 abbrev pub is_not_listed : Hold → ℕ → ℕ → Bool
 is_not_listed h s v = not (same_listed (listed_of (h.crowns s)) (Some v))
 
--- there is so much room at the server
+-- there is this much room at the server
 abbrev pub has_room : Hold → ℕ → ℕ → Bool
 has_room h v load = nat_le load (h.room v)
 
@@ -142,7 +142,7 @@ add_primary_line c s v h (Some Gone) = record {
 }
 add_primary_line c s v h (Some lead) = refused_line WrongLead h
 
--- The line of drop of s at v, where the right to the cell is held: the right to a secondary becomes one to an absent cell, one spare
+-- The line of drop of s at v, if the right to the cell is held: the right to a secondary becomes one to an absent cell, one spare
 -- replica leaves the hold, and room for the load comes in.
 abbrev pub drop_held_line : Sizes → ℕ → ℕ → Hold → Line
 drop_held_line c s v h = record {
@@ -150,7 +150,7 @@ drop_held_line c s v h = record {
   change = get_room (pay_spare (with_cell h s v (Some Absent)) s 1) v (c.load s);
 }
 
--- The line of drop of s at v, where that right isn't held, by the lead of the crown. Handed(v, w) becomes At(w), once v isn't listed;
+-- The line of drop of s at v, if that right isn't held, by the lead of the crown. Handed(v, w) becomes At(w), once v isn't listed;
 -- Ready(u, v) becomes At(u); At(v) becomes Gone, once no server is listed, and one spare replica leaves the hold. Each time the
 -- right to the absent cell and room for the load come in.
 abbrev pub drop_led_line : Sizes → ℕ → ℕ → Hold → Option Lead → Line
@@ -227,12 +227,12 @@ after c signals i h = decided (line_of c signals i h)
 
 -- ---- the holds along a code
 
--- the hold that an instruction leaves, or this one where it may not be made
+-- the hold that an instruction leaves, or this one if it may not be made
 abbrev pub hold_or : Hold → Result Hold Why → Hold
 hold_or h (Ok next) = next
 hold_or h (Err why) = h
 
--- the hold behind an instruction: as it was where the instruction may not be made, and where there is none
+-- the hold behind an instruction: as it was if the instruction may not be made, and if there is none
 abbrev pub hold_past : Sizes → (ℕ → Rights) → Option Instr → Hold → Hold
 hold_past c signals None h = h
 hold_past c signals (Some i) h = hold_or h (after c signals i h)

@@ -1,4 +1,4 @@
--- The law of effects: what an instruction leads to where the rights for it are held.
+-- The law of effects: an instruction's effect if the rights for it are held.
 use Rattle.std.specs.Prelude.{◌≡◌, ◌≢◌, ◌⊎◌, ◌≤◌, ◌<◌, ℕ, suc, ◌+◌, true, false, Option, Some, None, Ok, IfSome}
 use Rattle.sm_placement.specs.declared.lead.Lead.{Lead}
 use Rattle.sm_placement.specs.declared.lead.Lead.TheVariants.{Gone, At, Ready, Handing, Handed}
@@ -74,7 +74,7 @@ pub record Stays (p q : Place) (i : Instr) : Type 0 where
   pub entries : (s : ℕ) → published_shard i ≢ Some s → (q.listed s ≡ p.listed s) × (q.version s ≡ p.version s)
   pub version : (s : ℕ) → published_shard i ≡ Some s → q.version s ≡ suc (p.version s)
 
--- What an instruction leads to, from the hold h to the hold h': its call is served, the stream stands again in a scene,
+-- The effect of an instruction, from the hold h to the hold h': its call is served, the stream stands again in a scene,
 -- and of each right what there is beside what is bound moves as what is held of it does.
 pub record Effect (c : Sizes) (p : Place) (leads : ℕ → Lead) (numbers : ℕ → ℕ) (h h' : Hold) (i : Instr) : Type 0 where
   pub next_place : Place
@@ -92,7 +92,7 @@ pub record Effect (c : Sizes) (p : Place) (leads : ℕ → Lead) (numbers : ℕ 
   pub listed : (s : ℕ) → IsListable (leads s) (p.listed s) → IsListable (next_leads s) (next_place.listed s)
   pub passed : (s m : ℕ) → MayHavePassed (leads s) (numbers s) m → MayHavePassed (next_leads s) (next_numbers s) m
 
--- Each instruction but signal and wait has its effect where the table of rights gives a hold after it.
+-- Each instruction but signal and wait has its effect if the table of rights gives a hold after it.
 abbrev pub HasEffects : Type 0
 HasEffects = (c : Sizes) (p : Place) (leads : ℕ → Lead) (numbers : ℕ → ℕ) (signals : ℕ → Rights) (h h' : Hold) (i : Instr) →
     IsScene c p leads numbers h → IsReachable c p i → IsOwn i → after c signals i h ≡ Ok h' → Effect c p leads numbers h h' i
@@ -110,7 +110,7 @@ pub record SameRights (c : Sizes) (p q : Place) : Type 0 where
 abbrev pub LastsAreUnseen : Type 0
 LastsAreUnseen = (c : Sizes) (p : Place) (last : ℕ → ℕ → ℕ) → SameRights c p (with_lasts last p)
 
--- What an instruction leads to where its call x is made under a number: it has its effect now, and the placement is that
+-- The effect of an instruction whose call x is made under a number: it has its effect now, and the placement is that
 -- of the effect with this last number.
 pub record NumberedEffect (c : Sizes) (p : Place) (leads : ℕ → Lead) (numbers : ℕ → ℕ) (h h' : Hold) (i : Instr) (x : ServerCall) (number : ℕ) : Type 0 where
   pub effect : Effect c p leads numbers h h' i

@@ -1,4 +1,4 @@
--- What stays of known shards and servers along the code of a plan that fits, and which instructions are reachable.
+-- Holds that stay of known shards and servers along the code of a plan that fits, and instructions that are reachable.
 use Rattle.std.specs.Prelude.{◌≡◌, ℕ, Bool, false, Some, Ok, List, All, slice_get, slice_index_or}
 use Rattle.sm_placement.specs.Setup.{Sizes}
 use Rattle.sm_placement.specs.Place.{Place, set_down}
@@ -18,7 +18,7 @@ pub record AreKnownSignals (shards servers : ℕ) (signals : ℕ → Rights) : T
   pub ordered : (k : ℕ) → IsOrdered (signals k)
   pub below : (k : ℕ) → IsKnownHold shards servers (hold_of (signals k))
 
--- What is held stays of known shards and servers: a parcel that fits is, what an instruction that fits leaves of such a
+-- A hold stays of known shards and servers: a parcel that fits is, what an instruction that fits leaves of such a
 -- hold is, and so is what is held anywhere along a code that fits.
 pub record HoldsStayKnown : Type 0 where
   pub parcel : (shards servers : ℕ) (p : Rights) → IsKnownParcel shards servers p → IsKnownHold shards servers (hold_of p)

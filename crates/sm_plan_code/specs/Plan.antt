@@ -99,7 +99,7 @@ abbrev pub IsPlanFault : PlanModel → PlanFault → Type 0
 IsPlanFault p TooMany = ¬ IsSmallPlan p
 IsPlanFault p UnknownSignal = IsSmallPlan p × ¬ KnowsSignals p
 
--- ---- plans of a configuration, which has so many shards and servers
+-- ---- plans of a configuration, with its numbers of shards and servers
 
 -- the shard and the server of a cell right are below their counts
 abbrev pub IsKnownCellRight : ℕ → ℕ → CellRight → Type 0

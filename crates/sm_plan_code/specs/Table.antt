@@ -1,7 +1,6 @@
 -- The table of rights by its two columns: what each instruction needs, which is taken out of the hold, and what it
 -- gives, which is put in. A crown keeps its listed server unless the line says another.
--- `held_crown` and `exchanged` are steps of the code's own way, which private functions' contracts cite: whoever reads the public ones need not
--- read them.
+-- `held_crown` and `exchanged` are internal: you need not read them for the public contracts.
 use Rattle.std.specs.Prelude.{◌≡◌, ◌≤◌, ℕ, Option, Some, None, Result, Ok, IfSome, if◌then◌else◌}
 use Rattle.sm_server.specs.declared.call.Role.TheVariants as role
 use Rattle.sm_placement.specs.declared.lead.Lead.{Lead}
@@ -51,11 +50,11 @@ abbrev pub held_crown : ℕ → Option (Lead × Option ℕ) → Option Crown
 held_crown s None = None
 held_crown s (Some held) = crown s held.0 held.1
 
--- so much room at v
+-- this much room at v
 abbrev pub room : ℕ → ℕ → Option Room
 room v amount = Some (record { server = v; amount = amount })
 
--- so many spare replicas of s
+-- this many spare replicas of s
 abbrev pub spare : ℕ → ℕ → Option Spare
 spare s amount = Some (record { shard = s; amount = amount })
 
@@ -101,7 +100,7 @@ add_primary_exchange c s v listed (Some Gone) = record {
 }
 add_primary_exchange c s v listed _ = no_exchange
 
--- drop of s at v, where the right to the cell is held: the right to a secondary and one spare replica are given up for the right to
+-- drop of s at v, if the right to the cell is held: the right to a secondary and one spare replica are given up for the right to
 -- an absent cell and room for the load
 abbrev pub drop_held_exchange : Sizes → ℕ → ℕ → Exchange
 drop_held_exchange c s v = record {
@@ -109,8 +108,8 @@ drop_held_exchange c s v = record {
   got = portion (cell s v Absent) None (room v (c.load s)) None;
 }
 
--- drop of s at v, where that right isn't held, by the lead of the crown: at Handed(v, w) that crown is given up for the one at At(w),
--- at Ready(u, v) for the one at At(u), and at At(v) with one spare replica for the one at Gone, where neither lists a server; each
+-- drop of s at v, if that right isn't held, by the lead of the crown: at Handed(v, w) that crown is given up for the one at At(w),
+-- at Ready(u, v) for the one at At(u), and at At(v) with one spare replica for the one at Gone, if neither lists a server; each
 -- time the right to the absent cell and room for the load are got too
 abbrev pub drop_led_exchange : Sizes → ℕ → ℕ → Option ℕ → Option Lead → Exchange
 drop_led_exchange c s v listed (Some (Handed u w)) = record {
@@ -195,7 +194,7 @@ LinesExchange = (c : Sizes) (signals : ℕ → Rights) (h h' : Hold) (i : Instr)
 
 -- ---- what is made of a line
 
--- the exchange of a line where its tests pass, or the answer of the first one that fails
+-- the exchange of a line if its tests pass, or the answer of the first one that fails
 abbrev pub exchanged : Line → Exchange → Result Exchange Why
 exchanged line exchange = unless_refused (first_why line.tests) exchange
 

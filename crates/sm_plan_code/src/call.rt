@@ -12,11 +12,11 @@ pub struct ServerCall {
     pub shard: ShardId,
     /// The server at which it is made.
     pub server: ServerId,
-    /// What is asked.
+    /// The call itself.
     pub call: Call,
 }
 
-/// The call that an instruction makes, if it makes one.
+/// Returns the call that an instruction makes, if it makes one.
 ///
 /// `number` is the shard's highest handover number once the instruction is made, which a prepare_add and a prepare_drop
 /// carry.
@@ -51,7 +51,7 @@ pub const fn call_of(instr: &Instr, number: u64) -> Option<ServerCall>
     })
 }
 
-/// The call that changes a replica from the other role to this one.
+/// Returns the call that changes a replica from the other role to this one.
 const fn change_to(to: Role) -> Call
     ensures { result ≡ Call.Change (other_role to) to }
 {
@@ -62,8 +62,8 @@ const fn change_to(to: Role) -> Call
     Call::Change { from, to }
 }
 
-/// The shard's highest handover number once an instruction is made, where it is `highest` before: a prepare_add has a
-/// new one.
+/// Returns the shard's highest handover number once an instruction is made, if it is `highest` before: a prepare_add
+/// has a new one.
 pub const fn number_after(instr: &Instr, highest: u64) -> u64
     requires { highest < 2 ^ 64 - 1 }
     ensures { result ≡ number_after instr.now highest }

@@ -1,4 +1,4 @@
-//! What an instruction exchanges: its line of the table of rights, as a change of what is held.
+//! The exchange that an instruction makes: its line of the table of rights, as a change of what is held.
 ghost use Rattle.std.specs.Prelude.{◌≡◌, ◌<◌, ℕ, None, Some, IfOk, IfErr, IfSome, Ok, Err, length};
 ghost use Rattle.sm_placement.specs.Setup.{Sizes, sizes_of};
 ghost use Rattle.sm_reservation.specs.Rights.{Rights};
@@ -17,7 +17,7 @@ use sm_placement::{Config, Lead};
 use sm_reservation::{CellRight, Change, Crown, Hold, PlainCell, Portion, Room, Spare};
 use sm_server::{Role, ServerId, ShardId};
 
-/// Rights of the four kinds, at most one of each.
+/// Makes a portion of rights of the four kinds, at most one of each.
 fn portion(
     cell: Option<CellRight>,
     crown: Option<Crown>,
@@ -34,7 +34,7 @@ fn portion(
     }
 }
 
-/// The right to a cell.
+/// Returns the right to a cell.
 fn cell(shard: ShardId, server: ServerId, state: PlainCell) -> Option<CellRight>
     ensures { result ≡ cell shard server state }
 {
@@ -45,7 +45,7 @@ fn cell(shard: ShardId, server: ServerId, state: PlainCell) -> Option<CellRight>
     })
 }
 
-/// The crown of a shard, where it is held.
+/// Returns the crown of a shard if it is held.
 fn crown_of(hold: &Hold, shard: ShardId) -> Option<Crown>
     ensures { result ≡ held_crown shard ((hold_of hold.now.rights).crowns shard) }
 {
@@ -56,7 +56,7 @@ fn crown_of(hold: &Hold, shard: ShardId) -> Option<Crown>
     })
 }
 
-/// A crown with another lead and the same listed server.
+/// Returns a crown with another lead and the same listed server.
 const fn led(held: &Crown, lead: Lead) -> Option<Crown>
     ensures { result ≡ crown held.now.shard lead held.now.listed }
 {
@@ -67,7 +67,7 @@ const fn led(held: &Crown, lead: Lead) -> Option<Crown>
     })
 }
 
-/// A crown with the same lead and another listed server.
+/// Returns a crown with the same lead and another listed server.
 const fn listing(held: &Crown, listed: Option<ServerId>) -> Option<Crown>
     ensures { result ≡ crown held.now.shard held.now.lead listed }
 {
@@ -78,7 +78,8 @@ const fn listing(held: &Crown, listed: Option<ServerId>) -> Option<Crown>
     })
 }
 
-/// What a replica needs that is to come to a server: the right to its absent cell there, and room for its load.
+/// Returns the rights that a replica needs before it comes to a server: the right to its absent cell there, and room
+/// for its load.
 fn absent_with_room(
     config: &Config,
     hold: &Hold,
@@ -184,7 +185,7 @@ fn add_first(
     })
 }
 
-/// Adds a primary: at the prepared server, or where the shard has none.
+/// Adds a primary: at the prepared server, or at any server if the shard has no primary.
 fn add_primary(
     config: &Config,
     hold: &Hold,
@@ -241,7 +242,8 @@ fn drop_held(
     })
 }
 
-/// What is exchanged for a server's part in the lead of a crown: its room comes back, and the crown has another lead.
+/// Returns what is exchanged for a server's part in the lead of a crown: its room comes back, and the crown has another
+/// lead.
 fn part_dropped(
     config: &Config,
     server: ServerId,
@@ -344,7 +346,7 @@ fn to_secondary(hold: &Hold, shard: ShardId, server: ServerId) -> Result<Change,
     })
 }
 
-/// The server that a publication lists under a lead.
+/// Returns the server that a publication lists under a lead.
 pub fn listed_under(lead: Lead) -> Option<ServerId>
     ensures { result ≡ to_list lead }
 {
@@ -416,7 +418,7 @@ fn change(hold: &Hold, shard: ShardId, server: ServerId, to: Role) -> Result<Cha
     }
 }
 
-/// The line of an instruction. A signal or a wait exchanges nothing beside its parcel.
+/// Returns the line of an instruction. A signal or a wait exchanges nothing beside its parcel.
 fn exchange(config: &Config, instr: &Instr, hold: &Hold) -> Result<Change, Why>
     requires { IfSome (shard_of instr.now) (λ s. s < length config.now.shards) }
     ensures own { (signals : ℕ → Rights) → IsOwn instr.now → result ≡ exchanged (line_of (sizes_of config.now) signals instr.now (hold_of hold.now.rights)) (exchange_of (sizes_of config.now) instr.now (hold_of hold.now.rights)) }
@@ -449,7 +451,8 @@ fn exchange(config: &Config, instr: &Instr, hold: &Hold) -> Result<Change, Why>
     }
 }
 
-/// What an instruction takes out of a hold and puts in, or why it may not be made: its line of the table of rights.
+/// Returns what an instruction takes out of a hold and puts in, or why it may not be made: its line of the table of
+/// rights.
 ///
 /// A signal or a wait exchanges nothing beside its parcel.
 pub fn change_of(config: &Config, instr: &Instr, hold: &Hold) -> Result<Change, Why>

@@ -1,4 +1,4 @@
-//! Whether all ids of a plan are below the counts of a configuration.
+//! Tests whether all ids of a plan are below the counts of a configuration.
 ghost use Rattle.std.specs.Prelude.{◌↔◌, ◌<◌, IsTrue, IfSome, All};
 ghost use Rattle.sm_plan_code.specs.Instr.{shard_of};
 ghost use Rattle.sm_plan_code.specs.Plan.{IsKnownCellRight, IsKnownLead, IsKnownCrown, IsKnownParcel, IsKnownInstr, IsKnownStream, IsKnownPlan};
@@ -9,7 +9,7 @@ use sm_placement::Lead;
 use sm_reservation::{CellRight, Crown, Parcel, Room, Spare};
 use sm_server::ServerId;
 
-/// The server is below the count, where there is one.
+/// Tells whether the server is below the count, if there is one.
 fn is_known_server(servers: u32, server: Option<ServerId>) -> bool
     ensures { IsTrue result ↔ IfSome server (λ v. v < servers) }
 {
@@ -19,7 +19,7 @@ fn is_known_server(servers: u32, server: Option<ServerId>) -> bool
     }
 }
 
-/// Each server that a lead names is below the count.
+/// Tells whether each server that a lead names is below the count.
 fn is_known_lead(servers: u32, lead: Lead) -> bool
     ensures { IsTrue result ↔ IsKnownLead servers lead }
 {
@@ -32,7 +32,7 @@ fn is_known_lead(servers: u32, lead: Lead) -> bool
     }
 }
 
-/// A crown's shard, the servers of its lead and its listed server are below their counts.
+/// Tells whether a crown's shard, the servers of its lead and its listed server are below their counts.
 fn is_known_crown(shards: u32, servers: u32, crown: &Crown) -> bool
     ensures { IsTrue result ↔ IsKnownCrown shards servers crown.now }
 {
@@ -41,14 +41,14 @@ fn is_known_crown(shards: u32, servers: u32, crown: &Crown) -> bool
         && is_known_server(servers, crown.listed)
 }
 
-/// The shard and the server of each cell right are below their counts.
+/// Tells whether the shard and the server of each cell right are below their counts.
 fn are_cells_below(shards: u32, servers: u32, cells: &[CellRight]) -> bool
     ensures { IsTrue result ↔ All (IsKnownCellRight shards servers) cells.now }
 {
     cells.iter().all(|cell| cell.shard.number() < shards && cell.server.number() < servers)
 }
 
-/// The ids of each crown are below their counts.
+/// Tells whether the ids of each crown are below their counts.
 fn are_crowns_below(shards: u32, servers: u32, crowns: &[Crown]) -> bool
     ensures { IsTrue result ↔ All (IsKnownCrown shards servers) crowns.now }
 {
@@ -57,21 +57,21 @@ fn are_crowns_below(shards: u32, servers: u32, crowns: &[Crown]) -> bool
         .all(|crown| is_known_crown(shards, servers, crown))
 }
 
-/// The server of each entry of room is below the count.
+/// Tells whether the server of each entry of room is below the count.
 fn is_known_room(servers: u32, room: &[Room]) -> bool
     ensures { IsTrue result ↔ All (λ x. x.server < servers) room.now }
 {
     room.iter().all(|room| room.server.number() < servers)
 }
 
-/// The shard of each entry of spare replicas is below the count.
+/// Tells whether the shard of each entry of spare replicas is below the count.
 fn is_known_spare(shards: u32, spare: &[Spare]) -> bool
     ensures { IsTrue result ↔ All (λ x. x.shard < shards) spare.now }
 {
     spare.iter().all(|spare| spare.shard.number() < shards)
 }
 
-/// The ids of each right of a parcel are below their counts.
+/// Tells whether the ids of each right of a parcel are below their counts.
 fn is_known_parcel(shards: u32, servers: u32, parcel: &Parcel) -> bool
     ensures { IsTrue result ↔ IsKnownParcel shards servers parcel.now }
 {
@@ -81,7 +81,7 @@ fn is_known_parcel(shards: u32, servers: u32, parcel: &Parcel) -> bool
         && is_known_spare(shards, parcel.spare())
 }
 
-/// The shard of an instruction is below the count, where it has one.
+/// Tells whether the shard of an instruction is below the count, if it has one.
 fn is_known_shard(shards: u32, instr: &Instr) -> bool
     ensures { IsTrue result ↔ IfSome (shard_of instr.now) (λ s. s < shards) }
 {
@@ -97,7 +97,7 @@ fn is_known_shard(shards: u32, instr: &Instr) -> bool
     }
 }
 
-/// The shard of an instruction and the servers that it mentions are below their counts.
+/// Tells whether the shard of an instruction and the servers that it mentions are below their counts.
 pub fn is_known_instr(shards: u32, servers: u32, instr: &Instr) -> bool
     ensures { IsTrue result ↔ IsKnownInstr shards servers instr.now }
 {
@@ -107,7 +107,7 @@ pub fn is_known_instr(shards: u32, servers: u32, instr: &Instr) -> bool
         && is_known_server(servers, named.second)
 }
 
-/// The ids of each instruction are below their counts.
+/// Tells whether the ids of each instruction are below their counts.
 fn is_known_code(shards: u32, servers: u32, code: &[Instr]) -> bool
     ensures { IsTrue result ↔ All (IsKnownInstr shards servers) code.now }
 {
@@ -115,7 +115,7 @@ fn is_known_code(shards: u32, servers: u32, code: &[Instr]) -> bool
         .all(|instr| is_known_instr(shards, servers, instr))
 }
 
-/// The ids of what a stream holds at its start and of its instructions are below their counts.
+/// Tells whether the ids of what a stream holds at its start and of its instructions are below their counts.
 fn is_known_stream(shards: u32, servers: u32, stream: &Stream) -> bool
     ensures { IsTrue result ↔ IsKnownStream shards servers stream.now }
 {
@@ -123,7 +123,7 @@ fn is_known_stream(shards: u32, servers: u32, stream: &Stream) -> bool
         && is_known_code(shards, servers, stream.code.as_slice())
 }
 
-/// The ids of each of the streams are below their counts.
+/// Tells whether the ids of each of the streams are below their counts.
 fn are_streams_below(shards: u32, servers: u32, streams: &[Stream]) -> bool
     ensures { IsTrue result ↔ All (IsKnownStream shards servers) streams.now }
 {
@@ -132,7 +132,7 @@ fn are_streams_below(shards: u32, servers: u32, streams: &[Stream]) -> bool
         .all(|stream| is_known_stream(shards, servers, stream))
 }
 
-/// The ids of each of the parcels are below their counts.
+/// Tells whether the ids of each of the parcels are below their counts.
 fn are_parcels_below(shards: u32, servers: u32, parcels: &[Parcel]) -> bool
     ensures { IsTrue result ↔ All (IsKnownParcel shards servers) parcels.now }
 {
@@ -141,7 +141,7 @@ fn are_parcels_below(shards: u32, servers: u32, parcels: &[Parcel]) -> bool
         .all(|parcel| is_known_parcel(shards, servers, parcel))
 }
 
-/// The ids of a plan are below their counts.
+/// Tells whether the ids of a plan are below their counts.
 pub(crate) fn is_known_plan(shards: u32, servers: u32, plan: &Plan) -> bool
     ensures { IsTrue result ↔ IsKnownPlan shards servers plan.now }
 {

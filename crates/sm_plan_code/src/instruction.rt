@@ -20,7 +20,7 @@ pub enum Instr {
         server: ServerId,
         new_owner: ServerId,
     },
-    /// Adds a replica in a role. A primary comes to a server that is prepared, or where the shard has none.
+    /// Adds a replica in a role. A primary comes to a server that is prepared, or to any if the shard has no primary.
     Add {
         shard: ShardId,
         server: ServerId,
@@ -79,7 +79,7 @@ pub enum Why {
     /// A live replica is to go, and no spare replica of its shard is held.
     #[error("no spare replica of the shard is held")]
     NoSpare,
-    /// A signal is to be posted, and a right of its parcel isn't held, or less of it.
+    /// A signal is to be posted, and a right of its parcel isn't held, or less of it is.
     #[error("a right of the signal's parcel is not held")]
     NotCarried,
     /// A right to a cell or a crown is to come that is held already.
@@ -103,7 +103,7 @@ pub struct NamedServers {
 }
 
 impl NamedServers {
-    /// The server is one of these.
+    /// Tells whether the server is one of these.
     pub fn contains(&self, server: ServerId) -> bool
         ensures { IsTrue result ↔ Mentions self.now server }
     {
@@ -111,7 +111,7 @@ impl NamedServers {
     }
 }
 
-/// The instruction is a call at a server.
+/// Tells whether the instruction is a call at a server.
 pub const fn is_call(instr: &Instr) -> bool
     ensures { result ≡ is_call instr.now }
 {
@@ -125,7 +125,7 @@ pub const fn is_call(instr: &Instr) -> bool
     )
 }
 
-/// Every server that the instruction mentions, the other server of a handover included.
+/// Returns every server that the instruction mentions, the other server of a handover included.
 pub fn names(instr: &Instr) -> NamedServers
     ensures { result ≡ names_of instr.now }
 {

@@ -4,51 +4,51 @@ ghost use Rattle.sm_plan_code.specs.Known.{HoldsStayKnown, StaysReachable};
 ghost use Rattle.sm_plan_code.specs.Reach.{ReachIsExclusive};
 ghost use Rattle.sm_plan_code.specs.Table.{LinesExchange};
 
-/// Where the table of rights gives a hold after an instruction, its call is served, and what there is of each right moves
-/// as what is held of it does.
+/// States that if the table of rights gives a hold after an instruction, its call is served. The amount of each right
+/// that there is then moves as the amount that is held does.
 pub fn has_effects()
     ensures { HasEffects }
 {}
 
-/// A signal leaves the placement as it is, and takes its parcel out of the hold.
+/// States that a signal leaves the placement as it is, and takes its parcel out of the hold.
 pub fn signal_gives()
     ensures { SignalGives }
 {}
 
-/// A wait leaves the placement as it is, and puts the parcel of its signal into the hold.
+/// States that a wait leaves the placement as it is, and puts the parcel of its signal into the hold.
 pub fn wait_takes()
     ensures { WaitTakes }
 {}
 
-/// Where the table of rights gives a hold after an instruction, it is the hold before it, without what the instruction
-/// needs, with what it gives.
+/// States that if the table of rights gives a hold after an instruction, that is the hold before it, less what the
+/// instruction needs, with what it gives.
 pub fn lines_exchange()
     ensures { LinesExchange }
 {}
 
-/// Two holds that can both be true of a placement, each beside the other, reach no cell together.
+/// States that two holds that can both be true of a placement, each beside the other, reach no cell together.
 pub fn reach_is_exclusive()
     ensures { ReachIsExclusive }
 {}
 
-/// That a placement is one, what there is of each right, and what a hold says of it, are the same whatever its last
-/// numbers are.
+/// States that last numbers are not seen: whatever they are, it is a placement, there is the same of each right, and a
+/// hold says the same of it.
 pub fn lasts_are_unseen()
     ensures { LastsAreUnseen }
 {}
 
-/// Where the table of rights gives a hold after an instruction, its call has its effect under each number that isn't the
-/// last one of its cell.
+/// States that if the table of rights gives a hold after an instruction, its call has its effect under each number that
+/// isn't the last one of its cell.
 pub fn has_numbered_effects()
     ensures { HasNumberedEffects }
 {}
 
-/// What is held stays of known shards and servers along the code of a plan that fits.
+/// States that what is held stays of known shards and servers along the code of a plan that fits.
 pub fn holds_stay_known()
     ensures { HoldsStayKnown }
 {}
 
-/// An instruction of a plan that fits is reachable while the servers that it mentions are up.
+/// States that an instruction of a plan that fits is reachable while the servers that it mentions are up.
 pub fn stays_reachable()
     ensures { StaysReachable }
 {}

@@ -8,54 +8,54 @@ use crate::plan::{Parts, Stream};
 use sm_placement::MOST_LOAD;
 use sm_reservation::{Parcel, Room, Spare};
 
-/// How many streams a plan has at most.
+/// The greatest number of streams of a plan.
 pub const MOST_STREAMS: usize = 64;
 
-/// How many signals a plan has at most.
+/// The greatest number of signals of a plan.
 pub const MOST_SIGNALS: usize = 256;
 
-/// How many instructions a stream has at most.
+/// The greatest number of instructions of a stream.
 pub const MOST_INSTRUCTIONS: usize = 4_096;
 
 /// The greatest budget, of a plan and of a stream, and the most retries of a stream.
 pub const MOST_CALLS: u32 = 262_144;
 
-/// How many entries each list of a parcel has at most.
+/// The greatest number of entries in each list of a parcel.
 pub const MOST_RIGHTS: usize = 4_096;
 
 /// The greatest amount of room or of spare replicas. An amount of room can be as great as a server's room.
 pub const MOST_AMOUNT: u64 = MOST_LOAD;
 
-/// How many plans run at a time at most.
+/// The greatest number of plans that run at a time.
 pub const MOST_PLANS: usize = 16;
 
-/// How many moves are planned at once at most.
+/// The greatest number of moves that are planned at once.
 pub const MOST_MOVES: usize = 4_096;
 
-/// How many tries a stream's budget, its retries and its refills allow together at most.
+/// The greatest number of tries that a stream's budget, its retries and its refills allow together.
 pub const MOST_ALLOWANCE: u32 = 524_288;
 
-/// How many places a log has at most.
+/// The greatest number of places of a log.
 pub const MOST_PLACES: u32 = 1_048_576;
 
 /// The greatest number of a plan, a stream, a handover or a place that a document may name.
 pub const MOST_NUMBER: u32 = u32::MAX;
 
-/// Each amount of room is within its limit.
+/// Tells whether each amount of room is within its limit.
 fn is_small_room(room: &[Room]) -> bool
     ensures { IsTrue result ↔ All (λ x. x.amount ≤ MOST_AMOUNT) room.now }
 {
     room.iter().all(|x| x.amount <= MOST_AMOUNT)
 }
 
-/// Each amount of spare replicas is within its limit.
+/// Tells whether each amount of spare replicas is within its limit.
 fn is_small_spare(spare: &[Spare]) -> bool
     ensures { IsTrue result ↔ All (λ x. x.amount ≤ MOST_AMOUNT) spare.now }
 {
     spare.iter().all(|x| x.amount <= MOST_AMOUNT)
 }
 
-/// Each list of a parcel and each amount is within its limit.
+/// Tells whether each list of a parcel and each amount is within its limit.
 fn is_small_parcel(parcel: &Parcel) -> bool
     ensures small { IsTrue result ↔ IsSmallParcel parcel.now }
     ensures order { IsTrue result → IsOrderedParcel parcel.now }
@@ -68,7 +68,7 @@ fn is_small_parcel(parcel: &Parcel) -> bool
         && is_small_spare(parcel.spare())
 }
 
-/// A stream's numbers, its parcel and its code are within their limits.
+/// Tells whether a stream's numbers, its parcel and its code are within their limits.
 fn is_small_stream(stream: &Stream) -> bool
     ensures small { IsTrue result ↔ IsSmallStream stream.now }
     ensures order { IsTrue result → IsOrderedParcel stream.now.holds }
@@ -79,7 +79,7 @@ fn is_small_stream(stream: &Stream) -> bool
         && stream.code.len() <= MOST_INSTRUCTIONS
 }
 
-/// Each of the streams is within the limits.
+/// Tells whether each of the streams is within the limits.
 fn are_small_streams(streams: &[Stream]) -> bool
     ensures small { IsTrue result ↔ All IsSmallStream streams.now }
     ensures order { IsTrue result → All (λ s. IsOrderedParcel s.holds) streams.now }
@@ -87,7 +87,7 @@ fn are_small_streams(streams: &[Stream]) -> bool
     streams.iter().all(is_small_stream)
 }
 
-/// Each of the parcels is within the limits.
+/// Tells whether each of the parcels is within the limits.
 fn are_small_parcels(parcels: &[Parcel]) -> bool
     ensures small { IsTrue result ↔ All IsSmallParcel parcels.now }
     ensures order { IsTrue result → All IsOrderedParcel parcels.now }
@@ -95,7 +95,7 @@ fn are_small_parcels(parcels: &[Parcel]) -> bool
     parcels.iter().all(is_small_parcel)
 }
 
-/// The parts of a plan are within the limits.
+/// Tells whether the parts of a plan are within the limits.
 pub(crate) fn is_small_plan(parts: &Parts) -> bool
     ensures small { IsTrue result ↔ IsSmallPlan (parts_of parts.now) }
     ensures order { IsTrue result → HasOrderedParcels (parts_of parts.now) }
@@ -107,7 +107,7 @@ pub(crate) fn is_small_plan(parts: &Parts) -> bool
         && are_small_parcels(parts.signals.as_slice())
 }
 
-/// The signal of an instruction is one of the first `signals`.
+/// Tells whether the signal of an instruction is one of the first `signals`.
 fn knows_signal(instr: &Instr, signals: usize) -> bool
     ensures { IsTrue result ↔ KnowsSignal signals instr.now }
 {
@@ -123,14 +123,14 @@ fn knows_signal(instr: &Instr, signals: usize) -> bool
     }
 }
 
-/// Each signal of a stream's code is one of the first `signals`.
+/// Tells whether each signal of a stream's code is one of the first `signals`.
 fn knows_signals_of(stream: &Stream, signals: usize) -> bool
     ensures { IsTrue result ↔ All (KnowsSignal signals) stream.now.code }
 {
     stream.code.iter().all(|instr| knows_signal(instr, signals))
 }
 
-/// Each signal that is posted or waited for has a parcel.
+/// Tells whether each signal that is posted or waited for has a parcel.
 pub(crate) fn knows_signals(parts: &Parts) -> bool
     ensures { IsTrue result ↔ KnowsSignals (parts_of parts.now) }
 {

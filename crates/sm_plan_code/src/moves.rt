@@ -17,7 +17,7 @@ pub struct Move {
 }
 
 impl Move {
-    /// Whether the shard and both servers are in the configuration: what has to be so of each move that a plan is made for.
+    /// Tells whether the shard and both servers are in the configuration, as they have to be for each move of a plan.
     pub fn fits(&self, config: &Config) -> bool
         ensures { IsTrue result ↔ IsKnownMove (length config.now.shards) (length config.now.servers) self.now }
     {

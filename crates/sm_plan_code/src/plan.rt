@@ -13,9 +13,9 @@ use thiserror::Error;
 
 /// Instructions that are made one after another, and the rights that they begin with.
 pub struct Stream {
-    /// How many calls the stream makes at most.
+    /// The greatest number of calls that the stream makes.
     pub budget: u32,
-    /// How many more tries it has for calls whose answer is lost.
+    /// The number of further tries that it has for calls whose answer is lost.
     pub retries: u32,
     /// The rights that the stream holds at its start.
     pub holds: Parcel,
@@ -23,7 +23,7 @@ pub struct Stream {
     pub code: Vec<Instr>,
 }
 
-/// One call where it goes out of scope, and not one for each list.
+/// Drops everything in one call, instead of one call for each list.
 impl Drop for Stream {
     fn drop(self) {
         let Stream {
@@ -45,10 +45,10 @@ impl Model for Stream {
     ghost view = { λ s. record { budget = s.budget; retries = s.retries; holds = s.holds; code = s.code.items } };
 }
 
-/// What a plan is made of.
+/// The parts of a plan.
 #[derive(Drop)]
 pub struct Parts {
-    /// How many calls and retries the streams have together at most.
+    /// The greatest number of calls and retries that the streams have together.
     pub budget: u32,
     /// The streams, each at its number.
     pub streams: Vec<Stream>,
@@ -74,7 +74,7 @@ pub struct Plan {
     signals: Vec<Parcel>,
 }
 
-/// One call where it goes out of scope, and not one for each list.
+/// Drops everything in one call, instead of one call for each list.
 impl Drop for Plan {
     fn drop(self) {
         let Plan {
@@ -99,7 +99,7 @@ impl Model for Plan {
     ghost invariant = { λ p. IsPlan (plan_of p) };
 }
 
-/// The first fault of the parts.
+/// Returns the first fault of the parts.
 fn fault_of(parts: &Parts) -> Option<PlanFault>
     ensures fault { IfSome result (λ fault. IsPlanFault (parts_of parts.now) fault) }
     ensures none { IfNone result (IsPlan (parts_of parts.now)) }
@@ -140,7 +140,7 @@ impl Plan {
         })
     }
 
-    /// How many calls and retries the streams have together at most.
+    /// Returns the greatest number of calls and retries that the streams have together.
     pub fn budget(&self) -> u32
         ensures value { result ≡ self.now.budget }
         ensures plan { IsPlan self.now }
@@ -148,7 +148,7 @@ impl Plan {
         self.budget
     }
 
-    /// The streams, each at its number.
+    /// Returns the streams, each at its number.
     pub fn streams(&self) -> &[Stream]
         ensures value { result.now ≡ self.now.streams }
         ensures plan { IsPlan self.now }
@@ -156,7 +156,7 @@ impl Plan {
         self.streams.as_slice()
     }
 
-    /// The parcel that each signal carries, at the signal's number.
+    /// Returns the parcel that each signal carries, at the signal's number.
     pub fn signals(&self) -> &[Parcel]
         ensures value { result.now ≡ self.now.signals }
         ensures plan { IsPlan self.now }
@@ -164,7 +164,7 @@ impl Plan {
         self.signals.as_slice()
     }
 
-    /// What the plan was made of.
+    /// Returns the parts of the plan.
     pub fn into_parts(self) -> Parts
         ensures parts { parts_of result ≡ self }
         ensures plan { IsPlan self }
@@ -181,8 +181,8 @@ impl Plan {
         }
     }
 
-    /// Each shard and server that the plan names is in the configuration: in its instructions, in what its streams hold
-    /// and in what its signals carry.
+    /// Tells whether each shard and server that the plan names is in the configuration: in its instructions, in what
+    /// its streams hold and in what its signals carry.
     pub fn fits(&self, config: &Config) -> bool
         ensures { IsTrue result ↔ IsKnownPlan (length config.now.shards) (length config.now.servers) self.now }
     {

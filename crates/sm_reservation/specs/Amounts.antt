@@ -51,13 +51,13 @@ count h (OfCrown s lead listed) = bit (is_crown lead listed (h.crowns s))
 count h (OfRoom v) = h.room v
 count h (OfSpare s) = h.spare s
 
--- the cell, where there is a right to it
+-- the cell, if there is a right to it
 abbrev pub plain_of : Cell → Option PlainCell
 plain_of cell.Absent = Some Absent
 plain_of cell.Secondary = Some Secondary
 plain_of _ = None
 
--- how much of a right there is in a placement with these leads: one where it is true, all room, all live replicas
+-- how much of a right there is in a placement with these leads: one if it is true, all room, all live replicas
 abbrev pub stock : Sizes → Place → (ℕ → Lead) → Right → ℕ
 stock c p leads (OfCell s v state) = bit (is_cell state (plain_of (p.cells s v)))
 stock c p leads (OfCrown s lead listed) = bit (is_crown lead listed (Some (leads s, p.listed s)))

@@ -1,4 +1,4 @@
--- Who has which rights, and the calls that move rights about or give them up for others.
+-- The holders of rights, and the calls that move rights about or give them up for others.
 -- One holder is the pool, and each other holder is a grant: a grant that isn't made yet, or that is spent, has nothing (`SpentIsNothing` of
 -- specs/Laws.antt says so of one that was given back or joined to another one). A closed pool's `end` is none of these calls: it ends a
 -- grant with what it holds.

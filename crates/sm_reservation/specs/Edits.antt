@@ -1,5 +1,5 @@
 -- Rows in order, with the rows of a parcel worked into them.
--- Steps of the code's own way, which private functions' contracts and proofs cite: whoever reads the public ones need not read them.
+-- Internal definitions: you need not read them for the public contracts.
 use Rattle.std.specs.Prelude.{◌≡◌, ℕ, ◌+◌, ◌-◌, ◌%◌, ◌^◌, ◌==◌, ◌&&◌, is_none, is_some, insert, remove, slice_set, Option, Some, None, List, [], ◌∷◌, if◌then◌else◌}
 use Rattle.sm_placement.specs.Sums.{bit}
 use Rattle.sm_reservation.specs.declared.right.Room.{Room}
@@ -39,27 +39,27 @@ row_out held y = None
 abbrev pub row_in : {T : Type 0} → Option T → T → Option T
 row_in held y = Some y
 
--- an amount of room, where there is any
+-- an amount of room, if there is any
 abbrev pub room_of : Room → ℕ → Option Room
 room_of y n = if n == 0 then None else Some (record y { amount = n })
 
--- the room that is left at a key once the row's amount is taken out; none where that leaves 0
+-- the room that is left at a key once the row's amount is taken out; none if that leaves 0
 abbrev pub room_row_out : Option Room → Room → Option Room
 room_row_out held y = room_of y (amount_of (λ x. x.amount) held - y.amount)
 
--- the room at a key once the row's amount is put in; none where that makes 0
+-- the room at a key once the row's amount is put in; none if that makes 0
 abbrev pub room_row_in : Option Room → Room → Option Room
 room_row_in held y = room_of y (amount_of (λ x. x.amount) held + y.amount)
 
--- an amount of spare replicas, where there are any
+-- an amount of spare replicas, if there are any
 abbrev pub spare_of : Spare → ℕ → Option Spare
 spare_of y n = if n == 0 then None else Some (record y { amount = n })
 
--- the spare replicas that are left at a key once the row's amount is taken out; none where that leaves 0
+-- the spare replicas that are left at a key once the row's amount is taken out; none if that leaves 0
 abbrev pub spare_row_out : Option Spare → Spare → Option Spare
 spare_row_out held y = spare_of y (amount_of (λ x. x.amount) held - y.amount)
 
--- the spare replicas at a key once the row's amount is put in; none where that makes 0
+-- the spare replicas at a key once the row's amount is put in; none if that makes 0
 abbrev pub spare_row_in : Option Spare → Spare → Option Spare
 spare_row_in held y = spare_of y (amount_of (λ x. x.amount) held + y.amount)
 

@@ -39,7 +39,7 @@ with_crown h s lead listed = record h { crowns = put h.crowns s (Some (lead, lis
 abbrev pub without_crown : Hold → ℕ → Hold
 without_crown h s = record h { crowns = put h.crowns s None }
 
--- the hold with n less of the room at v, and with none where it had less than n
+-- the hold with n less of the room at v, and with none if it had less than n
 abbrev pub pay_room : Hold → ℕ → ℕ → Hold
 pay_room h v n = record h { room = put h.room v (h.room v - n) }
 
@@ -47,7 +47,7 @@ pay_room h v n = record h { room = put h.room v (h.room v - n) }
 abbrev pub get_room : Hold → ℕ → ℕ → Hold
 get_room h v n = record h { room = put h.room v (h.room v + n) }
 
--- the hold with n spare replicas of s fewer, and with none where it had fewer than n
+-- the hold with n spare replicas of s fewer, and with none if it had fewer than n
 abbrev pub pay_spare : Hold → ℕ → ℕ → Hold
 pay_spare h s n = record h { spare = put h.spare s (h.spare s - n) }
 

@@ -9,12 +9,12 @@ use Rattle.sm_reservation.specs.Hold.{Hold}
 use Rattle.sm_reservation.specs.Rows.{row_at, amount_at}
 use Rattle.sm_reservation.specs.Key.{key_of_cell, key_of_crown, key_of_room, key_of_spare}
 
--- the state of the cell to which there is a right, where there is one
+-- the state of the cell to which there is a right, if there is one
 abbrev pub plain_state_of : Option CellRight → Option PlainCell
 plain_state_of None = None
 plain_state_of (Some x) = Some x.state
 
--- the lead and the listed server of a crown, where there is one
+-- the lead and the listed server of a crown, if there is one
 abbrev pub crown_of : Option Crown → Option (Lead × Option ℕ)
 crown_of None = None
 crown_of (Some x) = Some (x.lead, x.listed)

@@ -1,5 +1,5 @@
 -- Holds in memory: what contracts see of them.
--- `IsHold` is what a `Hold` keeps: whoever reads public contracts need not read it.
+-- `IsHold` is what a `Hold` keeps: you need not read it for the public contracts.
 use Rattle.std.specs.Prelude.{◌≤◌}
 use Rattle.sm_reservation.specs.Rights.{Rights}
 use Rattle.sm_reservation.specs.Key.{IsPositive, AreU64}

@@ -1,6 +1,5 @@
 -- Keys of rights: their keys in the lists, their order, and how often a key stands.
--- `IsInOrder` and `first_double` are steps of the code's own way, which private functions' contracts cite: whoever reads the public ones need not
--- read them.
+-- `IsInOrder` and `first_double` are internal: you need not read them for the public contracts.
 use Rattle.std.specs.Prelude.{◌≡◌, ℕ, ◌≤◌, ◌<◌, ◌^◌, ◌++◌, Bool, true, false, nat_lt, count_by, filter, Contains, List, Option, codes, decimal}
 use Rattle.std.specs.List.Sorted.{IsPermutation}
 use Rattle.std.specs.List.{AllByRecursion}
@@ -109,7 +108,7 @@ pub record IsInOrder (r s : Rights) : Type 0 where
   pub room_climb : Climbs key_of_room s.room
   pub spare_climb : Climbs key_of_spare s.spare
 
--- the lowest key of two neighbours, where each list is in order
+-- the lowest key of two neighbours, if each list is in order
 abbrev pub first_double : Rights → Option Key
 first_double r =
     option_or

@@ -25,7 +25,7 @@ SpentIsNothing = (r : Rights) → minus (hold_of r) r ≡ no_hold
 
 -- ---- what is short, and what is there
 
--- a hold is short of nothing of a parcel exactly where it has all of it
+-- a hold is short of nothing of a parcel exactly if it has all of it
 pub record NotShortIsCovered : Type 0 where
   pub covered : (h : Hold) (p : Rights) → first_short h p ≡ None → Covers h (hold_of p)
   pub not_short : (h : Hold) (p : Rights) → IsOrdered p → Covers h (hold_of p) → first_short h p ≡ None
@@ -48,7 +48,7 @@ JoinsInPlacement = (setup : Setup) (p : Place) (leads : ℕ → Lead) (h k : Hol
 
 -- ---- capacity for a change, from what is held then
 
--- Where lists in order of what there is then have no more keys than the capacity, there is capacity to put a parcel in,
+-- If lists in order of what there is then have no more keys than the capacity, there is capacity to put a parcel in,
 -- and for a trade.
 pub record CapacityByHold : Type 0 where
   pub put : (k : HoldModel) (p q : Rights) → IsOrdered k.rights → IsPositive k.rights → IsOrdered p → IsOrdered q → IsPositive q → hold_of q ≡ plus (hold_of k.rights) p → most_keys q ≤ k.capacity → HasCapacity k p

@@ -1,5 +1,5 @@
 -- Parcels: what contracts see of them.
--- `IsParcel` is what a `Parcel` keeps: whoever reads public contracts need not read it.
+-- `IsParcel` is what a `Parcel` keeps: you need not read it for the public contracts.
 use Rattle.sm_reservation.specs.Rights.{Rights}
 use Rattle.sm_reservation.specs.Key.{IsOrdered, IsPositive, AreU64}
 use Rattle.sm_reservation.specs.declared.parcel.Parcel.TheInside.{Inside}

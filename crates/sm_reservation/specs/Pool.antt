@@ -1,5 +1,5 @@
 -- A pool: the rights that no grant has, by key.
--- `IsStocked` is what a `Pool` keeps: whoever reads public contracts need not read it.
+-- `IsStocked` is what a `Pool` keeps: you need not read it for the public contracts.
 use Rattle.std.specs.Prelude.{◌≡◌, ◌≤◌, ◌<◌, ◌-◌, ◌*◌, ◌&&◌, ℕ, List, length, Option, Some, None, nat_lt, ◌==◌, unwrap_or, if◌then◌else◌}
 use Rattle.std.specs.Option.{option_map}
 use Rattle.sm_placement.specs.declared.lead.Lead.{Lead}
@@ -59,7 +59,7 @@ pub record IsKnownHold (shards servers : ℕ) (h : Hold) : Type 0 where
   pub room : (v : ℕ) → servers ≤ v → h.room v ≡ 0
   pub spare : (s : ℕ) → shards ≤ s → h.spare s ≡ 0
 
--- the lead of each shard, and none under way or at a server where no lead describes its cells
+-- the lead of each shard, and none under way or at a server if no lead describes its cells
 abbrev pub leads_of : Sizes → Place → ℕ → Lead
 leads_of c p s = unwrap_or (lead_of c.servers (p.cells s)) Gone
 

@@ -1,6 +1,6 @@
 -- Rows in the order of their keys, and the row at a key.
--- `RowsModel`, `ClimbsFrom`, `Climbs`, `first_twin_from` and `first_twin` are steps of the code's own way, which private functions' contracts
--- cite: whoever reads the public ones need not read them.
+-- `RowsModel`, `ClimbsFrom`, `Climbs`, `first_twin_from` and `first_twin` are internal: you need not read them for the
+-- public contracts.
 use Rattle.std.specs.Prelude.{◌≡◌, ℕ, suc, ◌<◌, Bool, true, false, ◌&&◌, ◌||◌, ◌==◌, nat_lt, Option, Some, None, List, [], ◌∷◌, if◌then◌else◌, find}
 
 -- two keys are the same; a key is a shard and a server, or one of them and 0
@@ -35,12 +35,12 @@ abbrev pub count_before : {T : Type 0} → (T → ℕ × ℕ) → ℕ × ℕ →
 count_before key_of k [] = 0
 count_before key_of k (x ∷ xs) = if before (key_of x) k then suc (count_before key_of k xs) else 0
 
--- the amount of a row, and 0 where there is none
+-- the amount of a row, and 0 if there is none
 abbrev pub amount_of : {T : Type 0} → (T → ℕ) → Option T → ℕ
 amount_of amount None = 0
 amount_of amount (Some r) = amount r
 
--- the amount at a key, and 0 where no row stands
+-- the amount at a key, and 0 if no row stands there
 abbrev pub amount_at : {T : Type 0} → (T → ℕ × ℕ) → (T → ℕ) → List T → ℕ × ℕ → ℕ
 amount_at key_of amount rows k = amount_of amount (row_at key_of rows k)
 
@@ -59,7 +59,7 @@ abbrev pub Climbs : {T : Type 0} → (T → ℕ × ℕ) → List T → Type 0
 Climbs key_of [] = Unit {0}
 Climbs key_of (x ∷ xs) = ClimbsFrom key_of x xs
 
--- the first key that two neighbours share, where this row stands ahead of the list
+-- the first key that two neighbours share, if this row stands ahead of the list
 abbrev pub first_twin_from : {T : Type 0} → (T → ℕ × ℕ) → T → List T → Option (ℕ × ℕ)
 first_twin_from key_of x [] = None
 first_twin_from key_of x (y ∷ ys) = if same (key_of x) (key_of y) then Some (key_of y) else first_twin_from key_of y ys

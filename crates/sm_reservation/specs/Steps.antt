@@ -1,5 +1,5 @@
--- A list gone through in turn, where each element changes a state.
--- Steps of the code's own way, which private functions' contracts and proofs cite: whoever reads the public ones need not read them.
+-- A list gone through in turn: each element changes a state.
+-- Internal definitions: you need not read them for the public contracts.
 use Rattle.std.specs.Prelude.{ℕ, ◌+◌, Bool, List, [], ◌∷◌}
 use Rattle.sm_placement.specs.Sums.{bit}
 

@@ -1,6 +1,6 @@
 -- Rights put into a hold and taken out of it one after another.
--- Public functions' contracts cite `lacks_cell` to `loses_spare`, `RoomFits` and `SpareFits`, by way of the counts and sums of Capacity. The
--- others are steps of the code's own way, which private functions' contracts and proofs cite: whoever reads the public ones need not read them.
+-- Public functions' contracts cite `lacks_cell` to `loses_spare`, `RoomFits` and `SpareFits`, by way of the counts and
+-- sums of Capacity. The others are internal: you need not read them for the public contracts.
 use Rattle.std.specs.Prelude.{◌+◌, ◌≤◌, ◌<◌, ◌^◌, ◌==◌, ◌&&◌, Bool, nat_lt, is_none, is_some, Some, None}
 use Rattle.sm_reservation.specs.declared.right.CellRight.{CellRight}
 use Rattle.sm_reservation.specs.declared.right.Crown.{Crown}

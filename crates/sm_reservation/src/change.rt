@@ -14,11 +14,12 @@ pub struct Portion {
     pub spare: Option<Spare>,
 }
 
-/// What an instruction needs of a grant, and what comes of it: a trade of these, together with the call that it is for.
+/// A trade of rights: the part of a grant that an instruction needs, and the part that comes of it, together with the
+/// instruction's call.
 #[derive(Clone, Copy, Debug, Default, PartialEq, Eq)]
 pub struct Change {
-    /// What leaves the grant.
+    /// The rights that leave the grant.
     pub out: Portion,
-    /// What comes into it.
+    /// The rights that come into it.
     pub got: Portion,
 }

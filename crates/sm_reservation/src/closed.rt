@@ -6,7 +6,7 @@ use crate::pool::Pool;
 /// A pool that has ended: nothing comes out of it any more, and nothing goes back into it.
 ///
 /// The grants that came out of the pool may end with it, whatever they hold. That loses no right that anybody could
-/// have used: where all of a pool's grants end with it nobody has a right, and there is no pool that misses one.
+/// have used: if all of a pool's grants end with it nobody has a right, and there is no pool that misses one.
 #[derive(Drop)]
 pub struct ClosedPool {
     _pool: Pool,

@@ -1,4 +1,4 @@
-//! What stands at the key of a right once it is taken out of a list, or put into it.
+//! Edits of a right's row: what stands at its key once it is taken out of a list, or put into it.
 ghost use Rattle.std.specs.Prelude.{◌≡◌};
 ghost use Rattle.sm_reservation.specs.Rows.{amount_of};
 ghost use Rattle.sm_reservation.specs.Edits.{room_of, spare_of};

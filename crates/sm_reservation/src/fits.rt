@@ -1,4 +1,4 @@
-//! Whether a parcel can be put into a hold.
+//! Tests whether a parcel can be put into a hold.
 ghost use Rattle.std.specs.Prelude.{◌≡◌, ◌↔◌, ◌+◌, ◌<◌, ◌^◌, ◌&&◌, IsTrue, nat_lt, count_by};
 ghost use Rattle.std.specs.List.{list_all};
 ghost use Rattle.sm_reservation.specs.HoldOf.{hold_of};
@@ -13,7 +13,7 @@ use crate::parcel::Parcel;
 use crate::right::{CellRight, Crown, Room, Spare};
 use crate::short::ByKey;
 
-/// Whether rights of the four kinds can be put beside what is held.
+/// Tells whether rights of the four kinds can be put beside what is held.
 pub(crate) fn can_join<H: ByKey>(
     held: &H,
     cells: &[CellRight],
@@ -68,7 +68,7 @@ fn adds_spares<H: ByKey>(held: &H, spares: &[Spare]) -> bool
         .is_some())
 }
 
-/// Whether all rights of a hold are of known shards and servers: those below these numbers.
+/// Tells whether all rights of a hold are of known shards and servers: those below these numbers.
 pub fn is_known_hold(hold: &Hold, shards: usize, servers: usize) -> bool
     ensures { IsTrue result ↔ IsKnownHold shards servers (hold_of hold.now.rights) }
 {
@@ -121,7 +121,7 @@ fn knows_spares(spares: &[Spare], shards: usize) -> bool
         .all(|spare| (spare.shard.number() as usize) < shards)
 }
 
-/// Whether a hold has capacity for the keys of a parcel that are new in it.
+/// Tells whether a hold has capacity for the keys of a parcel that are new in it.
 pub fn has_capacity(hold: &Hold, parcel: &Parcel) -> bool
     ensures { IsTrue result ↔ HasCapacity hold.now parcel.now }
 {

@@ -24,7 +24,7 @@ use std::marker::Model;
 /// Rights that must be spent: a grant can be neither copied nor dropped.
 ///
 /// Rights come out of a pool, move between grants, and go back into the pool. All calls but `empty` and `reserve` take
-/// no memory, and ask for capacity where a list gains a key that it did not have.
+/// no memory, and ask for capacity if a list gains a key that it did not have.
 pub struct Grant {
     hold: Hold,
 }
@@ -38,7 +38,7 @@ impl Model for Grant {
 }
 
 impl Grant {
-    /// No rights, with a capacity of so many keys in each list.
+    /// Makes a grant of no rights, with a capacity of this many keys in each list.
     pub fn empty(alloc: Global, capacity: u32) -> Result<Grant, AllocError>
         ensures { IfOk result (λ grant. grant ≡ record { rights = no_rights; capacity = capacity }) }
     {
@@ -47,14 +47,14 @@ impl Grant {
         })
     }
 
-    /// The rights of a hold.
+    /// Makes a grant of the rights of a hold.
     pub(crate) fn of_hold(hold: Hold) -> Grant
         ensures { result ≡ hold }
     {
         Grant { hold }
     }
 
-    /// The rights as a plain value, which spends the grant.
+    /// Returns the rights as a plain value, which spends the grant.
     pub(crate) fn into_hold(self) -> Hold
         ensures { result ≡ self }
     {
@@ -62,7 +62,7 @@ impl Grant {
         hold
     }
 
-    /// Whether the grant holds nothing.
+    /// Tells whether the grant holds nothing.
     pub fn is_empty(&self) -> bool
         ensures { IsTrue result ↔ (self.now.rights ≡ no_rights) }
     {
@@ -89,7 +89,8 @@ impl Grant {
         Ok(())
     }
 
-    /// A law: the lists are in order, no amount is 0 or above what a u64 holds, and no list is longer than the capacity.
+    /// States that the lists are in order, no amount is 0 or above what a u64 holds, and no list is longer than the
+    /// capacity.
     pub fn rights_in_order(&self)
         ensures order { IsOrdered self.now.rights }
         ensures positive { IsPositive self.now.rights }
@@ -99,14 +100,14 @@ impl Grant {
         self.hold.rights_in_order();
     }
 
-    /// The rights, to be read.
+    /// Returns the rights, to be read.
     pub fn hold(&self) -> &Hold
         ensures { result.now ≡ self.now }
     {
         &self.hold
     }
 
-    /// Raises the capacity to so many keys in each list, where it is less.
+    /// Raises the capacity to this many keys in each list, if it is less.
     pub fn reserve(&mut self, capacity: u32) -> Result<(), AllocError>
         ensures rights { self.new.rights ≡ self.old.rights }
         ensures ok { OnOk result (self.new.capacity ≡ max self.old.capacity capacity) }
@@ -116,28 +117,28 @@ impl Grant {
         self.hold.reserve(capacity)
     }
 
-    /// The state of a cell to which there is a right.
+    /// Returns the state of a cell to which there is a right.
     pub fn cell(&self, shard: ShardId, server: ServerId) -> Option<PlainCell>
         ensures { result ≡ (hold_of self.now.rights).cells shard server }
     {
         self.hold.cell(shard, server)
     }
 
-    /// The lead and the listed server of a shard's crown.
+    /// Returns the lead and the listed server of a shard's crown.
     pub fn crown(&self, shard: ShardId) -> Option<(Lead, Option<ServerId>)>
         ensures { result ≡ (hold_of self.now.rights).crowns shard }
     {
         self.hold.crown(shard)
     }
 
-    /// The room of a server.
+    /// Returns the room of a server.
     pub fn room(&self, server: ServerId) -> u64
         ensures { result ≡ (hold_of self.now.rights).room server }
     {
         self.hold.room(server)
     }
 
-    /// The spare replicas of a shard.
+    /// Returns the spare replicas of a shard.
     pub fn spare(&self, shard: ShardId) -> u64
         ensures { result ≡ (hold_of self.now.rights).spare shard }
     {
@@ -146,7 +147,7 @@ impl Grant {
 
     /// Moves a parcel's rights into another grant.
     ///
-    /// Where there is too little of a key the first such key comes back, and neither grant changes.
+    /// If there is too little of a key the first such key comes back, and neither grant changes.
     pub fn split(&mut self, into: &mut Grant, parcel: &Parcel) -> Result<(), Short>
         requires capacity { HasCapacity into.old parcel.now }
         requires fits { CanJoin (hold_of into.old.rights) (hold_of parcel.now) }

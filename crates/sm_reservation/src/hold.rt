@@ -29,7 +29,7 @@ use sm_server::{ServerId, ShardId};
 use std::alloc::{AllocError, Global};
 use std::marker::Model;
 
-/// Rights that can be read and edited by their keys, with a capacity of so many keys in each list.
+/// Rights that can be read and edited by their keys, with a capacity of a number of keys in each list.
 ///
 /// A hold is a plain value: it says what is held, and nothing is held by having one.
 pub struct Hold {
@@ -40,7 +40,7 @@ pub struct Hold {
     capacity: usize,
 }
 
-/// One call where it goes out of scope, and not one for each list.
+/// Drops everything in one call, instead of one call for each list.
 impl Drop for Hold {
     fn drop(self) {
         let Hold {
@@ -70,7 +70,7 @@ impl Model for Hold {
 }
 
 impl Hold {
-    /// No rights, with a capacity of so many keys in each list.
+    /// Makes a hold of no rights, with a capacity of this many keys in each list.
     pub fn empty(alloc: Global, capacity: u32) -> Result<Hold, AllocError>
         ensures { IfOk result (λ hold. hold ≡ record { rights = no_rights; capacity = capacity }) }
     {
@@ -84,7 +84,7 @@ impl Hold {
         })
     }
 
-    /// A parcel's rights.
+    /// Makes a hold of a parcel's rights.
     pub fn of_parcel(alloc: Global, parcel: &Parcel) -> Result<Hold, AllocError>
         ensures rights { IfOk result (λ hold. hold.rights ≡ parcel.now) }
         ensures capacity { IfOk result (λ hold. hold.capacity ≡ most_keys parcel.now) }
@@ -107,7 +107,7 @@ impl Hold {
         })
     }
 
-    /// Raises the capacity to so many keys in each list, where it is less.
+    /// Raises the capacity to this many keys in each list, if it is less.
     pub fn reserve(&mut self, capacity: u32) -> Result<(), AllocError>
         ensures rights { self.new.rights ≡ self.old.rights }
         ensures ok { OnOk result (self.new.capacity ≡ max self.old.capacity capacity) }
@@ -126,7 +126,7 @@ impl Hold {
         Ok(())
     }
 
-    /// The state of a cell to which there is a right.
+    /// Returns the state of a cell to which there is a right.
     pub fn cell(&self, shard: ShardId, server: ServerId) -> Option<PlainCell>
         ensures { result ≡ (hold_of self.now.rights).cells shard server }
     {
@@ -135,7 +135,7 @@ impl Hold {
             .map(|right| right.state)
     }
 
-    /// The lead and the listed server of a shard's crown.
+    /// Returns the lead and the listed server of a shard's crown.
     pub fn crown(&self, shard: ShardId) -> Option<(Lead, Option<ServerId>)>
         ensures { result ≡ (hold_of self.now.rights).crowns shard }
     {
@@ -144,7 +144,7 @@ impl Hold {
             .map(|crown| (crown.lead, crown.listed))
     }
 
-    /// The room of a server.
+    /// Returns the room of a server.
     pub fn room(&self, server: ServerId) -> u64
         ensures { result ≡ (hold_of self.now.rights).room server }
     {
@@ -153,7 +153,7 @@ impl Hold {
             .map_or(0, |room| room.amount)
     }
 
-    /// The spare replicas of a shard.
+    /// Returns the spare replicas of a shard.
     pub fn spare(&self, shard: ShardId) -> u64
         ensures { result ≡ (hold_of self.now.rights).spare shard }
     {
@@ -176,7 +176,7 @@ impl Hold {
         self.cells.edit(&right, &Out);
     }
 
-    /// Puts the right to a cell in, in place of one to that cell in another state.
+    /// Puts the right to a cell in, and takes out one to that cell in another state.
     pub fn put_cell(&mut self, right: CellRight)
         requires capacity { (hold_of self.old.rights).cells right.shard right.server ≡ None → length self.old.rights.cells < self.old.capacity }
         ensures rights { hold_of self.new.rights ≡ with_cell (hold_of self.old.rights) right.shard right.server (Some right.state) }
@@ -200,7 +200,7 @@ impl Hold {
         self.crowns.edit(&crown, &Out);
     }
 
-    /// Puts a crown in, in place of one of that shard.
+    /// Puts a crown in, and takes out one of that shard.
     pub fn put_crown(&mut self, crown: Crown)
         requires capacity { (hold_of self.old.rights).crowns crown.shard ≡ None → length self.old.rights.crowns < self.old.capacity }
         ensures rights { hold_of self.new.rights ≡ with_crown (hold_of self.old.rights) crown.shard crown.lead crown.listed }
@@ -252,7 +252,7 @@ impl Hold {
         self.spare.edit(&spare, &In);
     }
 
-    /// The rights to cells.
+    /// Returns the rights to cells.
     pub fn cells(&self) -> &[CellRight]
         ensures value { result.now ≡ self.now.rights.cells }
         ensures order { Rises key_of_cell result.now }
@@ -260,7 +260,7 @@ impl Hold {
         self.cells.as_slice()
     }
 
-    /// The crowns.
+    /// Returns the crowns.
     pub fn crowns(&self) -> &[Crown]
         ensures value { result.now ≡ self.now.rights.crowns }
         ensures order { Rises key_of_crown result.now }
@@ -268,7 +268,7 @@ impl Hold {
         self.crowns.as_slice()
     }
 
-    /// All room.
+    /// Returns all room.
     pub fn rooms(&self) -> &[Room]
         ensures value { result.now ≡ self.now.rights.room }
         ensures order { Rises key_of_room result.now }
@@ -278,7 +278,7 @@ impl Hold {
         self.room.as_slice()
     }
 
-    /// All spare replicas.
+    /// Returns all spare replicas.
     pub fn spares(&self) -> &[Spare]
         ensures value { result.now ≡ self.now.rights.spare }
         ensures order { Rises key_of_spare result.now }
@@ -288,15 +288,15 @@ impl Hold {
         self.spare.as_slice()
     }
 
-    /// The first key of a parcel of which there is too little here.
+    /// Returns the first key of a parcel of which there is too little here.
     pub fn first_short(&self, parcel: &Parcel) -> Option<Short>
         ensures { result ≡ first_short (hold_of self.now.rights) parcel.now }
     {
         first_short(self, parcel)
     }
 
-    /// Whether a parcel can be put beside what is here: no cell right and no crown would stand twice, and no sum would
-    /// pass u64.
+    /// Tells whether a parcel can be put beside what is here: no cell right and no crown would stand twice, and no sum
+    /// would pass u64.
     pub fn can_join(&self, parcel: &Parcel) -> bool
         ensures { IsTrue result ↔ CanJoin (hold_of self.now.rights) (hold_of parcel.now) }
     {
@@ -309,14 +309,14 @@ impl Hold {
         )
     }
 
-    /// Whether there is capacity for the keys of a parcel that are new here.
+    /// Tells whether there is capacity for the keys of a parcel that are new here.
     pub fn has_capacity(&self, parcel: &Parcel) -> bool
         ensures { IsTrue result ↔ HasCapacity self.now parcel.now }
     {
         has_capacity(self, parcel)
     }
 
-    /// Whether there are no rights.
+    /// Tells whether there are no rights.
     pub fn is_empty(&self) -> bool
         ensures { IsTrue result ↔ (self.now.rights ≡ no_rights) }
     {
@@ -326,7 +326,8 @@ impl Hold {
             && self.spare.is_empty()
     }
 
-    /// A law: the lists are in order, no amount is 0 or above what a u64 holds, and no list is longer than the capacity.
+    /// States that the lists are in order, no amount is 0 or above what a u64 holds, and no list is longer than the
+    /// capacity.
     pub fn rights_in_order(&self)
         ensures order { IsOrdered self.now.rights }
         ensures positive { IsPositive self.now.rights }
@@ -339,7 +340,7 @@ impl Hold {
         let _ = self.spare.as_slice();
     }
 
-    /// The capacity: how many keys each list can take.
+    /// Returns the capacity: the number of keys that each list can take.
     pub fn capacity(&self) -> usize
         ensures capacity { result ≡ self.now.capacity }
         ensures within { IsWithin (key_counts self.now.rights) result }
@@ -394,7 +395,7 @@ impl Hold {
         );
     }
 
-    /// The rights as a parcel.
+    /// Returns the rights as a parcel.
     pub fn into_parcel(self) -> Parcel
         ensures { result ≡ self.rights }
     {

@@ -6,7 +6,7 @@ ghost use Rattle.sm_reservation.specs.Edits.{in_front, edited, edited_all, left_
 
 use crate::rows::{Row, count_before, is_before, is_same};
 
-/// What stands at the key of a row once the row is worked in.
+/// An edit of a row: what stands at the row's key afterwards.
 pub trait Edit<T> {
     ghost use Rattle.std.specs.Prelude.{Option};
 
@@ -126,7 +126,7 @@ fn shift_before<T: Row>(rows: &mut Vec<T>, write: usize, read: usize, key: (u32,
     count
 }
 
-/// The row at a number, if it stands at a key.
+/// Returns the row at a number, if it stands at a key.
 fn row_here<T: Row>(rows: &[T], number: usize, key: (u32, u32)) -> Option<T>
     ensures value { result ≡ head_at T.key (drop number rows.now) key }
     ensures within { IsSome result → number < length rows.now }
@@ -142,7 +142,7 @@ fn row_here<T: Row>(rows: &[T], number: usize, key: (u32, u32)) -> Option<T>
     }
 }
 
-/// How many there are: one or none.
+/// Returns the number of rows: one or none.
 fn number_of<T>(row: &Option<T>) -> usize
     ensures { result ≡ bit (is_some row.now) }
 {

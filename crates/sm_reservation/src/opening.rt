@@ -12,7 +12,7 @@ use crate::right::{CellRight, Crown, PlainCell, Room, Spare};
 use sm_placement::Placement;
 use sm_server::{Cell, ServerId, ShardId};
 
-/// The cell, where there is a right to it.
+/// Returns the cell, if there is a right to it.
 fn plain_of(cell: &Cell) -> Option<PlainCell>
     ensures { result ≡ plain_of cell.now }
 {

@@ -7,7 +7,7 @@ ghost use Rattle.sm_reservation.specs.Rows.{Climbs, first_twin};
 use crate::rows::{Amount, Row, is_same};
 use std::alloc::{AllocError, Global};
 
-/// A copy of the rows in the order of their keys.
+/// Copies the rows in the order of their keys.
 pub fn sorted_rows<T: Row>(alloc: Global, rows: &[T]) -> Result<Vec<T>, AllocError>
     ensures permutation { IfOk result (λ sorted. IsPermutation rows.now sorted.items) }
     ensures climbs { IfOk result (λ sorted. Climbs T.key sorted.items) }
@@ -17,7 +17,7 @@ pub fn sorted_rows<T: Row>(alloc: Global, rows: &[T]) -> Result<Vec<T>, AllocErr
     Ok(sorted)
 }
 
-/// The first key that two neighbours share.
+/// Returns the first key that two neighbours share.
 pub fn first_twin<T: Row>(rows: &[T]) -> Option<(u32, u32)>
     ensures { result ≡ first_twin T.key rows.now }
 {

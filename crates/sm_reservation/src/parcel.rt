@@ -62,7 +62,7 @@ pub struct Parcel {
     spare: Vec<Spare>,
 }
 
-/// One call where it goes out of scope, and not one for each list.
+/// Drops everything in one call, instead of one call for each list.
 impl Drop for Parcel {
     fn drop(self) {
         let Parcel {
@@ -109,7 +109,7 @@ impl Parcel {
         }
     }
 
-    /// The parcel of lists that are in order, with no amount of 0.
+    /// Makes the parcel of lists that are in order, with no amount of 0.
     pub(crate) fn of_ordered(
         cells: Vec<CellRight>,
         crowns: Vec<Crown>,
@@ -129,7 +129,7 @@ impl Parcel {
         }
     }
 
-    /// The rights to cells.
+    /// Returns the rights to cells.
     pub fn cells(&self) -> &[CellRight]
         ensures value { result.now ≡ self.now.cells }
         ensures order { Rises key_of_cell result.now }
@@ -137,7 +137,7 @@ impl Parcel {
         self.cells.as_slice()
     }
 
-    /// The crowns.
+    /// Returns the crowns.
     pub fn crowns(&self) -> &[Crown]
         ensures value { result.now ≡ self.now.crowns }
         ensures order { Rises key_of_crown result.now }
@@ -145,7 +145,7 @@ impl Parcel {
         self.crowns.as_slice()
     }
 
-    /// The room.
+    /// Returns the room.
     pub fn room(&self) -> &[Room]
         ensures value { result.now ≡ self.now.room }
         ensures order { Rises key_of_room result.now }
@@ -155,7 +155,7 @@ impl Parcel {
         self.room.as_slice()
     }
 
-    /// The spare replicas.
+    /// Returns the spare replicas.
     pub fn spare(&self) -> &[Spare]
         ensures value { result.now ≡ self.now.spare }
         ensures order { Rises key_of_spare result.now }
@@ -165,7 +165,7 @@ impl Parcel {
         self.spare.as_slice()
     }
 
-    /// The state of a cell to which there is a right.
+    /// Returns the state of a cell to which there is a right.
     #[tactic(auto, unfolding(crate::specs::HoldOf::hold_of))]
     pub fn cell(&self, shard: ShardId, server: ServerId) -> Option<PlainCell>
         ensures { result ≡ (hold_of self.now).cells shard server }
@@ -173,7 +173,7 @@ impl Parcel {
         row_at(self.cells(), (shard.number(), server.number())).map(|right| right.state)
     }
 
-    /// The lead and the listed server of a shard's crown.
+    /// Returns the lead and the listed server of a shard's crown.
     #[tactic(auto, unfolding(crate::specs::HoldOf::hold_of))]
     pub fn crown(&self, shard: ShardId) -> Option<(Lead, Option<ServerId>)>
         ensures { result ≡ (hold_of self.now).crowns shard }
@@ -181,7 +181,7 @@ impl Parcel {
         row_at(self.crowns(), (shard.number(), 0)).map(|crown| (crown.lead, crown.listed))
     }
 
-    /// How much room of a server there is.
+    /// Returns how much room of a server there is.
     #[tactic(auto, unfolding(crate::specs::HoldOf::hold_of))]
     pub fn room_of(&self, server: ServerId) -> u64
         ensures { result ≡ (hold_of self.now).room server }
@@ -189,7 +189,7 @@ impl Parcel {
         row_at(self.room(), (server.number(), 0)).map_or(0, |room| room.amount)
     }
 
-    /// How many spare replicas of a shard there are.
+    /// Returns how many spare replicas of a shard there are.
     #[tactic(auto, unfolding(crate::specs::HoldOf::hold_of))]
     pub fn spare_of(&self, shard: ShardId) -> u64
         ensures { result ≡ (hold_of self.now).spare shard }
@@ -198,7 +198,7 @@ impl Parcel {
     }
 }
 
-/// The parcel of the rights of four lists.
+/// Makes the parcel of the rights of four lists.
 fn sorted_parcel(alloc: Global, lists: &Lists) -> Result<Parcel, ParcelFault>
     ensures value { IfOk result (λ parcel. parcel ≡ in_order (rights_of lists.now)) }
     ensures sorted { IfOk result (λ parcel. IsSortedFrom (rights_of lists.now) parcel) }
@@ -238,7 +238,7 @@ fn sorted_lists(alloc: Global, lists: &Lists) -> Result<Lists, AllocError>
     })
 }
 
-/// The lowest key that two neighbours in a list share.
+/// Returns the lowest key that two neighbours in a list share.
 fn first_double(lists: &Lists) -> Option<Key>
     ensures { result ≡ first_double (rights_of lists.now) }
 {

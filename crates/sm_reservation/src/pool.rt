@@ -52,7 +52,7 @@ pub struct Pool {
     spare: Vec<u64>,
 }
 
-/// One call where it goes out of scope, and not one for each list.
+/// Drops everything in one call, instead of one call for each list.
 impl Drop for Pool {
     fn drop(self) {
         let Pool {
@@ -79,7 +79,7 @@ impl Model for Pool {
     ghost invariant = { λ p. IsStocked (record { shards = length p.spare.items; servers = length p.room.items; cells = p.cells.items; crowns = p.crowns.items; room = p.room.items; spare = p.spare.items }) };
 }
 
-/// A law: no entry of a list is above what a u64 holds.
+/// States that no entry of a list is above what a u64 holds.
 fn entries_fit(entries: &[u64])
     ensures { (k : ℕ) → entries_of 0 entries.now k < 2 ^ 64 }
 {}
@@ -92,7 +92,7 @@ impl Pool {
     ghost use Rattle.sm_reservation.specs.Amounts.{Right, count, bound, stock};
     ghost use Rattle.sm_reservation.specs.Truth.{IsTrueOf};
 
-    /// A pool of so many shards and servers with nothing in it.
+    /// Makes a pool for this many shards and servers, with nothing in it.
     fn empty(alloc: Global, shards: u32, servers: u32) -> Result<Pool, AllocError>
         ensures hold { IfOk result (λ pool. pool_hold pool ≡ no_hold) }
         ensures shards { IfOk result (λ pool. pool.shards ≡ shards) }
@@ -108,7 +108,7 @@ impl Pool {
         })
     }
 
-    /// A pool of all rights true of a placement.
+    /// Opens a pool of all rights true of a placement.
     pub fn open(alloc: Global, placement: &Placement) -> Result<Pool, AllocError>
         requires { IsSettled (sizes_of placement.now.setup) (place_of placement.now) }
         ensures rights { IfOk result (λ pool. pool_hold pool ≡ true_rights (sizes_of placement.now.setup) (place_of placement.now)) }
@@ -127,7 +127,7 @@ impl Pool {
         Ok(pool)
     }
 
-    /// How many shards the pool is of.
+    /// Returns the number of shards of the pool.
     pub fn shard_count(&self) -> usize
         ensures count { result ≡ self.now.shards }
         ensures within { IsKnownHold self.now.shards self.now.servers (pool_hold self.now) }
@@ -135,14 +135,14 @@ impl Pool {
         self.spare.len()
     }
 
-    /// How many servers the pool is of.
+    /// Returns the number of servers of the pool.
     pub fn server_count(&self) -> usize
         ensures { result ≡ self.now.servers }
     {
         self.room.len()
     }
 
-    /// The slot of a pair in the list of cells.
+    /// Returns the slot of a pair in the list of cells.
     fn slot(&self, shard: ShardId, server: ServerId) -> Option<usize>
         ensures known { IfSome result (λ slot. (shard < self.now.shards) × (server < self.now.servers) × (slot ≡ shard * self.now.servers + server)) }
         ensures unknown { IfNone result (shard < self.now.shards → self.now.servers ≤ server) }
@@ -157,7 +157,7 @@ impl Pool {
         }
     }
 
-    /// The state of a cell to which the pool has the right.
+    /// Returns the state of a cell to which the pool has the right.
     pub fn cell_right(&self, shard: ShardId, server: ServerId) -> Option<PlainCell>
         ensures { result ≡ (pool_hold self.now).cells shard server }
     {
@@ -167,7 +167,7 @@ impl Pool {
         }
     }
 
-    /// The lead and the listed server of a shard whose crown the pool has.
+    /// Returns the lead and the listed server of a shard whose crown the pool has.
     pub fn crown(&self, shard: ShardId) -> Option<(Lead, Option<ServerId>)>
         ensures { result ≡ (pool_hold self.now).crowns shard }
     {
@@ -175,7 +175,7 @@ impl Pool {
         self.crowns.get(slot).copied().flatten()
     }
 
-    /// How much room of a server the pool has.
+    /// Returns how much room of a server the pool has.
     pub fn room(&self, server: ServerId) -> u64
         ensures { result ≡ (pool_hold self.now).room server }
     {
@@ -183,7 +183,7 @@ impl Pool {
         self.room.get(slot).copied().unwrap_or(0)
     }
 
-    /// How many spare replicas of a shard the pool has.
+    /// Returns how many spare replicas of a shard the pool has.
     pub fn spare(&self, shard: ShardId) -> u64
         ensures { result ≡ (pool_hold self.now).spare shard }
     {
@@ -214,8 +214,8 @@ impl Pool {
 
     /// Takes a parcel's rights out of the pool.
     ///
-    /// Where the pool has too little of a key the fault is the first such key, whether or not there is memory. At a
-    /// fault the pool is as it was.
+    /// If the pool has too little of a key the fault is the first such key, whether or not there is memory. At a fault
+    /// the pool is as it was.
     pub fn take(&mut self, alloc: Global, parcel: &Parcel) -> Result<Grant, TakeFault>
         ensures enough { OnOk result (first_short (pool_hold self.old) parcel.now ≡ None) }
         ensures taken { OnOk result (pool_hold self.new ≡ minus (pool_hold self.old) parcel.now) }
@@ -238,7 +238,7 @@ impl Pool {
 
     /// Takes a parcel's rights out of the pool into a grant that is there. Takes no memory.
     ///
-    /// Where the pool has too little of a key the first such key comes back, and neither changes.
+    /// If the pool has too little of a key the first such key comes back, and neither changes.
     pub fn fill(&mut self, grant: &mut Grant, parcel: &Parcel) -> Result<(), Short>
         requires capacity { HasCapacity grant.old parcel.now }
         requires fits { CanJoin (hold_of grant.old.rights) (hold_of parcel.now) }
@@ -260,7 +260,8 @@ impl Pool {
         Ok(())
     }
 
-    /// Whether a grant can be given back: its shards and servers are known, and it can be put beside what is here.
+    /// Tells whether a grant can be given back: its shards and servers are known, and it can be put beside what is
+    /// here.
     pub fn can_join(&self, grant: &Grant) -> bool
         ensures { IsTrue result ↔ (IsKnownHold self.now.shards self.now.servers (hold_of grant.now.rights) × CanJoin (pool_hold self.now) (hold_of grant.now.rights)) }
     {
@@ -286,7 +287,7 @@ impl Pool {
         self.put_parcel(&parcel);
     }
 
-    /// A law: no amount is above what a u64 holds.
+    /// States that no amount is above what a u64 holds.
     fn entries_are_u64(&self)
         ensures room { (v : ℕ) → (pool_hold self.now).room v < 2 ^ 64 }
         ensures spare { (s : ℕ) → (pool_hold self.now).spare s < 2 ^ 64 }

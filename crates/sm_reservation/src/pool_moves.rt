@@ -19,7 +19,7 @@ pub(crate) fn take_cells(pool: &mut Pool, rights: &[CellRight])
     }
 }
 
-/// Puts these cell rights in, each in place of what the pool had at its key.
+/// Puts these cell rights in, each over what the pool had at its key.
 pub(crate) fn put_cells(pool: &mut Pool, rights: &[CellRight])
     requires known { AllByRecursion (λ x. (x.shard < pool.old.shards) × (x.server < pool.old.servers)) rights.now }
     ensures hold { pool_hold pool.new ≡ plus_cells (pool_hold pool.old) rights.now }
@@ -40,7 +40,7 @@ pub(crate) fn take_crowns(pool: &mut Pool, crowns: &[Crown])
     }
 }
 
-/// Puts these crowns in, each in place of what the pool had at its key.
+/// Puts these crowns in, each over what the pool had at its key.
 pub(crate) fn put_crowns(pool: &mut Pool, crowns: &[Crown])
     requires known { AllByRecursion (λ x. x.shard < pool.old.shards) crowns.now }
     ensures hold { pool_hold pool.new ≡ plus_crowns (pool_hold pool.old) crowns.now }
@@ -51,7 +51,7 @@ pub(crate) fn put_crowns(pool: &mut Pool, crowns: &[Crown])
     }
 }
 
-/// Takes so much room out at each of these servers, or all of it where there is less.
+/// Takes these amounts of room out at their servers, or all of it if there is less.
 pub(crate) fn take_rooms(pool: &mut Pool, rooms: &[Room])
     ensures hold { pool_hold pool.new ≡ minus_room (pool_hold pool.old) rooms.now }
     ensures size { SameSize pool.old pool.new }
@@ -61,7 +61,7 @@ pub(crate) fn take_rooms(pool: &mut Pool, rooms: &[Room])
     }
 }
 
-/// Puts so much room in at each of these servers.
+/// Puts these amounts of room in at their servers.
 pub(crate) fn put_rooms(pool: &mut Pool, rooms: &[Room])
     requires known { AllByRecursion (λ x. x.server < pool.old.servers) rooms.now }
     requires fits { AllSteps in_room RoomFits (pool_hold pool.old) rooms.now }
@@ -73,7 +73,7 @@ pub(crate) fn put_rooms(pool: &mut Pool, rooms: &[Room])
     }
 }
 
-/// Takes so many spare replicas out of each of these shards, or all of them where there are fewer.
+/// Takes these numbers of spare replicas out of their shards, or all of them if there are fewer.
 pub(crate) fn take_spares(pool: &mut Pool, spares: &[Spare])
     ensures hold { pool_hold pool.new ≡ minus_spare (pool_hold pool.old) spares.now }
     ensures size { SameSize pool.old pool.new }
@@ -83,7 +83,7 @@ pub(crate) fn take_spares(pool: &mut Pool, spares: &[Spare])
     }
 }
 
-/// Puts so many spare replicas in of each of these shards.
+/// Puts these numbers of spare replicas in at their shards.
 pub(crate) fn put_spares(pool: &mut Pool, spares: &[Spare])
     requires known { AllByRecursion (λ x. x.shard < pool.old.shards) spares.now }
     requires fits { AllSteps in_spare SpareFits (pool_hold pool.old) spares.now }

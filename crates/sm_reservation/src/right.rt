@@ -22,7 +22,7 @@ pub struct CellRight {
     pub shard: ShardId,
     /// The cell's server.
     pub server: ServerId,
-    /// What the cell is.
+    /// The cell's state.
     pub state: PlainCell,
 }
 
@@ -31,7 +31,7 @@ pub struct CellRight {
 pub struct Crown {
     /// The shard.
     pub shard: ShardId,
-    /// Where the primary stands.
+    /// The place of the primary.
     pub lead: Lead,
     /// The server that the published map names.
     pub listed: Option<ServerId>,
@@ -42,7 +42,7 @@ pub struct Crown {
 pub struct Room {
     /// The server.
     pub server: ServerId,
-    /// How much.
+    /// The amount.
     pub amount: u64,
 }
 
@@ -51,11 +51,11 @@ pub struct Room {
 pub struct Spare {
     /// The shard.
     pub shard: ShardId,
-    /// How many.
+    /// The number of replicas.
     pub amount: u64,
 }
 
-/// What a right is of. Keys go by their kind in this order, then by shard, then by server.
+/// The thing that a right is to. Keys go by their kind in this order, then by shard, then by server.
 #[derive(Clone, Copy, Debug, PartialEq, Eq, PartialOrd, Ord)]
 pub enum Key {
     /// A right to a cell.
@@ -82,7 +82,7 @@ pub enum Key {
     },
 }
 
-/// What the right is of, as an error text names it.
+/// The thing that the right is to, as an error text names it.
 impl fmt::Display for Key {
     ghost use Rattle.std.specs.Prelude.{Some};
     ghost use Rattle.sm_reservation.specs.Key.{shown_key};
@@ -107,9 +107,9 @@ impl fmt::Display for Key {
 pub struct Short {
     /// The key.
     pub key: Key,
-    /// How much there was.
+    /// The amount that was there.
     pub had: u64,
-    /// How much was asked for.
+    /// The amount that was asked for.
     pub asked: u64,
 }
 

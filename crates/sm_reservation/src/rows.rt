@@ -11,26 +11,26 @@ use std::marker::Model;
 pub trait Row: Copy {
     ghost key: { Self → ℕ × ℕ };
 
-    /// The row's key: a shard and a server, or one of them and 0.
+    /// Returns the row's key: a shard and a server, or one of them and 0.
     fn key(&self) -> (u32, u32)
         ensures { result ≡ key self.now };
 }
 
-/// Two keys are the same.
+/// Tells whether two keys are the same.
 pub fn is_same(a: (u32, u32), b: (u32, u32)) -> bool
     ensures { result ≡ same a b }
 {
     a.0 == b.0 && a.1 == b.1
 }
 
-/// The first key comes before the second one.
+/// Tells whether the first key comes before the second one.
 pub fn is_before(a: (u32, u32), b: (u32, u32)) -> bool
     ensures { result ≡ before a b }
 {
     a.0 < b.0 || (a.0 == b.0 && a.1 < b.1)
 }
 
-/// How many rows come before a key.
+/// Returns the number of rows before a key.
 pub fn count_before<T: Row>(rows: &[T], key: (u32, u32)) -> usize
     requires { Rises T.key rows.now }
     ensures { result ≡ count_before T.key key rows.now }
@@ -38,7 +38,7 @@ pub fn count_before<T: Row>(rows: &[T], key: (u32, u32)) -> usize
     rows.partition_point(|row| is_before(row.key(), key))
 }
 
-/// The row at a key.
+/// Returns the row at a key.
 pub fn row_at<T: Row>(rows: &[T], key: (u32, u32)) -> Option<T>
     requires { Rises T.key rows.now }
     ensures { result ≡ row_at T.key rows.now key }
@@ -81,7 +81,7 @@ impl<T: Row> Model for Rows<T> {
 }
 
 impl<T: Row> Rows<T> {
-    /// No rows, with capacity for a number of them.
+    /// Makes a list of no rows, with capacity for a number of them.
     pub fn empty(alloc: Global, capacity: usize) -> Result<Rows<T>, AllocError>
         ensures items { IfOk result (λ rows. rows.items ≡ []) }
         ensures capacity { IfOk result (λ rows. capacity ≤ rows.capacity) }
@@ -91,7 +91,7 @@ impl<T: Row> Rows<T> {
         })
     }
 
-    /// A copy of rows, with capacity for a number of rows in all.
+    /// Copies rows, with capacity for a number of rows in all.
     pub fn copied(alloc: Global, rows: &[T], capacity: usize) -> Result<Rows<T>, AllocError>
         requires order { Rises T.key rows.now }
         requires capacity { length rows.now ≤ capacity }
@@ -113,7 +113,7 @@ impl<T: Row> Rows<T> {
         self.list.reserve(capacity - self.list.len())
     }
 
-    /// The rows.
+    /// Returns the rows.
     pub fn as_slice(&self) -> &[T]
         ensures value { result.now ≡ self.now.items }
         ensures order { Rises T.key result.now }
@@ -121,7 +121,7 @@ impl<T: Row> Rows<T> {
         self.list.as_slice()
     }
 
-    /// The rows as a plain list.
+    /// Returns the rows as a plain list.
     pub fn into_list(self) -> Vec<T>
         ensures value { result.items ≡ self.items }
         ensures order { Rises T.key result.items }
@@ -130,14 +130,14 @@ impl<T: Row> Rows<T> {
         list
     }
 
-    /// Whether there are no rows.
+    /// Tells whether there are no rows.
     pub fn is_empty(&self) -> bool
         ensures { IsTrue result ↔ (self.now.items ≡ []) }
     {
         self.list.is_empty()
     }
 
-    /// The row at a key.
+    /// Returns the row at a key.
     pub fn at(&self, key: (u32, u32)) -> Option<T>
         ensures { result ≡ row_at T.key self.now.items key }
     {

@@ -13,23 +13,23 @@ use sm_server::{ServerId, ShardId};
 pub(crate) trait ByKey {
     ghost hold: { Self → Hold };
 
-    /// The state of the cell, where there is a right to it.
+    /// Returns the state of the cell, if there is a right to it.
     fn cell_of(&self, shard: ShardId, server: ServerId) -> Option<PlainCell>
         ensures { result ≡ (hold self.now).cells shard server };
 
-    /// The lead and the listed server, where there is the shard's crown.
+    /// Returns the lead and the listed server, if there is the shard's crown.
     fn crown_of(&self, shard: ShardId) -> Option<(Lead, Option<ServerId>)>
         ensures { result ≡ (hold self.now).crowns shard };
 
-    /// How much room of a server there is.
+    /// Returns how much room of a server there is.
     fn room_of(&self, server: ServerId) -> u64
         ensures { result ≡ (hold self.now).room server };
 
-    /// How many spare replicas of a shard there are.
+    /// Returns how many spare replicas of a shard there are.
     fn spare_of(&self, shard: ShardId) -> u64
         ensures { result ≡ (hold self.now).spare shard };
 
-    /// A law: no amount is above what a u64 holds.
+    /// States that no amount is above what a u64 holds.
     fn amounts_fit(&self)
         ensures room { (v : ℕ) → (hold self.now).room v < 2 ^ 64 }
         ensures spare { (s : ℕ) → (hold self.now).spare s < 2 ^ 64 };
@@ -61,7 +61,7 @@ impl ByKey for hold::Hold {
     }
 }
 
-/// The first key of a parcel of which there is too little.
+/// Returns the first key of a parcel of which there is too little.
 pub(crate) fn first_short<H: ByKey>(held: &H, parcel: &Parcel) -> Option<Short>
     ensures { result ≡ first_short (H.hold held.now) parcel.now }
 {
@@ -71,7 +71,7 @@ pub(crate) fn first_short<H: ByKey>(held: &H, parcel: &Parcel) -> Option<Short>
         .or(first_spare_short(held, parcel.spare()))
 }
 
-/// What is lacking of a right to a cell.
+/// Returns what is lacking of a right to a cell.
 fn cell_short<H: ByKey>(held: &H, right: &CellRight) -> Option<Short>
     ensures { result ≡ cell_short (H.hold held.now) right.now }
 {
@@ -88,7 +88,7 @@ fn cell_short<H: ByKey>(held: &H, right: &CellRight) -> Option<Short>
     })
 }
 
-/// What is lacking of a crown.
+/// Returns what is lacking of a crown.
 fn crown_short<H: ByKey>(held: &H, crown: &Crown) -> Option<Short>
     ensures { result ≡ crown_short (H.hold held.now) crown.now }
 {
@@ -102,7 +102,7 @@ fn crown_short<H: ByKey>(held: &H, crown: &Crown) -> Option<Short>
     })
 }
 
-/// What is lacking of room.
+/// Returns what is lacking of room.
 fn room_short<H: ByKey>(held: &H, room: &Room) -> Option<Short>
     ensures { result ≡ room_short (H.hold held.now) room.now }
 {
@@ -119,7 +119,7 @@ fn room_short<H: ByKey>(held: &H, room: &Room) -> Option<Short>
     })
 }
 
-/// What is lacking of spare replicas.
+/// Returns what is lacking of spare replicas.
 fn spare_short<H: ByKey>(held: &H, spare: &Spare) -> Option<Short>
     ensures { result ≡ spare_short (H.hold held.now) spare.now }
 {
@@ -134,7 +134,7 @@ fn spare_short<H: ByKey>(held: &H, spare: &Spare) -> Option<Short>
     })
 }
 
-/// The first right to a cell that is lacking.
+/// Returns the first right to a cell that is lacking.
 fn first_cell_short<H: ByKey>(held: &H, rights: &[CellRight]) -> Option<Short>
     ensures { result ≡ first_answer (cell_short (H.hold held.now)) rights.now }
 {
@@ -146,7 +146,7 @@ fn first_cell_short<H: ByKey>(held: &H, rights: &[CellRight]) -> Option<Short>
     None
 }
 
-/// The first crown that is lacking.
+/// Returns the first crown that is lacking.
 fn first_crown_short<H: ByKey>(held: &H, crowns: &[Crown]) -> Option<Short>
     ensures { result ≡ first_answer (crown_short (H.hold held.now)) crowns.now }
 {
@@ -158,7 +158,7 @@ fn first_crown_short<H: ByKey>(held: &H, crowns: &[Crown]) -> Option<Short>
     None
 }
 
-/// The first room that is lacking.
+/// Returns the first room that is lacking.
 fn first_room_short<H: ByKey>(held: &H, rooms: &[Room]) -> Option<Short>
     ensures { result ≡ first_answer (room_short (H.hold held.now)) rooms.now }
 {
@@ -170,7 +170,7 @@ fn first_room_short<H: ByKey>(held: &H, rooms: &[Room]) -> Option<Short>
     None
 }
 
-/// The first spare replicas that are lacking.
+/// Returns the first spare replicas that are lacking.
 fn first_spare_short<H: ByKey>(held: &H, spares: &[Spare]) -> Option<Short>
     ensures { result ≡ first_answer (spare_short (H.hold held.now)) spares.now }
 {

@@ -44,7 +44,7 @@ refusal_of (PrepareAdd owner number) cell = AlreadyHeld
 refusal_of _ Absent = NotHeld
 refusal_of _ _ = WrongRole
 
--- a replica comes to a server only where there is room for it
+-- a replica comes to a server only if there is room for it
 abbrev with_room : Cell → ℕ → ℕ → Cell → Result Cell Refusal
 with_room cell free_room load next =
     if is_absent cell && nat_lt free_room load then Err NoRoom else Ok next
@@ -54,19 +54,19 @@ abbrev from_led : Option Cell → Call → Cell → ℕ → ℕ → Result Cell 
 from_led None call cell free_room load = Err (refusal_of call cell)
 from_led (Some next) call cell free_room load = with_room cell free_room load next
 
--- What a server answers to a call: the next cell, or of the refusals that apply the first of Down, AlreadyHeld,
+-- A server's answer to a call: the next cell, or of the refusals that apply the first of Down, AlreadyHeld,
 -- NotHeld, WrongRole and NoRoom.
 abbrev pub served : Cell → ℕ → ℕ → Bool → Call → Result Cell Refusal
 served cell free_room load up call =
     if up then from_led (led_to call cell) call cell free_room load else Err Down
 
 -- A call is allowed at a server and leads to a next cell: the server is up, the call leads there,
--- and where the server has nothing of the shard yet it has room for it.
+-- and if the server has nothing of the shard yet it has room for it.
 abbrev pub Allows : Cell → ℕ → ℕ → Bool → Call → Cell → Type 0
 Allows cell free_room load up call next =
     IsTrue up × Leads call cell next × (cell ≡ Absent → load ≤ free_room)
 
--- a call is served exactly where it is allowed, and then leads where it is allowed to lead
+-- a call is served exactly if it is allowed, and then leads where it is allowed to lead
 abbrev pub ServedWhereAllowed : Type 0
 ServedWhereAllowed = (cell next : Cell) (free_room load : ℕ) (up : Bool) (call : Call) →
     (served cell free_room load up call ≡ Ok next) ↔ Allows cell free_room load up call next
@@ -80,7 +80,7 @@ first_try number (Err why) = Err why
 abbrev further_try : ℕ → Cell → Result Served Refusal
 further_try number cell = Ok (record { cell = cell; last = number; fresh = false })
 
--- What a server answers to a numbered call: the number of the last call that had an effect on the cell
+-- A server's answer to a numbered call: the number of the last call that had an effect on the cell
 -- is not applied again.
 abbrev pub served_numbered : Cell → ℕ → ℕ → ℕ → ℕ → Bool → Call → Result Served Refusal
 served_numbered cell last number free_room load up call =

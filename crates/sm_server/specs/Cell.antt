@@ -1,4 +1,4 @@
--- What a server has of a shard.
+-- The state of a shard at a server.
 use Rattle.std.specs.Prelude.{ℕ, Bool, true, false, ◌≡◌}
 use Rattle.sm_server.specs.declared.call.Cell.{Cell}
 use Rattle.sm_server.specs.declared.call.Cell.TheVariants.{Absent, Prepared, Secondary, Primary, Forwarding}

@@ -1,4 +1,4 @@
-//! What a server has of a shard, and the five calls that change it.
+//! The cell of a shard at a server, and the five calls that change it.
 ghost use Rattle.std.specs.Prelude.{◌≡◌, ◌≤◌};
 ghost use Rattle.sm_server.specs.Call.{led_to, refusal_of, served, served_numbered};
 ghost use Rattle.sm_server.specs.Call.{LeadsWhereLed, ServedWhereAllowed, ServedOnce};
@@ -6,7 +6,7 @@ ghost use Rattle.sm_server.specs.Call.{LeadsWhereLed, ServedWhereAllowed, Served
 use crate::server_id::ServerId;
 use thiserror::Error;
 
-/// What one server has of one shard.
+/// A cell: the state of one shard at one server.
 #[derive(Clone, Copy, Debug, PartialEq, Eq)]
 pub enum Cell {
     /// Nothing.
@@ -24,7 +24,7 @@ pub enum Cell {
 impl Cell {
     ghost use Rattle.sm_server.specs.Cell.{is_absent};
 
-    /// The server has nothing of the shard, and no load by it.
+    /// Tells whether the server has nothing of the shard, and no load by it.
     pub const fn is_absent(&self) -> bool
         ensures { result ≡ is_absent self.now }
     {
@@ -32,7 +32,7 @@ impl Cell {
     }
 }
 
-/// What a replica is.
+/// The role of a replica.
 #[derive(Clone, Copy, Debug, PartialEq, Eq)]
 pub enum Role {
     Primary,
@@ -66,7 +66,7 @@ pub enum Refusal {
     /// A replica is to be dropped, changed or handed over, and the server has nothing of the shard.
     #[error("the server does not hold the shard")]
     NotHeld,
-    /// The server has something of the shard, and the call needs something else there.
+    /// The server has something of the shard, but not what the call needs.
     #[error("the replica is not in the role that the call needs")]
     WrongRole,
     /// The server has nothing of the shard, and less room left than the shard's load.
@@ -85,7 +85,7 @@ pub struct Served {
     pub fresh: bool,
 }
 
-/// The cell after a replica is added in a role.
+/// Returns the cell after a replica is added in a role.
 fn added(role: Role, cell: Cell) -> Option<Cell>
     ensures { result ≡ led_to (Call.Add role) cell }
 {
@@ -96,7 +96,7 @@ fn added(role: Role, cell: Cell) -> Option<Cell>
     }
 }
 
-/// The cell after a change of role.
+/// Returns the cell after a change of role.
 fn changed(from: Role, to: Role, cell: Cell) -> Option<Cell>
     ensures { result ≡ led_to (Call.Change from to) cell }
 {
@@ -107,7 +107,7 @@ fn changed(from: Role, to: Role, cell: Cell) -> Option<Cell>
     }
 }
 
-/// The cell that a call leads to, where the cell alone decides.
+/// Returns the cell that a call leads to, if the cell alone decides.
 fn next_cell(call: Call, cell: Cell) -> Option<Cell>
     ensures { result ≡ led_to call cell }
 {
@@ -135,7 +135,7 @@ fn next_cell(call: Call, cell: Cell) -> Option<Cell>
     }
 }
 
-/// Why a call that leads nowhere is refused.
+/// Returns why a call that leads nowhere is refused.
 fn refusal_for(call: &Call, cell: &Cell) -> Refusal
     ensures { result ≡ refusal_of call.now cell.now }
 {
@@ -148,8 +148,8 @@ fn refusal_for(call: &Call, cell: &Cell) -> Refusal
     }
 }
 
-/// What a server answers to a call for a shard: the cell after it, or why it is refused.
-/// `free_room` is what the server has left, and `load` what the shard needs where the server has nothing of it yet.
+/// Returns what a server answers to a call for a shard: the cell after it, or why it is refused. `free_room` is what
+/// the server has left, and `load` what the shard needs if the server has nothing of it yet.
 pub fn serve(cell: Cell, free_room: u64, load: u64, up: bool, call: Call) -> Result<Cell, Refusal>
     ensures { result ≡ served cell free_room load up call }
 {
@@ -165,9 +165,8 @@ pub fn serve(cell: Cell, free_room: u64, load: u64, up: bool, call: Call) -> Res
     Ok(next)
 }
 
-/// What a server answers to a call that is tried until its answer comes.
-/// `last` is the number of the last call that had an effect on the cell, 0 for none: a call of that number
-/// has had its effect, and nothing happens again.
+/// Returns what a server answers to a call that is tried until its answer comes. `last` is the number of the last call
+/// that had an effect on the cell, 0 for none. A call with that number has had its effect, and nothing happens again.
 pub fn serve_numbered(
     cell: Cell,
     last: u64,
@@ -195,17 +194,17 @@ pub fn serve_numbered(
     })
 }
 
-/// The function by which calls are answered has the triples of the calls' relation, and no others.
+/// States that the function by which calls are answered has the triples of the calls' relation, and no others.
 pub fn leads_where_led()
     ensures { LeadsWhereLed }
 {}
 
-/// A call is served exactly where it is allowed.
+/// States that a call is served exactly if it is allowed.
 pub fn served_where_allowed()
     ensures { ServedWhereAllowed }
 {}
 
-/// A numbered call that had its effect has none when it is tried again.
+/// States that a numbered call that had its effect has none when it is tried again.
 pub fn served_once()
     ensures { ServedOnce }
 {}

@@ -21,14 +21,14 @@ impl Model for ServerId {
 }
 
 impl ServerId {
-    /// The server at a position.
+    /// Returns the server at a position.
     pub const fn new(number: u32) -> Self
         ensures { result ≡ number }
     {
         ServerId { number }
     }
 
-    /// The server's position.
+    /// Returns the server's position.
     pub const fn number(self) -> u32
         ensures { result ≡ self }
     {

@@ -21,14 +21,14 @@ impl Model for ShardId {
 }
 
 impl ShardId {
-    /// The shard at a position.
+    /// Returns the shard at a position.
     pub const fn new(number: u32) -> Self
         ensures { result ≡ number }
     {
         ShardId { number }
     }
 
-    /// The shard's position.
+    /// Returns the shard's position.
     pub const fn number(self) -> u32
         ensures { result ≡ self }
     {

@@ -10,7 +10,7 @@ use Rattle.sm_reservation.specs.declared.stream_id.StreamId.{StreamId}
 use Rattle.sm_task_controller.specs.declared.decision.Denied.{Denied}
 use Rattle.sm_task_controller.specs.declared.decision.Denied.TheVariants.{AlreadyDown, Engaged, GlobalCap, ShardCap, LogFull}
 
--- a reason, where its test holds
+-- a reason, if its test holds
 abbrev pub denied_if : Bool → Denied → Option Denied
 denied_if test why = if test then Some why else None
 
@@ -19,7 +19,7 @@ abbrev pub first_without_spare : Sizes → Place → Hold → ℕ → Option ℕ
 first_without_spare c p pool v =
     first_from 0 c.shards (λ s. if is_live_at p s v && (pool.spare s == 0) then Some s else None)
 
--- Why the server may not be taken down, None where it may: the first reason in the order of these lines (SM 2021, the caps of the
+-- Why the server may not be taken down, None if it may: the first reason in the order of these lines (SM 2021, the caps of the
 -- TaskController). The pool has the spare replicas that are free, `engaged` is the lowest unfinished stream whose code names the
 -- server, and `log_free` is the number of log places that are neither used nor set aside.
 abbrev pub denial : Sizes → Place → Hold → Option StreamId → ℕ → ℕ → Option Denied

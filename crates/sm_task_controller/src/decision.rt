@@ -15,7 +15,7 @@ use thiserror::Error;
 #[derive(Clone, Copy, Debug, PartialEq, Eq)]
 pub struct Approved;
 
-/// Why a server may not be taken down. Of several reasons the first one in this order is given.
+/// The reason why a server may not be taken down. If there are several, the first one in this order is given.
 #[derive(Clone, Copy, Debug, PartialEq, Eq, Error)]
 pub enum Denied {
     /// It is down already.
@@ -27,7 +27,7 @@ pub enum Denied {
         /// The lowest such stream.
         stream: StreamId,
     },
-    /// As many servers are down as may be down at once.
+    /// The number of servers that are down is the greatest that may be down at once.
     #[error("as many servers are down as may be down at once")]
     GlobalCap,
     /// A shard is live at the server and has no spare replica that is free.
@@ -41,7 +41,7 @@ pub enum Denied {
     LogFull,
 }
 
-/// The shard is live at the server and has no spare replica that is free.
+/// Tells whether the shard is live at the server and has no spare replica that is free.
 fn is_without_spare(placement: &Placement, pool: &Pool, shard: ShardId, server: ServerId) -> bool
     requires shard { shard < length placement.now.setup.shards }
     requires server { server < length placement.now.setup.servers }
@@ -50,7 +50,7 @@ fn is_without_spare(placement: &Placement, pool: &Pool, shard: ShardId, server: 
     placement.is_live(shard, server) && pool.spare(shard) == 0
 }
 
-/// The lowest shard that is live at the server and has no spare replica that is free.
+/// Returns the lowest shard that is live at the server and has no spare replica that is free.
 fn first_without_spare(placement: &Placement, pool: &Pool, server: ServerId) -> Option<ShardId>
     requires { server < length placement.now.setup.servers }
     ensures { result ≡ first_without_spare (sizes_of placement.now.setup) (place_of placement.now) (pool_hold pool.now) server }
@@ -66,11 +66,12 @@ fn first_without_spare(placement: &Placement, pool: &Pool, server: ServerId) -> 
 
 /// Decides whether a server may be taken down now. Takes no memory.
 ///
-/// `engaged` is the lowest unfinished stream whose code names the server, and `log_free` the number of log places that are
-/// neither used nor set aside. The server may be taken down unless, in this order: it is down already; a stream engages it,
-/// which could not go on while it is down; as many servers are down as may be; a shard is live at it of which the pool has
-/// no spare replica, so that one replica fewer would break into what plans reserve or the floor; or the log has no two free
-/// places, one for this approval and one for the end of the restart. The first of these is the answer.
+/// `engaged` is the lowest unfinished stream whose code names the server, and `log_free` the number of log places that
+/// are neither used nor set aside. The server may be taken down unless, in this order: it is down already; a stream
+/// engages it, which could not go on while it is down; the number of servers that are down is the limit; a shard is
+/// live at it of which the pool has no spare replica, so that one replica fewer would break into what plans reserve or
+/// the floor; or the log has no two free places, one for this approval and one for the end of the restart. The first of
+/// these is the answer.
 pub fn decide(
     placement: &Placement,
     pool: &Pool,

@@ -122,7 +122,7 @@ pub record IsAdmitted (c : Sizes) (p : Place) (pool : Hold) (plan : PlanModel) :
   pub spare : HasAllSpare pool plan.streams
   pub up : AreUp p plan.streams
 
--- What holds a plan up: the first of these that is not kept, at the first stream and key, or the lowest number.
+-- The thing that holds a plan up: the first of these that is not kept, at the first stream and key, or the lowest number.
 abbrev pub IsHolding : Sizes → Place → Hold → PlanModel → Holding → Type 0
 IsHolding c p pool plan (Untrue key) =
     (i : ℕ) × IsFirst (IsTrueAt c p plan.streams) i key

@@ -1,5 +1,5 @@
--- What is said of a stream that is not good.
--- `bad_at` is a step of the code's own way, which private functions' contracts cite: whoever reads the public ones need not read it.
+-- The verdict on a stream that is not good.
+-- `bad_at` is internal: you need not read it for the public contracts.
 use Rattle.std.specs.Prelude.{ℕ}
 use Rattle.sm_verifier.specs.declared.steps.StepFault.{StepFault}
 use Rattle.sm_verifier.specs.declared.steps.StepFault.TheVariants as step
@@ -12,7 +12,7 @@ abbrev pub bad_at : ℕ → StepFault → Bad
 bad_at at step.NoMemory = NoMemory
 bad_at at (step.Refused why) = At at why
 
--- it breaks off first where the fault says, and for that why; where memory was short, nothing is said
+-- it breaks off first where the fault says, and for that why; if memory was short, nothing is said
 abbrev pub IsBad : Course → Bad → Type 0
 IsBad s NoMemory = Unit {0}
 IsBad s (At at why) = IsFirstBreak s at why

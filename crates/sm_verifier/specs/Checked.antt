@@ -1,6 +1,6 @@
 -- Checked plans: what contracts see of them, and what each of them keeps.
--- `IsChecked`, with `AreFinals` and `ArePeaks`, is what a `Checked` keeps, and `checked_model` is a step of the code's own way: whoever reads public
--- contracts need not read them.
+-- `IsChecked`, with `AreFinals` and `ArePeaks`, is what a `Checked` keeps, and `checked_model` is internal: you need
+-- not read them for the public contracts.
 use Rattle.std.specs.Prelude.{◌≡◌, ◌<◌, ℕ, List, length, slice_index, slice_index_or}
 use Rattle.sm_placement.specs.Setup.{Setup, Sizes, sizes_of}
 use Rattle.sm_reservation.specs.Rights.{Rights, no_rights}

@@ -1,8 +1,8 @@
 -- Counts in lists: a list of numbers with one for each signal.
--- Steps of the code's own way, which private functions' contracts cite: whoever reads the public ones need not read them.
+-- Internal definitions: you need not read them for the public contracts.
 use Rattle.std.specs.Prelude.{◌≡◌, ◌<◌, ◌+◌, ℕ, List, length, slice_index}
 
--- the number at each place has grown by so much
+-- the number at each place has grown by this much
 pub record IsRaised (old new : List ℕ) (by : ℕ → ℕ) : Type 0 where
   pub count : length new ≡ length old
   pub each : (k : ℕ) → k < length old → slice_index new k ≡ slice_index old k + by k

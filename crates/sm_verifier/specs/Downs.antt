@@ -5,13 +5,13 @@ use Rattle.sm_plan_code.specs.declared.instruction.Instr.{Instr}
 use Rattle.sm_plan_code.specs.Instr.{names_of}
 use Rattle.sm_plan_code.specs.Plan.{StreamModel}
 
--- the lower one of two numbers, where they are given
+-- the lower one of two numbers, if they are given
 abbrev pub lower_number : Option ℕ → Option ℕ → Option ℕ
 lower_number None b = b
 lower_number (Some v) None = Some v
 lower_number (Some v) (Some w) = if nat_lt w v then Some w else Some v
 
--- the server, where it is down
+-- the server, if it is down
 abbrev pub if_down : (ℕ → Bool) → Option ℕ → Option ℕ
 if_down down None = None
 if_down down (Some v) = if down v then Some v else None

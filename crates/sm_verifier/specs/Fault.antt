@@ -1,5 +1,5 @@
 -- A stream's fault as the plan's.
--- Steps of the code's own way, which private functions' contracts cite: whoever reads the public ones need not read them.
+-- Internal definitions: you need not read them for the public contracts.
 use Rattle.std.specs.Prelude.{ℕ}
 use Rattle.sm_verifier.specs.declared.following.Bad.{Bad}
 use Rattle.sm_verifier.specs.declared.following.Bad.TheVariants.{NoMemory, At}

@@ -1,6 +1,6 @@
 -- The tests by which declared rights are gone through, and the first key that does not pass.
--- What `first_holding` finds, the law `finds_holding` says without any of them. `IsFree` is a step of the code's own way, which private
--- functions' contracts cite: whoever reads the public ones need not read it.
+-- The law `finds_holding` says without any of them what `first_holding` finds. `IsFree` is internal: you need not read
+-- it for the public contracts.
 use Rattle.std.specs.Prelude.{ℕ, Bool, ◌&&◌, not, is_some, Option, List, find, option_map}
 use Rattle.std.specs.List.{list_any}
 use Rattle.sm_reservation.specs.declared.right.CellRight.{CellRight}

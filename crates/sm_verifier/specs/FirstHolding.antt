@@ -1,4 +1,4 @@
--- What holds a plan up, searched for: the rules in their order, each over all streams, servers or shards.
+-- The search for what holds a plan up: the rules in their order, each over all streams, servers or shards.
 use Rattle.std.specs.Prelude.{◌≡◌, ◌↔◌, ℕ, Bool, nat_le, Option, Some, None, List, length, take, slice_index_or, option_map, if◌then◌else◌}
 use Rattle.std.specs.Option.{option_or}
 use Rattle.sm_placement.specs.Sums.{first_from}
@@ -18,7 +18,7 @@ use Rattle.sm_verifier.specs.Admission.{declared_room, declared_spare, IsAdmitte
 use Rattle.sm_verifier.specs.Finding.{holds_cell, holds_crown, is_free_cell, is_free_crown, first_cell, first_crown}
 use Rattle.sm_verifier.specs.Downs.{down_in_streams}
 
--- the key of the first right of a parcel that does not pass: of its cell rights, or else of its crowns
+-- the key of the first right of a parcel that does not pass: of its cell rights, or otherwise of its crowns
 abbrev pub first_key : (CellRight → Bool) → (Crown → Bool) → Rights → Option Key
 first_key cell crown r = option_or (first_cell cell r.cells) (first_crown crown r.crowns)
 
@@ -55,7 +55,7 @@ first_holding c p pool plan =
     (option_or (first_short_spare c.shards pool plan.streams)
     (option_map (λ v. ServerDown v) (down_in_streams p.down None plan.streams)))))
 
--- nothing is found exactly where the plan is admitted, and what is found is what holds it up
+-- nothing is found exactly if the plan is admitted, and what is found is what holds it up
 pub record DecidesHolding (c : Sizes) (p : Place) (pool : Hold) (plan : PlanModel) : Type 0 where
   pub none : (first_holding c p pool plan ≡ None) ↔ IsAdmitted c p pool plan
   pub some : (holding : Holding) → (first_holding c p pool plan ≡ Some holding) ↔ IsHolding c p pool plan holding

@@ -1,5 +1,5 @@
 -- The lowest number from a number on at which there is something.
--- Steps of the code's own way, which private functions' contracts cite: whoever reads the public ones need not read them.
+-- Internal definitions: you need not read them for the public contracts.
 use Rattle.std.specs.Prelude.{◌≡◌, ◌≤◌, ◌<◌, ℕ, Option, Some, None, List, [], ◌∷◌, nat_lt, if◌then◌else◌}
 
 -- nothing is at the numbers from one on to below another
@@ -12,7 +12,7 @@ pub record IsNext (amount : ℕ → ℕ) (from n : ℕ) : Type 0 where
   pub some : 0 < amount n
   pub nothing : IsNothingBetween amount from n
 
--- the lowest number from a number on at which there is something, or none, where nothing is
+-- the lowest number from a number on at which there is something, or none, if nothing is
 abbrev pub IsNextOrNone : (ℕ → ℕ) → ℕ → Option ℕ → Type 0
 IsNextOrNone amount from (Some n) = IsNext amount from n
 IsNextOrNone amount from None = (m : ℕ) → from ≤ m → amount m ≡ 0

@@ -85,7 +85,7 @@ pub record IsFirstBad (c : Sizes) (plan : PlanModel) (i at : ℕ) (why : Why) : 
   pub here : IsFirstBreak (stream_at c plan i) at why
 
 -- The fault is the plan's first one: the budget comes before the signals, these before the streams, and these before the
--- order. Where memory was short, nothing is said.
+-- order. If memory was short, nothing is said.
 abbrev pub IsFault : Sizes → PlanModel → Fault → Type 0
 IsFault c plan NoMemory = Unit {0}
 IsFault c plan (Budget total most) = IsOverBudget plan total most

@@ -1,6 +1,6 @@
--- What one instruction answers, what its maker must have capacity for, and how far amounts grow.
--- Public functions' contracts cite `parcels_of`, by way of Stream. The others are steps of the code's own way, which private functions'
--- contracts cite: whoever reads the public ones need not read them.
+-- The answer of one instruction, the capacity that its maker needs, and how far amounts grow.
+-- Public functions' contracts cite `parcels_of`, by way of Stream. The others are internal: you need not read them for
+-- the public contracts.
 use Rattle.std.specs.Prelude.{◌≡◌, ◌+◌, ◌≤◌, ℕ, Result, Ok, Err, List, length, slice_index_or}
 use Rattle.sm_reservation.specs.Rights.{Rights, no_rights}
 use Rattle.sm_reservation.specs.Hold.{Hold}
@@ -20,7 +20,7 @@ abbrev pub outcome : {U : Type 0} → Result U Why → Hold → Result Hold Why
 outcome (Ok u) h = Ok h
 outcome (Err why) h = Err why
 
--- the answer and the hold that was left are what is said; where memory was short, nothing is said
+-- the answer and the hold that was left are what is said; if memory was short, nothing is said
 abbrev pub IsAnswer : {U : Type 0} → Result U StepFault → Hold → Result Hold Why → Type 0
 IsAnswer (Ok u) h said = said ≡ Ok h
 IsAnswer (Err NoMemory) h said = Unit {0}

@@ -61,7 +61,7 @@ pub record IsGood (s : Course) : Type 0 where
   pub settled : HasCrownsAtRest (final_hold s)
   pub within : count_by is_call s.code ≤ s.budget
 
--- what is said of an instruction after so many calls: a call is over the budget where they use it up
+-- what is said of an instruction after this many calls: a call is over the budget if they use it up
 abbrev pub within_budget : ℕ → ℕ → Instr → Result Hold Why → Result Hold Why
 within_budget budget calls i said = if is_call i && nat_le budget calls then Err OverBudget else said
 

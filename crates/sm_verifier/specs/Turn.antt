@@ -1,4 +1,4 @@
--- Instructions in their turn: what a good stream is left with, and where a plan's instructions can be made.
+-- Instructions in their turn: what a good stream is left with, and when a plan's instructions can be made.
 use Rattle.std.specs.Prelude.{◌≡◌, ◌≤◌, ◌+◌, ℕ, suc, Ok, Some, slice_get}
 use Rattle.sm_placement.specs.Sums.{bit}
 use Rattle.sm_placement.specs.Setup.{Sizes}
@@ -23,7 +23,7 @@ pub record IsInTurn (s : Course) (p : ℕ) (i : Instr) : Type 0 where
 abbrev pub GoodStreamsGoOn : Type 0
 GoodStreamsGoOn = (s : Course) (p : ℕ) (i : Instr) → IsGood s → slice_get s.code p ≡ Some i → IsInTurn s p i
 
--- each instruction of a plan of the configuration can be made where the servers that the plan mentions are up
+-- each instruction of a plan of the configuration can be made if the servers that the plan mentions are up
 abbrev pub InstrsAreReachable : Type 0
 InstrsAreReachable = (c : Sizes) (p : Place) (plan : PlanModel) (i at : ℕ) (instr : Instr) →
     IsKnownPlan c.shards c.servers plan → AreUp p plan.streams → slice_get (code_at plan i) at ≡ Some instr → IsReachable c p instr

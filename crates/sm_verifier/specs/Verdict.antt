@@ -6,7 +6,7 @@ use Rattle.sm_verifier.specs.declared.checking.Fault.{Fault}
 use Rattle.sm_verifier.specs.declared.checking.Fault.TheVariants.{NoMemory, Stuck}
 use Rattle.sm_verifier.specs.Plan.{IsSound, IsFault}
 
--- the same fault: where the streams wait for one another, with the same positions in the same order
+-- the same fault: if the streams wait for one another, with the same positions in the same order
 abbrev pub IsSameFault : Fault → Fault → Type 0
 IsSameFault (Stuck positions) (Stuck others) = positions.items ≡ others.items
 IsSameFault f g = f ≡ g

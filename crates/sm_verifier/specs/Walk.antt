@@ -1,5 +1,5 @@
 -- Walks through a plan: how far each stream has come by the steps made, and which streams can go on.
--- Steps of the code's own way, which private functions' contracts cite: whoever reads the public ones need not read them.
+-- Internal definitions: you need not read them for the public contracts.
 use Rattle.std.specs.Prelude.{◌≡◌, ◌≤◌, ◌<◌, ◌+◌, ◌-◌, ◌↔◌, ℕ, min, Bool, false, List, length, sum_by, Some, slice_get, slice_index_or, MatchBool, IsTrue, ◌⊎◌}
 use Rattle.sm_plan_code.specs.declared.instruction.Instr.{Instr}
 use Rattle.sm_plan_code.specs.declared.instruction.Instr.TheVariants.{Signal, Wait}
@@ -28,7 +28,7 @@ pub record IsWalk (plan : PlanModel) (walk : Walk) : Type 0 where
 abbrev pub CanGo : PlanModel → Walk → ℕ → Type 0
 CanGo plan walk i = CanGoOn plan walk.steps.items (steps_made walk) i
 
--- none of the first so many streams can go
+-- none of the first streams, up to this number, can go
 abbrev pub AreStuck : PlanModel → Walk → ℕ → Type 0
 AreStuck plan walk count = (i : ℕ) → i < count → ¬ CanGo plan walk i
 
@@ -40,7 +40,7 @@ IsMarked instr old new = (k : ℕ) → IsTrue (slice_index_or new k false) ↔ (
 abbrev pub left : Walk → ℕ
 left walk = sum_by (λ position. MOST_INSTRUCTIONS + 1 - position) walk.positions.items
 
--- where something moved, fewer steps are left
+-- if something moved, fewer steps are left
 abbrev pub IsMove : Bool → Walk → Walk → Type 0
 IsMove moved old new = MatchBool moved (left new < left old) (new ≡ old)
 
@@ -48,11 +48,11 @@ IsMove moved old new = MatchBool moved (left new < left old) (new ≡ old)
 abbrev pub IsSweep : PlanModel → Bool → Walk → Walk → Type 0
 IsSweep plan moved old new = MatchBool moved (left new < left old) (AreStuck plan new (length plan.streams))
 
--- every stream of the plan has made its end
+-- every stream of the plan has finished
 abbrev pub HaveEnded : PlanModel → List ℕ → Type 0
 HaveEnded plan positions = (i : ℕ) → i < length plan.streams → length (code_at plan i) < slice_index_or positions i 0
 
--- where each stream of the plan stops: at its position, or at its code's length where it has made its end
+-- where each stream of the plan stops: at its position, or at its code's length if it has finished
 pub record AreStops (plan : PlanModel) (positions stops : List ℕ) : Type 0 where
   pub count : length stops ≡ length plan.streams
   pub each : (i : ℕ) → i < length plan.streams → slice_get stops i ≡ Some (min (slice_index_or positions i 0) (length (code_at plan i)))

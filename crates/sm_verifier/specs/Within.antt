@@ -28,7 +28,7 @@ abbrev pub AdmittedIsWithin : Type 0
 AdmittedIsWithin = (c : Sizes) (p : Place) (pool : Hold) (plan : PlanModel) →
     IsAdmitted c p pool plan → AreWithin pool plan.streams × AreDeclaredOnce plan.streams
 
--- at a pool that is true of the placement, what is within the pool is admitted where the servers are up
+-- at a pool that is true of the placement, what is within the pool is admitted if the servers are up
 abbrev pub WithinIsAdmitted : Type 0
 WithinIsAdmitted = (c : Sizes) (p : Place) (leads : ℕ → Lead) (numbers : ℕ → ℕ) (pool : Hold) (plan : PlanModel) →
     IsScene c p leads numbers pool → IsKnownPlan c.shards c.servers plan → AreWithin pool plan.streams → AreUp p plan.streams → IsAdmitted c p pool plan

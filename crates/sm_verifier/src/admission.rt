@@ -1,4 +1,4 @@
-//! Whether a plan may start.
+//! Admission: whether a plan may start.
 ghost use Rattle.std.specs.Prelude.{◌≡◌, OnOk, OnErr, IfErr};
 ghost use Rattle.sm_placement.specs.Setup.{sizes_of};
 ghost use Rattle.sm_placement.specs.Layout.{place_of};
@@ -17,7 +17,7 @@ use sm_reservation::{Key, Pool};
 use sm_server::{ServerId, ShardId};
 use thiserror::Error;
 
-/// What holds a plan up.
+/// The thing that holds a plan up.
 #[derive(Clone, Copy, Debug, PartialEq, Eq, Error)]
 pub enum Holding {
     /// A stream declares a cell right or a crown that is not true of the placement.
@@ -37,9 +37,9 @@ pub enum Holding {
     ShortRoom {
         /// The server.
         server: ServerId,
-        /// How much the pool has.
+        /// The amount that the pool has.
         free: u64,
-        /// How much the streams declare together.
+        /// The amount that the streams declare together.
         declared: u64,
     },
     /// The streams declare more spare replicas of a shard than the pool has.
@@ -47,9 +47,9 @@ pub enum Holding {
     ShortSpare {
         /// The shard.
         shard: ShardId,
-        /// How many the pool has.
+        /// The amount that the pool has.
         free: u64,
-        /// How many the streams declare together.
+        /// The amount that the streams declare together.
         declared: u64,
     },
     /// An instruction mentions a server that is down.
@@ -81,10 +81,10 @@ pub fn admit(checked: &Checked, pool: &Pool, placement: &Placement) -> Result<()
     admit_free(checked, pool, placement)
 }
 
-/// Judges as `admit` does, where each cell right and crown of the pool is true of the placement. Takes no memory.
+/// Judges as `admit` does, if each cell right and crown of the pool is true of the placement. Takes no memory.
 ///
-/// What the pool has needs no look at the placement then. Only where a right is taken is each declared one looked up there,
-/// since one that is not true is named first.
+/// The placement then need not be asked about what the pool has. Only if a declared right is taken are all declared
+/// ones looked up there, since one that is not true is named first.
 pub fn admit_from_true_pool(
     checked: &Checked,
     pool: &Pool,
@@ -103,7 +103,7 @@ pub fn admit_from_true_pool(
     admit_free(checked, pool, placement)
 }
 
-/// Judges by room, spare replicas and servers alone, where the cell rights and crowns that the streams declare are true
+/// Judges by room, spare replicas and servers alone, if the cell rights and crowns that the streams declare are true
 /// and free.
 fn admit_free(checked: &Checked, pool: &Pool, placement: &Placement) -> Result<(), Holding>
     requires setup { placement.now.setup ≡ checked.now.setup }

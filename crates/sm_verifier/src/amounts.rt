@@ -11,7 +11,8 @@ use sm_plan_code::Stream;
 use sm_reservation::Pool;
 use sm_server::{ServerId, ShardId};
 
-/// The lowest server of which the streams declare more room than the pool has. It is looked for where room is declared.
+/// Returns the lowest server of which the streams declare more room than the pool has. It is looked for if room is
+/// declared.
 pub(crate) fn first_short_room(pool: &Pool, streams: &[Stream]) -> Option<ServerId>
     requires few { length streams.now ≤ MOST_STREAMS }
     requires small { All IsSmallStream streams.now }
@@ -29,8 +30,8 @@ pub(crate) fn first_short_room(pool: &Pool, streams: &[Stream]) -> Option<Server
     None
 }
 
-/// The lowest shard of which the streams declare more spare replicas than the pool has. It is looked for where some are
-/// declared.
+/// Returns the lowest shard of which the streams declare more spare replicas than the pool has. It is looked for if
+/// some are declared.
 pub(crate) fn first_short_spare(pool: &Pool, streams: &[Stream]) -> Option<ShardId>
     requires few { length streams.now ≤ MOST_STREAMS }
     requires small { All IsSmallStream streams.now }

@@ -15,14 +15,14 @@ use sm_plan_code::Plan;
 use sm_reservation::Parcel;
 use std::marker::Model;
 
-/// What a check finds out about a plan that passes it.
+/// The findings of a check about a plan that passes it.
 #[derive(Drop)]
 pub(crate) struct Findings {
     /// A copy of the configuration.
     pub config: Config,
     /// An order of the plan's steps.
     pub order: Vec<(u32, u32)>,
-    /// What each stream holds at its end.
+    /// The rights that each stream holds at its end.
     pub finals: Vec<Parcel>,
     /// The most keys that one list of each stream's hold has.
     pub peaks: Vec<u32>,
@@ -39,7 +39,7 @@ pub struct Checked {
     peaks: Vec<u32>,
 }
 
-/// One call where it goes out of scope, and not one for each list.
+/// Drops everything in one call, instead of one call for each list.
 impl Drop for Checked {
     fn drop(self) {
         let Checked {
@@ -70,7 +70,7 @@ impl Model for Checked {
 }
 
 impl Checked {
-    /// The plan with what the check found out about it.
+    /// Returns the plan with what the check found out about it.
     pub(crate) fn new(plan: Plan, findings: Findings) -> Checked
         requires { IsChecked (checked_model findings.config plan findings.order.items findings.finals.items findings.peaks.items) }
         ensures { result ≡ checked_model findings.config plan findings.order.items findings.finals.items findings.peaks.items }
@@ -90,14 +90,14 @@ impl Checked {
         }
     }
 
-    /// The configuration that the plan was checked for.
+    /// Returns the configuration that the plan was checked for.
     pub fn config(&self) -> &Config
         ensures { result.now ≡ self.now.setup }
     {
         &self.config
     }
 
-    /// The plan.
+    /// Returns the plan.
     pub fn plan(&self) -> &Plan
         ensures value { result.now ≡ self.now.plan }
         ensures fits { IsKnownPlan (length self.now.setup.shards) (length self.now.setup.servers) self.now.plan }
@@ -106,7 +106,7 @@ impl Checked {
         &self.plan
     }
 
-    /// The plan, which is checked no longer.
+    /// Returns the plan, which is checked no longer.
     pub fn into_plan(self) -> Plan
         ensures value { result ≡ self.plan }
         ensures fits { IsKnownPlan (length self.setup.shards) (length self.setup.servers) self.plan }
@@ -122,8 +122,8 @@ impl Checked {
         plan
     }
 
-    /// An order of the plan's steps: the number of a stream and a position in its code, each. The position behind the
-    /// last instruction is the stream's end.
+    /// Returns an order of the plan's steps, each as the number of a stream and a position in its code. The position
+    /// behind the last instruction is the stream's end.
     pub fn order(&self) -> &[(u32, u32)]
         ensures value { result.now ≡ self.now.order }
         ensures order { IsOrder self.now.plan self.now.order }
@@ -131,7 +131,7 @@ impl Checked {
         self.order.as_slice()
     }
 
-    /// What a stream holds at its end.
+    /// Returns what a stream holds at its end.
     pub fn final_hold(&self, stream: u32) -> &Parcel
         requires { stream < length self.now.plan.streams }
         ensures value { result.now ≡ slice_index_or self.now.finals stream no_rights }
@@ -140,7 +140,7 @@ impl Checked {
         &self.finals[stream as usize]
     }
 
-    /// The most keys that one list of a stream's hold has on its way.
+    /// Returns the greatest number of keys that one list of a stream's hold has on its way.
     pub fn peak(&self, stream: u32) -> u32
         requires { stream < length self.now.plan.streams }
         ensures value { result ≡ slice_index self.now.peaks stream }

@@ -27,7 +27,7 @@ pub enum Fault {
     /// The streams' budgets and retries add up to more than the plan's budget.
     #[error("the streams may make {streams} calls and retries, and the plan {plan}")]
     Budget {
-        /// How many calls and retries the streams have together.
+        /// The number of calls and retries that the streams have together.
         streams: u64,
         /// The plan's budget.
         plan: u32,
@@ -37,9 +37,9 @@ pub enum Fault {
     SignalNotOnce {
         /// The lowest such signal.
         signal: u32,
-        /// How often it is posted.
+        /// The number of its posts.
         posts: u32,
-        /// How often it is waited for.
+        /// The number of its waits.
         waits: u32,
     },
     /// A stream breaks off.
@@ -70,14 +70,14 @@ impl From<AllocError> for Fault {
     }
 }
 
-/// What the streams leave at their ends: what each holds, and the most keys that one list of its hold had.
+/// The ends of the streams: what each holds there, and the greatest number of keys that one list of its hold had.
 #[derive(Drop)]
 struct Ends {
     finals: Vec<Parcel>,
     peaks: Vec<u32>,
 }
 
-/// How many calls and retries streams have together.
+/// Returns the number of calls and retries that streams have together.
 fn total_budget(streams: &[Stream]) -> u64
     requires { length streams.now ≤ MOST_STREAMS }
     ensures { result ≡ sum_by (λ stream. stream.budget + stream.retries) streams.now }
@@ -119,7 +119,7 @@ fn check_signals(alloc: Global, plan: &Plan) -> Result<(), Fault>
     }
 }
 
-/// A stream's fault, with the stream's number.
+/// Returns a stream's fault with the stream's number.
 fn fault_of(stream: u32, bad: Bad) -> Fault
     ensures { result ≡ fault_of stream bad }
 {
@@ -189,7 +189,7 @@ fn examine(alloc: Global, config: &Config, plan: &Plan) -> Result<Findings, Faul
 
 /// Checks a plan: the budgets of its streams, its signals, each stream, and whether there is an order of their steps.
 ///
-/// A plan that does not pass comes back with its first fault, in the order of `Fault`. Where memory is short, the plan
+/// A plan that does not pass comes back with its first fault, in the order of `Fault`. If memory is short, the plan
 /// comes back too, and nothing is said of it but that it keeps its budget.
 pub fn check(alloc: Global, config: &Config, plan: Plan) -> Result<Checked, (Plan, Fault)>
     requires fits { IsKnownPlan (length config.now.shards) (length config.now.servers) plan }

@@ -1,4 +1,4 @@
-//! What streams declare: looked up in their parcels, and added up.
+//! The rights that streams declare: looked up in their parcels, and added up.
 ghost use Rattle.std.specs.Prelude.{◌≡◌, ◌≤◌, All, is_some, length};
 ghost use Rattle.std.specs.List.{list_any};
 ghost use Rattle.sm_reservation.specs.HoldOf.{hold_of};
@@ -10,7 +10,7 @@ use sm_plan_code::Stream;
 use sm_reservation::Parcel;
 use sm_server::{ServerId, ShardId};
 
-/// One of the streams declares the right to a cell.
+/// Tells whether one of the streams declares the right to a cell.
 pub(crate) fn is_cell_declared(streams: &[Stream], shard: ShardId, server: ServerId) -> bool
     ensures { result ≡ list_any (λ stream. is_some ((hold_of stream.holds).cells shard server)) streams.now }
 {
@@ -19,7 +19,7 @@ pub(crate) fn is_cell_declared(streams: &[Stream], shard: ShardId, server: Serve
         .any(|stream| stream.holds.cell(shard, server).is_some())
 }
 
-/// One of the streams declares the crown of a shard.
+/// Tells whether one of the streams declares the crown of a shard.
 pub(crate) fn is_crown_declared(streams: &[Stream], shard: ShardId) -> bool
     ensures { result ≡ list_any (λ stream. is_some ((hold_of stream.holds).crowns shard)) streams.now }
 {
@@ -28,7 +28,7 @@ pub(crate) fn is_crown_declared(streams: &[Stream], shard: ShardId) -> bool
         .any(|stream| stream.holds.crown(shard).is_some())
 }
 
-/// How much room of a server a parcel has.
+/// Returns how much room of a server a parcel has.
 fn room_of(parcel: &Parcel, server: ServerId) -> u64
     requires { IsSmallParcel parcel.now }
     ensures value { result ≡ (hold_of parcel.now).room server }
@@ -37,7 +37,7 @@ fn room_of(parcel: &Parcel, server: ServerId) -> u64
     parcel.room_of(server)
 }
 
-/// How many spare replicas of a shard a parcel has.
+/// Returns how many spare replicas of a shard a parcel has.
 fn spare_of(parcel: &Parcel, shard: ShardId) -> u64
     requires { IsSmallParcel parcel.now }
     ensures value { result ≡ (hold_of parcel.now).spare shard }
@@ -46,7 +46,7 @@ fn spare_of(parcel: &Parcel, shard: ShardId) -> u64
     parcel.spare_of(shard)
 }
 
-/// How much room of a server the streams declare together.
+/// Returns how much room of a server the streams declare together.
 pub(crate) fn declared_room(streams: &[Stream], server: ServerId) -> u64
     requires few { length streams.now ≤ MOST_STREAMS }
     requires small { All IsSmallStream streams.now }
@@ -59,7 +59,7 @@ pub(crate) fn declared_room(streams: &[Stream], server: ServerId) -> u64
     sum
 }
 
-/// How many spare replicas of a shard the streams declare together.
+/// Returns how many spare replicas of a shard the streams declare together.
 pub(crate) fn declared_spare(streams: &[Stream], shard: ShardId) -> u64
     requires few { length streams.now ≤ MOST_STREAMS }
     requires small { All IsSmallStream streams.now }

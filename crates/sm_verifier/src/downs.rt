@@ -9,7 +9,7 @@ use sm_placement::Placement;
 use sm_plan_code::{Instr, Stream, names};
 use sm_server::ServerId;
 
-/// The lower one of two numbers, where they are given.
+/// Returns the lower one of two numbers, of those that are given.
 pub(crate) fn lower(first: Option<u32>, second: Option<u32>) -> Option<u32>
     ensures { result ≡ lower_number first second }
 {
@@ -20,7 +20,7 @@ pub(crate) fn lower(first: Option<u32>, second: Option<u32>) -> Option<u32>
     }
 }
 
-/// The server's number, where it is down.
+/// Returns the server's number, if it is down.
 fn if_down(placement: &Placement, server: Option<ServerId>) -> Option<u32>
     requires { IfSome server (λ v. v < length placement.now.setup.servers) }
     ensures { result ≡ if_down (place_of placement.now).down server }
@@ -31,7 +31,7 @@ fn if_down(placement: &Placement, server: Option<ServerId>) -> Option<u32>
     }
 }
 
-/// The number of the lowest server that is down: the one so far, or one that the instruction mentions.
+/// Returns the number of the lowest server that is down: the one so far, or one that the instruction mentions.
 fn down_at(placement: &Placement, lowest: Option<u32>, instr: &Instr) -> Option<u32>
     requires { IsKnownInstr (length placement.now.setup.shards) (length placement.now.setup.servers) instr.now }
     ensures { result ≡ down_at (place_of placement.now).down lowest instr.now }
@@ -41,7 +41,7 @@ fn down_at(placement: &Placement, lowest: Option<u32>, instr: &Instr) -> Option<
     lower(with_first, if_down(placement, names.second))
 }
 
-/// The number of the lowest server that is down: the one so far, or one that the code mentions.
+/// Returns the number of the lowest server that is down: the one so far, or one that the code mentions.
 fn down_in(placement: &Placement, before: Option<u32>, code: &[Instr]) -> Option<u32>
     requires { All (IsKnownInstr (length placement.now.setup.shards) (length placement.now.setup.servers)) code.now }
     ensures { result ≡ down_in_code (place_of placement.now).down before code.now }
@@ -53,7 +53,7 @@ fn down_in(placement: &Placement, before: Option<u32>, code: &[Instr]) -> Option
     lowest
 }
 
-/// The lowest server that is down and that the streams mention.
+/// Returns the lowest server that is down and that the streams mention.
 fn down_of(placement: &Placement, streams: &[Stream]) -> Option<ServerId>
     requires { All (IsKnownStream (length placement.now.setup.shards) (length placement.now.setup.servers)) streams.now }
     ensures { result ≡ down_in_streams (place_of placement.now).down None streams.now }
@@ -65,7 +65,7 @@ fn down_of(placement: &Placement, streams: &[Stream]) -> Option<ServerId>
     lowest.map(ServerId::new)
 }
 
-/// The lowest server that an instruction mentions though it is down.
+/// Returns the lowest server that an instruction mentions though it is down.
 pub(crate) fn first_down(placement: &Placement, streams: &[Stream]) -> Option<ServerId>
     requires { All (IsKnownStream (length placement.now.setup.shards) (length placement.now.setup.servers)) streams.now }
     ensures lowest { IfSome result (IsLowest (IsUpWhereMentioned (place_of placement.now) streams.now)) }

@@ -44,7 +44,7 @@ impl From<AllocError> for Bad {
     }
 }
 
-/// A step's fault, with the step's position.
+/// Returns a step's fault with the step's position.
 fn bad_at(at: u32, fault: StepFault) -> Bad
     ensures { result ≡ bad_at at fault }
 {
@@ -54,7 +54,7 @@ fn bad_at(at: u32, fault: StepFault) -> Bad
     }
 }
 
-/// No handover is under way.
+/// Tells whether no handover is under way.
 fn is_at_rest(lead: &Lead) -> bool
     ensures { result ≡ is_at_rest lead.now }
 {
@@ -64,21 +64,21 @@ fn is_at_rest(lead: &Lead) -> bool
     }
 }
 
-/// Every crown is at rest.
+/// Tells whether every crown is at rest.
 fn are_at_rest(crowns: &[Crown]) -> bool
     ensures { IsTrue result ↔ All (λ x. is_at_rest x.lead ≡ true) crowns.now }
 {
     crowns.iter().all(|crown| is_at_rest(&crown.lead))
 }
 
-/// Every crown that is held is at rest.
+/// Tells whether every crown that is held is at rest.
 fn is_settled(hold: &Hold) -> bool
     ensures { IsTrue result ↔ HasCrownsAtRest (hold_of hold.now.rights) }
 {
     are_at_rest(hold.crowns())
 }
 
-/// Makes an instruction after so many calls of the stream.
+/// Makes an instruction of a stream that has made `calls` calls before it.
 fn follow_one(
     config: &Config,
     signals: &[Parcel],
@@ -143,10 +143,10 @@ fn follow_code(
     Ok(peak as u32)
 }
 
-/// What a stream leaves at its end.
+/// The end of a stream.
 #[derive(Drop)]
 pub(crate) struct End {
-    /// What the stream holds.
+    /// The rights that the stream holds.
     pub parcel: Parcel,
     /// The most keys that one list of its hold had on the way.
     pub peak: u32,
@@ -205,7 +205,8 @@ pub(crate) fn follow_to_end(
     )
 }
 
-/// Follows the stream of a plan at a number, with its declared rights, through its whole code: what it holds at the end.
+/// Follows the stream of a plan at a number, with its declared rights, through its whole code, and returns what it
+/// holds at the end.
 ///
 /// Any `Err` but `NoMemory` says that the stream is not good, and where and why it first may not go on. A call that is
 /// over the budget is refused as `OverBudget`, whatever else stands against it. Retries do not count.

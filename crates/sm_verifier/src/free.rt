@@ -9,7 +9,7 @@ use crate::declared::{is_cell_declared, is_crown_declared};
 use sm_plan_code::Stream;
 use sm_reservation::{CellRight, Crown, Key, Parcel, Pool};
 
-/// The pool has the cell right, and no earlier stream declares its key.
+/// Tells whether the pool has the cell right, and no earlier stream declares its key.
 fn is_free_cell(pool: &Pool, earlier: &[Stream], right: &CellRight) -> bool
     ensures { result ≡ is_free_cell (pool_hold pool.now) earlier.now right.now }
 {
@@ -17,7 +17,7 @@ fn is_free_cell(pool: &Pool, earlier: &[Stream], right: &CellRight) -> bool
         && !is_cell_declared(earlier, right.shard, right.server)
 }
 
-/// The pool has the crown, and no earlier stream declares it.
+/// Tells whether the pool has the crown, and no earlier stream declares it.
 fn is_free_crown(pool: &Pool, earlier: &[Stream], crown: &Crown) -> bool
     ensures { result ≡ is_free_crown (pool_hold pool.now) earlier.now crown.now }
 {
@@ -25,7 +25,7 @@ fn is_free_crown(pool: &Pool, earlier: &[Stream], crown: &Crown) -> bool
         && !is_crown_declared(earlier, crown.shard)
 }
 
-/// The first right to a cell that is not free.
+/// Returns the first right to a cell that is not free.
 fn taken_cell(pool: &Pool, earlier: &[Stream], cells: &[CellRight]) -> Option<Key>
     ensures { result ≡ first_cell (is_free_cell (pool_hold pool.now) earlier.now) cells.now }
 {
@@ -40,7 +40,7 @@ fn taken_cell(pool: &Pool, earlier: &[Stream], cells: &[CellRight]) -> Option<Ke
     None
 }
 
-/// The first crown that is not free.
+/// Returns the first crown that is not free.
 fn taken_crown(pool: &Pool, earlier: &[Stream], crowns: &[Crown]) -> Option<Key>
     ensures { result ≡ first_crown (is_free_crown (pool_hold pool.now) earlier.now) crowns.now }
 {
@@ -52,7 +52,7 @@ fn taken_crown(pool: &Pool, earlier: &[Stream], crowns: &[Crown]) -> Option<Key>
     None
 }
 
-/// The lowest key of a parcel that is not free.
+/// Returns the lowest key of a parcel that is not free.
 fn taken_key(pool: &Pool, earlier: &[Stream], parcel: &Parcel) -> Option<Key>
     ensures lowest { IfSome result (IsLowestKey (IsFree (pool_hold pool.now) earlier.now parcel.now)) }
     ensures none { IfNone result ((key : Key) → IsFree (pool_hold pool.now) earlier.now parcel.now key) }
@@ -63,7 +63,7 @@ fn taken_key(pool: &Pool, earlier: &[Stream], parcel: &Parcel) -> Option<Key>
     taken_crown(pool, earlier, parcel.crowns())
 }
 
-/// The lowest key that is not free, in the first stream that declares such a key.
+/// Returns the lowest key that is not free, in the first stream that declares such a key.
 pub(crate) fn first_taken(pool: &Pool, streams: &[Stream]) -> Option<Key>
     ensures first { IfSome result (λ key. (i : ℕ) × IsFirst (IsFreeAt (pool_hold pool.now) streams.now) i key) }
     ensures none { IfNone result (AreFree (pool_hold pool.now) streams.now) }

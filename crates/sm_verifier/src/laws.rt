@@ -1,33 +1,37 @@
-//! Laws of plans that are checked and admitted, as whoever runs them counts on.
+//! Laws of plans that are checked and admitted, for those who run them.
 ghost use Rattle.sm_verifier.specs.Within.{AdmittedIsWithin, WithinIsAdmitted};
 ghost use Rattle.sm_verifier.specs.Progress.{SomeGoesOn};
 ghost use Rattle.sm_verifier.specs.Signals.{SignalsStandOnce, SignalsAreOfPlan};
 ghost use Rattle.sm_verifier.specs.Turn.{GoodStreamsGoOn, InstrsAreReachable};
 
-/// A signal that is used once is posted at one step and waited for at one; each signal of an instruction is the plan's.
+/// States that a signal that is used once is posted at one step and waited for at one. Each signal of an instruction is
+/// the plan's.
 pub fn signals_stand_once()
     ensures once { SignalsStandOnce }
     ensures known { SignalsAreOfPlan }
 {}
 
-/// Wherever the streams of a sound plan stand, one of them can make its next step, unless all have made their ends.
+/// States that wherever the streams of a sound plan stand, one of them can make its next step, unless all have
+/// finished.
 pub fn some_goes_on()
     ensures { SomeGoesOn }
 {}
 
-/// A plan is admitted exactly where the streams declare of each right no more than a pool has that is true of the
-/// placement, and the servers that they mention are up. Each cell right and crown is then declared by one stream.
+/// States that a plan is admitted exactly if the servers that it mentions are up, and its streams declare of each right
+/// no more than a pool has that is true of the placement. Each cell right and crown is then declared by one stream.
 pub fn admitted_is_within()
     ensures within { AdmittedIsWithin }
     ensures admitted { WithinIsAdmitted }
 {}
 
-/// Each instruction of a good stream leads from the hold before it to the hold before the next one, within the budget.
+/// States that each instruction of a good stream leads from the hold before it to the hold before the next one, within
+/// the budget.
 pub fn good_streams_go_on()
     ensures { GoodStreamsGoOn }
 {}
 
-/// Each instruction of a plan of the configuration can be made where the servers that the plan mentions are up.
+/// States that each instruction of a plan of the configuration can be made if the servers that the plan mentions are
+/// up.
 pub fn instrs_are_reachable()
     ensures { InstrsAreReachable }
 {}

@@ -12,7 +12,7 @@ use sm_reservation::{Room, Spare};
 trait Numbered: Copy {
     ghost number: { Self → ℕ };
 
-    /// The number: a server's or a shard's.
+    /// Returns the number: a server's or a shard's.
     fn number(&self) -> u32
         ensures { result ≡ number self.now };
 }
@@ -33,7 +33,7 @@ impl Numbered for Spare {
     }
 }
 
-/// The lowest number from a number on of which there is a row. It is found by halves.
+/// Returns the lowest number, from a given one on, of which there is a row. It is found by halves.
 fn next_row<T: Numbered>(rows: &[T], from: u64) -> Option<u32>
     requires { Rises (λ x. (T.number x, 0)) rows.now }
     ensures { result ≡ next_number T.number rows.now from }
@@ -46,7 +46,7 @@ fn next_row<T: Numbered>(rows: &[T], from: u64) -> Option<u32>
     Some(row.number())
 }
 
-/// The lowest server from a number on of which a stream declares room.
+/// Returns the lowest server, from a number on, of which a stream declares room.
 pub(crate) fn next_room(streams: &[Stream], from: u64) -> Option<u32>
     ensures { IsNextOrNone (declared_room streams.now) from result }
 {
@@ -57,7 +57,7 @@ pub(crate) fn next_room(streams: &[Stream], from: u64) -> Option<u32>
     next
 }
 
-/// The lowest shard from a number on of which a stream declares spare replicas.
+/// Returns the lowest shard, from a number on, of which a stream declares spare replicas.
 pub(crate) fn next_spare(streams: &[Stream], from: u64) -> Option<u32>
     ensures { IsNextOrNone (declared_spare streams.now) from result }
 {

@@ -8,18 +8,18 @@ ghost use Rattle.sm_plan_code.specs.declared.limits.TheConstants.{MOST_INSTRUCTI
 use sm_plan_code::{Instr, Plan};
 use std::alloc::{AllocError, Global};
 
-/// How far each stream of a plan has come.
+/// The progress of each stream of a plan.
 #[derive(Drop)]
 struct Walk {
-    /// How many steps each stream has made, its end among them.
+    /// The number of steps that each stream has made, its end among them.
     positions: Vec<u32>,
-    /// Which signals are posted.
+    /// For each signal, whether it is posted.
     posted: Vec<bool>,
     /// The steps made, each a stream's number and a position in its code.
     steps: Vec<(u32, u32)>,
 }
 
-/// The walk on which no step is made yet.
+/// Makes a walk on which no step is made yet.
 fn start(alloc: Global, plan: &Plan) -> Result<Walk, AllocError>
     ensures { IfOk result (λ walk. IsWalk plan.now walk) }
 {
@@ -30,7 +30,7 @@ fn start(alloc: Global, plan: &Plan) -> Result<Walk, AllocError>
     })
 }
 
-/// The code of a stream.
+/// Returns the code of a stream.
 fn code_of(plan: &Plan, stream: u32) -> &[Instr]
     requires { stream < length plan.now.streams }
     ensures value { result.now ≡ code_at plan.now stream }
@@ -42,7 +42,7 @@ fn code_of(plan: &Plan, stream: u32) -> &[Instr]
     stream.code.as_slice()
 }
 
-/// A stream has a step left, and waits for no signal.
+/// Tells whether a stream has a step left, and waits for no signal.
 fn can_go(plan: &Plan, walk: &Walk, stream: u32) -> bool
     requires walk { IsWalk plan.now walk.now }
     requires stream { stream < length plan.now.streams }
@@ -59,7 +59,7 @@ fn can_go(plan: &Plan, walk: &Walk, stream: u32) -> bool
     }
 }
 
-/// Marks the signal as posted, where the instruction posts one.
+/// Marks the signal as posted, if the instruction posts one.
 fn mark(instr: &Instr, posted: &mut [bool])
     requires { KnowsSignal (length posted.old) instr.now }
     ensures count { length posted.new ≡ length posted.old }
@@ -129,7 +129,7 @@ fn go_on(plan: &Plan, walk: &mut Walk) -> Result<(), AllocError>
     Ok(())
 }
 
-/// Every stream has made its end.
+/// Tells whether every stream has finished.
 fn have_ended(plan: &Plan, positions: &[u32]) -> bool
     requires { length positions.now ≡ length plan.now.streams }
     ensures { IsTrue result ↔ HaveEnded plan.now positions.now }
@@ -142,7 +142,7 @@ fn have_ended(plan: &Plan, positions: &[u32]) -> bool
     true
 }
 
-/// Where each stream stops: at its position, or at its code's length where it has made its end.
+/// Returns where each stream stops: at its position, or at its code's length if it has finished.
 fn stops_of(alloc: Global, plan: &Plan, positions: &[u32]) -> Result<Vec<u32>, AllocError>
     requires { length positions.now ≡ length plan.now.streams }
     ensures { IfOk result (λ stops. AreStops plan.now positions.now stops.items) }
@@ -155,7 +155,7 @@ fn stops_of(alloc: Global, plan: &Plan, positions: &[u32]) -> Result<Vec<u32>, A
     Ok(stops)
 }
 
-/// An order of all steps of a plan, or the greatest positions that its streams get to where there is none.
+/// Returns an order of all steps of a plan, or the greatest positions that its streams get to if there is none.
 pub(crate) fn order_of(
     alloc: Global,
     plan: &Plan,

@@ -1,4 +1,4 @@
-//! How often the instructions of a plan post each signal, and wait for it.
+//! Counts of the posts of each signal, and of the waits for it, among the instructions of a plan.
 ghost use Rattle.std.specs.Prelude.{◌≡◌, ◌≤◌, ◌<◌, ◌+◌, ◌^◌, ℕ, All, IfOk, IfSome, IfNone, length, count_by, sum_by, slice_index};
 ghost use Rattle.sm_placement.specs.Sums.{bit};
 ghost use Rattle.sm_plan_code.specs.Plan.{KnowsSignal, IsSmallStream};
@@ -9,7 +9,7 @@ ghost use Rattle.sm_plan_code.specs.declared.limits.TheConstants.{MOST_STREAMS, 
 use sm_plan_code::{Instr, Plan, Stream};
 use std::alloc::{AllocError, Global};
 
-/// How often each signal is posted, and how often it is waited for.
+/// The number of posts of each signal, and that of waits for it.
 #[derive(Drop)]
 struct Counts {
     posts: Vec<u32>,
@@ -21,9 +21,9 @@ struct Counts {
 pub(crate) struct Misuse {
     /// The signal's number.
     pub signal: u32,
-    /// How often it is posted.
+    /// The number of its posts.
     pub posts: u32,
-    /// How often it is waited for.
+    /// The number of its waits.
     pub waits: u32,
 }
 
@@ -73,7 +73,7 @@ fn count_streams(streams: &[Stream], posts: &mut [u32], waits: &mut [u32])
     }
 }
 
-/// The counts of all signals of a plan.
+/// Returns the counts of all signals of a plan.
 fn counts_of(alloc: Global, plan: &Plan) -> Result<Counts, AllocError>
     ensures posts { IfOk result (λ counts. AreCounts (length plan.now.signals) (posts plan.now) counts.posts.items) }
     ensures waits { IfOk result (λ counts. AreCounts (length plan.now.signals) (waits plan.now) counts.waits.items) }
@@ -86,7 +86,7 @@ fn counts_of(alloc: Global, plan: &Plan) -> Result<Counts, AllocError>
     Ok(Counts { posts, waits })
 }
 
-/// The first place where one of the counts is not 1.
+/// Returns the first place where one of the counts is not 1.
 fn first_not_once(posts: &[u32], waits: &[u32]) -> Option<usize>
     requires { length waits.now ≡ length posts.now }
     ensures none { IfNone result ((k : ℕ) → k < length posts.now → IsOnceAt posts.now waits.now k) }
@@ -102,7 +102,7 @@ fn first_not_once(posts: &[u32], waits: &[u32]) -> Option<usize>
     None
 }
 
-/// The lowest signal that is not posted once and waited for once.
+/// Returns the lowest signal that is not posted once and waited for once.
 pub(crate) fn first_misuse(alloc: Global, plan: &Plan) -> Result<Option<Misuse>, AllocError>
     ensures none { IfOk result (λ found. IfNone found (AreUsedOnce plan.now (length plan.now.signals))) }
     ensures misuse { IfOk result (λ found. IfSome found (λ m. IsFirstMisused plan.now m.signal m.posts m.waits)) }

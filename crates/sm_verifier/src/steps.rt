@@ -84,7 +84,7 @@ fn signal(hold: &mut Hold, parcel: &Parcel) -> Result<(), Why>
     Ok(())
 }
 
-/// No right to one of these cells is held.
+/// Tells whether no right to one of these cells is held.
 fn are_cells_apart(hold: &Hold, cells: &[CellRight]) -> bool
     ensures { result ≡ list_all (λ x. is_none ((hold_of hold.now.rights).cells x.shard x.server)) cells.now }
 {
@@ -93,7 +93,7 @@ fn are_cells_apart(hold: &Hold, cells: &[CellRight]) -> bool
         .all(|right| hold.cell(right.shard, right.server).is_none())
 }
 
-/// None of these crowns is held.
+/// Tells whether none of these crowns is held.
 fn are_crowns_apart(hold: &Hold, crowns: &[Crown]) -> bool
     ensures { result ≡ list_all (λ x. is_none ((hold_of hold.now.rights).crowns x.shard)) crowns.now }
 {
@@ -131,7 +131,7 @@ fn put_parcel(hold: &mut Hold, parcel: &Parcel)
     hold.put(parcel);
 }
 
-/// How many keys the longest list of a parcel has.
+/// Returns the number of keys of the longest list of a parcel.
 fn longest_of(parcel: &Parcel) -> usize
     requires small { IsSmallParcel parcel.now }
     ensures count { result ≡ most_keys parcel.now }
@@ -144,7 +144,7 @@ fn longest_of(parcel: &Parcel) -> usize
     cells.max(crowns).max(room).max(spare)
 }
 
-/// How many keys an instruction adds to a list at most.
+/// Returns the greatest number of keys that an instruction adds to a list.
 fn keys_added(signals: &[Parcel], instr: &Instr) -> usize
     requires signal { KnowsSignal (length signals.now) instr.now }
     requires small { All IsSmallParcel signals.now }
@@ -157,7 +157,7 @@ fn keys_added(signals: &[Parcel], instr: &Instr) -> usize
     }
 }
 
-/// How many keys the longest list of a hold has.
+/// Returns the number of keys of the longest list of a hold.
 pub(crate) fn longest_list(hold: &Hold) -> usize
     ensures count { result ≡ most_keys hold.now.rights }
     ensures listing { IsListing hold.now.rights (hold_of hold.now.rights) }
@@ -201,7 +201,8 @@ fn make(config: &Config, signals: &[Parcel], instr: &Instr, hold: &mut Hold) -> 
     }
 }
 
-/// Makes an instruction: the hold becomes the one after it. Where the instruction is not made, the rights stay as they are.
+/// Makes an instruction: the hold becomes the one after it. If the instruction is not made, the rights stay as they
+/// are.
 pub(crate) fn step(
     config: &Config,
     signals: &[Parcel],

@@ -15,7 +15,7 @@ use sm_plan_code::Stream;
 use sm_reservation::{CellRight, Crown, Key, Parcel, PlainCell};
 use sm_server::Cell;
 
-/// The cell is as a right to it says.
+/// Tells whether the cell is as a right to it says.
 fn is_as(cell: &Cell, state: PlainCell) -> bool
     ensures { result ≡ is_cell state (plain_of cell.now) }
 {
@@ -25,7 +25,7 @@ fn is_as(cell: &Cell, state: PlainCell) -> bool
     )
 }
 
-/// The cell right is true of the placement.
+/// Tells whether the cell right is true of the placement.
 fn is_true_cell(placement: &Placement, right: &CellRight) -> bool
     requires { IsKnownCellRight (length placement.now.setup.shards) (length placement.now.setup.servers) right.now }
     ensures { result ≡ holds_cell (true_rights (sizes_of placement.now.setup) (place_of placement.now)) right.now }
@@ -33,7 +33,7 @@ fn is_true_cell(placement: &Placement, right: &CellRight) -> bool
     is_as(&placement.cell(right.shard, right.server), right.state)
 }
 
-/// The crown is true of the placement.
+/// Tells whether the crown is true of the placement.
 fn is_true_crown(placement: &Placement, crown: &Crown) -> bool
     requires { IsKnownCrown (length placement.now.setup.shards) (length placement.now.setup.servers) crown.now }
     ensures { result ≡ holds_crown (true_rights (sizes_of placement.now.setup) (place_of placement.now)) crown.now }
@@ -41,7 +41,7 @@ fn is_true_crown(placement: &Placement, crown: &Crown) -> bool
     placement.lead(crown.shard) == Some(crown.lead) && crown.listed == placement.listed(crown.shard)
 }
 
-/// The first right to a cell that is not true of the placement.
+/// Returns the first right to a cell that is not true of the placement.
 fn untrue_cell(placement: &Placement, cells: &[CellRight]) -> Option<Key>
     requires { All (IsKnownCellRight (length placement.now.setup.shards) (length placement.now.setup.servers)) cells.now }
     ensures { result ≡ first_cell (holds_cell (true_rights (sizes_of placement.now.setup) (place_of placement.now))) cells.now }
@@ -57,7 +57,7 @@ fn untrue_cell(placement: &Placement, cells: &[CellRight]) -> Option<Key>
     None
 }
 
-/// The first crown that is not true of the placement.
+/// Returns the first crown that is not true of the placement.
 fn untrue_crown(placement: &Placement, crowns: &[Crown]) -> Option<Key>
     requires { All (IsKnownCrown (length placement.now.setup.shards) (length placement.now.setup.servers)) crowns.now }
     ensures { result ≡ first_crown (holds_crown (true_rights (sizes_of placement.now.setup) (place_of placement.now))) crowns.now }
@@ -70,7 +70,7 @@ fn untrue_crown(placement: &Placement, crowns: &[Crown]) -> Option<Key>
     None
 }
 
-/// The lowest key of a parcel that is not true of the placement.
+/// Returns the lowest key of a parcel that is not true of the placement.
 fn untrue_key(placement: &Placement, parcel: &Parcel) -> Option<Key>
     requires { IsKnownParcel (length placement.now.setup.shards) (length placement.now.setup.servers) parcel.now }
     ensures lowest { IfSome result (IsLowestKey (IsIn (hold_of parcel.now) (true_rights (sizes_of placement.now.setup) (place_of placement.now)))) }
@@ -82,7 +82,7 @@ fn untrue_key(placement: &Placement, parcel: &Parcel) -> Option<Key>
     untrue_crown(placement, parcel.crowns())
 }
 
-/// The lowest key that is not true of the placement, in the first stream that declares such a key.
+/// Returns the lowest key that is not true of the placement, in the first stream that declares such a key.
 pub(crate) fn first_untrue(placement: &Placement, streams: &[Stream]) -> Option<Key>
     requires { All (IsKnownStream (length placement.now.setup.shards) (length placement.now.setup.servers)) streams.now }
     ensures first { IfSome result (λ key. (i : ℕ) × IsFirst (IsTrueAt (sizes_of placement.now.setup) (place_of placement.now) streams.now) i key) }

@@ -3,7 +3,7 @@ use crate::dice::Dice;
 use sm_agent::{Base, Order, Relay, Request, Slot, Stamp};
 use sm_server::{Call, Cell, Role, ServerId};
 
-/// Mostly journal 1.
+/// Draws a journal's number, mostly 1.
 pub fn journal(dice: &mut Dice) -> u64 {
     if dice.once_in(16) { 2 } else { 1 }
 }
@@ -56,7 +56,7 @@ fn call(dice: &mut Dice) -> Call {
     }
 }
 
-/// Mostly that of a server that has its slots, and is not fenced.
+/// Draws a base, mostly one of a server that has its slots, and is not fenced.
 pub fn base(dice: &mut Dice) -> Base {
     let is_unknown = dice.once_in(8);
     let nonce = dice.below(3);
@@ -83,7 +83,7 @@ pub fn order(dice: &mut Dice) -> Order {
     }
 }
 
-/// A slot at which an order of a number is often at work, or was the last one.
+/// Draws a slot at which an order with this number is often at work, or was the last one.
 pub fn slot(dice: &mut Dice, number: u64) -> Slot {
     let cell = cell(dice);
     let other = dice.below(10);

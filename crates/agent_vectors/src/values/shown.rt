@@ -90,7 +90,7 @@ pub fn verdict_number(verdict: Verdict) -> u64 {
     }
 }
 
-/// The answer, and how a request is passed on, zeros if it is not.
+/// Returns the answer, and how a request is passed on, zeros if it is not.
 pub fn routing_numbers(routing: Routing) -> [u64; 5] {
     match routing {
         Routing::Execute => [12, 0, 0, 0, 0],
@@ -100,7 +100,7 @@ pub fn routing_numbers(routing: Routing) -> [u64; 5] {
     }
 }
 
-/// The answer, and the base afterwards.
+/// Returns the answer, and the base afterwards.
 pub fn reception_numbers(reception: Reception, before: &Base) -> [u64; 6] {
     let (answer, base) = match reception {
         Reception::Taken(next) => (16, next),

@@ -29,35 +29,35 @@ impl Ready {
     ghost use Rattle.std.specs.Prelude.{◌≡◌};
     ghost use Rattle.sm_server.specs.Handover.{steady_cell, ready_cells, handing_cells, Serves};
 
-    /// The shard whose primary is handed over.
+    /// Returns the shard whose primary is handed over.
     pub const fn shard(&self) -> ShardId
         ensures { result ≡ self.now.shard }
     {
         self.shard
     }
 
-    /// The server that hands the primary over.
+    /// Returns the server that hands the primary over.
     pub const fn owner(&self) -> ServerId
         ensures { result ≡ self.now.owner }
     {
         self.owner
     }
 
-    /// The server that takes it.
+    /// Returns the server that takes it.
     pub const fn new_server(&self) -> ServerId
         ensures { result ≡ self.now.new_server }
     {
         self.new_server
     }
 
-    /// The number that tells this handover from the shard's other handovers.
+    /// Returns the number that tells this handover from the shard's other handovers.
     pub const fn number(&self) -> u64
         ensures { result ≡ self.now.number }
     {
         self.number
     }
 
-    /// The cells of the two servers.
+    /// Returns the cells of the two servers.
     pub const fn cells(&self) -> HandoverCells
         ensures { result ≡ ready_cells self.now }
     {

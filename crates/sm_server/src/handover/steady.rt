@@ -24,28 +24,28 @@ impl Steady {
     ghost use Rattle.std.specs.Prelude.{◌≡◌, ◌≢◌};
     ghost use Rattle.sm_server.specs.Handover.{steady_cell, ready_cells, Serves};
 
-    /// The shard's primary stands at the server.
+    /// Makes a shard whose primary stands at the server.
     pub const fn new(shard: ShardId, server: ServerId) -> Self
         ensures { result ≡ record { shard = shard; server = server } }
     {
         Steady { shard, server }
     }
 
-    /// The shard that the primary is of.
+    /// Returns the primary's shard.
     pub const fn shard(&self) -> ShardId
         ensures { result ≡ self.now.shard }
     {
         self.shard
     }
 
-    /// The server where the primary stands.
+    /// Returns the server where the primary stands.
     pub const fn server(&self) -> ServerId
         ensures { result ≡ self.now.server }
     {
         self.server
     }
 
-    /// The cell of the one server. Any other server has nothing of the primary.
+    /// Returns the cell of the one server. Any other server has nothing of the primary.
     pub const fn cells(&self) -> Cell
         ensures { result ≡ steady_cell self.now self.now.server }
     {
